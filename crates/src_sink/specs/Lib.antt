@@ -1,0 +1,4 @@
+pub mod Outside
+pub mod Ends
+pub mod Memory
+pub mod Edge
