@@ -1,0 +1,10 @@
+pub mod Comparison
+pub mod Identities
+pub mod Inequalities
+pub mod Integers
+pub mod LawProofs
+pub mod LeastQuotient
+pub mod RationalLaws
+pub mod Rationals
+pub mod RingTool
+pub mod Sums

@@ -1,0 +1,25 @@
+-- What a call of an exact field answers: the exact value where it is held, and what it was asked where it is not.
+use Rattle.std.specs.Prelude.{ℤ, pos, ◌≡◌, ◌<◌, ◌≤ℤ◌, ◌<ℤ◌, ◌^◌, ◌⊎◌, unsigned_abs, Bool, IsTrue, IsFalse, Option, Result, MatchOption, MatchResult}
+use Rattle.exact_field.specs.Rational.{ℚ, fraction}
+use Rattle.exact_field.specs.declared.op.Op.{Op}
+use Rattle.exact_field.specs.declared.op.Left.{Left}
+
+-- where the exact value is held, the answer has it; where not, the answer is the operation with both operands
+abbrev pub Answers : {F : Type 0} → (F → ℚ) → (ℚ → Bool) → Op → F → F → ℚ → Result F (Left F) → Type 0
+Answers value holds operation first second exact result =
+    MatchResult result (λ r. (value r ≡ exact) × IsTrue (holds exact)) (λ left. (left ≡ record { op = operation; a = first; b = second }) × IsFalse (holds exact))
+
+-- where the exact value is held, the answer has it; where not, there is none
+abbrev pub AnswersHeld : {F : Type 0} → (F → ℚ) → (ℚ → Bool) → ℚ → Option F → Type 0
+AnswersHeld value holds exact result = MatchOption result (IsFalse (holds exact)) (λ r. (value r ≡ exact) × IsTrue (holds exact))
+
+-- where the denominator is positive and the number is held, the answer has it; where not, there is none
+abbrev pub AnswersFraction : {F : Type 0} → (F → ℚ) → (ℚ → Bool) → ℤ → ℤ → Option F → Type 0
+AnswersFraction value holds n d result =
+    let exact = fraction n (unsigned_abs d) in
+    MatchOption result ((d ≤ℤ pos 0) ⊎ IsFalse (holds exact)) (λ r. (pos 0 <ℤ d) × (value r ≡ exact) × IsTrue (holds exact))
+
+-- the magnitude of the numerator and the denominator are below 2^120
+pub record IsSmall (q : ℚ) : Type 0 where
+  pub num_small : unsigned_abs q.num < 2 ^ 120
+  pub den_small : q.den < 2 ^ 120

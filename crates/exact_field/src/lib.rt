@@ -1,0 +1,9 @@
+// Exact numbers: the rational numbers, their laws, and the trait of exact fields.
+#![tactic(auto)]
+
+pub mod field;
+pub mod laws;
+pub mod op;
+
+pub use field::Field;
+pub use op::{Left, Op};
