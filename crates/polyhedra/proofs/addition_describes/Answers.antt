@@ -1,0 +1,5 @@
+use Rattle.polyhedra.proofs.Pairs.{addition_describes}
+use Rattle.polyhedra.proofs.addition_describes.Goals as goal
+
+pub returns : goal.returns
+returns c = addition_describes

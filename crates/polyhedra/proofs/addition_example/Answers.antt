@@ -1,0 +1,5 @@
+use Rattle.polyhedra.proofs.Addition.{addition_example}
+use Rattle.polyhedra.proofs.addition_example.Goals as goal
+
+pub returns : goal.returns
+returns c = addition_example

@@ -1,0 +1,5 @@
+use Rattle.polyhedra.proofs.CornerStart.{corner_starts}
+use Rattle.polyhedra.proofs.corner_starts.Goals as goal
+
+pub returns : goal.returns
+returns c = corner_starts

@@ -1,0 +1,5 @@
+use Rattle.polyhedra.proofs.Largest.{largest_account}
+use Rattle.polyhedra.proofs.largest_account.Goals as goal
+
+pub returns : goal.returns
+returns c = largest_account

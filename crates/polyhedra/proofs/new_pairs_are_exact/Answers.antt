@@ -1,0 +1,5 @@
+use Rattle.polyhedra.proofs.Pairs.{new_pairs_are_exact}
+use Rattle.polyhedra.proofs.new_pairs_are_exact.Goals as goal
+
+pub returns : goal.returns
+returns c = new_pairs_are_exact

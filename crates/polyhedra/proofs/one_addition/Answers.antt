@@ -1,0 +1,5 @@
+use Rattle.polyhedra.proofs.Added.{one_addition}
+use Rattle.polyhedra.proofs.one_addition.Goals as goal
+
+pub returns : goal.returns
+returns c = one_addition

@@ -1,0 +1,5 @@
+use Rattle.polyhedra.proofs.Lifted.{points_or_directions}
+use Rattle.polyhedra.proofs.points_or_directions.Goals as goal
+
+pub returns : goal.returns
+returns c = points_or_directions

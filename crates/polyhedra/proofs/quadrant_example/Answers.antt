@@ -1,0 +1,5 @@
+use Rattle.polyhedra.proofs.Quadrant.{quadrant_example}
+use Rattle.polyhedra.proofs.quadrant_example.Goals as goal
+
+pub returns : goal.returns
+returns c = quadrant_example

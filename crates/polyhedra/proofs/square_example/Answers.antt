@@ -1,0 +1,5 @@
+use Rattle.polyhedra.proofs.Square.{square_example}
+use Rattle.polyhedra.proofs.square_example.Goals as goal
+
+pub returns : goal.returns
+returns c = square_example

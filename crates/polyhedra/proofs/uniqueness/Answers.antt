@@ -1,0 +1,5 @@
+use Rattle.polyhedra.proofs.Exact.{uniqueness}
+use Rattle.polyhedra.proofs.uniqueness.Goals as goal
+
+pub returns : goal.returns
+returns g c = uniqueness g.R.Region.members g.R.Region.directions

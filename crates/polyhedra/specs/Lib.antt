@@ -1,0 +1,14 @@
+pub mod Cone
+pub mod Dependence
+pub mod DoubleDescription
+pub mod Duality
+pub mod Exactness
+pub mod Examples
+pub mod Farkas
+pub mod Hull
+pub mod Image
+pub mod Linear
+pub mod LowerImage
+pub mod Sparse
+pub mod TightSets
+pub mod Vectors
