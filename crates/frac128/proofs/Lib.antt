@@ -1,0 +1,14 @@
+pub mod Binary
+pub mod Carried
+pub mod Carry
+pub mod Compared
+pub mod Coprime
+pub mod Divided
+pub mod Holds
+pub mod Lowest
+pub mod Made
+pub mod Parts
+pub mod Signs
+pub mod TextLaw
+pub mod Turns
+pub mod Whole

@@ -1,0 +1,7 @@
+pub mod Held
+pub mod Laws
+pub mod Mixed
+pub mod New
+pub mod Signed
+pub mod Sparse
+pub mod Text

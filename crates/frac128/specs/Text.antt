@@ -1,0 +1,7 @@
+-- The canonical text of a number: the numerator, and behind a `/` the denominator where it is not 1.
+use Rattle.std.specs.Prelude.{ℕ, List, [], ◌∷◌, ◌++◌, ◌==◌, if◌then◌else◌, decimal}
+use Rattle.std.specs.Fmt.{signed_decimal}
+use Rattle.exact_field.specs.Rational.{ℚ}
+
+abbrev pub frac_text : ℚ → List ℕ
+frac_text q = signed_decimal q.num ++ (if q.den == 1 then [] else 47 ∷ decimal q.den)

@@ -1,0 +1,22 @@
+//! Fractions of 120-bit whole numbers, vectors of them, and their canonical text.
+#![tactic(auto)]
+
+mod fault;
+mod frac;
+mod gcd;
+mod joint;
+pub mod laws;
+mod order;
+mod sign;
+mod text;
+mod tiny;
+mod vectors;
+
+pub use fault::FracFault;
+pub use frac::Frac;
+pub use text::put_frac;
+pub use tiny::Tiny;
+pub use vectors::{Sparse, Spot, Vector, Vectors};
+
+#[cfg(test)]
+mod tests;
