@@ -1,0 +1,17 @@
+mod CellPlaces
+mod Digits
+mod Drafts
+mod Following
+mod Heads
+mod LineFaults
+mod MoreLines
+mod PlainLines
+mod PlainNumbers
+mod PlainWords
+mod Refusals
+mod SideCount
+mod Small
+mod Tables
+mod Utterances
+mod WholeLines
+mod Words

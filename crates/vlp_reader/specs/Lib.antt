@@ -1,0 +1,13 @@
+pub mod Cells
+pub mod Cones
+pub mod Drafts
+pub mod Faults
+pub mod Grammar
+pub mod Headers
+pub mod Lines
+pub mod Number
+pub mod Pieces
+pub mod Places
+pub mod Plain
+pub mod Sides
+pub mod Statements
