@@ -1,0 +1,17 @@
+pub mod Booleans
+pub mod Small
+pub mod SideTable
+pub mod Normals
+pub mod PlaceSums
+pub mod Signs
+pub mod Balance
+pub mod FarkasTests
+pub mod Soundness
+pub mod Duality
+pub mod SmallLogs
+pub mod Pieces
+pub mod Numbers
+pub mod Spots
+pub mod Entries
+pub mod Logs
+pub mod Numerals

@@ -1,0 +1,10 @@
+pub mod LogText
+pub mod Names
+pub mod PlainLog
+pub mod Rules
+pub mod Right
+pub mod Proves
+pub mod Verdict
+pub mod Table
+pub mod SmallLog
+pub mod Earlier

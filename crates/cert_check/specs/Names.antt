@@ -1,0 +1,62 @@
+-- How fault lines show the rules and the faults of a log's text.
+use Rattle.std.specs.Prelude.{ℕ, List, codes}
+use Rattle.cert_check.specs.declared.fault.LogKind.{LogKind}
+use Rattle.cert_check.specs.declared.fault.LogKind.TheVariants as kind
+use Rattle.cert_check.specs.declared.fault.Rule.{Rule}
+use Rattle.cert_check.specs.declared.fault.Rule.TheVariants as rule
+
+-- the number of a fault of the text
+abbrev pub kind_number : LogKind → ℕ
+kind_number kind.BadLine = 1
+kind_number kind.BadNumber = 2
+kind_number kind.NumberWide = 3
+kind_number kind.OutOfRange = 4
+kind_number kind.NoEnd = 5
+kind_number kind.NotBuilt = 6
+
+-- the bytes of its name
+abbrev pub kind_name : LogKind → List ℕ
+kind_name kind.BadLine = codes "BadLine"
+kind_name kind.BadNumber = codes "BadNumber"
+kind_name kind.NumberWide = codes "NumberWide"
+kind_name kind.OutOfRange = codes "OutOfRange"
+kind_name kind.NoEnd = codes "NoEnd"
+kind_name kind.NotBuilt = codes "NotBuilt"
+
+-- the number of a rule
+abbrev pub rule_number : Rule → ℕ
+rule_number rule.Version = 1
+rule_number rule.Order = 2
+rule_number rule.Length = 3
+rule_number rule.Index = 4
+rule_number rule.Scaled = 5
+rule_number rule.Interior = 6
+rule_number rule.Sign = 7
+rule_number rule.Balance = 8
+rule_number rule.Cone = 9
+rule_number rule.Bound = 10
+rule_number rule.Side = 11
+rule_number rule.Corner = 12
+rule_number rule.Pairs = 13
+rule_number rule.Facet = 14
+rule_number rule.Missing = 15
+rule_number rule.NotBuilt = 16
+
+-- the bytes of its name
+abbrev pub rule_name : Rule → List ℕ
+rule_name rule.Version = codes "Version"
+rule_name rule.Order = codes "Order"
+rule_name rule.Length = codes "Length"
+rule_name rule.Index = codes "Index"
+rule_name rule.Scaled = codes "Scaled"
+rule_name rule.Interior = codes "Interior"
+rule_name rule.Sign = codes "Sign"
+rule_name rule.Balance = codes "Balance"
+rule_name rule.Cone = codes "Cone"
+rule_name rule.Bound = codes "Bound"
+rule_name rule.Side = codes "Side"
+rule_name rule.Corner = codes "Corner"
+rule_name rule.Pairs = codes "Pairs"
+rule_name rule.Facet = codes "Facet"
+rule_name rule.Missing = codes "Missing"
+rule_name rule.NotBuilt = codes "NotBuilt"

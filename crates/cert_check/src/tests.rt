@@ -1,0 +1,4 @@
+//! Logs and what the checker says of them.
+mod logs;
+mod problems;
+mod verdicts;
