@@ -1,0 +1,4 @@
+pub mod Shapes
+pub mod Text
+pub mod Codes
+pub mod Outcome

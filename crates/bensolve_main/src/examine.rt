@@ -1,0 +1,101 @@
+//! Reading and checking: what is to be told of a problem and a log.
+ghost use Rattle.std.specs.Prelude.{◌≡◌, ◌≤◌, length, IfOk, IfErr};
+ghost use Rattle.vlp_reader.specs.Plain.{IsSmall};
+ghost use Rattle.bensolve_main.specs.Outcome.{LogVerdict, Told, Silent, sources};
+
+use crate::status::{LogRefusal, Status};
+use crate::text;
+use cert_check::{LogEnd, Refusal, check, read_log};
+use src_sink::{Bytes, MOST_ITEMS, ReadEnd, Source, read_all};
+use std::alloc::Global;
+use vlp_reader::{Problem, VlpEnd, read_vlp};
+
+/// The most bytes that are read of a problem: 16 MiB.
+const PROBLEM_LIMIT: u64 = 16_777_216;
+
+/// The most bytes that are read of a log: 256 MiB.
+const LOG_LIMIT: u64 = 268_435_456;
+
+/// A status, and the text that tells it.
+#[derive(Debug, Drop)]
+pub(crate) struct Reply {
+    pub(crate) status: Status,
+    pub(crate) text: Bytes,
+}
+
+/// What the bytes of a log say for a problem. An `Err` is want of memory.
+fn examine_log(alloc: Global, file: &Problem, bytes: &[u8]) -> Result<Reply, Status>
+    requires room { length bytes.now ≤ MOST_ITEMS }
+    requires small { IsSmall file.now }
+    ensures told { IfOk result (λ r. LogVerdict file.now bytes.now r.status r.text) }
+    ensures silent { IfErr result (λ s. s ≡ Status.NoMemory) }
+{
+    let entries = match read_log(alloc, bytes) {
+        Ok(entries) => entries,
+        Err(LogEnd::Fault(fault)) => {
+            let text = text::log_fault_line(alloc, fault)?;
+            let status = Status::Refused(LogRefusal::Text(fault));
+            return Ok(Reply { status, text });
+        }
+        Err(LogEnd::NoMemory) => return Err(Status::NoMemory),
+    };
+    let answer = match check(alloc, file, &entries) {
+        Ok(answer) => answer,
+        Err(Refusal::Wrong { entry, rule }) => {
+            let text = text::wrong_line(alloc, entry, rule)?;
+            let status = Status::Refused(LogRefusal::Wrong { entry, rule });
+            return Ok(Reply { status, text });
+        }
+        Err(Refusal::NoMemory) => return Err(Status::NoMemory),
+    };
+    let text = text::report(alloc, file, &answer)?;
+    Ok(Reply {
+        status: Status::Done,
+        text,
+    })
+}
+
+/// Reads the problem, then the log, and checks the log. An `Err` is a status without a text.
+pub(crate) fn examine<S: Source, L: Source>(
+    alloc: Global,
+    problem: &mut S,
+    log_in: &mut L,
+) -> Result<Reply, Status>
+    ensures told { IfOk result (λ r. Told r.status r.text
+        (sources (S.left problem.old) (S.faults problem.old) (L.left log_in.old) (L.faults log_in.old))
+        (sources (S.left problem.new) (S.faults problem.new) (L.left log_in.new) (L.faults log_in.new))) }
+    ensures silent { IfErr result (λ s. Silent s
+        (sources (S.left problem.old) (S.faults problem.old) (L.left log_in.old) (L.faults log_in.old))
+        (sources (S.left problem.new) (S.faults problem.new) (L.left log_in.new) (L.faults log_in.new))) }
+{
+    let bytes = match read_all(alloc, problem, PROBLEM_LIMIT) {
+        Ok(bytes) => bytes,
+        Err(ReadEnd::TooLong(read)) => {
+            let text = text::too_long_line(alloc, false, read)?;
+            let status = Status::TooLong { log: false, read };
+            return Ok(Reply { status, text });
+        }
+        Err(ReadEnd::Fault) => return Err(Status::ReadFault { log: false }),
+        Err(ReadEnd::NoMemory) => return Err(Status::NoMemory),
+    };
+    let file = match read_vlp(alloc, bytes.as_slice()) {
+        Ok(file) => file,
+        Err(VlpEnd::Fault(fault)) => {
+            let text = text::file_fault_line(alloc, fault)?;
+            let status = Status::FileFault(fault);
+            return Ok(Reply { status, text });
+        }
+        Err(VlpEnd::NoMemory) => return Err(Status::NoMemory),
+    };
+    let log = match read_all(alloc, log_in, LOG_LIMIT) {
+        Ok(log) => log,
+        Err(ReadEnd::TooLong(read)) => {
+            let text = text::too_long_line(alloc, true, read)?;
+            let status = Status::TooLong { log: true, read };
+            return Ok(Reply { status, text });
+        }
+        Err(ReadEnd::Fault) => return Err(Status::ReadFault { log: true }),
+        Err(ReadEnd::NoMemory) => return Err(Status::NoMemory),
+    };
+    examine_log(alloc, &file, log.as_slice())
+}

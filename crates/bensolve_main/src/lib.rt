@@ -1,0 +1,18 @@
+//! The top call: a command's words and four objects of the outside, to a status.
+#![tactic(auto)]
+
+mod command;
+mod examine;
+mod files;
+mod naming;
+mod status;
+mod text;
+mod top;
+
+pub use files::Paths;
+pub use naming::paths;
+pub use status::{LogRefusal, Status};
+pub use top::run;
+
+#[cfg(test)]
+mod tests;

@@ -1,0 +1,66 @@
+//! How a run ends.
+use cert_check::{LogFault, Rule};
+use src_sink::NoMemory;
+use vlp_reader::FileFault;
+
+/// Why a log is refused.
+#[derive(Clone, Copy, Debug, PartialEq, Eq)]
+pub enum LogRefusal {
+    /// The text is no log that is read.
+    Text(LogFault),
+    /// The first rule that fails, and the number of its entry, from 1.
+    Wrong { entry: u32, rule: Rule },
+}
+
+/// How a run ends. The numbers of the codes are those of `Status::code`.
+#[derive(Clone, Copy, Debug, PartialEq, Eq)]
+pub enum Status {
+    /// The answer was reported.
+    Done,
+    /// The words have none of the shapes of a command.
+    Words,
+    /// The problem's text is refused.
+    FileFault(FileFault),
+    /// Memory was wanting.
+    NoMemory,
+    /// The source of the problem failed, or that of the log.
+    ReadFault { log: bool },
+    /// The output failed, or that of the log, after a front of the text was written.
+    WriteFault { log: bool, sent: u64 },
+    /// The log is refused.
+    Refused(LogRefusal),
+    /// More bytes were read than the limit, and so many.
+    TooLong { log: bool, read: u64 },
+}
+
+impl Status {
+    ghost use Rattle.std.specs.Prelude.{◌≡◌};
+    ghost use Rattle.bensolve_main.specs.Codes.{code_of};
+
+    /// The code with which the program ends.
+    pub fn code(&self) -> u8
+        ensures { result ≡ code_of self.now }
+    {
+        match self {
+            Status::Done => 0,
+            Status::Words => 2,
+            Status::FileFault(_) => 3,
+            Status::NoMemory => 6,
+            Status::ReadFault { .. } => 7,
+            Status::WriteFault { .. } => 8,
+            Status::Refused(_) => 9,
+            Status::TooLong { .. } => 10,
+        }
+    }
+}
+
+impl From<NoMemory> for Status {
+    ghost use Rattle.std.specs.Prelude.{◌≡◌};
+    ghost use Rattle.bensolve_main.specs.declared.status.Status.TheVariants.{NoMemory};
+
+    ghost from_gives = { λ _ s. s ≡ NoMemory };
+
+    fn from(_e: NoMemory) -> Status {
+        Status::NoMemory
+    }
+}

@@ -1,0 +1,307 @@
+//! Whole runs over sources and a sink in memory: statuses and texts that no clause shows.
+ghost use Rattle.std.specs.Prelude.{◌<◌};
+
+use crate::{Status, paths, run};
+use src_sink::{Bytes, Items, MemSink, MemSource, NoMemory};
+use std::alloc::{AllocError, Global};
+use std::process::Abort;
+use std::test::Fail;
+
+/// A file whose sides contradict each other: x is at most 0 by its row, and at least 1 by its column.
+const FILE: &str = "p vlp min 1 1 1 1 1\na 1 1 1\no 1 1 1\ni 1 u 0\nj 1 l 1\ne\n";
+
+/// Multipliers that show it.
+const LOG: &str = "version 1\nfarkas 2 1 1 2 1\nend infeasible\n";
+
+const REPORT: &str = "report 1\nanswer infeasible\nfree 0 0\nwitnesses\nu 2 1 1 2 1\n";
+
+/// The reports of the same file with 9 rows, and with 9 columns, of which 8 have no bounds.
+const FREE_ROWS: &str = "report 1\nanswer infeasible\nfree 8 0\nwitnesses\nu 2 1 1 2 1\n";
+
+const FREE_COLUMNS: &str = "report 1\nanswer infeasible\nfree 0 8\nwitnesses\nu 2 1 1 2 1\n";
+
+/// Lower and upper bounds on rows and columns: x + y is at most 1, x - y at least 0, x at most 5 and y at
+/// least 1. The third side is not needed for the contradiction.
+const WIDE: &str =
+    "p vlp min 2 2 4 1 1\na 1 1 1\na 1 2 1\na 2 1 1\na 2 2 -1\no 1 1 1\ni 1 u 1\ni 2 l 0\nj 1 u 5\nj 2 l 1\ne\n";
+
+/// What the outside does: the bytes that a call moves, and the number of the call of each object that
+/// fails, 0 for none.
+#[derive(Clone, Copy)]
+struct Faults {
+    problem: u64,
+    log: u64,
+    out: u64,
+}
+
+const NO_FAULTS: Faults = Faults {
+    problem: 0,
+    log: 0,
+    out: 0,
+};
+
+/// A list of one number, or of none for 0.
+fn numbers(alloc: Global, number: u64) -> Result<Items<u64>, NoMemory> {
+    let mut list = Items::new(alloc);
+    if number > 0 {
+        list.push(number)?;
+    }
+    Ok(list)
+}
+
+fn source(alloc: Global, text: &[u8], most: usize, fails: u64) -> Result<MemSource, NoMemory>
+    requires { 0 < most }
+{
+    let mut contents = Bytes::new(alloc);
+    contents.append(text)?;
+    Ok(MemSource::new(contents, most, numbers(alloc, fails)?))
+}
+
+/// The words, each as a text of its own.
+fn words(alloc: Global, list: &[&str]) -> Result<Vec<String>, AllocError> {
+    let mut words = Vec::new(alloc);
+    for word in list {
+        words.push(String::from_str(alloc, word)?)?;
+    }
+    Ok(words)
+}
+
+/// The status of `check` on two texts, and what was written.
+fn check(
+    alloc: Global,
+    file: &[u8],
+    log: &[u8],
+    most: usize,
+    faults: Faults,
+) -> Result<(Status, MemSink), Fail>
+    requires { 0 < most }
+{
+    let words = words(alloc, &["check", "file", "log"])?;
+    let mut problem = source(alloc, file, most, faults.problem)?;
+    let mut log_in = source(alloc, log, most, faults.log)?;
+    let mut out = MemSink::new(alloc, 1000, most, numbers(alloc, faults.out)?)?;
+    let mut log_out = MemSink::new(alloc, 0, 1, Items::new(alloc))?;
+    let status = run(
+        alloc,
+        words.as_slice(),
+        &mut problem,
+        &mut log_in,
+        &mut out,
+        &mut log_out,
+    );
+    Ok((status, out))
+}
+
+#[test]
+fn tells_each_refusal_by_its_line(rt: HostRuntime) -> Result<(), Fail> {
+    let table = [
+        (FILE, LOG, 0, REPORT),
+        (
+            WIDE,
+            "version 1\nfarkas 3 1 1 2 1 4 2\nend infeasible\n",
+            0,
+            "report 1\nanswer infeasible\nfree 0 0\nwitnesses\nu 3 1 1 2 1 4 2\n",
+        ),
+        (
+            FILE,
+            "version 1\nfarkas 2 1 1 2 2\nend infeasible\n",
+            9,
+            "fault 9 entry 2 rule 8 Balance\n",
+        ),
+        (
+            FILE,
+            "version 1\nfarkas 0\nend infeasible\n",
+            9,
+            "fault 9 entry 2 rule 10 Bound\n",
+        ),
+        (
+            FILE,
+            "version 1\nend infeasible\n",
+            9,
+            "fault 9 entry 2 rule 15 Missing\n",
+        ),
+        (
+            FILE,
+            "version 2\nend infeasible\n",
+            9,
+            "fault 9 entry 1 rule 1 Version\n",
+        ),
+        (
+            FILE,
+            "farkas 2 1 1 2 1\nend infeasible\n",
+            9,
+            "fault 9 entry 1 rule 2 Order\n",
+        ),
+        (
+            WIDE,
+            "version 1\nfarkas 4 1 1 2 1 4 2 5 1\nend infeasible\n",
+            9,
+            "fault 9 entry 2 rule 4 Index\n",
+        ),
+        (
+            WIDE,
+            "version 1\nfarkas 3 1 1 2 -1 4 2\nend infeasible\n",
+            9,
+            "fault 9 entry 2 rule 7 Sign\n",
+        ),
+        ("", LOG, 3, "fault 3 line 0 kind 10 NotBuilt\n"),
+        (FILE, "", 9, "fault 9 line 0 kind 6 NotBuilt\n"),
+    ];
+    for (file, log, code, text) in table {
+        let (status, out) = check(rt.alloc(), file.as_bytes(), log.as_bytes(), 10, NO_FAULTS)?;
+        assert_eq!(rt; out.contents(), text.as_bytes());
+        assert_eq!(rt; status.code(), code, "of {text:?}");
+    }
+    Ok(())
+}
+
+#[test]
+fn words_without_a_shape_call_nothing(rt: HostRuntime) -> Result<(), Fail> {
+    let shapeless: [&[&str]; 4] = [
+        &["check", "a", "a"],
+        &["check", "a"],
+        &[],
+        &["solve", "a", "b"],
+    ];
+    for list in shapeless {
+        let words = words(rt.alloc(), list)?;
+        let mut problem = source(rt.alloc(), FILE.as_bytes(), 10, 1)?;
+        let mut log_in = source(rt.alloc(), LOG.as_bytes(), 10, 1)?;
+        let mut out = MemSink::new(rt.alloc(), 100, 10, numbers(rt.alloc(), 1)?)?;
+        let mut log_out = MemSink::new(rt.alloc(), 100, 10, numbers(rt.alloc(), 1)?)?;
+        let status = run(
+            rt.alloc(),
+            words.as_slice(),
+            &mut problem,
+            &mut log_in,
+            &mut out,
+            &mut log_out,
+        );
+        assert_eq!(rt; status, Status::Words);
+        assert_eq!(rt; status.code(), 2);
+        assert!(rt; out.contents().is_empty() && log_out.contents().is_empty());
+        assert!(rt; paths(words.as_slice()).problem.is_none());
+    }
+    Ok(())
+}
+
+#[test]
+fn faults_of_the_outside_leave_a_front_of_the_text(rt: HostRuntime) -> Result<(), Fail> {
+    let faults = Faults {
+        problem: 2,
+        ..NO_FAULTS
+    };
+    let (status, out) = check(rt.alloc(), FILE.as_bytes(), LOG.as_bytes(), 10, faults)?;
+    assert_eq!(rt; status, Status::ReadFault { log: false });
+    assert!(rt; out.contents().is_empty());
+    let faults = Faults {
+        out: 2,
+        ..NO_FAULTS
+    };
+    let (status, out) = check(rt.alloc(), FILE.as_bytes(), LOG.as_bytes(), 10, faults)?;
+    assert_eq!(rt;
+        status,
+        Status::WriteFault {
+            log: false,
+            sent: 10
+        }
+    );
+    assert_eq!(rt; out.contents(), b"report 1\na".as_slice());
+    for most in [1usize, 7, 4096] {
+        for call in 1u64..=20 {
+            let each = [
+                (
+                    Faults {
+                        problem: call,
+                        ..NO_FAULTS
+                    },
+                    7,
+                ),
+                (
+                    Faults {
+                        log: call,
+                        ..NO_FAULTS
+                    },
+                    7,
+                ),
+                (
+                    Faults {
+                        out: call,
+                        ..NO_FAULTS
+                    },
+                    8,
+                ),
+            ];
+            for (faults, code) in each {
+                let (status, out) = check(
+                    rt.alloc(),
+                    FILE.as_bytes(),
+                    LOG.as_bytes(),
+                    most.max(1),
+                    faults,
+                )?;
+                assert!(rt; status.code() == 0 || status.code() == code, "{status:?}");
+                assert!(rt; REPORT.as_bytes().starts_with(out.contents()));
+                assert!(rt; status != Status::Done || out.contents() == REPORT.as_bytes());
+            }
+        }
+    }
+    Ok(())
+}
+
+/// Two texts are answered by a status that a file or a log can have, and by one of the reports only with
+/// status 0.
+fn is_answered(
+    rt: &(impl Abort + AllocGlobal),
+    file: &[u8],
+    log: &[u8],
+    reports: &[&str],
+) -> Result<(), Fail> {
+    let (status, out) = check(rt.alloc(), file, log, 4096, NO_FAULTS)?;
+    match status {
+        Status::Done => {
+            assert!(rt;
+                reports
+                    .iter()
+                    .any(|report| report.as_bytes() == out.contents())
+            );
+        }
+        Status::FileFault(_) => assert!(rt; out.contents().starts_with(b"fault 3 ")),
+        Status::Refused(_) => assert!(rt; out.contents().starts_with(b"fault 9 ")),
+        _ => assert!(rt; false, "{status:?}"),
+    }
+    Ok(())
+}
+
+#[test]
+fn each_front_and_each_change_is_answered(rt: HostRuntime) -> Result<(), Fail> {
+    for end in 0..FILE.len() {
+        is_answered(&rt, &FILE.as_bytes()[..end], LOG.as_bytes(), &[])?;
+        let mut text = FILE.as_bytes().to_vec(rt.alloc())?;
+        text[end] = b'9';
+        let reports = [REPORT, FREE_ROWS, FREE_COLUMNS];
+        is_answered(&rt, text.as_slice(), LOG.as_bytes(), &reports)?;
+    }
+    for end in 0..LOG.len() {
+        is_answered(&rt, FILE.as_bytes(), &LOG.as_bytes()[..end], &[])?;
+        let mut text = LOG.as_bytes().to_vec(rt.alloc())?;
+        text[end] = b'9';
+        is_answered(&rt, FILE.as_bytes(), text.as_slice(), &[REPORT])?;
+    }
+    Ok(())
+}
+
+#[test]
+fn one_byte_more_than_the_limit_is_too_long(rt: HostRuntime) -> Result<(), Fail> {
+    let text = vec![in rt.alloc(); b' '; 16_777_217]?;
+    let (status, out) = check(rt.alloc(), text.as_slice(), LOG.as_bytes(), 4096, NO_FAULTS)?;
+    assert_eq!(rt;
+        status,
+        Status::TooLong {
+            log: false,
+            read: 16_777_217
+        }
+    );
+    assert_eq!(rt; out.contents(), b"fault 10 problem 16777217\n".as_slice());
+    Ok(())
+}
