@@ -2,3 +2,4 @@ pub mod Outside
 pub mod Ends
 pub mod Memory
 pub mod Edge
+pub mod Texts

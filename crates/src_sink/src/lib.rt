@@ -8,12 +8,14 @@ mod edge;
 mod items;
 mod memory;
 mod outside;
+mod pieces;
 mod whole;
 
 pub use edge::{StdSink, StdSource};
 pub use items::{Bytes, Items, MOST_ITEMS, NoMemory};
 pub use memory::{MemSink, MemSource};
 pub use outside::{Failed, Sink, Source};
+pub use pieces::first_piece;
 pub use whole::{ReadEnd, WriteFault, read_all, write_all};
 
 #[cfg(test)]
