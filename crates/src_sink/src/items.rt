@@ -1,5 +1,5 @@
 //! Lists whose places fit a `u32`.
-ghost use Rattle.std.specs.Prelude.{◌≡◌, ◌≤◌, ℕ, List, [], ◌∷◌, ◌++◌, length, OnOk, OnErr};
+ghost use Rattle.std.specs.Prelude.{◌≡◌, ◌≤◌, ℕ, List, [], ◌∷◌, ◌++◌, length, IfOk, OnOk, OnErr};
 
 use std::alloc::{AllocError, AllocFailed, Global};
 use std::marker::Model;
@@ -55,6 +55,17 @@ impl<T> Items<T> {
         Items {
             list: Vec::new(alloc),
         }
+    }
+
+    /// The empty list, with memory for so many items.
+    pub fn with_room(alloc: Global, room: usize) -> Result<Items<T>, NoMemory>
+        ensures { IfOk result (λ list. list ≡ []) }
+    {
+        if room > MOST_ITEMS {
+            return Err(NoMemory);
+        }
+        let list = Vec::with_capacity(alloc, room)?;
+        Ok(Items { list })
     }
 
     /// The items of `list`, in their order. No memory is taken.

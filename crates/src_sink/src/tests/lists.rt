@@ -59,7 +59,7 @@ fn half(alloc: Global) -> Result<Items<Percent>, NoMemory>
 fn twice<T: Copy>(alloc: Global, item: T) -> Result<Items<T>, NoMemory>
     ensures { IfOk result (λ items. items ≡ item ∷ item ∷ []) }
 {
-    let mut items = Items::new(alloc);
+    let mut items = Items::with_room(alloc, 2)?;
     items.push(item)?;
     items.push(item)?;
     Ok(items)

@@ -1,0 +1,14 @@
+mod Cutting
+mod Numerals
+mod Fractions
+mod Forms
+mod Entries
+mod Written
+mod OneEntry
+mod Lines
+mod Laws
+mod Reading
+mod Taken
+mod Fronts
+mod LineByLine
+mod Printed

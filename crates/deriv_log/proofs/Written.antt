@@ -1,0 +1,315 @@
+-- Words that pass the tests of a line are those of an entry, and of one only.
+use Rattle.std.proofs.Common.{◌≡◌, refl, ℕ, true, false, not, ◌||◌, ◌==◌, Bool, List, [], ◌∷◌, length, map, ap, sym, ◌∙◌, codes, None, Some, Option, if◌then◌else◌, Ok, Err}
+use Rattle.std.specs.List.{list_all, list_any, flat_map, slice_split}
+use Rattle.std.proofs.lemmas.List.Splits.{join_with_byte-slice_split}
+use Rattle.std.proofs.lemmas.List.{append-nil}
+use Rattle.src_sink.specs.Texts.{words_text}
+use Rattle.exact_field.specs.Rational.{ℚ}
+use Rattle.frac128.specs.declared.vectors.Spot.{Spot}
+use Rattle.deriv_log.specs.Formed.{is_formed_part, is_formed}
+use Rattle.deriv_log.specs.LineFault.{Form, form_of, forms_of, behind_all, behind_name, left_over, Left, words_fault, line_fault}
+use Rattle.deriv_log.specs.LineFault as form
+use Rattle.deriv_log.specs.LogText.{Part, natural, number, vector, naturals, sparse, pairs, kind, part_words, entry_name, entry_parts, entry_words, entry_text}
+use Rattle.deriv_log.specs.Numerals.{same_word}
+use Rattle.deriv_log.specs.declared.entry.LogPair.{LogPair}
+use Rattle.deriv_log.specs.declared.entry.EndKind.{EndKind}
+use Rattle.deriv_log.specs.declared.entry.Entry.{Entry}
+use Rattle.deriv_log.specs.declared.entry.Entry.TheVariants.{Version, Duality, Cut, Start, Add, Point, Ray, Farkas, Whole, Line, Facet, End}
+use Rattle.deriv_log.specs.declared.fault.LogKind.{LogKind}
+use Rattle.deriv_log.specs.declared.fault.LogKind.TheVariants.{BadLine}
+use Rattle.deriv_log.proofs.Numerals.{same_word-true}
+use Rattle.deriv_log.proofs.Forms.{Words, parts_found}
+
+-- a part of each form
+
+is_natural : (p : Part) → form_of p ≡ form.natural → (v : ℕ) × (p ≡ natural v)
+is_natural (natural v) e = (v, refl)
+is_natural (number v) e = cc
+is_natural (vector v) e = cc
+is_natural (naturals v) e = cc
+is_natural (sparse v) e = cc
+is_natural (pairs v) e = cc
+is_natural (kind v) e = cc
+
+is_number : (p : Part) → form_of p ≡ form.number → (v : ℚ) × (p ≡ number v)
+is_number (natural v) e = cc
+is_number (number v) e = (v, refl)
+is_number (vector v) e = cc
+is_number (naturals v) e = cc
+is_number (sparse v) e = cc
+is_number (pairs v) e = cc
+is_number (kind v) e = cc
+
+is_vector : (p : Part) → form_of p ≡ form.vector → (v : List ℚ) × (p ≡ vector v)
+is_vector (natural v) e = cc
+is_vector (number v) e = cc
+is_vector (vector v) e = (v, refl)
+is_vector (naturals v) e = cc
+is_vector (sparse v) e = cc
+is_vector (pairs v) e = cc
+is_vector (kind v) e = cc
+
+is_naturals : (p : Part) → form_of p ≡ form.naturals → (v : List ℕ) × (p ≡ naturals v)
+is_naturals (natural v) e = cc
+is_naturals (number v) e = cc
+is_naturals (vector v) e = cc
+is_naturals (naturals v) e = (v, refl)
+is_naturals (sparse v) e = cc
+is_naturals (pairs v) e = cc
+is_naturals (kind v) e = cc
+
+is_sparse : (p : Part) → form_of p ≡ form.sparse → (v : List Spot) × (p ≡ sparse v)
+is_sparse (natural v) e = cc
+is_sparse (number v) e = cc
+is_sparse (vector v) e = cc
+is_sparse (naturals v) e = cc
+is_sparse (sparse v) e = (v, refl)
+is_sparse (pairs v) e = cc
+is_sparse (kind v) e = cc
+
+is_pairs : (p : Part) → form_of p ≡ form.pairs → (v : List LogPair) × (p ≡ pairs v)
+is_pairs (natural v) e = cc
+is_pairs (number v) e = cc
+is_pairs (vector v) e = cc
+is_pairs (naturals v) e = cc
+is_pairs (sparse v) e = cc
+is_pairs (pairs v) e = (v, refl)
+is_pairs (kind v) e = cc
+
+is_kind : (p : Part) → form_of p ≡ form.kind → (v : EndKind) × (p ≡ kind v)
+is_kind (natural v) e = cc
+is_kind (number v) e = cc
+is_kind (vector v) e = cc
+is_kind (naturals v) e = cc
+is_kind (sparse v) e = cc
+is_kind (pairs v) e = cc
+is_kind (kind v) e = (v, refl)
+
+-- the first of some parts, and those behind it
+more_parts : (f : Form) (fs : List Form) (ps : List Part) → f ∷ fs ≡ map form_of ps → (p : Part) × (rest : List Part) × (ps ≡ p ∷ rest) × (form_of p ≡ f) × (fs ≡ map form_of rest)
+more_parts f fs [] e = cc
+more_parts f fs (p ∷ ps) e = (p, ps, refl, cc, cc)
+
+no_parts : (ps : List Part) → [] ≡ map form_of ps → ps ≡ []
+no_parts [] e = refl
+no_parts (p ∷ ps) e = cc
+
+-- the entry of a name and parts
+abbrev pub EntryOf : List ℕ → List Part → Type 0
+EntryOf name ps = (e : Entry) × (entry_name e ≡ name) × (entry_parts e ≡ ps)
+
+some_same : (fs gs : List Form) → Some fs ≡ Some gs → fs ≡ gs
+some_same fs gs e = cc
+
+version_entry : (name : List ℕ) (ps : List Part) → name ≡ codes "version" → form.natural ∷ [] ≡ map form_of ps → EntryOf name ps
+version_entry name ps is e =
+    let p0 = more_parts form.natural ([]) ps e in
+    let v0 = is_natural p0.0 p0.3 in
+    let none = no_parts p0.1 p0.4 in
+    (Version v0.0, sym is, sym (p0.2 ∙ (λ i. v0.1 i ∷ none i)))
+
+duality_entry : (name : List ℕ) (ps : List Part) → name ≡ codes "duality" → form.vector ∷ form.vector ∷ form.naturals ∷ form.vector ∷ [] ≡ map form_of ps → EntryOf name ps
+duality_entry name ps is e =
+    let p0 = more_parts form.vector (form.vector ∷ form.naturals ∷ form.vector ∷ []) ps e in
+    let v0 = is_vector p0.0 p0.3 in
+    let p1 = more_parts form.vector (form.naturals ∷ form.vector ∷ []) p0.1 p0.4 in
+    let v1 = is_vector p1.0 p1.3 in
+    let p2 = more_parts form.naturals (form.vector ∷ []) p1.1 p1.4 in
+    let v2 = is_naturals p2.0 p2.3 in
+    let p3 = more_parts form.vector ([]) p2.1 p2.4 in
+    let v3 = is_vector p3.0 p3.3 in
+    let none = no_parts p3.1 p3.4 in
+    (Duality v0.0 v1.0 v2.0 v3.0, sym is, sym (p0.2 ∙ (λ i. v0.1 i ∷ (p1.2 ∙ (λ i. v1.1 i ∷ (p2.2 ∙ (λ i. v2.1 i ∷ (p3.2 ∙ (λ i. v3.1 i ∷ none i)) i)) i)) i)))
+
+cut_entry : (name : List ℕ) (ps : List Part) → name ≡ codes "cut" → form.vector ∷ form.number ∷ form.sparse ∷ form.sparse ∷ [] ≡ map form_of ps → EntryOf name ps
+cut_entry name ps is e =
+    let p0 = more_parts form.vector (form.number ∷ form.sparse ∷ form.sparse ∷ []) ps e in
+    let v0 = is_vector p0.0 p0.3 in
+    let p1 = more_parts form.number (form.sparse ∷ form.sparse ∷ []) p0.1 p0.4 in
+    let v1 = is_number p1.0 p1.3 in
+    let p2 = more_parts form.sparse (form.sparse ∷ []) p1.1 p1.4 in
+    let v2 = is_sparse p2.0 p2.3 in
+    let p3 = more_parts form.sparse ([]) p2.1 p2.4 in
+    let v3 = is_sparse p3.0 p3.3 in
+    let none = no_parts p3.1 p3.4 in
+    (Cut v0.0 v1.0 v2.0 v3.0, sym is, sym (p0.2 ∙ (λ i. v0.1 i ∷ (p1.2 ∙ (λ i. v1.1 i ∷ (p2.2 ∙ (λ i. v2.1 i ∷ (p3.2 ∙ (λ i. v3.1 i ∷ none i)) i)) i)) i)))
+
+start_entry : (name : List ℕ) (ps : List Part) → name ≡ codes "start" → form.naturals ∷ form.vector ∷ form.vector ∷ [] ≡ map form_of ps → EntryOf name ps
+start_entry name ps is e =
+    let p0 = more_parts form.naturals (form.vector ∷ form.vector ∷ []) ps e in
+    let v0 = is_naturals p0.0 p0.3 in
+    let p1 = more_parts form.vector (form.vector ∷ []) p0.1 p0.4 in
+    let v1 = is_vector p1.0 p1.3 in
+    let p2 = more_parts form.vector ([]) p1.1 p1.4 in
+    let v2 = is_vector p2.0 p2.3 in
+    let none = no_parts p2.1 p2.4 in
+    (Start v0.0 v1.0 v2.0, sym is, sym (p0.2 ∙ (λ i. v0.1 i ∷ (p1.2 ∙ (λ i. v1.1 i ∷ (p2.2 ∙ (λ i. v2.1 i ∷ none i)) i)) i)))
+
+add_entry : (name : List ℕ) (ps : List Part) → name ≡ codes "add" → form.natural ∷ form.pairs ∷ [] ≡ map form_of ps → EntryOf name ps
+add_entry name ps is e =
+    let p0 = more_parts form.natural (form.pairs ∷ []) ps e in
+    let v0 = is_natural p0.0 p0.3 in
+    let p1 = more_parts form.pairs ([]) p0.1 p0.4 in
+    let v1 = is_pairs p1.0 p1.3 in
+    let none = no_parts p1.1 p1.4 in
+    (Add v0.0 v1.0, sym is, sym (p0.2 ∙ (λ i. v0.1 i ∷ (p1.2 ∙ (λ i. v1.1 i ∷ none i)) i)))
+
+point_entry : (name : List ℕ) (ps : List Part) → name ≡ codes "point" → form.natural ∷ form.sparse ∷ form.sparse ∷ [] ≡ map form_of ps → EntryOf name ps
+point_entry name ps is e =
+    let p0 = more_parts form.natural (form.sparse ∷ form.sparse ∷ []) ps e in
+    let v0 = is_natural p0.0 p0.3 in
+    let p1 = more_parts form.sparse (form.sparse ∷ []) p0.1 p0.4 in
+    let v1 = is_sparse p1.0 p1.3 in
+    let p2 = more_parts form.sparse ([]) p1.1 p1.4 in
+    let v2 = is_sparse p2.0 p2.3 in
+    let none = no_parts p2.1 p2.4 in
+    (Point v0.0 v1.0 v2.0, sym is, sym (p0.2 ∙ (λ i. v0.1 i ∷ (p1.2 ∙ (λ i. v1.1 i ∷ (p2.2 ∙ (λ i. v2.1 i ∷ none i)) i)) i)))
+
+ray_entry : (name : List ℕ) (ps : List Part) → name ≡ codes "ray" → form.natural ∷ form.sparse ∷ form.sparse ∷ [] ≡ map form_of ps → EntryOf name ps
+ray_entry name ps is e =
+    let p0 = more_parts form.natural (form.sparse ∷ form.sparse ∷ []) ps e in
+    let v0 = is_natural p0.0 p0.3 in
+    let p1 = more_parts form.sparse (form.sparse ∷ []) p0.1 p0.4 in
+    let v1 = is_sparse p1.0 p1.3 in
+    let p2 = more_parts form.sparse ([]) p1.1 p1.4 in
+    let v2 = is_sparse p2.0 p2.3 in
+    let none = no_parts p2.1 p2.4 in
+    (Ray v0.0 v1.0 v2.0, sym is, sym (p0.2 ∙ (λ i. v0.1 i ∷ (p1.2 ∙ (λ i. v1.1 i ∷ (p2.2 ∙ (λ i. v2.1 i ∷ none i)) i)) i)))
+
+farkas_entry : (name : List ℕ) (ps : List Part) → name ≡ codes "farkas" → form.sparse ∷ [] ≡ map form_of ps → EntryOf name ps
+farkas_entry name ps is e =
+    let p0 = more_parts form.sparse ([]) ps e in
+    let v0 = is_sparse p0.0 p0.3 in
+    let none = no_parts p0.1 p0.4 in
+    (Farkas v0.0, sym is, sym (p0.2 ∙ (λ i. v0.1 i ∷ none i)))
+
+whole_entry : (name : List ℕ) (ps : List Part) → name ≡ codes "whole" → form.sparse ∷ form.sparse ∷ form.sparse ∷ [] ≡ map form_of ps → EntryOf name ps
+whole_entry name ps is e =
+    let p0 = more_parts form.sparse (form.sparse ∷ form.sparse ∷ []) ps e in
+    let v0 = is_sparse p0.0 p0.3 in
+    let p1 = more_parts form.sparse (form.sparse ∷ []) p0.1 p0.4 in
+    let v1 = is_sparse p1.0 p1.3 in
+    let p2 = more_parts form.sparse ([]) p1.1 p1.4 in
+    let v2 = is_sparse p2.0 p2.3 in
+    let none = no_parts p2.1 p2.4 in
+    (Whole v0.0 v1.0 v2.0, sym is, sym (p0.2 ∙ (λ i. v0.1 i ∷ (p1.2 ∙ (λ i. v1.1 i ∷ (p2.2 ∙ (λ i. v2.1 i ∷ none i)) i)) i)))
+
+line_entry : (name : List ℕ) (ps : List Part) → name ≡ codes "line" → form.vector ∷ form.sparse ∷ form.sparse ∷ form.sparse ∷ form.sparse ∷ form.sparse ∷ [] ≡ map form_of ps → EntryOf name ps
+line_entry name ps is e =
+    let p0 = more_parts form.vector (form.sparse ∷ form.sparse ∷ form.sparse ∷ form.sparse ∷ form.sparse ∷ []) ps e in
+    let v0 = is_vector p0.0 p0.3 in
+    let p1 = more_parts form.sparse (form.sparse ∷ form.sparse ∷ form.sparse ∷ form.sparse ∷ []) p0.1 p0.4 in
+    let v1 = is_sparse p1.0 p1.3 in
+    let p2 = more_parts form.sparse (form.sparse ∷ form.sparse ∷ form.sparse ∷ []) p1.1 p1.4 in
+    let v2 = is_sparse p2.0 p2.3 in
+    let p3 = more_parts form.sparse (form.sparse ∷ form.sparse ∷ []) p2.1 p2.4 in
+    let v3 = is_sparse p3.0 p3.3 in
+    let p4 = more_parts form.sparse (form.sparse ∷ []) p3.1 p3.4 in
+    let v4 = is_sparse p4.0 p4.3 in
+    let p5 = more_parts form.sparse ([]) p4.1 p4.4 in
+    let v5 = is_sparse p5.0 p5.3 in
+    let none = no_parts p5.1 p5.4 in
+    (Line v0.0 v1.0 v2.0 v3.0 v4.0 v5.0, sym is, sym (p0.2 ∙ (λ i. v0.1 i ∷ (p1.2 ∙ (λ i. v1.1 i ∷ (p2.2 ∙ (λ i. v2.1 i ∷ (p3.2 ∙ (λ i. v3.1 i ∷ (p4.2 ∙ (λ i. v4.1 i ∷ (p5.2 ∙ (λ i. v5.1 i ∷ none i)) i)) i)) i)) i)) i)))
+
+facet_entry : (name : List ℕ) (ps : List Part) → name ≡ codes "facet" → form.natural ∷ [] ≡ map form_of ps → EntryOf name ps
+facet_entry name ps is e =
+    let p0 = more_parts form.natural ([]) ps e in
+    let v0 = is_natural p0.0 p0.3 in
+    let none = no_parts p0.1 p0.4 in
+    (Facet v0.0, sym is, sym (p0.2 ∙ (λ i. v0.1 i ∷ none i)))
+
+end_entry : (name : List ℕ) (ps : List Part) → name ≡ codes "end" → form.kind ∷ [] ≡ map form_of ps → EntryOf name ps
+end_entry name ps is e =
+    let p0 = more_parts form.kind ([]) ps e in
+    let v0 = is_kind p0.0 p0.3 in
+    let none = no_parts p0.1 p0.4 in
+    (End v0.0, sym is, sym (p0.2 ∙ (λ i. v0.1 i ∷ none i)))
+
+-- a name and parts of the forms that it takes are those of an entry
+entry_of : (name : List ℕ) (ps : List Part) → forms_of name ≡ Some (map form_of ps) → EntryOf name ps
+entry_of name ps h = by0 (same_word name (codes "version")) refl h
+  where
+    by11 : (b : Bool) → same_word name (codes "end") ≡ b → (if b then Some (form.kind ∷ []) else None) ≡ Some (map form_of ps) → EntryOf name ps
+    by11 true e k = end_entry name ps (same_word-true name (codes "end") e) (some_same _ _ k)
+    by11 false e k = cc
+
+    by10 : (b : Bool) → same_word name (codes "facet") ≡ b → (if b then Some (form.natural ∷ []) else (if same_word name (codes "end") then Some (form.kind ∷ []) else None)) ≡ Some (map form_of ps) → EntryOf name ps
+    by10 true e k = facet_entry name ps (same_word-true name (codes "facet") e) (some_same _ _ k)
+    by10 false e k = by11 (same_word name (codes "end")) refl k
+
+    by9 : (b : Bool) → same_word name (codes "line") ≡ b → (if b then Some (form.vector ∷ form.sparse ∷ form.sparse ∷ form.sparse ∷ form.sparse ∷ form.sparse ∷ []) else (if same_word name (codes "facet") then Some (form.natural ∷ []) else (if same_word name (codes "end") then Some (form.kind ∷ []) else None))) ≡ Some (map form_of ps) → EntryOf name ps
+    by9 true e k = line_entry name ps (same_word-true name (codes "line") e) (some_same _ _ k)
+    by9 false e k = by10 (same_word name (codes "facet")) refl k
+
+    by8 : (b : Bool) → same_word name (codes "whole") ≡ b → (if b then Some (form.sparse ∷ form.sparse ∷ form.sparse ∷ []) else (if same_word name (codes "line") then Some (form.vector ∷ form.sparse ∷ form.sparse ∷ form.sparse ∷ form.sparse ∷ form.sparse ∷ []) else (if same_word name (codes "facet") then Some (form.natural ∷ []) else (if same_word name (codes "end") then Some (form.kind ∷ []) else None)))) ≡ Some (map form_of ps) → EntryOf name ps
+    by8 true e k = whole_entry name ps (same_word-true name (codes "whole") e) (some_same _ _ k)
+    by8 false e k = by9 (same_word name (codes "line")) refl k
+
+    by7 : (b : Bool) → same_word name (codes "farkas") ≡ b → (if b then Some (form.sparse ∷ []) else (if same_word name (codes "whole") then Some (form.sparse ∷ form.sparse ∷ form.sparse ∷ []) else (if same_word name (codes "line") then Some (form.vector ∷ form.sparse ∷ form.sparse ∷ form.sparse ∷ form.sparse ∷ form.sparse ∷ []) else (if same_word name (codes "facet") then Some (form.natural ∷ []) else (if same_word name (codes "end") then Some (form.kind ∷ []) else None))))) ≡ Some (map form_of ps) → EntryOf name ps
+    by7 true e k = farkas_entry name ps (same_word-true name (codes "farkas") e) (some_same _ _ k)
+    by7 false e k = by8 (same_word name (codes "whole")) refl k
+
+    by6 : (b : Bool) → same_word name (codes "ray") ≡ b → (if b then Some (form.natural ∷ form.sparse ∷ form.sparse ∷ []) else (if same_word name (codes "farkas") then Some (form.sparse ∷ []) else (if same_word name (codes "whole") then Some (form.sparse ∷ form.sparse ∷ form.sparse ∷ []) else (if same_word name (codes "line") then Some (form.vector ∷ form.sparse ∷ form.sparse ∷ form.sparse ∷ form.sparse ∷ form.sparse ∷ []) else (if same_word name (codes "facet") then Some (form.natural ∷ []) else (if same_word name (codes "end") then Some (form.kind ∷ []) else None)))))) ≡ Some (map form_of ps) → EntryOf name ps
+    by6 true e k = ray_entry name ps (same_word-true name (codes "ray") e) (some_same _ _ k)
+    by6 false e k = by7 (same_word name (codes "farkas")) refl k
+
+    by5 : (b : Bool) → same_word name (codes "point") ≡ b → (if b then Some (form.natural ∷ form.sparse ∷ form.sparse ∷ []) else (if same_word name (codes "ray") then Some (form.natural ∷ form.sparse ∷ form.sparse ∷ []) else (if same_word name (codes "farkas") then Some (form.sparse ∷ []) else (if same_word name (codes "whole") then Some (form.sparse ∷ form.sparse ∷ form.sparse ∷ []) else (if same_word name (codes "line") then Some (form.vector ∷ form.sparse ∷ form.sparse ∷ form.sparse ∷ form.sparse ∷ form.sparse ∷ []) else (if same_word name (codes "facet") then Some (form.natural ∷ []) else (if same_word name (codes "end") then Some (form.kind ∷ []) else None))))))) ≡ Some (map form_of ps) → EntryOf name ps
+    by5 true e k = point_entry name ps (same_word-true name (codes "point") e) (some_same _ _ k)
+    by5 false e k = by6 (same_word name (codes "ray")) refl k
+
+    by4 : (b : Bool) → same_word name (codes "add") ≡ b → (if b then Some (form.natural ∷ form.pairs ∷ []) else (if same_word name (codes "point") then Some (form.natural ∷ form.sparse ∷ form.sparse ∷ []) else (if same_word name (codes "ray") then Some (form.natural ∷ form.sparse ∷ form.sparse ∷ []) else (if same_word name (codes "farkas") then Some (form.sparse ∷ []) else (if same_word name (codes "whole") then Some (form.sparse ∷ form.sparse ∷ form.sparse ∷ []) else (if same_word name (codes "line") then Some (form.vector ∷ form.sparse ∷ form.sparse ∷ form.sparse ∷ form.sparse ∷ form.sparse ∷ []) else (if same_word name (codes "facet") then Some (form.natural ∷ []) else (if same_word name (codes "end") then Some (form.kind ∷ []) else None)))))))) ≡ Some (map form_of ps) → EntryOf name ps
+    by4 true e k = add_entry name ps (same_word-true name (codes "add") e) (some_same _ _ k)
+    by4 false e k = by5 (same_word name (codes "point")) refl k
+
+    by3 : (b : Bool) → same_word name (codes "start") ≡ b → (if b then Some (form.naturals ∷ form.vector ∷ form.vector ∷ []) else (if same_word name (codes "add") then Some (form.natural ∷ form.pairs ∷ []) else (if same_word name (codes "point") then Some (form.natural ∷ form.sparse ∷ form.sparse ∷ []) else (if same_word name (codes "ray") then Some (form.natural ∷ form.sparse ∷ form.sparse ∷ []) else (if same_word name (codes "farkas") then Some (form.sparse ∷ []) else (if same_word name (codes "whole") then Some (form.sparse ∷ form.sparse ∷ form.sparse ∷ []) else (if same_word name (codes "line") then Some (form.vector ∷ form.sparse ∷ form.sparse ∷ form.sparse ∷ form.sparse ∷ form.sparse ∷ []) else (if same_word name (codes "facet") then Some (form.natural ∷ []) else (if same_word name (codes "end") then Some (form.kind ∷ []) else None))))))))) ≡ Some (map form_of ps) → EntryOf name ps
+    by3 true e k = start_entry name ps (same_word-true name (codes "start") e) (some_same _ _ k)
+    by3 false e k = by4 (same_word name (codes "add")) refl k
+
+    by2 : (b : Bool) → same_word name (codes "cut") ≡ b → (if b then Some (form.vector ∷ form.number ∷ form.sparse ∷ form.sparse ∷ []) else (if same_word name (codes "start") then Some (form.naturals ∷ form.vector ∷ form.vector ∷ []) else (if same_word name (codes "add") then Some (form.natural ∷ form.pairs ∷ []) else (if same_word name (codes "point") then Some (form.natural ∷ form.sparse ∷ form.sparse ∷ []) else (if same_word name (codes "ray") then Some (form.natural ∷ form.sparse ∷ form.sparse ∷ []) else (if same_word name (codes "farkas") then Some (form.sparse ∷ []) else (if same_word name (codes "whole") then Some (form.sparse ∷ form.sparse ∷ form.sparse ∷ []) else (if same_word name (codes "line") then Some (form.vector ∷ form.sparse ∷ form.sparse ∷ form.sparse ∷ form.sparse ∷ form.sparse ∷ []) else (if same_word name (codes "facet") then Some (form.natural ∷ []) else (if same_word name (codes "end") then Some (form.kind ∷ []) else None)))))))))) ≡ Some (map form_of ps) → EntryOf name ps
+    by2 true e k = cut_entry name ps (same_word-true name (codes "cut") e) (some_same _ _ k)
+    by2 false e k = by3 (same_word name (codes "start")) refl k
+
+    by1 : (b : Bool) → same_word name (codes "duality") ≡ b → (if b then Some (form.vector ∷ form.vector ∷ form.naturals ∷ form.vector ∷ []) else (if same_word name (codes "cut") then Some (form.vector ∷ form.number ∷ form.sparse ∷ form.sparse ∷ []) else (if same_word name (codes "start") then Some (form.naturals ∷ form.vector ∷ form.vector ∷ []) else (if same_word name (codes "add") then Some (form.natural ∷ form.pairs ∷ []) else (if same_word name (codes "point") then Some (form.natural ∷ form.sparse ∷ form.sparse ∷ []) else (if same_word name (codes "ray") then Some (form.natural ∷ form.sparse ∷ form.sparse ∷ []) else (if same_word name (codes "farkas") then Some (form.sparse ∷ []) else (if same_word name (codes "whole") then Some (form.sparse ∷ form.sparse ∷ form.sparse ∷ []) else (if same_word name (codes "line") then Some (form.vector ∷ form.sparse ∷ form.sparse ∷ form.sparse ∷ form.sparse ∷ form.sparse ∷ []) else (if same_word name (codes "facet") then Some (form.natural ∷ []) else (if same_word name (codes "end") then Some (form.kind ∷ []) else None))))))))))) ≡ Some (map form_of ps) → EntryOf name ps
+    by1 true e k = duality_entry name ps (same_word-true name (codes "duality") e) (some_same _ _ k)
+    by1 false e k = by2 (same_word name (codes "cut")) refl k
+
+    by0 : (b : Bool) → same_word name (codes "version") ≡ b → (if b then Some (form.natural ∷ []) else (if same_word name (codes "duality") then Some (form.vector ∷ form.vector ∷ form.naturals ∷ form.vector ∷ []) else (if same_word name (codes "cut") then Some (form.vector ∷ form.number ∷ form.sparse ∷ form.sparse ∷ []) else (if same_word name (codes "start") then Some (form.naturals ∷ form.vector ∷ form.vector ∷ []) else (if same_word name (codes "add") then Some (form.natural ∷ form.pairs ∷ []) else (if same_word name (codes "point") then Some (form.natural ∷ form.sparse ∷ form.sparse ∷ []) else (if same_word name (codes "ray") then Some (form.natural ∷ form.sparse ∷ form.sparse ∷ []) else (if same_word name (codes "farkas") then Some (form.sparse ∷ []) else (if same_word name (codes "whole") then Some (form.sparse ∷ form.sparse ∷ form.sparse ∷ []) else (if same_word name (codes "line") then Some (form.vector ∷ form.sparse ∷ form.sparse ∷ form.sparse ∷ form.sparse ∷ form.sparse ∷ []) else (if same_word name (codes "facet") then Some (form.natural ∷ []) else (if same_word name (codes "end") then Some (form.kind ∷ []) else None)))))))))))) ≡ Some (map form_of ps) → EntryOf name ps
+    by0 true e k = version_entry name ps (same_word-true name (codes "version") e) (some_same _ _ k)
+    by0 false e k = by1 (same_word name (codes "duality")) refl k
+
+nothing_left : (l : Left) → left_over l ≡ None → l ≡ Ok []
+nothing_left (Ok []) h = refl
+nothing_left (Ok (w ∷ words)) h = cc
+nothing_left (Err k) h = cc
+
+-- an entry of these words
+abbrev pub Writes : Words → Type 0
+Writes words = (e : Entry) × (is_formed e ≡ true) × (words ≡ entry_words e)
+
+parts_written : (name : List ℕ) (words : Words) (o : Option (List Form)) → forms_of name ≡ o → left_over (behind_name o words) ≡ None → Writes (name ∷ words)
+parts_written name words None e h = cc
+parts_written name words (Some fs) e h =
+    let ps = parts_found fs words [] (nothing_left (behind_all fs words) h) in
+    let entry = entry_of name ps.0 (e ∙ ap (λ gs. Some gs) (sym ps.1)) in
+    (entry.0, ap (list_all is_formed_part) entry.2 ∙ ps.2, (λ i. sym entry.1 i ∷ (ps.3 ∙ append-nil (flat_map part_words ps.0) ∙ ap (flat_map part_words) (sym entry.2)) i))
+
+checked_words : (b : Bool) (o : Option LogKind) → (if b then Some BadLine else o) ≡ None → o ≡ None
+checked_words true o h = cc
+checked_words false o h = h
+
+-- words that pass the tests of a line are those of an entry
+pub words_written : (words : Words) → words_fault words ≡ None → Writes words
+words_written [] h = cc
+words_written (name ∷ words) h = parts_written name words (forms_of name) refl (checked_words (list_any (λ w. length w == 0) (name ∷ words)) (left_over (behind_name (forms_of name) words)) h)
+
+line_tests : (e w : Bool) (o : Option LogKind) → (if e || not w then Some BadLine else o) ≡ None → (e ≡ false) × (w ≡ true) × (o ≡ None)
+line_tests true w o h = cc
+line_tests false true o h = (refl, refl, h)
+line_tests false false o h = cc
+
+-- and so for a line
+pub line_written : (has_ended whole : Bool) (line : List ℕ) → line_fault has_ended whole line ≡ None → (has_ended ≡ false) × (whole ≡ true) × ((e : Entry) × (is_formed e ≡ true) × (line ≡ entry_text e))
+line_written has_ended whole line h =
+    let t = line_tests has_ended whole (words_fault (slice_split (λ b. b == 32) line)) h in
+    let e = words_written (slice_split (λ b. b == 32) line) t.2 in
+    (t.0, t.1, (e.0, e.1, sym (join_with_byte-slice_split 32 line) ∙ ap words_text e.2))

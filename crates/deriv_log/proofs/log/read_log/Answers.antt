@@ -1,0 +1,49 @@
+use Rattle.std.proofs.Common.{◌+◌, ◌++◌, ◌∷◌, [], arith, length, sym, ap, ◌∙◌, subst}
+use Rattle.std.specs.List.{list_any}
+use Rattle.std.proofs.lemmas.List.{length-append}
+use Rattle.deriv_log.specs.FirstFault.{lines_of, FirstFault}
+use Rattle.deriv_log.specs.Formed.{is_end}
+use Rattle.deriv_log.specs.Taking.{RefusesLine}
+use Rattle.deriv_log.specs.declared.fault.LogKind.TheVariants.{NoEnd}
+use Rattle.deriv_log.proofs.Lines.{IsReadTo, read_open, read_all_lines}
+use Rattle.deriv_log.proofs.LineByLine.{reads_on, refuses_on, any_end_push, some_left, none_left, behind_shorter, refusal_handed}
+use Rattle.deriv_log.proofs.log.read_log.Goals as goal
+
+pub returns-in_err-entry-clause-refused : goal.returns-in_err-entry-clause-refused
+returns-in_err-entry-clause-refused c =
+    let i = c.loop-rest.invariant in
+    let some = some_left c.loop-rest.rest.now c.loop-rest-test.ensures in
+    let refused = subst (λ b. RefusesLine (c.loop-rest.number + 1) c.loop-rest.ended b c.first_piece.result.0.now c.in_err-entry.field-0.0) c.is_some.ensures c.in_err-entry.ensures.refused in
+    let end = refuses_on c.args.bytes.now c.loop-rest.rest.now c.first_piece.result.0.now c.first_piece.result.1 c.loop-rest.entries c.loop-rest.number c.loop-rest.ended c.in_err-entry.field-0.0 some c.first_piece.ensures.pieces i.read i.number i.ended refused in
+    refusal_handed c.args.bytes.now c.from_residual.result c.in_err-entry.field-0.0 c.from_residual.ensures end
+
+pub loop-rest-preserved : goal.loop-rest-preserved
+loop-rest-preserved c =
+    let i = c.loop-rest.invariant in
+    let h = c.in_ok-entry.ensures.ok in
+    let some = some_left c.loop-rest.rest.now c.loop-rest-test.ensures in
+    let more = reads_on c.args.bytes.now c.loop-rest.rest.now c.first_piece.result.0.now c.first_piece.result.1 c.loop-rest.entries c.in_ok-entry.entry c.loop-rest.ended some c.first_piece.ensures.pieces i.read i.ended (h.0, sym c.is_some.ensures ∙ h.1, h.2, h.3) in
+    let pushed = c.in_ok-push.ensures.ok in
+    let count = length-append c.loop-rest.entries (c.in_ok-entry.entry ∷ []) in
+    let shorter = behind_shorter c.loop-rest.rest.now c.first_piece.result.1 some c.first_piece.ensures.shorter in
+    let number = i.number in
+    let room = i.room in
+    record {
+      read = subst (λ xs. IsReadTo c.args.bytes.now (lines_of c.text_behind-rest.result.now) xs) (sym pushed) (subst (λ r. IsReadTo c.args.bytes.now (lines_of r) (c.loop-rest.entries ++ c.in_ok-entry.entry ∷ [])) (sym c.text_behind-rest.ensures) more);
+      number = omega (arith, ap length pushed);
+      room = omega (arith, ap length c.text_behind-rest.ensures);
+      ended = c.is_end-ended.ensures ∙ any_end_push c.loop-rest.entries c.in_ok-entry.entry c.loop-rest.ended i.ended h.0 ∙ ap (list_any is_end) (sym pushed);
+    }
+
+pub returns-then-ended-clause-ok : goal.returns-then-ended-clause-ok
+returns-then-ended-clause-ok c =
+    let i = c.loop-rest.invariant in
+    let none = none_left c.loop-rest.rest.now c.loop-rest-test.ensures in
+    read_all_lines c.args.bytes.now c.loop-rest.entries (subst (λ r. IsReadTo c.args.bytes.now (lines_of r) c.loop-rest.entries) none i.read) (sym i.ended ∙ c.if-ended.true)
+
+pub returns-else-ended-clause-refused : goal.returns-else-ended-clause-refused
+returns-else-ended-clause-refused c =
+    let i = c.loop-rest.invariant in
+    let none = none_left c.loop-rest.rest.now c.loop-rest-test.ensures in
+    subst (λ n. FirstFault c.args.bytes.now (record { line = n + 1; kind = NoEnd })) (sym i.number)
+    (read_open c.args.bytes.now c.loop-rest.entries (subst (λ r. IsReadTo c.args.bytes.now (lines_of r) c.loop-rest.entries) none i.read) (sym i.ended ∙ c.if-ended.false))

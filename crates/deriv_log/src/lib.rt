@@ -1,0 +1,23 @@
+//! The log of a run: its entries, their text, and the first fault of a text that is no log.
+//!
+//! A log shows why an answer is right. It is written by the engines and read by the checker, which share
+//! nothing else.
+#![tactic(auto)]
+
+mod entry;
+mod fault;
+mod items;
+mod licence;
+mod line;
+mod log;
+mod number;
+mod parts;
+mod text;
+mod words;
+
+pub use entry::{EndKind, Entries, Entry, LogPair};
+pub use fault::{LogEnd, LogFault, LogKind};
+pub use licence::{Family, Licence, Place, Program};
+pub use line::read_line;
+pub use log::{one_reading, read_log};
+pub use text::print_log;
