@@ -1,6 +1,7 @@
 //! Fractions of 120-bit whole numbers, vectors of them, and their canonical text.
 #![tactic(auto)]
 
+mod exact;
 mod fault;
 mod frac;
 mod gcd;
@@ -8,6 +9,7 @@ mod joint;
 pub mod laws;
 mod order;
 mod sign;
+mod size;
 mod text;
 mod tiny;
 mod vectors;
