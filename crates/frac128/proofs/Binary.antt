@@ -1,10 +1,10 @@
 -- The greatest common divisor of odd numbers by differences without their powers of 2.
 use Rattle.std.specs.Prelude.{◌≡◌, ℕ, zero, suc, ◌*◌, ◌+◌, ◌-◌, ◌/◌, ◌%◌, ◌^◌, ◌<◌, ◌≤◌, ◌⊎◌, min, max}
-use mir.Syntax.{Width}
+use mir.Syntax.{Width, w64}
 use mir.Val.{bits}
 use Rattle.std.specs.Int.{IsGcd, ◌∣◌, bit_at, trailing_zeros}
 use Rattle.std.proofs.Common.{arith, sym, ap, ◌∙◌, subst, inl, inr}
-use Rattle.std.proofs.Math.Nat.{one-dvd, dvd_refl, dvd_trans, dvd-mul_left, dvd-mul_right, mul-dvd-mul_left, dvd_of_mul-dvd-mul_left, mul-div_cancel', mul_comm, mod-eq-zero_of_dvd, eq-zero_of_zero-dvd, le_of_dvd, mod-eq_of_lt, pow-suc, div-add-mod}
+use Rattle.std.proofs.Math.Nat.{one-dvd, dvd_refl, dvd_trans, dvd-mul_left, dvd-mul_right, mul-dvd-mul_left, dvd_of_mul-dvd-mul_left, mul-div_cancel', mul-div_cancel_left, mul_comm, mod-eq-zero_of_dvd, eq-zero_of_zero-dvd, le_of_dvd, mod-eq_of_lt, pow-suc, div-add-mod}
 use Rattle.std.proofs.lemmas.Bool.{cases_lt}
 use Rattle.std.proofs.lemmas.Nat.{pow_pos, pow-add, mod-pow-add}
 use Rattle.std.proofs.lemmas.Nat.Bits.{bit_at-trailing_zeros}
@@ -138,3 +138,25 @@ odd_part_is w n t e some small =
       odd = subst (λ (k : ℕ). bit_at n k ≡ 1) (sym e) place.1;
       bound = subst (λ (k : ℕ). k < bits w) (sym e) place.0;
     }
+
+-- a number whose low word is 0 has the odd part of its high word
+pub odd_of_high : (n h k r : ℕ) → n % 2 ^ 64 ≡ 0 → h ≡ n / 2 ^ 64 → 2 ^ k * r ≡ h → 2 ^ (64 + k) * r ≡ n
+odd_of_high n h k r low eh e =
+    let whole : 2 ^ 64 * (n / 2 ^ 64) + n % 2 ^ 64 ≡ n = div-add-mod n (2 ^ 64) in
+    ap (λ (z : ℕ). z * r) (pow-add 2 64 k) ∙ omega (arith, ap (λ (z : ℕ). 2 ^ 64 * z) e)
+
+even_and_odd : (a h o : ℕ) → o % 2 ≡ 1 → (2 * (a * h) + o) % 2 ≡ 1
+even_and_odd a h o odd = omega arith
+
+-- else it has the power of 2 of its low word
+pub odd_by_low : (n low t : ℕ) → low ≡ n % 2 ^ 64 → IsOddPart w64 low t → (n / 2 ^ t % 2 ≡ 1) × (2 ^ t * (n / 2 ^ t) ≡ n)
+odd_by_low n low t e is =
+    let whole : 2 ^ 64 * (n / 2 ^ 64) + n % 2 ^ 64 ≡ n = div-add-mod n (2 ^ 64) in
+    let below : t < 64 = is.bound in
+    let sum : t + (1 + (63 - t)) ≡ 64 = omega arith in
+    let split : 2 ^ t * (2 * 2 ^ (63 - t)) ≡ 2 ^ 64 = ap (λ (z : ℕ). 2 ^ t * z) (sym (pow-add 2 1 (63 - t))) ∙ sym (pow-add 2 t (1 + (63 - t))) ∙ ap (λ (z : ℕ). 2 ^ z) sum in
+    let all : 2 ^ t * (2 * (2 ^ (63 - t) * (n / 2 ^ 64)) + low / 2 ^ t) ≡ n = omega (arith, is.whole, ap (λ (z : ℕ). z * (n / 2 ^ 64)) split) in
+    let quotient : n / 2 ^ t ≡ 2 * (2 ^ (63 - t) * (n / 2 ^ 64)) + low / 2 ^ t = ap (λ (z : ℕ). z / 2 ^ t) (sym all) ∙ mul-div_cancel_left (2 * (2 ^ (63 - t) * (n / 2 ^ 64)) + low / 2 ^ t) (pow_pos t) in (
+      ap (λ (z : ℕ). z % 2) quotient ∙ even_and_odd (2 ^ (63 - t)) (n / 2 ^ 64) (low / 2 ^ t) is.odd,
+      ap (λ (z : ℕ). 2 ^ t * z) quotient ∙ all,
+    )

@@ -54,13 +54,18 @@ fn gcd_with_word(great: u128, less: u128) -> u128
     u128::from(gcd_words(less as u64, remainder(great, less) as u64))
 }
 
-/// The number without its power of 2.
+/// The number without its power of 2, which is mostly that of its low word.
 fn wide_odd_part(n: u128) -> u128
     requires { 0 < n }
     ensures odd { result % 2 ≡ 1 }
     ensures power { (k : ℕ) × (2 ^ k * result ≡ n) }
 {
-    n >> n.trailing_zeros()
+    let low = (n % (1 << 64)) as u64;
+    if low == 0 {
+        u128::from(odd_part((n >> 64) as u64))
+    } else {
+        n >> low.trailing_zeros()
+    }
 }
 
 /// The greatest common divisor of odd numbers, by differences until the lesser number is a word.
