@@ -19,6 +19,7 @@ use crate::gcd::gcd;
 use crate::order::compare;
 use crate::sign::{opposite, signed_number};
 use crate::size::LIMIT;
+use exact_field::Field;
 use std::cmp::Ordering;
 use std::marker::Model;
 
@@ -86,6 +87,15 @@ impl Frac {
         let num = signed_number(negative, num);
         Frac { num, den }
     }
+}
+
+/// The number of any exact field as a fraction: what a field holds has parts below 2^120.
+pub fn frac_of<F: Field>(x: F) -> Frac
+    ensures { result ≡ F.value x }
+{
+    let num = x.num();
+    let den = x.den();
+    Frac::signed(num < 0, num.unsigned_abs(), den as u128)
 }
 
 impl From<i64> for Frac {

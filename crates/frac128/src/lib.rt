@@ -15,7 +15,7 @@ mod tiny;
 mod vectors;
 
 pub use fault::FracFault;
-pub use frac::Frac;
+pub use frac::{Frac, frac_of};
 pub use text::put_frac;
 pub use tiny::Tiny;
 pub use vectors::{Sparse, Spot, Vector, Vectors};
