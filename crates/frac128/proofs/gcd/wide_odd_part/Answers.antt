@@ -1,5 +1,5 @@
 use mir.Syntax.{w64}
-use Rattle.std.proofs.Common.{◌+◌, ◌*◌, ◌^◌, ◌%◌, ◌≡◌, ap, ◌∙◌, refl, arith}
+use Rattle.std.proofs.Common.{◌+◌, ◌*◌, ◌^◌, ◌%◌, ap, ◌∙◌, refl, arith}
 use Rattle.std.proofs.Math.Nat.{mod-lt}
 use Rattle.frac128.proofs.Binary.{odd_part_is, odd_of_high, odd_by_low}
 use Rattle.frac128.proofs.gcd.wide_odd_part.Goals as goal
