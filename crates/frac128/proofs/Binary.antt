@@ -1,8 +1,10 @@
 -- The greatest common divisor of odd numbers by differences without their powers of 2.
 use Rattle.std.specs.Prelude.{◌≡◌, ℕ, zero, suc, ◌*◌, ◌+◌, ◌-◌, ◌/◌, ◌%◌, ◌^◌, ◌<◌, ◌≤◌, ◌⊎◌, min, max}
-use Rattle.std.specs.Int.{IsGcd, ◌∣◌, bit_at, trailing_zeros, w64}
+use mir.Syntax.{Width, w64}
+use mir.Val.{bits}
+use Rattle.std.specs.Int.{IsGcd, ◌∣◌, bit_at, trailing_zeros}
 use Rattle.std.proofs.Common.{arith, sym, ap, ◌∙◌, subst, inl, inr}
-use Rattle.std.proofs.Math.Nat.{one-dvd, dvd_refl, dvd_trans, dvd-mul_left, dvd-mul_right, mul-dvd-mul_left, dvd_of_mul-dvd-mul_left, mul-div_cancel', mul_comm, mod-eq-zero_of_dvd, eq-zero_of_zero-dvd, le_of_dvd, mod-eq_of_lt, pow-suc, div-add-mod}
+use Rattle.std.proofs.Math.Nat.{one-dvd, dvd_refl, dvd_trans, dvd-mul_left, dvd-mul_right, mul-dvd-mul_left, dvd_of_mul-dvd-mul_left, mul-div_cancel', mul-div_cancel_left, mul_comm, mod-eq-zero_of_dvd, eq-zero_of_zero-dvd, le_of_dvd, mod-eq_of_lt, pow-suc, div-add-mod}
 use Rattle.std.proofs.lemmas.Bool.{cases_lt}
 use Rattle.std.proofs.lemmas.Nat.{pow_pos, pow-add, mod-pow-add}
 use Rattle.std.proofs.lemmas.Nat.Bits.{bit_at-trailing_zeros}
@@ -83,27 +85,30 @@ gcd_by_difference a b k x g h e odd is = IsGcd-from_sub a b g h (subst (λ (z : 
 pub min_odd : (x y less : ℕ) → less ≡ min x y → x % 2 ≡ 1 → y % 2 ≡ 1 → less % 2 ≡ 1
 min_odd x y less e ox oy = grind arith
 
-turn_by : (x y less great k z g : ℕ) → less ≡ min x y → great ≡ max x y → 2 ^ k * z ≡ great - less → less % 2 ≡ 1 → IsGcd z less g → (x < y) ⊎ (y ≤ x) → IsGcd x y g
-turn_by x y less great k z g el eg e odd is (inl h) =
+ordered_by : (x y less great g : ℕ) → less ≡ min x y → great ≡ max x y → IsGcd great less g → (x < y) ⊎ (y ≤ x) → IsGcd x y g
+ordered_by x y less great g el eg is (inl h) =
     let few : less ≡ x = omega arith in
     let many : great ≡ y = omega arith in
-    IsGcd-swap y x g
-    (subst (λ (n : ℕ). IsGcd y n g) few (subst (λ (n : ℕ). IsGcd n less g) many (gcd_by_difference great less k z g (omega arith) e odd is)))
-turn_by x y less great k z g el eg e odd is (inr h) =
+    IsGcd-swap y x g (subst (λ (n : ℕ). IsGcd y n g) few (subst (λ (n : ℕ). IsGcd n less g) many is))
+ordered_by x y less great g el eg is (inr h) =
     let few : less ≡ y = omega arith in
     let many : great ≡ x = omega arith in
-    subst (λ (n : ℕ). IsGcd x n g) few (subst (λ (n : ℕ). IsGcd n less g) many (gcd_by_difference great less k z g (omega arith) e odd is))
+    subst (λ (n : ℕ). IsGcd x n g) few (subst (λ (n : ℕ). IsGcd n less g) many is)
+
+-- the greater number and the lesser one
+pub gcd_ordered : (x y less great g : ℕ) → less ≡ min x y → great ≡ max x y → IsGcd great less g → IsGcd x y g
+gcd_ordered x y less great g el eg is = ordered_by x y less great g el eg is (cases_lt x y)
 
 -- one turn: the lesser number, and the difference without its power of 2
 pub gcd_turn : (x y less great k z g : ℕ) → less ≡ min x y → great ≡ max x y → 2 ^ k * z ≡ great - less → less % 2 ≡ 1 → IsGcd z less g → IsGcd x y g
-gcd_turn x y less great k z g el eg e odd is = turn_by x y less great k z g el eg e odd is (cases_lt x y)
+gcd_turn x y less great k z g el eg e odd is = gcd_ordered x y less great g el eg (gcd_by_difference great less k z g (omega arith) e odd is)
 
 pub gcd_same : (x y : ℕ) → x ≡ y → IsGcd x y x
 gcd_same x y e = subst (λ (n : ℕ). IsGcd x n x) e (dvd_refl x, dvd_refl x, λ d h k. h)
 
--- a divisor of a word is one
-pub gcd_of_words : (a b g h : ℕ) → 0 < a → a < 2 ^ 64 → IsGcd a b g → h ≡ g → IsGcd a b (h % 2 ^ 64)
-gcd_of_words a b g h some small is e =
+-- a divisor of a number below n is one
+pub gcd_kept : (a b g h n : ℕ) → 0 < a → a < n → IsGcd a b g → h ≡ g → IsGcd a b (h % n)
+gcd_kept a b g h n some small is e =
     let below : g ≤ a = le_of_dvd some is.0 in
     subst (λ (n : ℕ). IsGcd a b n) (sym (mod-eq_of_lt (omega arith) ∙ e)) is
 
@@ -119,17 +124,39 @@ no_low_bits n (suc t) zeros =
     let none : (n / 2 ^ t % 2 ^ 1) * 2 ^ t ≡ 0 = ap (λ (k : ℕ). k * 2 ^ t) bit ∙ omega arith in
     omega arith
 
-pub record IsOddPart (n t : ℕ) : Type 0 where
+pub record IsOddPart (w : Width) (n t : ℕ) : Type 0 where
   pub whole : 2 ^ t * (n / 2 ^ t) ≡ n
   pub odd : n / 2 ^ t % 2 ≡ 1
-  pub bound : t < 64
+  pub bound : t < bits w
 
-pub odd_part_is : (n t : ℕ) → t ≡ trailing_zeros w64 n → 0 < n → n < 2 ^ 64 → IsOddPart n t
-odd_part_is n t e some small =
-    let bits = bit_at-trailing_zeros w64 n some small in
-    let zeros : n % 2 ^ t ≡ 0 = no_low_bits n t (λ i h. bits.2 i (subst (λ (k : ℕ). i < k) e h)) in
+pub odd_part_is : (w : Width) (n t : ℕ) → t ≡ trailing_zeros w n → 0 < n → n < 2 ^ bits w → IsOddPart w n t
+odd_part_is w n t e some small =
+    let place = bit_at-trailing_zeros w n some small in
+    let zeros : n % 2 ^ t ≡ 0 = no_low_bits n t (λ i h. place.2 i (subst (λ (k : ℕ). i < k) e h)) in
     record {
       whole = let all = div-add-mod n (2 ^ t) in omega arith;
-      odd = subst (λ (k : ℕ). bit_at n k ≡ 1) (sym e) bits.1;
-      bound = subst (λ (k : ℕ). k < 64) (sym e) bits.0;
+      odd = subst (λ (k : ℕ). bit_at n k ≡ 1) (sym e) place.1;
+      bound = subst (λ (k : ℕ). k < bits w) (sym e) place.0;
     }
+
+-- a number whose low word is 0 has the odd part of its high word
+pub odd_of_high : (n h k r : ℕ) → n % 2 ^ 64 ≡ 0 → h ≡ n / 2 ^ 64 → 2 ^ k * r ≡ h → 2 ^ (64 + k) * r ≡ n
+odd_of_high n h k r low eh e =
+    let whole : 2 ^ 64 * (n / 2 ^ 64) + n % 2 ^ 64 ≡ n = div-add-mod n (2 ^ 64) in
+    ap (λ (z : ℕ). z * r) (pow-add 2 64 k) ∙ omega (arith, ap (λ (z : ℕ). 2 ^ 64 * z) e)
+
+even_and_odd : (a h o : ℕ) → o % 2 ≡ 1 → (2 * (a * h) + o) % 2 ≡ 1
+even_and_odd a h o odd = omega arith
+
+-- else it has the power of 2 of its low word
+pub odd_by_low : (n low t : ℕ) → low ≡ n % 2 ^ 64 → IsOddPart w64 low t → (n / 2 ^ t % 2 ≡ 1) × (2 ^ t * (n / 2 ^ t) ≡ n)
+odd_by_low n low t e is =
+    let whole : 2 ^ 64 * (n / 2 ^ 64) + n % 2 ^ 64 ≡ n = div-add-mod n (2 ^ 64) in
+    let below : t < 64 = is.bound in
+    let sum : t + (1 + (63 - t)) ≡ 64 = omega arith in
+    let split : 2 ^ t * (2 * 2 ^ (63 - t)) ≡ 2 ^ 64 = ap (λ (z : ℕ). 2 ^ t * z) (sym (pow-add 2 1 (63 - t))) ∙ sym (pow-add 2 t (1 + (63 - t))) ∙ ap (λ (z : ℕ). 2 ^ z) sum in
+    let all : 2 ^ t * (2 * (2 ^ (63 - t) * (n / 2 ^ 64)) + low / 2 ^ t) ≡ n = omega (arith, is.whole, ap (λ (z : ℕ). z * (n / 2 ^ 64)) split) in
+    let quotient : n / 2 ^ t ≡ 2 * (2 ^ (63 - t) * (n / 2 ^ 64)) + low / 2 ^ t = ap (λ (z : ℕ). z / 2 ^ t) (sym all) ∙ mul-div_cancel_left (2 * (2 ^ (63 - t) * (n / 2 ^ 64)) + low / 2 ^ t) (pow_pos t) in (
+      ap (λ (z : ℕ). z % 2) quotient ∙ even_and_odd (2 ^ (63 - t)) (n / 2 ^ 64) (low / 2 ^ t) is.odd,
+      ap (λ (z : ℕ). 2 ^ t * z) quotient ∙ all,
+    )

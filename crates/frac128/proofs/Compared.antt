@@ -1,7 +1,7 @@
 -- Fractions compared and tested for equality by their parts.
 use mir.Syntax.{w128}
 use mir.Val.{to_z, of_z}
-use Rattle.std.specs.Prelude.{◌≡◌, ℕ, ℤ, pos, negsuc, neg_ℤ, zero, suc, ◌*◌, ◌<◌, ◌^◌, ◌*ℤ◌, unsigned_abs, int_le, int_lt, nat_le, Bool, true, false, cond, not, ◌==◌, IsTrue, refl, [], ◌∷◌}
+use Rattle.std.specs.Prelude.{◌≡◌, ◌≢◌, ℕ, ℤ, pos, negsuc, neg_ℤ, zero, suc, ◌*◌, ◌<◌, ◌^◌, ◌*ℤ◌, unsigned_abs, int_le, int_lt, nat_le, Bool, true, false, cond, not, ◌==◌, IsTrue, refl, [], ◌∷◌}
 use Rattle.std.specs.Ordering.{nat_cmp, int_cmp}
 use Rattle.std.specs.declared.cmp.Ordering.TheVariants.{Less, Equal, Greater}
 use Rattle.std.proofs.Common.{arith, sym, ap, ◌∙◌, subst}
@@ -130,3 +130,7 @@ other_by_num p q n m b d sp sq other =
     same_test (of_z w128 n == of_z w128 m) (same_ℚ p q)
     (λ t. absurd (other (eqb_is (of_z w128 n) (of_z w128 m) t)))
     (λ t. absurd (other (ap (of_z w128) (sp.num ∙ ap (λ (x : ℚ). x.num) ((same_ℚ-is p q).0 t) ∙ sym sq.num))))
+
+-- a number that the test for 0 tells from 0 is not 0
+pub other_than_zero : (p z : ℚ) (test : Bool) → z ≡ zero_ℚ → test ≡ same_ℚ p z → test ≡ false → p ≢ zero_ℚ
+other_than_zero p z test is answer other = λ e. let same = (same_ℚ-is p z).1 (e ∙ sym is) in cc

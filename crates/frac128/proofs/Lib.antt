@@ -5,6 +5,7 @@ pub mod Compared
 pub mod Coprime
 pub mod Divided
 pub mod Holds
+pub mod Inverse
 pub mod Lowest
 pub mod Made
 pub mod Parts

@@ -1,3 +1,4 @@
+pub mod Floors
 pub mod Held
 pub mod Laws
 pub mod Mixed

@@ -13,15 +13,15 @@ ghost use Rattle.frac128.specs.Signed.{signed};
 
 mod arith;
 
+use crate::exact::exact_quotient;
 use crate::fault::FracFault;
-use crate::gcd::{gcd, quotient};
+use crate::gcd::gcd;
 use crate::order::compare;
 use crate::sign::{opposite, signed_number};
+use crate::size::LIMIT;
+use exact_field::Field;
 use std::cmp::Ordering;
 use std::marker::Model;
-
-/// The parts are below this.
-const LIMIT: u128 = 1 << 120;
 
 /// A reduced fraction. In contracts it is the rational number that it stands for.
 #[derive(Clone, Copy, Debug)]
@@ -66,8 +66,8 @@ impl Frac {
         ensures { AnswersHeld (λ q. q) is_held (fraction (signed negative num) den) result }
     {
         let common = gcd(num, den);
-        let num = quotient(num, common);
-        let den = quotient(den, common);
+        let num = exact_quotient(num, common);
+        let den = exact_quotient(den, common);
         if num < LIMIT && den < LIMIT {
             Some(Frac::signed(negative, num, den))
         } else {
@@ -87,6 +87,15 @@ impl Frac {
         let num = signed_number(negative, num);
         Frac { num, den }
     }
+}
+
+/// The number of any exact field as a fraction: what a field holds has parts below 2^120.
+pub fn frac_of<F: Field>(x: F) -> Frac
+    ensures { result ≡ F.value x }
+{
+    let num = x.num();
+    let den = x.den();
+    Frac::signed(num < 0, num.unsigned_abs(), den as u128)
 }
 
 impl From<i64> for Frac {

@@ -2,11 +2,7 @@
 ghost use Rattle.std.specs.Prelude.{◌≡◌, ◌+◌, ◌*◌, ◌/◌, ◌%◌, ◌^◌, ◌<◌, ◌≤◌, ℕ, SomeIff};
 ghost use Rattle.std.specs.Int.{IsGcd};
 
-/// The greatest number of a word.
-const WORD: u128 = 0xffff_ffff_ffff_ffff;
-
-/// Parts of fractions are below this.
-const LIMIT: u128 = 1 << 120;
+use crate::size::{LIMIT, WORD, bits};
 
 /// The number without its power of 2.
 fn odd_part(n: u64) -> u64
@@ -47,25 +43,76 @@ fn gcd_words(a: u64, b: u64) -> u64
     gcd_odd(a >> i, b >> j) << i.min(j)
 }
 
-/// The greatest common divisor, by Euclid until the lesser number is a word, and in words from there.
+/// The greatest common divisor with a word, by one remainder and in words from there.
+fn gcd_with_word(great: u128, less: u128) -> u128
+    requires { less < 2 ^ 64 }
+    ensures { IsGcd great less result }
+{
+    if less == 0 {
+        return great;
+    }
+    u128::from(gcd_words(less as u64, remainder(great, less) as u64))
+}
+
+/// The number without its power of 2, which is mostly that of its low word.
+fn wide_odd_part(n: u128) -> u128
+    requires { 0 < n }
+    ensures odd { result % 2 ≡ 1 }
+    ensures power { (k : ℕ) × (2 ^ k * result ≡ n) }
+{
+    let low = (n % (1 << 64)) as u64;
+    if low == 0 {
+        u128::from(odd_part((n >> 64) as u64))
+    } else {
+        n >> low.trailing_zeros()
+    }
+}
+
+/// The greatest common divisor of odd numbers, by differences until the lesser number is a word.
+fn gcd_wide_odd(a: u128, b: u128) -> u128
+    requires a_odd { a % 2 ≡ 1 }
+    requires b_odd { b % 2 ≡ 1 }
+    ensures { IsGcd a b result }
+{
+    let mut x = a;
+    let mut y = b;
+    'turns: while x != y {
+        let less = x.min(y);
+        let great = x.max(y);
+        if less <= WORD {
+            return gcd_with_word(great, less);
+        }
+        x = wide_odd_part(great - less);
+        y = less;
+    }
+    x
+}
+
+/// The greatest common divisor of two numbers above words.
+fn gcd_wide(a: u128, b: u128) -> u128
+    requires a_positive { 0 < a }
+    requires b_positive { 0 < b }
+    ensures { IsGcd a b result }
+{
+    let i = a.trailing_zeros();
+    let j = b.trailing_zeros();
+    gcd_wide_odd(a >> i, b >> j) << i.min(j)
+}
+
+/// The greatest common divisor.
 pub(crate) fn gcd(a: u128, b: u128) -> u128
     ensures gcd { IsGcd a b result }
     ensures positive { 0 < b → 0 < result }
 {
     if b == 1 {
-        return 1;
+        1
+    } else if b <= WORD {
+        gcd_with_word(a, b)
+    } else if a <= WORD {
+        gcd_with_word(b, a)
+    } else {
+        gcd_wide(a, b)
     }
-    let mut x = a;
-    let mut y = b;
-    while y > WORD {
-        let rest = remainder(x, y);
-        x = y;
-        y = rest;
-    }
-    if y == 0 {
-        return x;
-    }
-    u128::from(gcd_words(y as u64, remainder(x, y) as u64))
 }
 
 /// The quotient, without a wide division where words hold both numbers.
@@ -88,6 +135,8 @@ pub(crate) fn divided(x: u128, y: u128) -> (u128, u128)
     requires { 0 < y }
     ensures quotient { result.0 ≡ x / y }
     ensures rest { result.1 ≡ x % y }
+    ensures whole { result.0 * y + result.1 ≡ x }
+    ensures below { result.1 < y }
 {
     if x < y {
         return (0, x);
@@ -111,15 +160,6 @@ pub(crate) fn remainder(x: u128, y: u128) -> u128
 {
     let (_, rest) = divided(x, y);
     rest
-}
-
-/// A number of bits that hold the number, and the least such.
-fn bits(x: u128) -> u32
-    ensures below { x < 2 ^ result }
-    ensures reached { 0 < x → 2 ^ result ≤ 2 * x }
-    ensures bound { result ≤ 128 }
-{
-    if x == 0 { 0 } else { x.ilog2() + 1 }
 }
 
 /// `x y + z` where it is below 2^120.

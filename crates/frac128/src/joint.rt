@@ -4,6 +4,7 @@ ghost use Rattle.std.specs.Bool.{OnTrue};
 ghost use Rattle.frac128.specs.Mixed.{mixed_value, IsMixed, IsTotal};
 
 use crate::gcd::divided;
+use crate::size::bits;
 
 /// A quotient of this magnitude is too far from 0 for what is still to come.
 const FAR: u128 = 1 << 122;
@@ -32,9 +33,8 @@ impl Mixed {
         ensures rest { result.rest < divisor }
         ensures size { unsigned_abs result.whole ≤ unsigned_abs number }
     {
-        let size = number.unsigned_abs();
-        let whole = (size / divisor) as i128;
-        let rest = size % divisor;
+        let (size, rest) = divided(number.unsigned_abs(), divisor);
+        let whole = size as i128;
         if number >= 0 {
             Mixed { whole, rest }
         } else if rest == 0 {
@@ -76,28 +76,6 @@ impl Mixed {
             }
         }
     }
-
-    fn plus(self, other: Mixed, divisor: u128) -> Mixed
-        requires divisor_small { divisor < 2 ^ 120 }
-        requires self_rest { self.rest < divisor }
-        requires other_rest { other.rest < divisor }
-        requires self_small { unsigned_abs self.whole < 2 ^ 125 }
-        requires other_small { unsigned_abs other.whole < 2 ^ 125 }
-        ensures value { mixed_value divisor result ≡ mixed_value divisor self +ℤ mixed_value divisor other }
-        ensures rest { result.rest < divisor }
-        ensures size { unsigned_abs result.whole ≤ unsigned_abs self.whole + unsigned_abs other.whole + 1 }
-    {
-        let whole = self.whole + other.whole;
-        let rest = self.rest + other.rest;
-        if rest < divisor {
-            Mixed { whole, rest }
-        } else {
-            Mixed {
-                whole: whole + 1,
-                rest: rest - divisor,
-            }
-        }
-    }
 }
 
 /// What is carried: the sum so far, and what is left of the two multipliers below the place.
@@ -108,29 +86,32 @@ struct Carry {
     right: u128,
 }
 
-/// Takes the bit of this weight from the multiplier of a term into the sum.
-fn taken(sum: Mixed, term: Mixed, left: u128, weight: u128, divisor: u128) -> (Mixed, u128)
-    requires divisor_small { divisor < 2 ^ 120 }
-    requires sum_rest { sum.rest < divisor }
-    requires term_rest { term.rest < divisor }
-    requires sum_small { unsigned_abs sum.whole < 2 ^ 125 }
-    requires term_small { unsigned_abs term.whole < 2 ^ 120 }
-    requires below { left < 2 * weight }
-    ensures value { pos weight *ℤ mixed_value divisor result.0 +ℤ mixed_value divisor term *ℤ pos result.1 ≡ pos weight *ℤ mixed_value divisor sum +ℤ mixed_value divisor term *ℤ pos left }
-    ensures rest { result.0.rest < divisor }
-    ensures size { unsigned_abs result.0.whole ≤ unsigned_abs sum.whole + unsigned_abs term.whole + 1 }
-    ensures left_below { result.1 < weight }
+/// A sum and a number times a digit of four bits, or times 16.
+fn plus_scaled(sum: i128, number: i128, digit: u128) -> i128
+    requires sum_small { unsigned_abs sum < 2 ^ 125 + 2 ^ 7 }
+    requires number_small { unsigned_abs number < 2 ^ 122 }
+    requires digit_small { digit ≤ 16 }
+    ensures value { result ≡ sum +ℤ number *ℤ pos digit }
+    ensures size { unsigned_abs result ≤ unsigned_abs sum + 16 * unsigned_abs number }
 {
-    if weight <= left {
-        (sum.plus(term, divisor), left - weight)
-    } else {
-        (sum, left)
-    }
+    sum + number * digit as i128
+}
+
+/// The upper four bits of a number, and what is left of it.
+fn digit(number: u128, place: u32) -> (u128, u128)
+    requires place_small { place ≤ 116 }
+    requires below { number < 2 ^ (place + 4) }
+    ensures value { result.0 * 2 ^ place + result.1 ≡ number }
+    ensures digit_small { result.0 < 16 }
+    ensures left_below { result.1 < 2 ^ place }
+{
+    (number >> place, number % (1 << place))
 }
 
 impl Carry {
-    /// Doubles the sum, and takes a bit of each multiplier.
-    fn advanced(self, first: Mixed, second: Mixed, weight: u128, divisor: u128) -> Carry
+    /// Multiplies the sum by 16, and takes a digit of four bits of each multiplier.
+    fn advanced(self, first: Mixed, second: Mixed, place: u32, divisor: u128) -> Carry
+        requires place_small { place ≤ 116 }
         requires divisor_small { divisor < 2 ^ 120 }
         requires sum_rest { self.sum.rest < divisor }
         requires first_rest { first.rest < divisor }
@@ -138,35 +119,31 @@ impl Carry {
         requires sum_small { unsigned_abs self.sum.whole < 2 ^ 122 }
         requires first_small { unsigned_abs first.whole < 2 ^ 120 }
         requires second_small { unsigned_abs second.whole < 2 ^ 120 }
-        requires left_below { self.left < 2 * weight }
-        requires right_below { self.right < 2 * weight }
-        ensures value { pos weight *ℤ mixed_value divisor result.sum +ℤ mixed_value divisor first *ℤ pos result.left +ℤ mixed_value divisor second *ℤ pos result.right ≡ pos (2 * weight) *ℤ mixed_value divisor self.sum +ℤ mixed_value divisor first *ℤ pos self.left +ℤ mixed_value divisor second *ℤ pos self.right }
+        requires left_below { self.left < 2 ^ (place + 4) }
+        requires right_below { self.right < 2 ^ (place + 4) }
+        ensures value { pos (2 ^ place) *ℤ mixed_value divisor result.sum +ℤ mixed_value divisor first *ℤ pos result.left +ℤ mixed_value divisor second *ℤ pos result.right ≡ pos (2 ^ (place + 4)) *ℤ mixed_value divisor self.sum +ℤ mixed_value divisor first *ℤ pos self.left +ℤ mixed_value divisor second *ℤ pos self.right }
         ensures rest { result.sum.rest < divisor }
-        ensures left { result.left < weight }
-        ensures right { result.right < weight }
+        ensures left { result.left < 2 ^ place }
+        ensures right { result.right < 2 ^ place }
     {
-        let doubled = self.sum.plus(self.sum, divisor);
-        let (half, left) = taken(doubled, first, self.left, weight, divisor);
-        let (sum, right) = taken(half, second, self.right, weight, divisor);
-        Carry { sum, left, right }
+        let (x, left) = digit(self.left, place);
+        let (y, right) = digit(self.right, place);
+        let rests = self.sum.rest * 16 + first.rest * x + second.rest * y;
+        let (carried, rest) = divided(rests, divisor);
+        let with_first = plus_scaled(carried as i128, first.whole, x);
+        let with_both = plus_scaled(with_first, second.whole, y);
+        let whole = plus_scaled(with_both, self.sum.whole, 16);
+        Carry {
+            sum: Mixed { whole, rest },
+            left,
+            right,
+        }
     }
 }
 
-/// How many bits the greater of two numbers has.
-fn bits_of(x: u128, y: u128) -> u32
-    requires x_small { x < 2 ^ 120 }
-    requires y_small { y < 2 ^ 120 }
-    ensures x_below { x < 2 ^ result }
-    ensures y_below { y < 2 ^ result }
-    ensures bound { result ≤ 120 }
-{
-    let top = x.max(y);
-    if top == 0 { 0 } else { top.ilog2() + 1 }
-}
-
 /// `a x + c y` by quotient and remainder, or `None` where its magnitude is at least 2^120 times the divisor.
-/// Both products are carried together from the top bit of `x` and `y`, and the carrying ends where the sum so far
-/// is too far from 0 for the bits that are still to come.
+/// Both products are carried together, four bits of `x` and `y` a turn from the top, and the carrying ends where the
+/// sum so far is too far from 0 for the bits that are still to come.
 fn joint(a: i128, x: u128, c: i128, y: u128, divisor: u128) -> Option<Mixed>
     requires positive { 0 < divisor }
     requires divisor_small { divisor < 2 ^ 120 }
@@ -183,10 +160,10 @@ fn joint(a: i128, x: u128, c: i128, y: u128, divisor: u128) -> Option<Mixed>
         left: x,
         right: y,
     };
-    let mut place = bits_of(x, y);
-    while place > 0 {
-        place -= 1;
-        carry = carry.advanced(first, second, 1 << place, divisor);
+    let mut turns = bits(x.max(y)).div_ceil(4);
+    while turns > 0 {
+        turns -= 1;
+        carry = carry.advanced(first, second, 4 * turns, divisor);
         if carry.sum.whole.unsigned_abs() >= FAR {
             return None;
         }
@@ -214,7 +191,7 @@ fn is_short(x: u128, y: u128) -> bool
     requires y_small { y < 2 ^ 120 }
     ensures { OnTrue result (x * y < 2 ^ 126) }
 {
-    bits_of(x, 0) + bits_of(y, 0) <= 126
+    bits(x) + bits(y) <= 126
 }
 
 /// `a x + c y` by sign, quotient and remainder, or `None` where its magnitude is at least 2^120 times the divisor:

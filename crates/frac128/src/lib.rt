@@ -1,6 +1,7 @@
 //! Fractions of 120-bit whole numbers, vectors of them, and their canonical text.
 #![tactic(auto)]
 
+mod exact;
 mod fault;
 mod frac;
 mod gcd;
@@ -8,12 +9,13 @@ mod joint;
 pub mod laws;
 mod order;
 mod sign;
+mod size;
 mod text;
 mod tiny;
 mod vectors;
 
 pub use fault::FracFault;
-pub use frac::Frac;
+pub use frac::{Frac, frac_of};
 pub use text::put_frac;
 pub use tiny::Tiny;
 pub use vectors::{Sparse, Spot, Vector, Vectors};

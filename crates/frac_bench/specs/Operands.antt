@@ -2,6 +2,7 @@
 use Rattle.std.specs.Prelude.{ℕ, ℤ, pos, ◌+ℤ◌, ◌*ℤ◌, ◌^◌, Bool, ◌&&◌, cond, int_lt, unsigned_abs}
 use Rattle.exact_field.specs.Rational.{ℚ, fraction}
 use Rattle.frac128.specs.Held.{is_held}
+use Rattle.frac_bench.specs.declared.Number.{Number}
 use Rattle.frac_bench.specs.declared.Operands.{Operands}
 use Rattle.frac_bench.specs.declared.Wide.{Wide}
 
@@ -9,15 +10,15 @@ use Rattle.frac_bench.specs.declared.Wide.{Wide}
 abbrev pub wide_value : Wide → ℤ
 wide_value w = w.high *ℤ pos (2 ^ 64) +ℤ pos w.low
 
--- the number n / d
-abbrev pub number_of : Wide → Wide → ℚ
-number_of n d = fraction (wide_value n) (unsigned_abs (wide_value d))
+-- the number that is given by its parts
+abbrev pub number_of : Number → ℚ
+number_of n = fraction (wide_value n.num) (unsigned_abs (wide_value n.den))
 
--- whether d is positive and n / d is held
-abbrev pub is_operand : Wide → Wide → Bool
-is_operand n d = int_lt (pos 0) (wide_value d) && is_held (number_of n d)
+-- whether the denominator is positive and the number is held
+abbrev pub is_operand : Number → Bool
+is_operand n = int_lt (pos 0) (wide_value n.den) && is_held (number_of n)
 
 -- the number of rounds where both operands are held and the test passes, and else 0
 abbrev pub count : (ℚ → ℚ → Bool) → Operands → ℕ → ℕ
 count test o rounds =
-    cond (is_operand o.num o.den && (is_operand o.other_num o.other_den && test (number_of o.num o.den) (number_of o.other_num o.other_den))) rounds 0
+    cond (is_operand o.first && (is_operand o.second && test (number_of o.first) (number_of o.second))) rounds 0

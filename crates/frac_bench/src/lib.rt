@@ -8,8 +8,11 @@ ghost use Rattle.exact_field.specs.Rational.{◌+ℚ◌, ◌*ℚ◌};
 ghost use Rattle.frac128.specs.Held.{is_held};
 ghost use Rattle.frac_bench.specs.Operands.{wide_value, count};
 
+mod program;
+
 use exact_field::Field;
 use frac128::Frac;
+pub use program::Step;
 use std::cmp::Ordering;
 
 /// A whole number of 128 bits, `high` times 2^64 and `low`.
@@ -20,26 +23,32 @@ pub struct Wide {
     pub low: u64,
 }
 
-/// Two fractions.
+/// A number by its numerator and its denominator.
+#[repr(C)]
+#[derive(Clone, Copy)]
+pub struct Number {
+    pub num: Wide,
+    pub den: Wide,
+}
+
+/// Two numbers.
 #[repr(C)]
 #[derive(Clone, Copy)]
 pub struct Operands {
-    pub num: Wide,
-    pub den: Wide,
-    pub other_num: Wide,
-    pub other_den: Wide,
+    pub first: Number,
+    pub second: Number,
 }
 
-fn number(wide: Wide) -> i128
+fn whole(wide: Wide) -> i128
     ensures { result ≡ wide_value wide }
 {
     i128::from(wide.high) * (1 << 64) + i128::from(wide.low)
 }
 
-fn fraction(num: Wide, den: Wide) -> Option<Frac>
-    ensures { AnswersFraction (λ q. q) is_held (wide_value num) (wide_value den) result }
+fn fraction(number: Number) -> Option<Frac>
+    ensures { AnswersFraction (λ q. q) is_held (wide_value number.num) (wide_value number.den) result }
 {
-    Frac::of(number(num), number(den))
+    Frac::of(whole(number.num), whole(number.den))
 }
 
 fn sums(first: Frac, second: Frac, rounds: u32) -> u32
@@ -63,8 +72,8 @@ fn sums(first: Frac, second: Frac, rounds: u32) -> u32
 pub extern "C" fn frac_bench_sums(operands: &Operands, rounds: u32) -> u32
     ensures { result ≡ count (λ p q. is_held (p +ℚ q)) operands.now rounds }
 {
-    let first = fraction(operands.num, operands.den);
-    let second = fraction(operands.other_num, operands.other_den);
+    let first = fraction(operands.first);
+    let second = fraction(operands.second);
     match (first, second) {
         (Some(a), Some(b)) => sums(a, b, rounds),
         _ => 0,
@@ -92,8 +101,8 @@ fn products(first: Frac, second: Frac, rounds: u32) -> u32
 pub extern "C" fn frac_bench_products(operands: &Operands, rounds: u32) -> u32
     ensures { result ≡ count (λ p q. is_held (p *ℚ q)) operands.now rounds }
 {
-    let first = fraction(operands.num, operands.den);
-    let second = fraction(operands.other_num, operands.other_den);
+    let first = fraction(operands.first);
+    let second = fraction(operands.second);
     match (first, second) {
         (Some(a), Some(b)) => products(a, b, rounds),
         _ => 0,
@@ -121,8 +130,8 @@ fn comparisons(first: Frac, second: Frac, rounds: u32) -> u32
 pub extern "C" fn frac_bench_comparisons(operands: &Operands, rounds: u32) -> u32
     ensures { result ≡ count (λ p q. not (same_ℚ p q)) operands.now rounds }
 {
-    let first = fraction(operands.num, operands.den);
-    let second = fraction(operands.other_num, operands.other_den);
+    let first = fraction(operands.first);
+    let second = fraction(operands.second);
     match (first, second) {
         (Some(a), Some(b)) => comparisons(a, b, rounds),
         _ => 0,

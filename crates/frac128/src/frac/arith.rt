@@ -6,7 +6,8 @@ ghost use Rattle.exact_field.specs.Rational.{zero_ℚ, inverse_ℚ, ◌+ℚ◌, 
 ghost use Rattle.frac128.specs.Held.{is_held, held_zero, held_one, held_neg, held_small};
 
 use super::Frac;
-use crate::gcd::{gcd, product, product_plus, quotient};
+use crate::exact::exact_quotient;
+use crate::gcd::{gcd, product, product_plus};
 use crate::joint::numerator;
 use crate::sign::opposite;
 use exact_field::{Field, Left, Op};
@@ -18,16 +19,16 @@ impl Frac {
         ensures { AnswersHeld (λ q. q) is_held (self +ℚ other) result }
     {
         let common = gcd(self.den, other.den);
-        let left = quotient(self.den, common);
-        let right = quotient(other.den, common);
+        let left = exact_quotient(self.den, common);
+        let right = exact_quotient(other.den, common);
         let sum = numerator(self.num, right, other.num, left, common)?;
         let shared = gcd(sum.rest, common);
         let num = product_plus(
             sum.whole,
-            quotient(common, shared),
-            quotient(sum.rest, shared),
+            exact_quotient(common, shared),
+            exact_quotient(sum.rest, shared),
         )?;
-        let den = product(left, quotient(other.den, shared))?;
+        let den = product(left, exact_quotient(other.den, shared))?;
         Some(Frac::signed(sum.negative, num, den))
     }
 
@@ -39,8 +40,14 @@ impl Frac {
         let other_size = other.num.unsigned_abs();
         let first = gcd(size, other.den);
         let second = gcd(other_size, self.den);
-        let num = product(quotient(size, first), quotient(other_size, second))?;
-        let den = product(quotient(self.den, second), quotient(other.den, first))?;
+        let num = product(
+            exact_quotient(size, first),
+            exact_quotient(other_size, second),
+        )?;
+        let den = product(
+            exact_quotient(self.den, second),
+            exact_quotient(other.den, first),
+        )?;
         Some(Frac::signed(opposite(self.num, other.num), num, den))
     }
 

@@ -1,6 +1,6 @@
 //! Single cases: what is held and what is not, and how a fraction is made.
 
-use crate::{Frac, FracFault, Tiny};
+use crate::{Frac, FracFault, Tiny, frac_of};
 use exact_field::{Field, Left, Op};
 use std::cmp::Ordering;
 use std::test::Fail;
@@ -97,6 +97,8 @@ fn tiny_fractions_end_at_127(rt: HostRuntime) -> Result<(), Fail> {
                 b: more
             })
     );
+    let third = Tiny::of(-5, 3).ok_or("held")?;
+    assert!(rt; frac_of(third) == frac(-5, 3)? && frac_of(frac(TOP, 2)?) == frac(TOP, 2)?);
     assert!(rt;
         Tiny::whole(128).is_none() && Tiny::of(1, 128).is_none() && Tiny::of(1, -1).is_none()
     );

@@ -1,20 +1,35 @@
-//! Two hundred operations with the answers of another implementation of exact fractions.
+//! Operations with the answers of another implementation of exact fractions.
 
-use super::rows::ROWS;
+use super::rows::{COUNT, ROWS};
 use crate::Frac;
 use exact_field::{Field, Left};
 use std::cmp::Ordering;
 
 /// An operation, two operands and the answer.
-pub struct Row(
-    pub u8,
-    pub i128,
-    pub i128,
-    pub i128,
-    pub i128,
-    pub i128,
-    pub i128,
-);
+#[derive(Drop)]
+struct Row {
+    operation: i128,
+    first: Frac,
+    second: Frac,
+    num: i128,
+    den: i128,
+}
+
+fn parsed(line: &str) -> Option<Row> {
+    let mut numbers = [0i128; 7];
+    let mut words = line.split_ascii_whitespace();
+    for number in &mut numbers {
+        *number = words.next()?.parse().ok()?;
+    }
+    let [operation, a, b, c, d, num, den] = numbers;
+    Some(Row {
+        operation,
+        first: Frac::of(a, b)?,
+        second: Frac::of(c, d)?,
+        num,
+        den,
+    })
+}
 
 fn order(a: Frac, b: Frac) -> i128 {
     match a.cmp(&b) {
@@ -24,8 +39,8 @@ fn order(a: Frac, b: Frac) -> i128 {
     }
 }
 
-fn exact(row: &Row, a: Frac, b: Frac) -> Result<Frac, Left<Frac>> {
-    match row.0 {
+fn exact(operation: i128, a: Frac, b: Frac) -> Result<Frac, Left<Frac>> {
+    match operation {
         0 => a.add(b),
         1 => a.sub(b),
         2 => a.mul(b),
@@ -34,23 +49,26 @@ fn exact(row: &Row, a: Frac, b: Frac) -> Result<Frac, Left<Frac>> {
     }
 }
 
-/// Whether the answer is the row's.
-fn agrees(row: &Row) -> bool {
-    let (Some(a), Some(b)) = (Frac::of(row.1, row.2), Frac::of(row.3, row.4)) else {
+/// Whether the answer is the line's.
+fn agrees(line: &str) -> bool {
+    let Some(row) = parsed(line) else {
         return false;
     };
-    if row.0 == 4 {
-        return order(a, b) == row.5;
+    if row.operation == 4 {
+        return order(row.first, row.second) == row.num;
     }
-    match exact(row, a, b) {
-        Ok(answer) => answer.num() == row.5 && answer.den() == row.6,
-        Err(left) => row.6 == 0 && left.a == a && left.b == b,
+    match exact(row.operation, row.first, row.second) {
+        Ok(answer) => answer.num() == row.num && answer.den() == row.den,
+        Err(left) => row.den == 0 && left.a == row.first && left.b == row.second,
     }
 }
 
 #[test]
 fn answers_are_those_of_another_implementation(rt: HostRuntime) {
-    for (i, row) in ROWS.iter().enumerate() {
-        assert!(rt; agrees(row), "row {i}");
+    let mut count = 0usize;
+    for line in ROWS.lines() {
+        assert!(rt; agrees(line), "{line}");
+        count = count.saturating_add(1);
     }
+    assert_eq!(rt; count, COUNT);
 }

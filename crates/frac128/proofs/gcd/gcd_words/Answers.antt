@@ -1,20 +1,21 @@
+use mir.Syntax.{w64}
 use Rattle.std.proofs.Common.{◌*◌, ◌^◌, ap, ◌∙◌, refl, arith}
 use Rattle.std.proofs.Math.Nat.{mul_comm}
-use Rattle.frac128.proofs.Binary.{odd_part_is, gcd_of_odd_parts, gcd_of_words}
+use Rattle.frac128.proofs.Binary.{odd_part_is, gcd_of_odd_parts, gcd_kept}
 use Rattle.frac128.proofs.gcd.gcd_words.Goals as goal
 
 pub gcd_odd-requires-clause-a_odd : goal.gcd_odd-requires-clause-a_odd
-gcd_odd-requires-clause-a_odd c = let other = c.if-a-eq0.false in (odd_part_is c.args.a _ refl (omega arith) c.ranges.a.fits).odd
+gcd_odd-requires-clause-a_odd c = let other = c.if-a-eq0.false in (odd_part_is w64 c.args.a _ refl (omega arith) c.ranges.a.fits).odd
 
 pub gcd_odd-requires-clause-b_odd : goal.gcd_odd-requires-clause-b_odd
-gcd_odd-requires-clause-b_odd c = let other = c.if-b-eq0.false in (odd_part_is c.args.b _ refl (omega arith) c.ranges.b.fits).odd
+gcd_odd-requires-clause-b_odd c = let other = c.if-b-eq0.false in (odd_part_is w64 c.args.b _ refl (omega arith) c.ranges.b.fits).odd
 
 pub returns : goal.returns
 returns c =
     let a_other = c.if-a-eq0.false in
     let b_other = c.if-b-eq0.false in
-    let of_a = odd_part_is c.args.a _ refl (omega arith) c.ranges.a.fits in
-    let of_b = odd_part_is c.args.b _ refl (omega arith) c.ranges.b.fits in
-    gcd_of_words c.args.a c.args.b _ _ (omega arith) c.ranges.a.fits
+    let of_a = odd_part_is w64 c.args.a _ refl (omega arith) c.ranges.a.fits in
+    let of_b = odd_part_is w64 c.args.b _ refl (omega arith) c.ranges.b.fits in
+    gcd_kept c.args.a c.args.b _ _ _ (omega arith) c.ranges.a.fits
     (gcd_of_odd_parts c.args.a c.args.b _ _ _ _ c.gcd_odd.result of_a.whole of_b.whole of_a.odd of_b.odd c.gcd_odd.ensures)
     (mul_comm c.gcd_odd.result (2 ^ c.min.result) ∙ ap (λ n. 2 ^ n * c.gcd_odd.result) c.min.ensures)

@@ -6,4 +6,4 @@ use Rattle.frac128.proofs.joint.is_short.Goals as goal
 
 pub returns : goal.returns
 returns c =
-    OnTrue_from _ _ (λ h. short_product _ _ _ _ c.bits_of.ensures.x_below c.bits_of-2.ensures.x_below (grind (arith, nat_tests)))
+    OnTrue_from _ _ (λ h. short_product _ _ _ _ c.bits.ensures.below c.bits-2.ensures.below (grind (arith, nat_tests)))
