@@ -5,7 +5,7 @@ use Rattle.exact_field.specs.Rational.{ℚ, zero_ℚ, ◌+ℚ◌, ◌*ℚ◌, ne
 use Rattle.exact_field.specs.Vector.{dot}
 use Rattle.polyhedra.specs.Vectors.{AreWide, zeros, plus, scaled}
 use Rattle.polyhedra.specs.Cone.{IsInCone, IsGenerated}
-use Rattle.polyhedra.specs.TightSets.{IsTight, LiesIn, Covers, AreApart, IsDescribed}
+use Rattle.polyhedra.specs.TightSets.{IsTight, LiesIn, Covers, AreApart, IsDoubleDescriptionPair}
 use Rattle.polyhedra.specs.DoubleDescription.{normed, meeting, Pair, IsNewPair, ArePairs, kept, made, added, OneAddition, IsNormed, MadeAreNormed}
 use Rattle.polyhedra.proofs.Laws.{le_of_lt, mul_nonneg}
 use Rattle.polyhedra.proofs.Order.{zero_or_positive, le_of_eq, lt_irrefl, lt_trans, not_zero_of_positive, not_zero_of_negative, mul_positive, product_zero}
@@ -20,7 +20,7 @@ use Rattle.polyhedra.proofs.Norming.{norm_factor, norm_factor-positive, normed_i
 use Rattle.polyhedra.proofs.Shrinking.{moved_value, moved_tight, moved_tight_left, moved_tight_right, moved_in}
 use Rattle.polyhedra.proofs.Adding.{crossing, factor_positive, normed_tight, IsFound, found, kept_listed, support_lies}
 
-module _ (n : ℕ) (rows gens : List (List ℚ)) (row : List ℚ) (pairs : List Pair) (d : IsDescribed n rows gens) (row_wide : length row ≡ n) (exact : ArePairs rows gens row pairs) where
+module _ (n : ℕ) (rows gens : List (List ℚ)) (row : List ℚ) (pairs : List Pair) (d : IsDoubleDescriptionPair n rows gens) (row_wide : length row ≡ n) (exact : ArePairs rows gens row pairs) where
   all_rows : List (List ℚ)
   all_rows = rows ++ row ∷ []
 
@@ -344,7 +344,7 @@ module _ (n : ℕ) (rows gens : List (List ℚ)) (row : List ℚ) (pairs : List 
       let in_gens : Contains gens g = (Contains-filter_source (λ v. le_ℚ zero_ℚ (dot row v)) gens g c).0 in
       subst (λ (v : List ℚ). AreApart all_rows g v) s.2 (record { first = not_in_point s.0 s.1 g in_gens; second = point_not_in s.0 s.1 g in_gens })
 
-  pub described : IsDescribed n (rows ++ row ∷ []) (added row gens pairs)
+  pub described : IsDoubleDescriptionPair n (rows ++ row ∷ []) (added row gens pairs)
   unfolding all_rows
   described = record {
     rows_wide = record { wide = All-push (HasWidth n) rows row d.rows_wide.wide row_wide };

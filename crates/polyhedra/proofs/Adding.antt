@@ -5,7 +5,7 @@ use Rattle.exact_field.specs.Rational.{ℚ, zero_ℚ, ◌+ℚ◌, ◌*ℚ◌, ne
 use Rattle.exact_field.specs.Vector.{dot}
 use Rattle.polyhedra.specs.Vectors.{values}
 use Rattle.polyhedra.specs.Cone.{IsInCone, IsGenerated}
-use Rattle.polyhedra.specs.TightSets.{IsTight, LiesIn, Covers, AreApart, IsDescribed}
+use Rattle.polyhedra.specs.TightSets.{IsTight, LiesIn, Covers, AreApart, IsDoubleDescriptionPair}
 use Rattle.polyhedra.specs.DoubleDescription.{normed, meeting, Pair, IsNewPair, ArePairs, kept, made, added}
 use Rattle.polyhedra.proofs.Laws.{add_neg, mul_comm}
 use Rattle.polyhedra.proofs.Algebra.{mul_zero, mul_neg, neg_neg}
@@ -87,7 +87,7 @@ third_or_uncovered rows gens a b = go (all_or_not Free test gens)
     go (inl h) = inr h
     go (inr (g, c, bad)) = inl (found g c bad (same_vector_or_not g a) (same_vector_or_not g b) (covers_or_not rows a b g))
 
-module _ (n : ℕ) (rows gens : List (List ℚ)) (row : List ℚ) (pairs : List Pair) (d : IsDescribed n rows gens) (exact : ArePairs rows gens row pairs) where
+module _ (n : ℕ) (rows gens : List (List ℚ)) (row : List ℚ) (pairs : List Pair) (d : IsDoubleDescriptionPair n rows gens) (exact : ArePairs rows gens row pairs) where
   -- a new generator at which the row is 0, tight wherever z is
   pub record IsFound (z : List ℚ) : Type 0 where
     pub generator : List ℚ

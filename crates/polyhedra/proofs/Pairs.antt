@@ -4,7 +4,7 @@ use Rattle.std.specs.List.{list_all}
 use Rattle.std.proofs.lemmas.List.Elements.{All-nil, All-cons, All-head, All-tail, Contains-append_left, Contains-append_right, Contains-append_cases}
 use Rattle.exact_field.specs.Rational.{ℚ, zero_ℚ, le_ℚ, lt_ℚ, ◌<ℚ◌}
 use Rattle.exact_field.specs.Vector.{dot}
-use Rattle.polyhedra.specs.TightSets.{IsTight, Covers, AreApart, IsDescribed}
+use Rattle.polyhedra.specs.TightSets.{IsTight, Covers, AreApart, IsDoubleDescriptionPair}
 use Rattle.polyhedra.specs.DoubleDescription.{is_zero, same_vector, covers, is_uncovered, opposite_pairs, new_pairs, Pair, IsNewPair, ArePairs, NewPairsAreExact, AdditionDescribes}
 use Rattle.polyhedra.proofs.Laws.{le_refl, le_antisymm}
 use Rattle.polyhedra.proofs.Lists.{Contains-here, Contains-there, Contains-cases, Contains-nil}
@@ -157,7 +157,7 @@ pairs-flat_map {X} {Y} R f (x ∷ xs) h k =
     Cross w z = (a b : Y) → Contains (f w) a → Contains (f z) b → R a b
 
 -- ---- the new pairs
-module _ (n : ℕ) (rows gens : List (List ℚ)) (row : List ℚ) (d : IsDescribed n rows gens) where
+module _ (n : ℕ) (rows gens : List (List ℚ)) (row : List ℚ) (d : IsDoubleDescriptionPair n rows gens) where
   -- generators whose tight sets lie in no other are distinct
   gens_distinct : AllPairs (λ a b. a ≡ b → ⊥) gens
   gens_distinct = pairs-weaker (AreApart rows) (λ a b. a ≡ b → ⊥) gens (λ a b h k m e.

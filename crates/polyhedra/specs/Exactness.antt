@@ -3,7 +3,7 @@ use Rattle.std.specs.Prelude.{ℕ, suc, ◌<◌, List, [], ◌∷◌, ◌++◌, 
 use Rattle.exact_field.specs.Rational.{ℚ, zero_ℚ, one_ℚ, neg_ℚ, ◌≤ℚ◌, ◌<ℚ◌}
 use Rattle.exact_field.specs.Vector.{dot}
 use Rattle.polyhedra.specs.Vectors.{AreWide, zeros}
-use Rattle.polyhedra.specs.TightSets.{IsTight, IsDescribed}
+use Rattle.polyhedra.specs.TightSets.{IsTight, IsDoubleDescriptionPair}
 use Rattle.polyhedra.specs.DoubleDescription.{IsNormed}
 use Rattle.polyhedra.specs.Hull.{IsInHull, IsConvex, IsVertex, IsExtremeDirection, IsNormedDirection, Inequality, IsValidAt, IsFacet}
 
@@ -48,11 +48,11 @@ pub record IsCornerOf (n : ℕ) (cuts : List Inequality) (point : List ℚ) (dir
   pub stays : (i j : ℕ) → i < n → j < n → i ≢ j →
       dot (slice_index_or (map (λ e. e.normal) cuts) i []) (slice_index_or directions j []) ≡ zero_ℚ
 
--- the point and the directions describe the cone of the rows of such cuts
+-- the rows of such cuts are a double description pair with the point and the directions
 abbrev pub CornerStarts : Type 0
 CornerStarts = (n : ℕ) (cuts : List Inequality) (point : List ℚ) (directions : List (List ℚ)) →
     IsCornerOf n cuts point directions →
-    IsDescribed (suc n) (rows_of n cuts) (lifted point one_ℚ ∷ map (λ d. lifted d zero_ℚ) directions)
+    IsDoubleDescriptionPair (suc n) (rows_of n cuts) (lifted point one_ℚ ∷ map (λ d. lifted d zero_ℚ) directions)
 
 -- each generator that is tight at row a is tight at row b
 abbrev pub TightLiesIn : List (List ℚ) → List ℚ → List ℚ → Type 0
@@ -85,7 +85,7 @@ pub record IsSolved (n : ℕ) (Set Directions : List ℚ → Type 0) (c : List �
   pub convex : IsConvex n Set Directions
   pub c_wide : length c ≡ n
   pub cuts_valid : All (IsValidAt n Set c) cuts
-  pub described : IsDescribed (suc n) (rows_of n cuts) generators
+  pub described : IsDoubleDescriptionPair (suc n) (rows_of n cuts) generators
   pub each : All (IsOneOf points directions) generators
   pub point_listed : All (λ y. Contains generators (lifted y one_ℚ)) points
   pub direction_listed : All (λ d. Contains generators (lifted d zero_ℚ)) directions
