@@ -7,7 +7,7 @@ use Rattle.polyhedra.specs.Cone.{IsGenerated, IsInCone}
 use Rattle.polyhedra.specs.TightSets.{IsTight, LiesIn}
 use Rattle.polyhedra.specs.DoubleDescription.{magnitude, leading}
 use Rattle.polyhedra.specs.Hull.{IsVertex, IsMultiple, IsExtremeDirection, IsNormedDirection, Inequality}
-use Rattle.polyhedra.specs.Exactness.{lifted, level, row_of, rows_of, IsSolved}
+use Rattle.polyhedra.specs.Exactness.{homogenised, level, row_of, rows_of, IsSolved}
 use Rattle.polyhedra.proofs.Laws.{add_comm, add_zero, mul_comm, mul_assoc, mul_one, le_refl, le_of_lt, mul_nonneg, le_antisymm, zero_lt_one}
 use Rattle.polyhedra.proofs.Algebra.{zero_add, zero_mul, mul_zero}
 use Rattle.polyhedra.proofs.Order.{Sign, negative, none, positive, sign_of, add_nonneg, add_zero_left, mul_positive, le_of_difference, difference_nonneg, mul_inverse_cancel}
@@ -18,7 +18,7 @@ use Rattle.polyhedra.proofs.Counting.{tight_or_positive}
 use Rattle.polyhedra.proofs.LeastQuotient.{IsPositiveSomewhere}
 use Rattle.polyhedra.proofs.Generated.{generated_value, generated_plus, generated_scaled, generated_generator}
 use Rattle.polyhedra.proofs.Support.{InSupport, support_listed, support_positive}
-use Rattle.polyhedra.proofs.Lifted.{length-lifted, plus-lifted, scaled-lifted, zeros-lifted, lifted-same, IsLifted, unlift, level_value}
+use Rattle.polyhedra.proofs.Homogenised.{length-homogenised, plus-homogenised, scaled-homogenised, zeros-homogenised, homogenised-same, IsHomogenised, unhomogenised, level_value}
 use Rattle.polyhedra.proofs.Norming.{leading-scaled, magnitude-scaled}
 use Rattle.polyhedra.proofs.Cones.{IsSplit, split_support, IsOnRay, ray_of, generated_in, in_support_lies}
 use Rattle.polyhedra.proofs.Between.{towards, away, towards_value, two_sides, towards_same}
@@ -42,9 +42,9 @@ module _ (n : ℕ) (Set Directions : List ℚ → Type 0) (c : List ℚ) (cuts :
       add_zero_left (dot r a) (dot r b) (member_of (HoldsAt a) (rows_of n cuts) r h.within m) (member_of (HoldsAt b) (rows_of n cuts) r k.within m)
       (sym (dot-plus r a b) ∙ e r t))
 
-  on_ray : (y a : List ℚ) (t u : ℚ) → IsOnRay (lifted y t) (lifted a u) → IsMultiple y a × ((q : ℚ) × (a ≡ scaled q y) × (u ≡ q *ℚ t))
+  on_ray : (y a : List ℚ) (t u : ℚ) → IsOnRay (homogenised y t) (homogenised a u) → IsMultiple y a × ((q : ℚ) × (a ≡ scaled q y) × (u ≡ q *ℚ t))
   on_ray y a t u h =
-      let e : (a ≡ scaled h.factor y) × (u ≡ h.factor *ℚ t) = lifted-same a (scaled h.factor y) u (h.factor *ℚ t) (h.same ∙ scaled-lifted h.factor y t) in
+      let e : (a ≡ scaled h.factor y) × (u ≡ h.factor *ℚ t) = homogenised-same a (scaled h.factor y) u (h.factor *ℚ t) (h.same ∙ scaled-homogenised h.factor y t) in
       (record { factor = h.factor; same = e.0 }, (h.factor, e.0, e.1))
 
   -- ---- a listed point is a vertex
@@ -54,15 +54,15 @@ module _ (n : ℕ) (Set Directions : List ℚ → Type 0) (c : List ℚ) (cuts :
       let y_width : length y ≡ n = member_of (HasWidth n) points y (points_wide n Set Directions c cuts gens points directions named s).wide listed in
       let a_width : length a ≡ n = s.convex.wide a a_in in
       let b_width : length b ≡ n = s.convex.wide b b_in in
-      let sums : plus (lifted a one_ℚ) (lifted b one_ℚ) ≡ plus (lifted y one_ℚ) (lifted y one_ℚ) =
-      plus-lifted a b one_ℚ one_ℚ (a_width ∙ sym b_width) ∙ ap (λ v. lifted v (one_ℚ +ℚ one_ℚ)) (sym e) ∙ sym (plus-lifted y y one_ℚ one_ℚ refl) in
-      let a_in_cone : IsInCone (suc n) (rows_of n cuts) (lifted a one_ℚ) = point_in n Set Directions c cuts gens points directions named s a a_in in
-      let b_in_cone : IsInCone (suc n) (rows_of n cuts) (lifted b one_ℚ) = point_in n Set Directions c cuts gens points directions named s b b_in in
-      let ray : IsOnRay (lifted y one_ℚ) (lifted a one_ℚ) =
-      ray_of (suc n) (rows_of n cuts) gens s.described (lifted y one_ℚ) (lifted a one_ℚ)
-      (member_of (λ v. Contains gens (lifted v one_ℚ)) points y s.point_listed listed) a_in_cone
-      (summands_lie (lifted y one_ℚ) (lifted a one_ℚ) (lifted b one_ℚ) a_in_cone b_in_cone
-      (λ r t. ap (λ v. dot r v) sums ∙ dot-plus r (lifted y one_ℚ) (lifted y one_ℚ) ∙ ap₂ (λ p q. p +ℚ q) t t ∙ add_zero zero_ℚ)) in
+      let sums : plus (homogenised a one_ℚ) (homogenised b one_ℚ) ≡ plus (homogenised y one_ℚ) (homogenised y one_ℚ) =
+      plus-homogenised a b one_ℚ one_ℚ (a_width ∙ sym b_width) ∙ ap (λ v. homogenised v (one_ℚ +ℚ one_ℚ)) (sym e) ∙ sym (plus-homogenised y y one_ℚ one_ℚ refl) in
+      let a_in_cone : IsInCone (suc n) (rows_of n cuts) (homogenised a one_ℚ) = point_in n Set Directions c cuts gens points directions named s a a_in in
+      let b_in_cone : IsInCone (suc n) (rows_of n cuts) (homogenised b one_ℚ) = point_in n Set Directions c cuts gens points directions named s b b_in in
+      let ray : IsOnRay (homogenised y one_ℚ) (homogenised a one_ℚ) =
+      ray_of (suc n) (rows_of n cuts) gens s.described (homogenised y one_ℚ) (homogenised a one_ℚ)
+      (member_of (λ v. Contains gens (homogenised v one_ℚ)) points y s.point_listed listed) a_in_cone
+      (summands_lie (homogenised y one_ℚ) (homogenised a one_ℚ) (homogenised b one_ℚ) a_in_cone b_in_cone
+      (λ r t. ap (λ v. dot r v) sums ∙ dot-plus r (homogenised y one_ℚ) (homogenised y one_ℚ) ∙ ap₂ (λ p q. p +ℚ q) t t ∙ add_zero zero_ℚ)) in
       let q : (x : ℚ) × (a ≡ scaled x y) × (one_ℚ ≡ x *ℚ one_ℚ) = (on_ray y a one_ℚ one_ℚ ray).1 in
       q.1 ∙ ap (λ x. scaled x y) (sym (q.2 ∙ mul_one q.0)) ∙ scaled-one y
 
@@ -75,12 +75,12 @@ module _ (n : ℕ) (Set Directions : List ℚ → Type 0) (c : List ℚ) (cuts :
   -- ---- a vertex is listed
   -- a vector of height 1 in the cone is a member's
   at_height_one : (z : List ℚ) → InK n Set Directions c cuts gens points directions named s z → dot (level n) z ≡ one_ℚ → (a : List ℚ) × Set a ×
-      (z ≡ lifted a one_ℚ)
+      (z ≡ homogenised a one_ℚ)
   unfolding InK
   at_height_one z h e =
-      let u : IsLifted n z = unlift n z h.wide in
+      let u : IsHomogenised n z = unhomogenised n z h.wide in
       let height : u.last ≡ one_ℚ = sym (level_value n u.front u.last u.wide) ∙ ap (λ v. dot (level n) v) (sym u.same) ∙ e in
-      let same : z ≡ lifted u.front one_ℚ = u.same ∙ ap (λ t. lifted u.front t) height in (
+      let same : z ≡ homogenised u.front one_ℚ = u.same ∙ ap (λ t. homogenised u.front t) height in (
         u.front,
         point_back n Set Directions c cuts gens points directions named s u.front u.wide
             (subst (λ (v : List ℚ). IsInCone (suc n) (rows_of n cuts) v) same h),
@@ -92,7 +92,7 @@ module _ (n : ℕ) (Set Directions : List ℚ → Type 0) (c : List ℚ) (cuts :
   vertex_is_listed y vertex = start (s.described.generates big big_in)
     where
       big : List ℚ
-      big = lifted y one_ℚ
+      big = homogenised y one_ℚ
 
       width : length y ≡ n
       width = s.convex.wide y vertex.member
@@ -103,13 +103,13 @@ module _ (n : ℕ) (Set Directions : List ℚ → Type 0) (c : List ℚ) (cuts :
       height : dot (level n) big ≡ one_ℚ
       height = level_value n y one_ℚ width
 
-      with_split : (p : List ℚ) → Contains points p → IsSplit (suc n) gens big (lifted p one_ℚ) → Contains points y
+      with_split : (p : List ℚ) → Contains points p → IsSplit (suc n) gens big (homogenised p one_ℚ) → Contains points y
       with_split p listed t =
-          let g : List ℚ = lifted p one_ℚ in
+          let g : List ℚ = homogenised p one_ℚ in
           let p_width : length p ≡ n = member_of (HasWidth n) points p (points_wide n Set Directions c cuts gens points directions named s).wide listed in
-          let g_width : length g ≡ suc n = length-lifted n p one_ℚ p_width in
-          let big_width : length big ≡ suc n = length-lifted n y one_ℚ width in
-          let g_listed : Contains gens g = member_of (λ v. Contains gens (lifted v one_ℚ)) points p s.point_listed listed in
+          let g_width : length g ≡ suc n = length-homogenised n p one_ℚ p_width in
+          let big_width : length big ≡ suc n = length-homogenised n y one_ℚ width in
+          let g_listed : Contains gens g = member_of (λ v. Contains gens (homogenised v one_ℚ)) points p s.point_listed listed in
           let others_in : IsInCone (suc n) (rows_of n cuts) t.others = generated_in (suc n) (rows_of n cuts) gens s.described t.others t.others_is in
           let level_others : zero_ℚ ≤ℚ dot (level n) t.others = member_of (HoldsAt t.others) (rows_of n cuts) (level n) others_in.within
           (Contains-here (level n) (map row_of cuts) (level n) refl) in
@@ -141,16 +141,16 @@ module _ (n : ℕ) (Set Directions : List ℚ → Type 0) (c : List ℚ) (cuts :
           Rattle.exact_field.proofs.Rationals.add_left_cancel_ℚ (dot (level n) near) (dot (level n) far) one_ℚ
           (sym (dot-plus (level n) near far) ∙ ap (λ v. dot (level n) v) (sym sides) ∙ dot-plus (level n) big big ∙ ap₂ (λ x z. x +ℚ z)
           (height ∙ sym near_height) height) in
-          let a : (v : List ℚ) × Set v × (near ≡ lifted v one_ℚ) = at_height_one near
+          let a : (v : List ℚ) × Set v × (near ≡ homogenised v one_ℚ) = at_height_one near
           (generated_in (suc n) (rows_of n cuts) gens s.described near near_is) near_height in
-          let b : (v : List ℚ) × Set v × (far ≡ lifted v one_ℚ) = at_height_one far
+          let b : (v : List ℚ) × Set v × (far ≡ homogenised v one_ℚ) = at_height_one far
           (generated_in (suc n) (rows_of n cuts) gens s.described far far_is) far_height in
           let sum : plus y y ≡ plus a.0 b.0 =
-          (lifted-same (plus y y) (plus a.0 b.0) (one_ℚ +ℚ one_ℚ) (one_ℚ +ℚ one_ℚ)
-          (sym (plus-lifted y y one_ℚ one_ℚ refl) ∙ sides ∙ ap₂ (λ u v. plus u v) a.2 b.2 ∙ plus-lifted a.0 b.0 one_ℚ one_ℚ
+          (homogenised-same (plus y y) (plus a.0 b.0) (one_ℚ +ℚ one_ℚ) (one_ℚ +ℚ one_ℚ)
+          (sym (plus-homogenised y y one_ℚ one_ℚ refl) ∙ sides ∙ ap₂ (λ u v. plus u v) a.2 b.2 ∙ plus-homogenised a.0 b.0 one_ℚ one_ℚ
           (s.convex.wide a.0 a.1 ∙ sym (s.convex.wide b.0 b.1)))).0 in
-          let stays : near ≡ big = a.2 ∙ ap (λ v. lifted v one_ℚ) (vertex.no_midpoint a.0 b.0 a.1 b.1 sum).0 in
-          let same : p ≡ y = (lifted-same p y one_ℚ one_ℚ (towards_same (suc n) t.factor big g t.positive big_width g_width stays)).0 in
+          let stays : near ≡ big = a.2 ∙ ap (λ v. homogenised v one_ℚ) (vertex.no_midpoint a.0 b.0 a.1 b.1 sum).0 in
+          let same : p ≡ y = (homogenised-same p y one_ℚ one_ℚ (towards_same (suc n) t.factor big g t.positive big_width g_width stays)).0 in
           subst (λ (v : List ℚ). Contains points v) same listed
         where
           share_whole : (l : ℚ) → (one_ℚ +ℚ neg_ℚ l) +ℚ l ≡ one_ℚ
@@ -163,9 +163,9 @@ module _ (n : ℕ) (Set Directions : List ℚ → Type 0) (c : List ℚ) (cuts :
         where
           first : ((v : List ℚ) × InSupport g.multipliers gens v × (zero_ℚ <ℚ dot v (level n))) → Contains points y
           first (v, m, q) =
-              let p : (x : List ℚ) × Contains points x × (v ≡ lifted x one_ℚ) = point_of n Set Directions c cuts gens points directions named s v
+              let p : (x : List ℚ) × Contains points x × (v ≡ homogenised x one_ℚ) = point_of n Set Directions c cuts gens points directions named s v
               (support_listed g.multipliers gens v m) (subst (λ (x : ℚ). zero_ℚ <ℚ x) (dot_comm v (level n)) q) in
-              with_split p.0 p.1 (split_support (suc n) gens big (lifted p.0 one_ℚ) s.described.generators_wide g
+              with_split p.0 p.1 (split_support (suc n) gens big (homogenised p.0 one_ℚ) s.described.generators_wide g
               (subst (λ (w : List ℚ). InSupport g.multipliers gens w) p.2 m))
 
   -- ---- a listed direction is extreme
@@ -174,24 +174,24 @@ module _ (n : ℕ) (Set Directions : List ℚ → Type 0) (c : List ℚ) (cuts :
   direction_side d a b listed a_in b_in e =
       let a_width : length a ≡ n = s.convex.directions_wide a a_in in
       let b_width : length b ≡ n = s.convex.directions_wide b b_in in
-      let sums : plus (lifted a zero_ℚ) (lifted b zero_ℚ) ≡ lifted d zero_ℚ =
-      plus-lifted a b zero_ℚ zero_ℚ (a_width ∙ sym b_width) ∙ ap₂ (λ v t. lifted v t) (sym e) (add_zero zero_ℚ) in
-      let a_in_cone : IsInCone (suc n) (rows_of n cuts) (lifted a zero_ℚ) = direction_in n Set Directions c cuts gens points directions named s a a_in in
-      let b_in_cone : IsInCone (suc n) (rows_of n cuts) (lifted b zero_ℚ) = direction_in n Set Directions c cuts gens points directions named s b b_in in
+      let sums : plus (homogenised a zero_ℚ) (homogenised b zero_ℚ) ≡ homogenised d zero_ℚ =
+      plus-homogenised a b zero_ℚ zero_ℚ (a_width ∙ sym b_width) ∙ ap₂ (λ v t. homogenised v t) (sym e) (add_zero zero_ℚ) in
+      let a_in_cone : IsInCone (suc n) (rows_of n cuts) (homogenised a zero_ℚ) = direction_in n Set Directions c cuts gens points directions named s a a_in in
+      let b_in_cone : IsInCone (suc n) (rows_of n cuts) (homogenised b zero_ℚ) = direction_in n Set Directions c cuts gens points directions named s b b_in in
       (on_ray d a zero_ℚ zero_ℚ
-      (ray_of (suc n) (rows_of n cuts) gens s.described (lifted d zero_ℚ) (lifted a zero_ℚ)
-      (member_of (λ v. Contains gens (lifted v zero_ℚ)) directions d s.direction_listed listed) a_in_cone
-      (summands_lie (lifted d zero_ℚ) (lifted a zero_ℚ) (lifted b zero_ℚ) a_in_cone b_in_cone (λ r t. ap (λ v. dot r v) sums ∙ t)))).0
+      (ray_of (suc n) (rows_of n cuts) gens s.described (homogenised d zero_ℚ) (homogenised a zero_ℚ)
+      (member_of (λ v. Contains gens (homogenised v zero_ℚ)) directions d s.direction_listed listed) a_in_cone
+      (summands_lie (homogenised d zero_ℚ) (homogenised a zero_ℚ) (homogenised b zero_ℚ) a_in_cone b_in_cone (λ r t. ap (λ v. dot r v) sums ∙ t)))).0
 
-  generator_not_zero : (d : List ℚ) → Contains gens (lifted d zero_ℚ) → d ≡ zeros n → ⊥
-  generator_not_zero d k e = member_of (λ g. g ≡ zeros (suc n) → ⊥) gens (lifted d zero_ℚ) s.described.not_zero k (ap (λ v. lifted v zero_ℚ) e
-      ∙ sym (zeros-lifted n))
+  generator_not_zero : (d : List ℚ) → Contains gens (homogenised d zero_ℚ) → d ≡ zeros n → ⊥
+  generator_not_zero d k e = member_of (λ g. g ≡ zeros (suc n) → ⊥) gens (homogenised d zero_ℚ) s.described.not_zero k (ap (λ v. homogenised v zero_ℚ) e
+      ∙ sym (zeros-homogenised n))
 
   pub listed_is_extreme : (d : List ℚ) → Contains directions d → IsExtremeDirection n Directions d × IsNormedDirection d
   listed_is_extreme d listed = (
     record {
       member = member_of Directions directions d s.directions_in listed;
-      not_zero = generator_not_zero d (member_of (λ v. Contains gens (lifted v zero_ℚ)) directions d s.direction_listed listed);
+      not_zero = generator_not_zero d (member_of (λ v. Contains gens (homogenised v zero_ℚ)) directions d s.direction_listed listed);
       no_sum = λ a b a_in b_in e. (direction_side d a b listed a_in b_in e, direction_side d b a listed b_in a_in (e ∙ plus_comm a b));
     },
     member_of IsNormedDirection directions d s.directions_normed listed,
@@ -203,7 +203,7 @@ module _ (n : ℕ) (Set Directions : List ℚ → Type 0) (c : List ℚ) (cuts :
   extreme_is_listed d extreme normed = start (tight_or_positive (rows_of n cuts) big big_in.within)
     where
       big : List ℚ
-      big = lifted d zero_ℚ
+      big = homogenised d zero_ℚ
 
       width : length d ≡ n
       width = s.convex.directions_wide d extreme.member
@@ -230,8 +230,8 @@ module _ (n : ℕ) (Set Directions : List ℚ → Type 0) (c : List ℚ) (cuts :
           let same : h ≡ scaled q d = same_wide n h (scaled q d) h_width (length-scaled q d ∙ width) (λ r. value r ∙ sym (dot-scaled r q d)) in
           by q same (sign_of q)
         where
-          g_listed : Contains gens (lifted h zero_ℚ)
-          g_listed = member_of (λ v. Contains gens (lifted v zero_ℚ)) directions h s.direction_listed listed
+          g_listed : Contains gens (homogenised h zero_ℚ)
+          g_listed = member_of (λ v. Contains gens (homogenised v zero_ℚ)) directions h s.direction_listed listed
 
           h_wide : length h ≡ n
           h_wide = member_of (HasWidth n) directions h (directions_wide n Set Directions c cuts gens points directions named s).wide listed
@@ -242,22 +242,22 @@ module _ (n : ℕ) (Set Directions : List ℚ → Type 0) (c : List ℚ) (cuts :
           by q same (none z) = absurd (generator_not_zero h g_listed (same_wide n h (zeros n) h_wide (length-zeros n) (λ r.
               ap (λ v. dot r v) same ∙ dot-scaled r q d ∙ ap (λ x. x *ℚ dot r d) z ∙ zero_mul (dot r d) ∙ sym (dot-zeros r n))))
           by q same (negative z) =
-              let g : List ℚ = lifted h zero_ℚ in
+              let g : List ℚ = homogenised h zero_ℚ in
               let g_in : IsInCone (suc n) (rows_of n cuts) g = member_of (IsInCone (suc n) (rows_of n cuts)) gens g s.described.inside g_listed in
               absurd (member_of (λ v. v ≡ zeros (suc n) → ⊥) gens g s.described.not_zero g_listed
               (s.described.pointed g g_in.wide (all_of_members (λ r. dot r g ≡ zero_ℚ) (rows_of n cuts) (λ r k.
               le_antisymm (dot r g) zero_ℚ
               (subst (λ (x : ℚ). x ≤ℚ zero_ℚ) (sym (dot-scaled r q big) ∙ ap (λ v. dot r v)
-              (scaled-lifted q d zero_ℚ ∙ ap₂ (λ v t. lifted v t) (sym same) (mul_zero q)))
+              (scaled-homogenised q d zero_ℚ ∙ ap₂ (λ v t. homogenised v t) (sym same) (mul_zero q)))
               (below q (dot r big) z (member_of (HoldsAt big) (rows_of n cuts) r big_in.within k)))
               (member_of (HoldsAt g) (rows_of n cuts) r g_in.within k)))))
             where
               below : (x y : ℚ) → x <ℚ zero_ℚ → zero_ℚ ≤ℚ y → x *ℚ y ≤ℚ zero_ℚ
               below x y a b = Rattle.exact_field.proofs.Inequalities.mul-nonpositive x y (le_of_lt x zero_ℚ a) b
 
-      with_split : (h : List ℚ) → Contains directions h → IsSplit (suc n) gens big (lifted h zero_ℚ) → Contains directions d
+      with_split : (h : List ℚ) → Contains directions h → IsSplit (suc n) gens big (homogenised h zero_ℚ) → Contains directions d
       with_split h listed t =
-          let g : List ℚ = lifted h zero_ℚ in
+          let g : List ℚ = homogenised h zero_ℚ in
           let h_width : length h ≡ n = member_of (HasWidth n) directions h
           (directions_wide n Set Directions c cuts gens points directions named s).wide listed in
           let others_in : IsInCone (suc n) (rows_of n cuts) t.others = generated_in (suc n) (rows_of n cuts) gens s.described t.others t.others_is in
@@ -266,14 +266,14 @@ module _ (n : ℕ) (Set Directions : List ℚ → Type 0) (c : List ℚ) (cuts :
           ∙ ap (λ x. x +ℚ dot (level n) t.others) (sym (dot-scaled (level n) t.factor g ∙ ap (λ x. t.factor *ℚ x) (level_value n h zero_ℚ h_width)
           ∙ mul_zero t.factor))
           ∙ sym (dot-plus (level n) (scaled t.factor g) t.others) ∙ ap (λ v. dot (level n) v) (sym t.same) ∙ height in
-          let u : IsLifted n t.others = unlift n t.others others_in.wide in
+          let u : IsHomogenised n t.others = unhomogenised n t.others others_in.wide in
           let u_height : u.last ≡ zero_ℚ = sym (level_value n u.front u.last u.wide) ∙ ap (λ v. dot (level n) v) (sym u.same) ∙ others_height in
-          let u_same : t.others ≡ lifted u.front zero_ℚ = u.same ∙ ap (λ x. lifted u.front x) u_height in
+          let u_same : t.others ≡ homogenised u.front zero_ℚ = u.same ∙ ap (λ x. homogenised u.front x) u_height in
           let rest_in : Directions u.front = direction_back n Set Directions c cuts gens points directions named s u.front u.wide
           (subst (λ (v : List ℚ). IsInCone (suc n) (rows_of n cuts) v) u_same others_in) in
           let whole : d ≡ plus (scaled t.factor h) u.front =
-          (lifted-same d (plus (scaled t.factor h) u.front) zero_ℚ (t.factor *ℚ zero_ℚ +ℚ zero_ℚ)
-          (t.same ∙ ap₂ (λ a b. plus a b) (scaled-lifted t.factor h zero_ℚ) u_same ∙ plus-lifted (scaled t.factor h) u.front
+          (homogenised-same d (plus (scaled t.factor h) u.front) zero_ℚ (t.factor *ℚ zero_ℚ +ℚ zero_ℚ)
+          (t.same ∙ ap₂ (λ a b. plus a b) (scaled-homogenised t.factor h zero_ℚ) u_same ∙ plus-homogenised (scaled t.factor h) u.front
           (t.factor *ℚ zero_ℚ) zero_ℚ (length-scaled t.factor h ∙ h_width ∙ sym u.wide))).0 in
           with_multiple h listed t.factor t.positive
           (extreme.no_sum (scaled t.factor h) u.front (s.convex.direction_multiple t.factor h (le_of_lt zero_ℚ t.factor t.positive)
@@ -287,10 +287,10 @@ module _ (n : ℕ) (Set Directions : List ℚ → Type 0) (c : List ℚ) (cuts :
           first (v, m, q) =
               let v_height : dot (level n) v ≡ zero_ℚ = member_of (λ r. IsTight r big → IsTight r v) (rows_of n cuts) (level n)
               (in_support_lies (suc n) (rows_of n cuts) gens s.described big v g m) level_listed height in
-              let h : (x : List ℚ) × Contains directions x × (v ≡ lifted x zero_ℚ) = direction_of n Set Directions c cuts gens points directions named s v (support_listed g.multipliers gens v m) v_height in
-              with_split h.0 h.1 (split_support (suc n) gens big (lifted h.0 zero_ℚ) s.described.generators_wide g
+              let h : (x : List ℚ) × Contains directions x × (v ≡ homogenised x zero_ℚ) = direction_of n Set Directions c cuts gens points directions named s v (support_listed g.multipliers gens v m) v_height in
+              with_split h.0 h.1 (split_support (suc n) gens big (homogenised h.0 zero_ℚ) s.described.generators_wide g
               (subst (λ (w : List ℚ). InSupport g.multipliers gens w) h.2 m))
 
       start : All (λ r. IsTight r big) (rows_of n cuts) ⊎ IsPositiveSomewhere (rows_of n cuts) big → Contains directions d
       start (inr p) = with_generated p (s.described.generates big big_in)
-      start (inl t) = absurd (extreme.not_zero (lifted-same d (zeros n) zero_ℚ zero_ℚ (s.described.pointed big big_in.wide t ∙ zeros-lifted n)).0)
+      start (inl t) = absurd (extreme.not_zero (homogenised-same d (zeros n) zero_ℚ zero_ℚ (s.described.pointed big big_in.wide t ∙ zeros-homogenised n)).0)

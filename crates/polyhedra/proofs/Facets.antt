@@ -12,7 +12,7 @@ use Rattle.polyhedra.specs.Cone.{IsGenerated, IsInCone}
 use Rattle.polyhedra.specs.Farkas.{IsSeparated}
 use Rattle.polyhedra.specs.TightSets.{IsTight, LiesIn}
 use Rattle.polyhedra.specs.Hull.{Inequality, IsValidAt, IsFacet}
-use Rattle.polyhedra.specs.Exactness.{lifted, level, row_of, rows_of, IsOneOf, TightLiesIn, IsNamed, IsAccounted, IsSolved}
+use Rattle.polyhedra.specs.Exactness.{homogenised, level, row_of, rows_of, IsOneOf, TightLiesIn, IsNamed, IsAccounted, IsSolved}
 use Rattle.polyhedra.proofs.Laws.{add_zero, mul_comm, mul_one, le_refl, le_trans, le_of_lt, mul_nonneg, zero_lt_one}
 use Rattle.polyhedra.proofs.Algebra.{zero_add, mul_zero, one_mul, neg_neg}
 use Rattle.polyhedra.proofs.Order.{le_or_lt, le_of_eq, add_nonneg, add_zero_left, mul_positive, mul_le, not_zero_of_positive, not_lt_of_le, le_of_difference, difference_nonneg}
@@ -23,7 +23,7 @@ use Rattle.polyhedra.proofs.LeastQuotient.{IsLeastQuotient, least_quotient, less
 use Rattle.polyhedra.proofs.Generated.{generated_value, generated_plus, generated_scaled, generated_generator}
 use Rattle.polyhedra.proofs.Support.{InSupport, support_listed, support_zero, support_positive}
 use Rattle.polyhedra.proofs.Farkas.{farkas, generated_nonneg}
-use Rattle.polyhedra.proofs.Lifted.{length-lifted, dot-lifted, plus-lifted, lifted-same, IsLifted, unlift, level_value, row_value_point}
+use Rattle.polyhedra.proofs.Homogenised.{length-homogenised, dot-homogenised, plus-homogenised, homogenised-same, IsHomogenised, unhomogenised, level_value, row_value_point}
 use Rattle.polyhedra.proofs.Cones.{IsSplit, split_support, IsOnRay, one_ray}
 use Rattle.polyhedra.proofs.Between.{towards, away, towards_value, away_value, towards_width, away_width, two_sides, towards_same}
 use Rattle.polyhedra.proofs.Slices.{InK, cut_valid, point_in, valid_at_point, valid_at_direction, generator_at_cut, generator_at_level}
@@ -32,14 +32,14 @@ module _ (n : ℕ) (Set Directions : List ℚ → Type 0) (c : List ℚ) (cuts :
     (s : IsSolved n Set Directions c cuts gens points directions named) where
   -- c as a direction: each row of a normed inequality is 1 at it
   probe : List ℚ
-  probe = lifted c zero_ℚ
+  probe = homogenised c zero_ℚ
 
   row_width : (e : Inequality) → IsValidAt n Set c e → length (row_of e) ≡ suc n
-  row_width e v = length-lifted n e.normal (neg_ℚ e.bound) v.wide
+  row_width e v = length-homogenised n e.normal (neg_ℚ e.bound) v.wide
 
   row_probe : (e : Inequality) → IsValidAt n Set c e → dot (row_of e) probe ≡ one_ℚ
   unfolding probe
-  row_probe e v = dot-lifted e.normal c (neg_ℚ e.bound) zero_ℚ (v.wide ∙ sym s.c_wide) ∙ ap₂ (λ a b. a +ℚ b) v.normed (mul_zero (neg_ℚ e.bound))
+  row_probe e v = dot-homogenised e.normal c (neg_ℚ e.bound) zero_ℚ (v.wide ∙ sym s.c_wide) ∙ ap₂ (λ a b. a +ℚ b) v.normed (mul_zero (neg_ℚ e.bound))
       ∙ add_zero one_ℚ
 
   level_probe : dot (level n) probe ≡ zero_ℚ
@@ -49,7 +49,7 @@ module _ (n : ℕ) (Set Directions : List ℚ → Type 0) (c : List ℚ) (cuts :
   -- inequalities with one row are one
   row_same : (a b : Inequality) → row_of a ≡ row_of b → a ≡ b
   row_same a b e =
-      let p : (a.normal ≡ b.normal) × (neg_ℚ a.bound ≡ neg_ℚ b.bound) = lifted-same a.normal b.normal (neg_ℚ a.bound) (neg_ℚ b.bound) e in
+      let p : (a.normal ≡ b.normal) × (neg_ℚ a.bound ≡ neg_ℚ b.bound) = homogenised-same a.normal b.normal (neg_ℚ a.bound) (neg_ℚ b.bound) e in
       let q : a.bound ≡ b.bound = sym (neg_neg a.bound) ∙ ap neg_ℚ p.1 ∙ neg_neg b.bound in
       λ i. record { normal = p.0 i; bound = q i }
 
@@ -71,22 +71,22 @@ module _ (n : ℕ) (Set Directions : List ℚ → Type 0) (c : List ℚ) (cuts :
   valid_from_row : (r : List ℚ) → length r ≡ suc n → Nonneg r → dot r probe ≡ one_ℚ → (e : Inequality) × IsValidAt n Set c e × (row_of e ≡ r)
   unfolding Nonneg probe InK
   valid_from_row r width h one =
-      let u : IsLifted n r = unlift n r width in
+      let u : IsHomogenised n r = unhomogenised n r width in
       let e : Inequality = record { normal = u.front; bound = neg_ℚ u.last } in
-      let same : row_of e ≡ r = ap (λ t. lifted u.front t) (neg_neg u.last) ∙ sym u.same in (
+      let same : row_of e ≡ r = ap (λ t. homogenised u.front t) (neg_neg u.last) ∙ sym u.same in (
         e,
         record {
           valid = record {
             wide = u.wide;
             holds = λ y y_in.
-                le_of_difference (neg_ℚ u.last) (dot u.front y) (dot (row_of e) (lifted y one_ℚ))
-                (generated_nonneg (suc n) gens (row_of e) (lifted y one_ℚ) (subst (λ (v : List ℚ). All (λ g. zero_ℚ ≤ℚ dot v g) gens) (sym same) h)
-                (s.described.generates (lifted y one_ℚ) (point_in n Set Directions c cuts gens points directions named s y y_in)))
+                le_of_difference (neg_ℚ u.last) (dot u.front y) (dot (row_of e) (homogenised y one_ℚ))
+                (generated_nonneg (suc n) gens (row_of e) (homogenised y one_ℚ) (subst (λ (v : List ℚ). All (λ g. zero_ℚ ≤ℚ dot v g) gens) (sym same) h)
+                (s.described.generates (homogenised y one_ℚ) (point_in n Set Directions c cuts gens points directions named s y y_in)))
                 (ap (λ x. neg_ℚ u.last +ℚ x) (row_value_point e y (u.wide ∙ sym (s.convex.wide y y_in)))
                 ∙ ring rationals (neg_ℚ u.last ∷ dot u.front y ∷ []) (v0 ⊕ (v1 ⊝ v0)) v1 refl);
           };
           normed = sym (add_zero (dot u.front c)) ∙ ap (λ x. dot u.front c +ℚ x) (sym (mul_zero (neg_ℚ (neg_ℚ u.last)))) ∙ sym
-              (dot-lifted u.front c (neg_ℚ (neg_ℚ u.last)) zero_ℚ (u.wide ∙ sym s.c_wide)) ∙ ap (λ v. dot v (lifted c zero_ℚ)) same ∙ one;
+              (dot-homogenised u.front c (neg_ℚ (neg_ℚ u.last)) zero_ℚ (u.wide ∙ sym s.c_wide)) ∙ ap (λ v. dot v (homogenised c zero_ℚ)) same ∙ one;
         },
         same,
       )
@@ -260,10 +260,10 @@ module _ (n : ℕ) (Set Directions : List ℚ → Type 0) (c : List ℚ) (cuts :
       valid = f_valid;
       no_midpoint = λ a b a_valid b_valid e h.
           let sums : plus (row_of f) (row_of f) ≡ plus (row_of a) (row_of b) =
-          plus-lifted f.normal f.normal (neg_ℚ f.bound) (neg_ℚ f.bound) refl
-          ∙ ap₂ (λ v t. lifted v t) e (ring rationals (f.bound ∷ []) (⊖ v0 ⊕ ⊖ v0) (⊖ (v0 ⊕ v0)) refl ∙ ap neg_ℚ h ∙ ring rationals
+          plus-homogenised f.normal f.normal (neg_ℚ f.bound) (neg_ℚ f.bound) refl
+          ∙ ap₂ (λ v t. homogenised v t) e (ring rationals (f.bound ∷ []) (⊖ v0 ⊕ ⊖ v0) (⊖ (v0 ⊕ v0)) refl ∙ ap neg_ℚ h ∙ ring rationals
           (a.bound ∷ b.bound ∷ []) (⊖ (v0 ⊕ v1)) (⊖ v0 ⊕ ⊖ v1) refl)
-          ∙ sym (plus-lifted a.normal b.normal (neg_ℚ a.bound) (neg_ℚ b.bound) (a_valid.wide ∙ sym b_valid.wide)) in
+          ∙ sym (plus-homogenised a.normal b.normal (neg_ℚ a.bound) (neg_ℚ b.bound) (a_valid.wide ∙ sym b_valid.wide)) in
           (side a b a_valid b_valid sums, side b a b_valid a_valid (sums ∙ plus_comm (row_of a) (row_of b)));
     }
 
@@ -296,12 +296,12 @@ module _ (n : ℕ) (Set Directions : List ℚ → Type 0) (c : List ℚ) (cuts :
         ∙ ap₂ (λ x y. x +ℚ y) (big_probe ∙ sym one) big_probe) in
         let u : (x : Inequality) × IsValidAt n Set c x × (row_of x ≡ a) = valid_from_row a a_width a_nonneg (dot_comm a probe ∙ one) in
         let v : (x : Inequality) × IsValidAt n Set c x × (row_of x ≡ b) = valid_from_row b b_width b_nonneg (dot_comm b probe ∙ b_one) in
-        let lifts : lifted (plus f.normal f.normal) (neg_ℚ f.bound +ℚ neg_ℚ f.bound) ≡ lifted (plus u.0.normal v.0.normal)
+        let homogenised_sums : homogenised (plus f.normal f.normal) (neg_ℚ f.bound +ℚ neg_ℚ f.bound) ≡ homogenised (plus u.0.normal v.0.normal)
         (neg_ℚ u.0.bound +ℚ neg_ℚ v.0.bound) =
-        sym (plus-lifted f.normal f.normal (neg_ℚ f.bound) (neg_ℚ f.bound) refl) ∙ e ∙ ap₂ (λ x y. plus x y) (sym u.2) (sym v.2)
-        ∙ plus-lifted u.0.normal v.0.normal (neg_ℚ u.0.bound) (neg_ℚ v.0.bound) (u.1.wide ∙ sym v.1.wide) in
+        sym (plus-homogenised f.normal f.normal (neg_ℚ f.bound) (neg_ℚ f.bound) refl) ∙ e ∙ ap₂ (λ x y. plus x y) (sym u.2) (sym v.2)
+        ∙ plus-homogenised u.0.normal v.0.normal (neg_ℚ u.0.bound) (neg_ℚ v.0.bound) (u.1.wide ∙ sym v.1.wide) in
         let parts : (plus f.normal f.normal ≡ plus u.0.normal v.0.normal) × (neg_ℚ f.bound +ℚ neg_ℚ f.bound ≡ neg_ℚ u.0.bound +ℚ neg_ℚ v.0.bound) =
-        lifted-same (plus f.normal f.normal) (plus u.0.normal v.0.normal) (neg_ℚ f.bound +ℚ neg_ℚ f.bound) (neg_ℚ u.0.bound +ℚ neg_ℚ v.0.bound) lifts in
+        homogenised-same (plus f.normal f.normal) (plus u.0.normal v.0.normal) (neg_ℚ f.bound +ℚ neg_ℚ f.bound) (neg_ℚ u.0.bound +ℚ neg_ℚ v.0.bound) homogenised_sums in
         let bounds : f.bound +ℚ f.bound ≡ u.0.bound +ℚ v.0.bound =
         ring rationals (f.bound ∷ []) (v0 ⊕ v0) (⊖ (⊖ v0 ⊕ ⊖ v0)) refl ∙ ap neg_ℚ parts.1 ∙ ring rationals (u.0.bound ∷ v.0.bound ∷ [])
         (⊖ (⊖ v0 ⊕ ⊖ v1)) (v0 ⊕ v1) refl in
@@ -379,7 +379,7 @@ module _ (n : ℕ) (Set Directions : List ℚ → Type 0) (c : List ℚ) (cuts :
         let up : (g : List ℚ) × Contains gens g × (zero_ℚ <ℚ dot (level n) g) = generator_at_level n Set Directions c cuts gens points directions named s in
         let q : IsLeastQuotient gens big (level n) = row_quotient big (level n) big_nonneg
         (row_nonneg (level n) (Contains-here (level n) (map row_of cuts) (level n) refl)) lies up in
-        let level_width : length (level n) ≡ suc n = length-lifted n (zeros n) one_ℚ (length-zeros n) in
+        let level_width : length (level n) ≡ suc n = length-homogenised n (zeros n) one_ℚ (length-zeros n) in
         let low : List ℚ = less big q.quotient (level n) in
         let high : List ℚ = plus big (scaled q.quotient (level n)) in
         let low_width : length low ≡ suc n = less_width (suc n) big (level n) q.quotient big_width level_width in

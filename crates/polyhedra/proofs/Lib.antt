@@ -18,7 +18,7 @@ pub mod Image
 pub mod Laws
 pub mod Largest
 pub mod LeastQuotient
-pub mod Lifted
+pub mod Homogenised
 pub mod Linear
 pub mod Lists
 pub mod LowerDirection

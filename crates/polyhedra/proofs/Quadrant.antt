@@ -9,7 +9,7 @@ use Rattle.polyhedra.specs.Cone.{IsGenerated, IsInDual, IsInterior}
 use Rattle.polyhedra.specs.Dependence.{AreCorners}
 use Rattle.polyhedra.specs.DoubleDescription.{is_zero}
 use Rattle.polyhedra.specs.Hull.{Inequality, IsConvex, IsValidAt, IsExtremeDirection, IsNormedDirection}
-use Rattle.polyhedra.specs.Exactness.{lifted, level, row_of, rows_of, IsOneOf, TightLiesIn, IsNamed, IsAccounted, IsSolved}
+use Rattle.polyhedra.specs.Exactness.{homogenised, level, row_of, rows_of, IsOneOf, TightLiesIn, IsNamed, IsAccounted, IsSolved}
 use Rattle.polyhedra.specs.Examples.{IsInQuadrant, left_side, lower_side, axes, QuadrantExample}
 use Rattle.polyhedra.proofs.Laws.{add_comm, add_zero, mul_one, le_refl, le_trans, le_of_lt, mul_nonneg, zero_lt_one}
 use Rattle.polyhedra.proofs.Algebra.{zero_add, mul_zero, zero_mul, one_mul}
@@ -133,7 +133,7 @@ cuts : List Inequality
 cuts = left_side ∷ lower_side ∷ []
 
 gens : List (List ℚ)
-gens = level 2 ∷ lifted (one_ℚ ∷ zero_ℚ ∷ []) zero_ℚ ∷ lifted (zero_ℚ ∷ one_ℚ ∷ []) zero_ℚ ∷ []
+gens = level 2 ∷ homogenised (one_ℚ ∷ zero_ℚ ∷ []) zero_ℚ ∷ homogenised (zero_ℚ ∷ one_ℚ ∷ []) zero_ℚ ∷ []
 
 origin : List (List ℚ)
 origin = (zero_ℚ ∷ zero_ℚ ∷ []) ∷ []
@@ -267,14 +267,14 @@ quadrant_solved = record {
   c_wide = refl;
   cuts_valid = All-cons Valid left_side (lower_side ∷ []) left_valid (All-cons Valid lower_side [] lower_valid (All-nil Valid));
   described = start 3 (rows_of 2 cuts) gens quadrant_corners;
-  each = All-cons One (level 2) (lifted (one_ℚ ∷ zero_ℚ ∷ []) zero_ℚ ∷ lifted (zero_ℚ ∷ one_ℚ ∷ []) zero_ℚ ∷ [])
+  each = All-cons One (level 2) (homogenised (one_ℚ ∷ zero_ℚ ∷ []) zero_ℚ ∷ homogenised (zero_ℚ ∷ one_ℚ ∷ []) zero_ℚ ∷ [])
       (inl (zero_ℚ ∷ zero_ℚ ∷ [], Contains-here (zero_ℚ ∷ zero_ℚ ∷ []) [] (zero_ℚ ∷ zero_ℚ ∷ []) refl, refl))
-      (All-cons One (lifted (one_ℚ ∷ zero_ℚ ∷ []) zero_ℚ) (lifted (zero_ℚ ∷ one_ℚ ∷ []) zero_ℚ ∷ []) (inr (one_ℚ ∷ zero_ℚ ∷ [], first_listed, refl))
-      (All-cons One (lifted (zero_ℚ ∷ one_ℚ ∷ []) zero_ℚ) [] (inr (zero_ℚ ∷ one_ℚ ∷ [], second_listed, refl)) (All-nil One)));
-  point_listed = All-cons (λ y. Contains gens (lifted y one_ℚ)) (zero_ℚ ∷ zero_ℚ ∷ []) [] (0, (omega arith), refl)
-      (All-nil (λ y. Contains gens (lifted y one_ℚ)));
-  direction_listed = All-cons (λ y. Contains gens (lifted y zero_ℚ)) (one_ℚ ∷ zero_ℚ ∷ []) ((zero_ℚ ∷ one_ℚ ∷ []) ∷ []) (1, (omega arith), refl)
-      (All-cons (λ y. Contains gens (lifted y zero_ℚ)) (zero_ℚ ∷ one_ℚ ∷ []) [] (2, (omega arith), refl) (All-nil (λ y. Contains gens (lifted y zero_ℚ))));
+      (All-cons One (homogenised (one_ℚ ∷ zero_ℚ ∷ []) zero_ℚ) (homogenised (zero_ℚ ∷ one_ℚ ∷ []) zero_ℚ ∷ []) (inr (one_ℚ ∷ zero_ℚ ∷ [], first_listed, refl))
+      (All-cons One (homogenised (zero_ℚ ∷ one_ℚ ∷ []) zero_ℚ) [] (inr (zero_ℚ ∷ one_ℚ ∷ [], second_listed, refl)) (All-nil One)));
+  point_listed = All-cons (λ y. Contains gens (homogenised y one_ℚ)) (zero_ℚ ∷ zero_ℚ ∷ []) [] (0, (omega arith), refl)
+      (All-nil (λ y. Contains gens (homogenised y one_ℚ)));
+  direction_listed = All-cons (λ y. Contains gens (homogenised y zero_ℚ)) (one_ℚ ∷ zero_ℚ ∷ []) ((zero_ℚ ∷ one_ℚ ∷ []) ∷ []) (1, (omega arith), refl)
+      (All-cons (λ y. Contains gens (homogenised y zero_ℚ)) (zero_ℚ ∷ one_ℚ ∷ []) [] (2, (omega arith), refl) (All-nil (λ y. Contains gens (homogenised y zero_ℚ))));
   points_in = All-cons IsInQuadrant (zero_ℚ ∷ zero_ℚ ∷ []) [] (in_two zero_ℚ zero_ℚ (le_refl zero_ℚ) (le_refl zero_ℚ)) (All-nil IsInQuadrant);
   directions_in = All-cons IsInQuadrant (one_ℚ ∷ zero_ℚ ∷ []) ((zero_ℚ ∷ one_ℚ ∷ []) ∷ []) (in_two one_ℚ zero_ℚ zero_le_one (le_refl zero_ℚ))
       (All-cons IsInQuadrant (zero_ℚ ∷ one_ℚ ∷ []) [] (in_two zero_ℚ one_ℚ (le_refl zero_ℚ) zero_le_one) (All-nil IsInQuadrant));

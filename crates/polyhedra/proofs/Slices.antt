@@ -7,7 +7,7 @@ use Rattle.exact_field.specs.Vector.{dot, sum_ℚ}
 use Rattle.polyhedra.specs.Vectors.{AreWide, zeros, plus, scaled, values, combination, AtLeastZero}
 use Rattle.polyhedra.specs.Cone.{IsGenerated, IsInCone}
 use Rattle.polyhedra.specs.Hull.{IsInHull, Inequality, IsValidAt}
-use Rattle.polyhedra.specs.Exactness.{lifted, level, row_of, rows_of, IsOneOf, IsSolved}
+use Rattle.polyhedra.specs.Exactness.{homogenised, level, row_of, rows_of, IsOneOf, IsSolved}
 use Rattle.polyhedra.proofs.Laws.{add_zero, mul_one, le_refl, le_of_lt, zero_lt_one}
 use Rattle.polyhedra.proofs.Algebra.{zero_add, zero_mul, mul_zero, one_mul, mul_neg}
 use Rattle.polyhedra.proofs.Order.{lt_of_difference, difference_nonneg, add_zero_left, not_zero_of_positive, lt_irrefl}
@@ -16,21 +16,21 @@ use Rattle.polyhedra.proofs.Lists.{HoldsAt, HasWidth, nonneg-head, nonneg-tail}
 use Rattle.polyhedra.proofs.Members.{all_of_members, member_of, Contains-map}
 use Rattle.polyhedra.proofs.Generated.{generated_value, generated_generator}
 use Rattle.polyhedra.proofs.Support.{InSupport, support_listed, support_positive}
-use Rattle.polyhedra.proofs.Lifted.{length-lifted, plus-lifted, scaled-lifted, zeros-lifted, lifted-same, level_value, row_value_point, row_value_direction}
+use Rattle.polyhedra.proofs.Homogenised.{length-homogenised, plus-homogenised, scaled-homogenised, zeros-homogenised, homogenised-same, level_value, row_value_point, row_value_direction}
 use Rattle.polyhedra.proofs.Cones.{generated_through, IsSumOf, generated_append, sum_nonneg}
 use Rattle.polyhedra.proofs.Regions.{above, member_from_parts, directions_sum, direction_value}
 
--- the combination of lifted vectors of one height
-lifted_combination : (n : ℕ) (t : ℚ) (ms : List ℚ) (vs : List (List ℚ)) → length ms ≡ length vs → AreWide n vs → combination (suc n) ms
-    (map (λ v. lifted v t) vs) ≡ lifted (combination n ms vs) (sum_ℚ ms *ℚ t)
-lifted_combination n t [] vs l w = zeros-lifted n ∙ ap (λ x. lifted (zeros n) x) (sym (zero_mul t))
-lifted_combination n t (m ∷ ms) [] l w = absurd (omega arith)
-lifted_combination n t (m ∷ ms) (v ∷ vs) l w =
+-- the combination of homogenised vectors of one height
+homogenised_combination : (n : ℕ) (t : ℚ) (ms : List ℚ) (vs : List (List ℚ)) → length ms ≡ length vs → AreWide n vs → combination (suc n) ms
+    (map (λ v. homogenised v t) vs) ≡ homogenised (combination n ms vs) (sum_ℚ ms *ℚ t)
+homogenised_combination n t [] vs l w = zeros-homogenised n ∙ ap (λ x. homogenised (zeros n) x) (sym (zero_mul t))
+homogenised_combination n t (m ∷ ms) [] l w = absurd (omega arith)
+homogenised_combination n t (m ∷ ms) (v ∷ vs) l w =
     let rest_wide : AreWide n vs = Rattle.polyhedra.proofs.Lists.wide-tail n v vs w in
-    ap₂ (λ a b. plus a b) (scaled-lifted m v t) (lifted_combination n t ms vs (omega arith) rest_wide)
-    ∙ plus-lifted (scaled m v) (combination n ms vs) (m *ℚ t) (sum_ℚ ms *ℚ t) (length-scaled m v ∙ Rattle.polyhedra.proofs.Lists.wide-head n v vs w
+    ap₂ (λ a b. plus a b) (scaled-homogenised m v t) (homogenised_combination n t ms vs (omega arith) rest_wide)
+    ∙ plus-homogenised (scaled m v) (combination n ms vs) (m *ℚ t) (sum_ℚ ms *ℚ t) (length-scaled m v ∙ Rattle.polyhedra.proofs.Lists.wide-head n v vs w
     ∙ sym (length-combination n ms vs rest_wide))
-    ∙ ap (λ x. lifted (plus (scaled m v) (combination n ms vs)) x) (sym (Rattle.polyhedra.proofs.Algebra.add_mul m (sum_ℚ ms) t))
+    ∙ ap (λ x. homogenised (plus (scaled m v) (combination n ms vs)) x) (sym (Rattle.polyhedra.proofs.Algebra.add_mul m (sum_ℚ ms) t))
 
 -- where numbers of at least 0 sum to 0, their combinations are 0
 combination_of_nothing : (n : ℕ) (ms : List ℚ) (vs : List (List ℚ)) → AreWide n vs → AtLeastZero ms → sum_ℚ ms ≡ zero_ℚ → (r : List ℚ) → dot ms
@@ -60,29 +60,29 @@ module _ (n : ℕ) (Set Directions : List ℚ → Type 0) (c : List ℚ) (cuts :
         (λ d k. s.convex.directions_wide d (member_of Directions directions d s.directions_in k));
   }
 
-  -- a lifted vector of at least height 0 that meets each cut
-  pub lift_in : (y : List ℚ) (t : ℚ) → length y ≡ n → zero_ℚ ≤ℚ t → ((e : Inequality) → Contains cuts e → zero_ℚ ≤ℚ dot (row_of e) (lifted y t)) →
-      InK (lifted y t)
+  -- a homogenised vector of at least height 0 that meets each cut
+  pub homogenised_in : (y : List ℚ) (t : ℚ) → length y ≡ n → zero_ℚ ≤ℚ t → ((e : Inequality) → Contains cuts e → zero_ℚ ≤ℚ dot (row_of e) (homogenised y t)) →
+      InK (homogenised y t)
   unfolding InK
-  lift_in y t width h k = record {
-    wide = length-lifted n y t width;
-    within = All-cons (HoldsAt (lifted y t)) (level n) (map row_of cuts) (subst (λ (x : ℚ). zero_ℚ ≤ℚ x) (sym (level_value n y t width)) h)
-        (All-map (HoldsAt (lifted y t)) row_of cuts (all_of_members (λ e. HoldsAt (lifted y t) (row_of e)) cuts k));
+  homogenised_in y t width h k = record {
+    wide = length-homogenised n y t width;
+    within = All-cons (HoldsAt (homogenised y t)) (level n) (map row_of cuts) (subst (λ (x : ℚ). zero_ℚ ≤ℚ x) (sym (level_value n y t width)) h)
+        (All-map (HoldsAt (homogenised y t)) row_of cuts (all_of_members (λ e. HoldsAt (homogenised y t) (row_of e)) cuts k));
   }
 
-  pub valid_at_point : (e : Inequality) (y : List ℚ) → IsValidAt n Set c e → Set y → zero_ℚ ≤ℚ dot (row_of e) (lifted y one_ℚ)
+  pub valid_at_point : (e : Inequality) (y : List ℚ) → IsValidAt n Set c e → Set y → zero_ℚ ≤ℚ dot (row_of e) (homogenised y one_ℚ)
   valid_at_point e y v h = subst (λ (x : ℚ). zero_ℚ ≤ℚ x) (sym (row_value_point e y (v.wide ∙ sym (s.convex.wide y h))))
       (difference_nonneg e.bound (dot e.normal y) (v.holds y h))
 
-  pub point_in : (y : List ℚ) → Set y → InK (lifted y one_ℚ)
-  point_in y h = lift_in y one_ℚ (s.convex.wide y h) (le_of_lt zero_ℚ one_ℚ zero_lt_one) (λ e k. valid_at_point e y (cut_valid e k) h)
+  pub point_in : (y : List ℚ) → Set y → InK (homogenised y one_ℚ)
+  point_in y h = homogenised_in y one_ℚ (s.convex.wide y h) (le_of_lt zero_ℚ one_ℚ zero_lt_one) (λ e k. valid_at_point e y (cut_valid e k) h)
 
   -- ---- a large multiple of c meets each cut with room to spare
   pub top : ℚ
   top = (above cuts).0
 
   pub high : List ℚ
-  high = lifted (scaled top c) one_ℚ
+  high = homogenised (scaled top c) one_ℚ
 
   high_width : length (scaled top c) ≡ n
   high_width = length-scaled top c ∙ s.c_wide
@@ -99,7 +99,7 @@ module _ (n : ℕ) (Set Directions : List ℚ → Type 0) (c : List ℚ) (cuts :
 
   high_in : InK high
   unfolding high top
-  high_in = lift_in (scaled top c) one_ℚ high_width (le_of_lt zero_ℚ one_ℚ zero_lt_one) (λ e k. le_of_lt zero_ℚ (dot (row_of e) high) (high_cut e k))
+  high_in = homogenised_in (scaled top c) one_ℚ high_width (le_of_lt zero_ℚ one_ℚ zero_lt_one) (λ e k. le_of_lt zero_ℚ (dot (row_of e) high) (high_cut e k))
 
   -- a row that is positive at a member of the cone is positive at a generator
   pub generator_at : (r z : List ℚ) → InK z → zero_ℚ <ℚ dot r z → (g : List ℚ) × Contains gens g × (zero_ℚ <ℚ dot r g)
@@ -118,19 +118,19 @@ module _ (n : ℕ) (Set Directions : List ℚ → Type 0) (c : List ℚ) (cuts :
   generator_at_level = generator_at (level n) high high_in (subst (λ (x : ℚ). zero_ℚ <ℚ x) (sym (level_value n (scaled top c) one_ℚ high_width)) zero_lt_one)
 
   -- a generator of positive height is a point
-  pub point_of : (g : List ℚ) → Contains gens g → zero_ℚ <ℚ dot (level n) g → (y : List ℚ) × Contains points y × (g ≡ lifted y one_ℚ)
+  pub point_of : (g : List ℚ) → Contains gens g → zero_ℚ <ℚ dot (level n) g → (y : List ℚ) × Contains points y × (g ≡ homogenised y one_ℚ)
   point_of g k p = go (member_of (IsOneOf points directions) gens g s.each k)
     where
-      go : IsOneOf points directions g → (y : List ℚ) × Contains points y × (g ≡ lifted y one_ℚ)
+      go : IsOneOf points directions g → (y : List ℚ) × Contains points y × (g ≡ homogenised y one_ℚ)
       go (inl h) = h
       go (inr h) = absurd (lt_irrefl zero_ℚ (subst (λ (x : ℚ). zero_ℚ <ℚ x)
           (ap (λ v. dot (level n) v) h.2 ∙ level_value n h.0 zero_ℚ (member_of (HasWidth n) directions h.0 directions_wide.wide h.1)) p))
 
   -- a generator of height 0 is a direction
-  pub direction_of : (g : List ℚ) → Contains gens g → dot (level n) g ≡ zero_ℚ → (d : List ℚ) × Contains directions d × (g ≡ lifted d zero_ℚ)
+  pub direction_of : (g : List ℚ) → Contains gens g → dot (level n) g ≡ zero_ℚ → (d : List ℚ) × Contains directions d × (g ≡ homogenised d zero_ℚ)
   direction_of g k e = go (member_of (IsOneOf points directions) gens g s.each k)
     where
-      go : IsOneOf points directions g → (d : List ℚ) × Contains directions d × (g ≡ lifted d zero_ℚ)
+      go : IsOneOf points directions g → (d : List ℚ) × Contains directions d × (g ≡ homogenised d zero_ℚ)
       go (inr h) = h
       go (inl h) = absurd (not_zero_of_positive one_ℚ zero_lt_one
           (sym (ap (λ v. dot (level n) v) h.2 ∙ level_value n h.0 one_ℚ (member_of (HasWidth n) points h.0 points_wide.wide h.1)) ∙ e))
@@ -138,54 +138,54 @@ module _ (n : ℕ) (Set Directions : List ℚ → Type 0) (c : List ℚ) (cuts :
   pub some_point : (y : List ℚ) × Contains points y
   some_point =
       let g : (v : List ℚ) × Contains gens v × (zero_ℚ <ℚ dot (level n) v) = generator_at_level in
-      let p : (y : List ℚ) × Contains points y × (g.0 ≡ lifted y one_ℚ) = point_of g.0 g.1 g.2 in
+      let p : (y : List ℚ) × Contains points y × (g.0 ≡ homogenised y one_ℚ) = point_of g.0 g.1 g.2 in
       (p.0, p.1)
 
-  pub valid_at_direction : (e : Inequality) (d : List ℚ) → IsValidAt n Set c e → Directions d → zero_ℚ ≤ℚ dot (row_of e) (lifted d zero_ℚ)
+  pub valid_at_direction : (e : Inequality) (d : List ℚ) → IsValidAt n Set c e → Directions d → zero_ℚ ≤ℚ dot (row_of e) (homogenised d zero_ℚ)
   valid_at_direction e d v h = subst (λ (x : ℚ). zero_ℚ ≤ℚ x) (sym (row_value_direction e d (v.wide ∙ sym (s.convex.directions_wide d h))))
       (direction_value n Set Directions s.convex e some_point.0 d v.valid (member_of Set points some_point.0 s.points_in some_point.1) h)
 
-  pub direction_in : (d : List ℚ) → Directions d → InK (lifted d zero_ℚ)
-  direction_in d h = lift_in d zero_ℚ (s.convex.directions_wide d h) (le_refl zero_ℚ) (λ e k. valid_at_direction e d (cut_valid e k) h)
+  pub direction_in : (d : List ℚ) → Directions d → InK (homogenised d zero_ℚ)
+  direction_in d h = homogenised_in d zero_ℚ (s.convex.directions_wide d h) (le_refl zero_ℚ) (λ e k. valid_at_direction e d (cut_valid e k) h)
 
   -- ---- a member of the cone, by points and directions
-  lifted_points : List (List ℚ)
-  lifted_points = map (λ y. lifted y one_ℚ) points
+  homogenised_points : List (List ℚ)
+  homogenised_points = map (λ y. homogenised y one_ℚ) points
 
-  lifted_directions : List (List ℚ)
-  lifted_directions = map (λ d. lifted d zero_ℚ) directions
+  homogenised_directions : List (List ℚ)
+  homogenised_directions = map (λ d. homogenised d zero_ℚ) directions
 
-  lifted_points_wide : AreWide (suc n) lifted_points
-  unfolding lifted_points
-  lifted_points_wide = record {
-    wide = All-map (HasWidth (suc n)) (λ y. lifted y one_ℚ) points
-        (All-weaker (HasWidth n) (λ y. HasWidth (suc n) (lifted y one_ℚ)) (λ y h. length-lifted n y one_ℚ h) points points_wide.wide);
+  homogenised_points_wide : AreWide (suc n) homogenised_points
+  unfolding homogenised_points
+  homogenised_points_wide = record {
+    wide = All-map (HasWidth (suc n)) (λ y. homogenised y one_ℚ) points
+        (All-weaker (HasWidth n) (λ y. HasWidth (suc n) (homogenised y one_ℚ)) (λ y h. length-homogenised n y one_ℚ h) points points_wide.wide);
   }
 
-  lifted_directions_wide : AreWide (suc n) lifted_directions
-  unfolding lifted_directions
-  lifted_directions_wide = record {
-    wide = All-map (HasWidth (suc n)) (λ y. lifted y zero_ℚ) directions
-        (All-weaker (HasWidth n) (λ y. HasWidth (suc n) (lifted y zero_ℚ)) (λ y h. length-lifted n y zero_ℚ h) directions directions_wide.wide);
+  homogenised_directions_wide : AreWide (suc n) homogenised_directions
+  unfolding homogenised_directions
+  homogenised_directions_wide = record {
+    wide = All-map (HasWidth (suc n)) (λ y. homogenised y zero_ℚ) directions
+        (All-weaker (HasWidth n) (λ y. HasWidth (suc n) (homogenised y zero_ℚ)) (λ y h. length-homogenised n y zero_ℚ h) directions directions_wide.wide);
   }
 
-  both_wide : AreWide (suc n) (lifted_points ++ lifted_directions)
-  both_wide = record { wide = All-append (HasWidth (suc n)) lifted_points lifted_directions lifted_points_wide.wide lifted_directions_wide.wide }
+  both_wide : AreWide (suc n) (homogenised_points ++ homogenised_directions)
+  both_wide = record { wide = All-append (HasWidth (suc n)) homogenised_points homogenised_directions homogenised_points_wide.wide homogenised_directions_wide.wide }
 
-  by_parts : (z : List ℚ) → InK z → IsSumOf (suc n) lifted_points lifted_directions z
-  unfolding InK lifted_points lifted_directions
+  by_parts : (z : List ℚ) → InK z → IsSumOf (suc n) homogenised_points homogenised_directions z
+  unfolding InK homogenised_points homogenised_directions
   by_parts z h =
-      generated_append (suc n) lifted_points lifted_directions z lifted_points_wide lifted_directions_wide h.wide
-      (generated_through (suc n) gens (lifted_points ++ lifted_directions) z both_wide
-      (all_of_members (IsGenerated (suc n) (lifted_points ++ lifted_directions)) gens (λ g k.
-      generated_generator (suc n) (lifted_points ++ lifted_directions) g both_wide (listed g (member_of (IsOneOf points directions) gens g s.each k))))
+      generated_append (suc n) homogenised_points homogenised_directions z homogenised_points_wide homogenised_directions_wide h.wide
+      (generated_through (suc n) gens (homogenised_points ++ homogenised_directions) z both_wide
+      (all_of_members (IsGenerated (suc n) (homogenised_points ++ homogenised_directions)) gens (λ g k.
+      generated_generator (suc n) (homogenised_points ++ homogenised_directions) g both_wide (listed g (member_of (IsOneOf points directions) gens g s.each k))))
       (s.described.generates z h))
     where
-      listed : (g : List ℚ) → IsOneOf points directions g → Contains (lifted_points ++ lifted_directions) g
-      listed g (inl (y, k, e)) = Contains-append_left lifted_points lifted_directions g
-          (subst (λ (v : List ℚ). Contains lifted_points v) (sym e) (Contains-map (λ v. lifted v one_ℚ) points y k))
-      listed g (inr (d, k, e)) = Contains-append_right lifted_points lifted_directions g
-          (subst (λ (v : List ℚ). Contains lifted_directions v) (sym e) (Contains-map (λ v. lifted v zero_ℚ) directions d k))
+      listed : (g : List ℚ) → IsOneOf points directions g → Contains (homogenised_points ++ homogenised_directions) g
+      listed g (inl (y, k, e)) = Contains-append_left homogenised_points homogenised_directions g
+          (subst (λ (v : List ℚ). Contains homogenised_points v) (sym e) (Contains-map (λ v. homogenised v one_ℚ) points y k))
+      listed g (inr (d, k, e)) = Contains-append_right homogenised_points homogenised_directions g
+          (subst (λ (v : List ℚ). Contains homogenised_directions v) (sym e) (Contains-map (λ v. homogenised v zero_ℚ) directions d k))
 
   -- weights of the points and shares of the directions, of a vector at height t
   pub record HasParts (y : List ℚ) (t : ℚ) : Type 0 where
@@ -198,21 +198,21 @@ module _ (n : ℕ) (Set Directions : List ℚ → Type 0) (c : List ℚ) (cuts :
     pub total : sum_ℚ weights ≡ t
     pub combined : y ≡ plus (combination n weights points) (combination n shares directions)
 
-  pub parts : (y : List ℚ) (t : ℚ) → length y ≡ n → InK (lifted y t) → HasParts y t
-  unfolding lifted_points lifted_directions
+  pub parts : (y : List ℚ) (t : ℚ) → length y ≡ n → InK (homogenised y t) → HasParts y t
+  unfolding homogenised_points homogenised_directions
   parts y t width h =
-      let p : IsSumOf (suc n) lifted_points lifted_directions (lifted y t) = by_parts (lifted y t) h in
+      let p : IsSumOf (suc n) homogenised_points homogenised_directions (homogenised y t) = by_parts (homogenised y t) h in
       let ws : List ℚ = p.first_is.multipliers in
       let ss : List ℚ = p.second_is.multipliers in
-      let ws_each : length ws ≡ length points = p.first_is.one_each ∙ length-map points (λ v. lifted v one_ℚ) in
-      let ss_each : length ss ≡ length directions = p.second_is.one_each ∙ length-map directions (λ v. lifted v zero_ℚ) in
-      let whole : lifted y t ≡ lifted (plus (combination n ws points) (combination n ss directions)) (sum_ℚ ws *ℚ one_ℚ +ℚ sum_ℚ ss *ℚ zero_ℚ) =
-      p.same ∙ ap₂ (λ a b. plus a b) (p.first_is.combined ∙ lifted_combination n one_ℚ ws points ws_each points_wide) (p.second_is.combined
-      ∙ lifted_combination n zero_ℚ ss directions ss_each directions_wide)
-      ∙ plus-lifted (combination n ws points) (combination n ss directions) (sum_ℚ ws *ℚ one_ℚ) (sum_ℚ ss *ℚ zero_ℚ)
+      let ws_each : length ws ≡ length points = p.first_is.one_each ∙ length-map points (λ v. homogenised v one_ℚ) in
+      let ss_each : length ss ≡ length directions = p.second_is.one_each ∙ length-map directions (λ v. homogenised v zero_ℚ) in
+      let whole : homogenised y t ≡ homogenised (plus (combination n ws points) (combination n ss directions)) (sum_ℚ ws *ℚ one_ℚ +ℚ sum_ℚ ss *ℚ zero_ℚ) =
+      p.same ∙ ap₂ (λ a b. plus a b) (p.first_is.combined ∙ homogenised_combination n one_ℚ ws points ws_each points_wide) (p.second_is.combined
+      ∙ homogenised_combination n zero_ℚ ss directions ss_each directions_wide)
+      ∙ plus-homogenised (combination n ws points) (combination n ss directions) (sum_ℚ ws *ℚ one_ℚ) (sum_ℚ ss *ℚ zero_ℚ)
       (length-combination n ws points points_wide ∙ sym (length-combination n ss directions directions_wide)) in
       let both : (y ≡ plus (combination n ws points) (combination n ss directions)) × (t ≡ sum_ℚ ws *ℚ one_ℚ +ℚ sum_ℚ ss *ℚ zero_ℚ) =
-      lifted-same y (plus (combination n ws points) (combination n ss directions)) t (sum_ℚ ws *ℚ one_ℚ +ℚ sum_ℚ ss *ℚ zero_ℚ) whole in
+      homogenised-same y (plus (combination n ws points) (combination n ss directions)) t (sum_ℚ ws *ℚ one_ℚ +ℚ sum_ℚ ss *ℚ zero_ℚ) whole in
       record {
         weights = ws;
         shares = ss;
@@ -224,13 +224,13 @@ module _ (n : ℕ) (Set Directions : List ℚ → Type 0) (c : List ℚ) (cuts :
         combined = both.0;
       }
 
-  pub point_back : (y : List ℚ) → length y ≡ n → InK (lifted y one_ℚ) → Set y
+  pub point_back : (y : List ℚ) → length y ≡ n → InK (homogenised y one_ℚ) → Set y
   point_back y width h =
       let p : HasParts y one_ℚ = parts y one_ℚ width h in
       subst (λ (v : List ℚ). Set v) (sym p.combined)
       (member_from_parts n Set Directions s.convex p.weights p.shares points directions p.weight_each p.weights_nonneg p.shares_nonneg s.points_in s.directions_in p.total)
 
-  pub direction_back : (d : List ℚ) → length d ≡ n → InK (lifted d zero_ℚ) → Directions d
+  pub direction_back : (d : List ℚ) → length d ≡ n → InK (homogenised d zero_ℚ) → Directions d
   direction_back d width h =
       let p : HasParts d zero_ℚ = parts d zero_ℚ width h in
       let shares_part : List ℚ = combination n p.shares directions in

@@ -7,17 +7,17 @@ use Rattle.polyhedra.specs.TightSets.{IsTight, IsDoubleDescriptionPair}
 use Rattle.polyhedra.specs.DoubleDescription.{IsNormed}
 use Rattle.polyhedra.specs.Hull.{IsInHull, IsConvex, IsVertex, IsExtremeDirection, IsNormedDirection, Inequality, IsValidAt, IsFacet}
 
--- y followed by t: the point y for t = 1, the direction y for t = 0
-abbrev pub lifted : List ℚ → ℚ → List ℚ
-lifted y t = y ++ t ∷ []
+-- the homogenised vector (y, t): the point y for t = 1, the direction y for t = 0
+abbrev pub homogenised : List ℚ → ℚ → List ℚ
+homogenised y t = y ++ t ∷ []
 
 -- the row t ≥ 0
 abbrev pub level : ℕ → List ℚ
-level n = lifted (zeros n) one_ℚ
+level n = homogenised (zeros n) one_ℚ
 
 -- the row that says that (y, t) meets the inequality with t times its bound
 abbrev pub row_of : Inequality → List ℚ
-row_of e = lifted e.normal (neg_ℚ e.bound)
+row_of e = homogenised e.normal (neg_ℚ e.bound)
 
 -- the row t ≥ 0 and those of the cuts
 abbrev pub rows_of : ℕ → List Inequality → List (List ℚ)
@@ -26,14 +26,14 @@ rows_of n cuts = level n ∷ map row_of cuts
 -- g is one of the points or directions
 abbrev pub IsOneOf : List (List ℚ) → List (List ℚ) → List ℚ → Type 0
 IsOneOf points directions g =
-    ((y : List ℚ) × Contains points y × (g ≡ lifted y one_ℚ))
-    ⊎ ((d : List ℚ) × Contains directions d × (g ≡ lifted d zero_ℚ))
+    ((y : List ℚ) × Contains points y × (g ≡ homogenised y one_ℚ))
+    ⊎ ((d : List ℚ) × Contains directions d × (g ≡ homogenised d zero_ℚ))
 
 -- a normed vector of n + 1 entries, of which the last is at least 0, is a point or a normed direction
 abbrev pub NormedArePointsOrDirections : Type 0
 NormedArePointsOrDirections = (n : ℕ) (g : List ℚ) → length g ≡ suc n → IsNormed g → zero_ℚ ≤ℚ dot (level n) g →
-    ((y : List ℚ) × (length y ≡ n) × (g ≡ lifted y one_ℚ))
-    ⊎ ((d : List ℚ) × (length d ≡ n) × IsNormedDirection d × (g ≡ lifted d zero_ℚ))
+    ((y : List ℚ) × (length y ≡ n) × (g ≡ homogenised y one_ℚ))
+    ⊎ ((d : List ℚ) × (length d ≡ n) × IsNormedDirection d × (g ≡ homogenised d zero_ℚ))
 
 -- n cuts that are tight at a point, and for each a direction in which it grows while the others stay
 pub record IsCornerOf (n : ℕ) (cuts : List Inequality) (point : List ℚ) (directions : List (List ℚ)) : Type 0 where
@@ -52,7 +52,7 @@ pub record IsCornerOf (n : ℕ) (cuts : List Inequality) (point : List ℚ) (dir
 abbrev pub CornerStarts : Type 0
 CornerStarts = (n : ℕ) (cuts : List Inequality) (point : List ℚ) (directions : List (List ℚ)) →
     IsCornerOf n cuts point directions →
-    IsDoubleDescriptionPair (suc n) (rows_of n cuts) (lifted point one_ℚ ∷ map (λ d. lifted d zero_ℚ) directions)
+    IsDoubleDescriptionPair (suc n) (rows_of n cuts) (homogenised point one_ℚ ∷ map (λ d. homogenised d zero_ℚ) directions)
 
 -- each generator that is tight at row a is tight at row b
 abbrev pub TightLiesIn : List (List ℚ) → List ℚ → List ℚ → Type 0
@@ -87,8 +87,8 @@ pub record IsSolved (n : ℕ) (Set Directions : List ℚ → Type 0) (c : List �
   pub cuts_valid : All (IsValidAt n Set c) cuts
   pub described : IsDoubleDescriptionPair (suc n) (rows_of n cuts) generators
   pub each : All (IsOneOf points directions) generators
-  pub point_listed : All (λ y. Contains generators (lifted y one_ℚ)) points
-  pub direction_listed : All (λ d. Contains generators (lifted d zero_ℚ)) directions
+  pub point_listed : All (λ y. Contains generators (homogenised y one_ℚ)) points
+  pub direction_listed : All (λ d. Contains generators (homogenised d zero_ℚ)) directions
   pub points_in : All Set points
   pub directions_in : All Directions directions
   pub directions_normed : All IsNormedDirection directions

@@ -6,7 +6,7 @@ use Rattle.polyhedra.specs.Dependence.{AreCorners}
 use Rattle.polyhedra.specs.DoubleDescription.{new_pairs, addition}
 use Rattle.polyhedra.specs.Hull.{Inequality, IsVertex, IsFacet, IsExtremeDirection}
 use Rattle.polyhedra.specs.Cone.{IsGenerated, IsInterior}
-use Rattle.polyhedra.specs.Exactness.{lifted, level, IsSolved}
+use Rattle.polyhedra.specs.Exactness.{homogenised, level, IsSolved}
 
 -- a vector of whole numbers
 abbrev pub wholes : List ℤ → List ℚ
@@ -83,5 +83,5 @@ pub record QuadrantExample : Type 0 where
   pub interior : IsInterior 2 IsInQuadrant (one_ℚ ∷ one_ℚ ∷ [])
   pub border : IsInterior 2 IsInQuadrant (one_ℚ ∷ zero_ℚ ∷ []) → ⊥
   pub solved : IsSolved 2 IsInQuadrant IsInQuadrant (one_ℚ ∷ one_ℚ ∷ []) (left_side ∷ lower_side ∷ [])
-      (level 2 ∷ lifted (one_ℚ ∷ zero_ℚ ∷ []) zero_ℚ ∷ lifted (zero_ℚ ∷ one_ℚ ∷ []) zero_ℚ ∷ [])
+      (level 2 ∷ homogenised (one_ℚ ∷ zero_ℚ ∷ []) zero_ℚ ∷ homogenised (zero_ℚ ∷ one_ℚ ∷ []) zero_ℚ ∷ [])
       ((zero_ℚ ∷ zero_ℚ ∷ []) ∷ []) axes (left_side ∷ lower_side ∷ [])
