@@ -12,7 +12,7 @@ use Rattle.polyhedra.proofs.Order.{zero_or_positive, add_nonneg}
 use Rattle.polyhedra.proofs.Linear.{dot_comm, dot-plus, dot-scaled, dot-combination, length-plus, length-scaled, length-combination, same_wide}
 use Rattle.polyhedra.proofs.Lists.{HoldsAt, nonneg-nil, nonneg-cons, nonneg-head, nonneg-tail}
 use Rattle.polyhedra.proofs.Members.{all_of_members, member_of, pairs_of_members}
-use Rattle.polyhedra.proofs.Counting.{same_vector_or_not}
+use Rattle.polyhedra.proofs.TightRows.{same_vector_or_not}
 use Rattle.polyhedra.proofs.Generated.{generated_value, generated_width, generated_zero, generated_plus, generated_scaled}
 use Rattle.polyhedra.proofs.Support.{InSupport, support_listed, support_zero}
 

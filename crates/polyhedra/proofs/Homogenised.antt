@@ -9,7 +9,7 @@ use Rattle.polyhedra.specs.Hull.{Inequality, IsNormedDirection}
 use Rattle.polyhedra.specs.Exactness.{homogenised, level, row_of, NormedArePointsOrDirections}
 use Rattle.polyhedra.proofs.Laws.{add_comm, add_zero, add_assoc, mul_one, le_of_lt}
 use Rattle.polyhedra.proofs.Algebra.{zero_add, one_mul, mul_zero}
-use Rattle.polyhedra.proofs.Counting.{test_of_zero, test_of_other}
+use Rattle.polyhedra.proofs.TightRows.{test_of_zero, test_of_other}
 use Rattle.polyhedra.proofs.Order.{zero_or_positive, not_zero_of_positive}
 use Rattle.polyhedra.proofs.Linear.{dot_comm, dot-zeros, length-zeros}
 

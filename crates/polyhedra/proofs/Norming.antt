@@ -8,7 +8,7 @@ use Rattle.polyhedra.proofs.Laws.{add_zero, le_of_lt, mul_nonneg, mul_comm, mul_
 use Rattle.polyhedra.proofs.Algebra.{mul_zero, mul_neg}
 use Rattle.polyhedra.proofs.Order.{zero_or_positive, neg_positive, inverse_positive, le_or_lt, not_lt_of_le, product_zero, mul_negative}
 use Rattle.polyhedra.proofs.Linear.{dot-nil, length-scaled}
-use Rattle.polyhedra.proofs.Counting.{zero_of_test, test_of_zero, test_of_other}
+use Rattle.polyhedra.proofs.TightRows.{zero_of_test, test_of_zero, test_of_other}
 
 -- the magnitude of a number that is not 0 is positive
 pub magnitude-positive : (q : ℚ) → (q ≡ zero_ℚ → ⊥) → zero_ℚ <ℚ magnitude q

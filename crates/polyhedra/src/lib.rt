@@ -16,7 +16,7 @@ ghost use Rattle.polyhedra.specs.LowerImage.{VerticesAreFacets, OneLowerDirectio
 ghost use Rattle.polyhedra.specs.Sparse.{ProductOfSparse};
 
 /// A set of vectors, and the directions in which it goes on for ever. A law over a region holds for every set; a
-/// proof that needs it for a set of its own cites the lemma of the same name in `proofs/Exact`.
+/// proof that needs it for a set of its own cites the lemma of the same name in `proofs/SolvedAreExact`.
 pub trait Region {
     ghost members: { List ℚ → Type 0 };
 

@@ -8,7 +8,7 @@ use Rattle.polyhedra.specs.Exactness.{level, row_of, rows_of, TightLiesIn, IsNam
 use Rattle.polyhedra.proofs.Linear.{dot_comm}
 use Rattle.polyhedra.proofs.Lists.{Contains-cases}
 use Rattle.polyhedra.proofs.Members.{all_or_not, all_of_members, member_of, Contains-map_source}
-use Rattle.polyhedra.proofs.Counting.{loose, loose-lt, IsApartAt, lies_or_not}
+use Rattle.polyhedra.proofs.TightRows.{loose, loose-lt, IsApartAt, lies_or_not}
 
 -- the same with the generators in the place of rows
 as_rows : (gens : List (List ℚ)) (a b : List ℚ) → TightLiesIn gens a b → LiesIn gens a b

@@ -18,7 +18,7 @@ use Rattle.polyhedra.proofs.Generated.{generated_value, generated_generator}
 use Rattle.polyhedra.proofs.Support.{InSupport, support_listed, support_positive}
 use Rattle.polyhedra.proofs.Homogenised.{length-homogenised, plus-homogenised, scaled-homogenised, zeros-homogenised, homogenised-same, level_value, row_value_point, row_value_direction}
 use Rattle.polyhedra.proofs.Cones.{generated_through, IsSumOf, generated_append, sum_nonneg}
-use Rattle.polyhedra.proofs.Regions.{above, member_from_parts, directions_sum, direction_value}
+use Rattle.polyhedra.proofs.ConvexSets.{above, member_from_parts, directions_sum, direction_value}
 
 -- the combination of homogenised vectors of one height
 homogenised_combination : (n : ℕ) (t : ℚ) (ms : List ℚ) (vs : List (List ℚ)) → length ms ≡ length vs → AreWide n vs → combination (suc n) ms

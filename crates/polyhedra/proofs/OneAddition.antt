@@ -12,13 +12,13 @@ use Rattle.polyhedra.proofs.Order.{zero_or_positive, le_of_eq, lt_irrefl, lt_tra
 use Rattle.polyhedra.proofs.Linear.{dot_comm, dot-plus, dot-scaled, dot-zeros, length-plus, length-scaled, same_wide}
 use Rattle.polyhedra.proofs.Lists.{HoldsAt, HasWidth}
 use Rattle.polyhedra.proofs.Members.{all_of_members, member_of, Contains-map_source, Contains-filter_source, pairs_of_members, pairs-append, pairs-filter, pairs-map, pairs-weaker}
-use Rattle.polyhedra.proofs.Counting.{loose, loose-lt, tight_or_positive, same_vector_or_not}
+use Rattle.polyhedra.proofs.TightRows.{loose, loose-lt, tight_or_positive, same_vector_or_not}
 use Rattle.polyhedra.proofs.LeastQuotient.{IsPositiveSomewhere, IsLeastQuotient, least_quotient, less, less_back, less_width, less_tight, less_holds, less_reached}
 use Rattle.polyhedra.proofs.Generated.{generated_value, generated_zero, generated_plus, generated_scaled, generated_generator}
 use Rattle.polyhedra.proofs.Support.{InSupport, support_listed, support_positive}
 use Rattle.polyhedra.proofs.Norming.{norm_factor, norm_factor-positive, normed_is_normed}
-use Rattle.polyhedra.proofs.Shrinking.{moved_value, moved_tight, moved_tight_left, moved_tight_right, moved_in}
-use Rattle.polyhedra.proofs.Adding.{crossing, factor_positive, normed_tight, IsFound, found, kept_listed, support_lies}
+use Rattle.polyhedra.proofs.CoveredPairs.{moved_value, moved_tight, moved_tight_left, moved_tight_right, moved_in}
+use Rattle.polyhedra.proofs.NewGenerators.{crossing, factor_positive, normed_tight, IsFound, found, kept_listed, support_lies}
 
 module _ (n : ℕ) (rows gens : List (List ℚ)) (row : List ℚ) (pairs : List Pair) (d : IsDoubleDescriptionPair n rows gens) (row_wide : length row ≡ n) (exact : ArePairs rows gens row pairs) where
   all_rows : List (List ℚ)

@@ -15,7 +15,7 @@ use Rattle.polyhedra.proofs.Order.{le_or_lt, zero_or_positive, add_nonneg, add_p
 use Rattle.polyhedra.proofs.Linear.{dot-plus, dot-scaled, length-plus, length-scaled}
 use Rattle.polyhedra.proofs.Lists.{HoldsAt}
 use Rattle.polyhedra.proofs.Members.{all_of_members, member_of}
-use Rattle.polyhedra.proofs.Counting.{loose, loose-lt, IsApartAt, lies_or_not, tight_or_positive}
+use Rattle.polyhedra.proofs.TightRows.{loose, loose-lt, IsApartAt, lies_or_not, tight_or_positive}
 use Rattle.polyhedra.proofs.LeastQuotient.{IsPositiveSomewhere, IsLeastQuotient, least_quotient, less, less_value, less_width, less_tight, less_holds, less_reached}
 
 -- a + t b

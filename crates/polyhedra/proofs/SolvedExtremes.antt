@@ -14,15 +14,15 @@ use Rattle.polyhedra.proofs.Order.{Sign, negative, none, positive, sign_of, add_
 use Rattle.polyhedra.proofs.Linear.{scaled-one, dot_comm, plus_comm, dot-plus, dot-scaled, dot-zeros, length-scaled, length-zeros, same_wide}
 use Rattle.polyhedra.proofs.Lists.{HoldsAt, HasWidth, Contains-here}
 use Rattle.polyhedra.proofs.Members.{all_of_members, member_of}
-use Rattle.polyhedra.proofs.Counting.{tight_or_positive}
+use Rattle.polyhedra.proofs.TightRows.{tight_or_positive}
 use Rattle.polyhedra.proofs.LeastQuotient.{IsPositiveSomewhere}
 use Rattle.polyhedra.proofs.Generated.{generated_value, generated_plus, generated_scaled, generated_generator}
 use Rattle.polyhedra.proofs.Support.{InSupport, support_listed, support_positive}
 use Rattle.polyhedra.proofs.Homogenised.{length-homogenised, plus-homogenised, scaled-homogenised, zeros-homogenised, homogenised-same, IsHomogenised, unhomogenised, level_value}
 use Rattle.polyhedra.proofs.Norming.{leading-scaled, magnitude-scaled}
 use Rattle.polyhedra.proofs.Cones.{IsSplit, split_support, IsOnRay, ray_of, generated_in, in_support_lies}
-use Rattle.polyhedra.proofs.Between.{towards, away, towards_value, two_sides, towards_same}
-use Rattle.polyhedra.proofs.Slices.{InK, points_wide, directions_wide, point_in, point_of, direction_of, direction_in, point_back, direction_back}
+use Rattle.polyhedra.proofs.Midpoints.{towards, away, towards_value, two_sides, towards_same}
+use Rattle.polyhedra.proofs.SolvedSets.{InK, points_wide, directions_wide, point_in, point_of, direction_of, direction_in, point_back, direction_back}
 
 -- a positive multiple of a normed direction that is normed is that direction
 normed_same : (q : ℚ) (d h : List ℚ) → zero_ℚ <ℚ q → h ≡ scaled q d → IsNormedDirection d → IsNormedDirection h → h ≡ d

@@ -13,11 +13,11 @@ use Rattle.polyhedra.proofs.Order.{Sign, negative, none, positive, sign_of, le_o
 use Rattle.polyhedra.proofs.Linear.{dot_comm, dot-scaled}
 use Rattle.polyhedra.proofs.Lists.{HoldsAt}
 use Rattle.polyhedra.proofs.Members.{all_or_not, all_of_members, member_of, Contains-map, Contains-filter, pairs_of_members}
-use Rattle.polyhedra.proofs.Counting.{loose, loose-le, covers_or_not, same_vector_or_not}
+use Rattle.polyhedra.proofs.TightRows.{loose, loose-le, covers_or_not, same_vector_or_not}
 use Rattle.polyhedra.proofs.LeastQuotient.{IsPositiveSomewhere}
 use Rattle.polyhedra.proofs.Generated.{generated_value}
 use Rattle.polyhedra.proofs.Support.{InSupport, support_listed, support_zero, support_positive, support_opposite, support_opposite_negative}
-use Rattle.polyhedra.proofs.Shrinking.{moved, moved_value, moved_tight, IsShrunk, shrunk_is}
+use Rattle.polyhedra.proofs.CoveredPairs.{moved, moved_value, moved_tight, IsShrunk, shrunk_is}
 
 -- the factor at which the row is 0: at p and at m it has opposite signs
 pub crossing : (row p m : List ℚ) → dot row m <ℚ zero_ℚ → dot row p +ℚ (dot row p *ℚ inverse_ℚ (neg_ℚ (dot row m))) *ℚ dot row m ≡ zero_ℚ

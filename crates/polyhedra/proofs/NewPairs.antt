@@ -9,8 +9,8 @@ use Rattle.polyhedra.specs.DoubleDescription.{is_zero, same_vector, covers, is_u
 use Rattle.polyhedra.proofs.Laws.{le_refl, le_antisymm}
 use Rattle.polyhedra.proofs.Lists.{Contains-here, Contains-there, Contains-cases, Contains-nil}
 use Rattle.polyhedra.proofs.Members.{all_of_members, member_of, Contains-map, Contains-map_source, Contains-filter, Contains-filter_source, pairs-nil, pairs-head, pairs-tail, pairs-append, pairs-filter, pairs-map, pairs-weaker}
-use Rattle.polyhedra.proofs.Added.{one_addition}
-use Rattle.polyhedra.proofs.Counting.{zero_of_test, test_of_zero, both_true, both_hold}
+use Rattle.polyhedra.proofs.OneAddition.{one_addition}
+use Rattle.polyhedra.proofs.TightRows.{zero_of_test, test_of_zero, both_true, both_hold}
 
 -- ---- tests of every element
 list_all-true : {X : Type 0} (test : X → Bool) (xs : List X) → list_all test xs ≡ true → All (λ x. test x ≡ true) xs

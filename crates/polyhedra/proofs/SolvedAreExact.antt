@@ -4,9 +4,9 @@ use Rattle.exact_field.specs.Rational.{ℚ}
 use Rattle.polyhedra.specs.Exactness.{Exactness, SameMembers, RisingListsAreEqual, Uniqueness}
 use Rattle.polyhedra.proofs.Lists.{Contains-here, Contains-there, Contains-cases, Contains-nil}
 use Rattle.polyhedra.proofs.Members.{member_of, pairs-head, pairs-tail}
-use Rattle.polyhedra.proofs.Slices.{some_point, in_hull, from_hull}
-use Rattle.polyhedra.proofs.Extremes.{listed_is_vertex, vertex_is_listed, listed_is_extreme, extreme_is_listed}
-use Rattle.polyhedra.proofs.Facets.{named_is_facet, facet_is_named}
+use Rattle.polyhedra.proofs.SolvedSets.{some_point, in_hull, from_hull}
+use Rattle.polyhedra.proofs.SolvedExtremes.{listed_is_vertex, vertex_is_listed, listed_is_extreme, extreme_is_listed}
+use Rattle.polyhedra.proofs.SolvedFacets.{named_is_facet, facet_is_named}
 
 pub exactness : (Set Directions : List ℚ → Type 0) → Exactness Set Directions
 exactness Set Directions n c cuts gens points directions named s = record {

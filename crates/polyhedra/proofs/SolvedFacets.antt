@@ -25,8 +25,8 @@ use Rattle.polyhedra.proofs.Support.{InSupport, support_listed, support_zero, su
 use Rattle.polyhedra.proofs.Farkas.{farkas, generated_nonneg}
 use Rattle.polyhedra.proofs.Homogenised.{length-homogenised, dot-homogenised, plus-homogenised, homogenised-same, IsHomogenised, unhomogenised, level_value, row_value_point}
 use Rattle.polyhedra.proofs.Cones.{IsSplit, split_support, IsOnRay, one_ray}
-use Rattle.polyhedra.proofs.Between.{towards, away, towards_value, away_value, towards_width, away_width, two_sides, towards_same}
-use Rattle.polyhedra.proofs.Slices.{InK, cut_valid, point_in, valid_at_point, valid_at_direction, generator_at_cut, generator_at_level}
+use Rattle.polyhedra.proofs.Midpoints.{towards, away, towards_value, away_value, towards_width, away_width, two_sides, towards_same}
+use Rattle.polyhedra.proofs.SolvedSets.{InK, cut_valid, point_in, valid_at_point, valid_at_direction, generator_at_cut, generator_at_level}
 
 module _ (n : ℕ) (Set Directions : List ℚ → Type 0) (c : List ℚ) (cuts : List Inequality) (gens points directions : List (List ℚ)) (named : List Inequality)
     (s : IsSolved n Set Directions c cuts gens points directions named) where
