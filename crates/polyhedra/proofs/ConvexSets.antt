@@ -7,7 +7,8 @@ use Rattle.exact_field.specs.Ring.{v0, v1, v2, v3, ◌⊕◌, ◌⊗◌, ◌⊝�
 use Rattle.exact_field.proofs.RingTool.{ring}
 use Rattle.exact_field.proofs.Rationals.{rationals}
 use Rattle.polyhedra.specs.Vectors.{zeros, plus, scaled, combination, AtLeastZero}
-use Rattle.polyhedra.specs.Hull.{IsConvex, Inequality, IsValid}
+use Rattle.polyhedra.specs.Inequality.{Inequality}
+use Rattle.polyhedra.specs.Hull.{IsConvex, IsValid}
 use Rattle.polyhedra.proofs.Laws.{add_zero, mul_comm, le_trans, le_of_lt, mul_nonneg, zero_lt_one, mul_inverse}
 use Rattle.polyhedra.proofs.Algebra.{zero_add, zero_mul, cancel}
 use Rattle.polyhedra.proofs.Order.{le_or_lt, zero_or_positive, not_lt_of_le, lt_of_lt_of_le, lt_of_difference, le_of_difference, difference_nonneg, add_nonneg, add_positive, not_zero_of_positive, neg_positive, inverse_positive, mul_inverse_cancel}

@@ -6,7 +6,7 @@ use Rattle.exact_field.specs.Rational.{ℚ, zero_ℚ, one_ℚ, neg_ℚ, ◌+ℚ�
 use Rattle.exact_field.specs.Vector.{dot}
 use Rattle.polyhedra.specs.Vectors.{zeros}
 use Rattle.polyhedra.specs.Dependence.{AreCorners}
-use Rattle.polyhedra.specs.Hull.{Inequality}
+use Rattle.polyhedra.specs.Inequality.{Inequality}
 use Rattle.polyhedra.specs.Exactness.{homogenised, level, row_of, rows_of, IsCornerOf, CornerStarts}
 use Rattle.polyhedra.proofs.Laws.{add_neg, zero_lt_one}
 use Rattle.polyhedra.proofs.Linear.{length-zeros}

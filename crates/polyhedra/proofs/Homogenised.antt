@@ -5,7 +5,8 @@ use Rattle.exact_field.specs.Rational.{ℚ, zero_ℚ, one_ℚ, ◌+ℚ◌, ◌*�
 use Rattle.exact_field.specs.Vector.{dot, entry}
 use Rattle.polyhedra.specs.Vectors.{zeros, plus, scaled}
 use Rattle.polyhedra.specs.DoubleDescription.{is_zero, magnitude, leading, norming}
-use Rattle.polyhedra.specs.Hull.{Inequality, IsNormedDirection}
+use Rattle.polyhedra.specs.Inequality.{Inequality}
+use Rattle.polyhedra.specs.Hull.{IsNormedDirection}
 use Rattle.polyhedra.specs.Exactness.{homogenised, level, row_of, NormedArePointsOrDirections}
 use Rattle.polyhedra.proofs.Laws.{add_comm, add_zero, add_assoc, mul_one, le_of_lt}
 use Rattle.polyhedra.proofs.Algebra.{zero_add, one_mul, mul_zero}

@@ -3,7 +3,7 @@ use Rattle.std.proofs.Common.{◌≡◌, ℕ, zero, suc, List, map, All, Contain
 use Rattle.exact_field.specs.Rational.{ℚ, zero_ℚ}
 use Rattle.exact_field.specs.Vector.{dot}
 use Rattle.polyhedra.specs.TightSets.{IsTight, LiesIn}
-use Rattle.polyhedra.specs.Hull.{Inequality}
+use Rattle.polyhedra.specs.Inequality.{Inequality}
 use Rattle.polyhedra.specs.Exactness.{level, row_of, rows_of, TightLiesIn, IsNamed, IsAccounted, LargestAccount}
 use Rattle.polyhedra.proofs.Linear.{dot_comm}
 use Rattle.polyhedra.proofs.Lists.{Contains-cases}

@@ -6,7 +6,8 @@ use Rattle.exact_field.specs.Ring.{v0, v1, ◌⊕◌, ◌⊝◌, num}
 use Rattle.exact_field.proofs.RingTool.{ring}
 use Rattle.exact_field.proofs.Rationals.{rationals}
 use Rattle.polyhedra.specs.Vectors.{plus}
-use Rattle.polyhedra.specs.Hull.{IsVertex, Inequality, IsValid, IsValidAt, IsFacet}
+use Rattle.polyhedra.specs.Inequality.{Inequality}
+use Rattle.polyhedra.specs.Hull.{IsVertex, IsValid, IsValidAt, IsFacet}
 use Rattle.polyhedra.specs.Exactness.{homogenised}
 use Rattle.polyhedra.specs.LowerImage.{completed, IsInLowerImage, VerticesAreFacets}
 use Rattle.polyhedra.proofs.Laws.{add_comm, mul_one}

@@ -8,7 +8,8 @@ use Rattle.polyhedra.specs.Vectors.{AreWide, zeros, plus, scaled, values}
 use Rattle.polyhedra.specs.Cone.{IsGenerated, IsInDual, IsInterior}
 use Rattle.polyhedra.specs.Dependence.{AreCorners}
 use Rattle.polyhedra.specs.DoubleDescription.{is_zero}
-use Rattle.polyhedra.specs.Hull.{Inequality, IsConvex, IsValidAt, IsExtremeDirection, IsNormedDirection}
+use Rattle.polyhedra.specs.Inequality.{Inequality}
+use Rattle.polyhedra.specs.Hull.{IsConvex, IsValidAt, IsExtremeDirection, IsNormedDirection}
 use Rattle.polyhedra.specs.Exactness.{homogenised, level, row_of, rows_of, IsOneOf, TightLiesIn, IsNamed, IsAccounted, IsSolved}
 use Rattle.polyhedra.specs.Examples.{IsInQuadrant, left_side, lower_side, axes, QuadrantExample}
 use Rattle.polyhedra.proofs.Laws.{add_comm, add_zero, mul_one, le_refl, le_trans, le_of_lt, mul_nonneg, zero_lt_one}

@@ -6,7 +6,8 @@ use Rattle.polyhedra.specs.Vectors.{zeros, plus, scaled}
 use Rattle.polyhedra.specs.Cone.{IsGenerated, IsInCone}
 use Rattle.polyhedra.specs.TightSets.{IsTight, LiesIn}
 use Rattle.polyhedra.specs.DoubleDescription.{magnitude, leading}
-use Rattle.polyhedra.specs.Hull.{IsVertex, IsMultiple, IsExtremeDirection, IsNormedDirection, Inequality}
+use Rattle.polyhedra.specs.Inequality.{Inequality}
+use Rattle.polyhedra.specs.Hull.{IsVertex, IsMultiple, IsExtremeDirection, IsNormedDirection}
 use Rattle.polyhedra.specs.Exactness.{homogenised, level, row_of, rows_of, IsSolved}
 use Rattle.polyhedra.proofs.Laws.{add_comm, add_zero, mul_comm, mul_assoc, mul_one, le_refl, le_of_lt, mul_nonneg, le_antisymm, zero_lt_one}
 use Rattle.polyhedra.proofs.Algebra.{zero_add, zero_mul, mul_zero}

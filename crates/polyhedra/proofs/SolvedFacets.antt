@@ -11,7 +11,8 @@ use Rattle.polyhedra.specs.Vectors.{zeros, plus, scaled}
 use Rattle.polyhedra.specs.Cone.{IsGenerated, IsInCone}
 use Rattle.polyhedra.specs.Farkas.{IsSeparated}
 use Rattle.polyhedra.specs.TightSets.{IsTight, LiesIn}
-use Rattle.polyhedra.specs.Hull.{Inequality, IsValidAt, IsFacet}
+use Rattle.polyhedra.specs.Inequality.{Inequality}
+use Rattle.polyhedra.specs.Hull.{IsValidAt, IsFacet}
 use Rattle.polyhedra.specs.Exactness.{homogenised, level, row_of, rows_of, IsOneOf, TightLiesIn, IsNamed, IsAccounted, IsSolved}
 use Rattle.polyhedra.proofs.Laws.{add_zero, mul_comm, mul_one, le_refl, le_trans, le_of_lt, mul_nonneg, zero_lt_one}
 use Rattle.polyhedra.proofs.Algebra.{zero_add, mul_zero, one_mul, neg_neg}

@@ -6,7 +6,8 @@ use Rattle.exact_field.specs.Rational.{ℚ, zero_ℚ, one_ℚ, ◌+ℚ◌, ◌*�
 use Rattle.exact_field.specs.Vector.{dot, sum_ℚ}
 use Rattle.polyhedra.specs.Vectors.{AreWide, zeros, plus, scaled, values, combination, AtLeastZero}
 use Rattle.polyhedra.specs.Cone.{IsGenerated, IsInCone}
-use Rattle.polyhedra.specs.Hull.{IsInHull, Inequality, IsValidAt}
+use Rattle.polyhedra.specs.Inequality.{Inequality}
+use Rattle.polyhedra.specs.Hull.{IsInHull, IsValidAt}
 use Rattle.polyhedra.specs.Exactness.{homogenised, level, row_of, rows_of, IsOneOf, IsSolved}
 use Rattle.polyhedra.proofs.Laws.{add_zero, mul_one, le_refl, le_of_lt, zero_lt_one}
 use Rattle.polyhedra.proofs.Algebra.{zero_add, zero_mul, mul_zero, one_mul, mul_neg}

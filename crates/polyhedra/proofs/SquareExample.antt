@@ -4,7 +4,8 @@ use Rattle.exact_field.specs.Gcd.{gcd}
 use Rattle.exact_field.specs.Rational.{ℚ, zero_ℚ, one_ℚ, whole, fraction, ◌+ℚ◌, ◌*ℚ◌, le_ℚ, ◌≤ℚ◌}
 use Rattle.exact_field.specs.Vector.{dot}
 use Rattle.polyhedra.specs.Vectors.{plus}
-use Rattle.polyhedra.specs.Hull.{Inequality, IsVertex, IsValidAt, IsFacet}
+use Rattle.polyhedra.specs.Inequality.{Inequality}
+use Rattle.polyhedra.specs.Hull.{IsVertex, IsValidAt, IsFacet}
 use Rattle.polyhedra.specs.Examples.{half, IsInSquare, left_side, corner_line, SquareExample}
 use Rattle.polyhedra.proofs.Laws.{add_comm, add_zero, mul_one, le_refl, le_of_lt, le_antisymm, mul_nonneg, zero_lt_one}
 use Rattle.polyhedra.proofs.Algebra.{zero_add, mul_zero, zero_mul, one_mul, add_cancel}

@@ -5,7 +5,8 @@ use Rattle.exact_field.specs.Vector.{dot}
 use Rattle.polyhedra.specs.Vectors.{AreWide, zeros}
 use Rattle.polyhedra.specs.TightSets.{IsTight, IsDoubleDescriptionPair}
 use Rattle.polyhedra.specs.DoubleDescription.{IsNormed}
-use Rattle.polyhedra.specs.Hull.{IsInHull, IsConvex, IsVertex, IsExtremeDirection, IsNormedDirection, Inequality, IsValidAt, IsFacet}
+use Rattle.polyhedra.specs.Inequality.{Inequality}
+use Rattle.polyhedra.specs.Hull.{IsInHull, IsConvex, IsVertex, IsExtremeDirection, IsNormedDirection, IsValidAt, IsFacet}
 
 -- the homogenised vector (y, t): the point y for t = 1, the direction y for t = 0
 abbrev pub homogenised : List ℚ → ℚ → List ℚ

@@ -4,7 +4,8 @@ use Rattle.exact_field.specs.Rational.{ℚ, whole, fraction, zero_ℚ, one_ℚ, 
 use Rattle.exact_field.specs.Vector.{entry}
 use Rattle.polyhedra.specs.Dependence.{AreCorners}
 use Rattle.polyhedra.specs.DoubleDescription.{new_pairs, addition}
-use Rattle.polyhedra.specs.Hull.{Inequality, IsVertex, IsFacet, IsExtremeDirection}
+use Rattle.polyhedra.specs.Inequality.{Inequality}
+use Rattle.polyhedra.specs.Hull.{IsVertex, IsFacet, IsExtremeDirection}
 use Rattle.polyhedra.specs.Cone.{IsGenerated, IsInterior}
 use Rattle.polyhedra.specs.Exactness.{homogenised, level, IsSolved}
 

@@ -7,6 +7,7 @@ pub mod Examples
 pub mod Farkas
 pub mod Hull
 pub mod Image
+pub mod Inequality
 pub mod Linear
 pub mod LowerImage
 pub mod Sparse

@@ -4,7 +4,8 @@ use Rattle.exact_field.specs.Rational.{ℚ, zero_ℚ, one_ℚ, ◌+ℚ◌, neg_�
 use Rattle.exact_field.specs.Vector.{dot}
 use Rattle.polyhedra.specs.Vectors.{zeros, plus, scaled}
 use Rattle.polyhedra.specs.Cone.{IsInterior}
-use Rattle.polyhedra.specs.Hull.{IsConvex, IsVertex, IsExtremeDirection, IsNormedDirection, Inequality, IsValid, IsFacet}
+use Rattle.polyhedra.specs.Inequality.{Inequality}
+use Rattle.polyhedra.specs.Hull.{IsConvex, IsVertex, IsExtremeDirection, IsNormedDirection, IsValid, IsFacet}
 use Rattle.polyhedra.specs.Exactness.{homogenised}
 
 -- the inequality of w and a bound: w is completed so that the normal has the product 1 with (c, 1)
