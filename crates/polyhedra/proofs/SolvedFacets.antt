@@ -1,6 +1,6 @@
 -- A solved set's named inequalities are exactly its facets.
 use Rattle.std.proofs.Common.{◌≡◌, ℕ, suc, List, [], ◌∷◌, map, length, All, Contains, refl, sym, ap, ap₂, ◌∙◌, subst, ◌⊎◌, inl, inr}
-use Rattle.std.proofs.lemmas.List.Elements.{All-cons, All-map, All-weaker}
+use Rattle.std.proofs.lemmas.List.Elements.{All-weaker}
 use Rattle.exact_field.specs.Rational.{ℚ, zero_ℚ, one_ℚ, ◌+ℚ◌, ◌*ℚ◌, neg_ℚ, ◌≤ℚ◌, ◌<ℚ◌}
 use Rattle.exact_field.specs.Vector.{dot}
 use Rattle.exact_field.specs.Ring.{v0, v1, v2, ◌⊕◌, ◌⊗◌, ◌⊝◌, num, ⊖}
@@ -16,17 +16,17 @@ use Rattle.polyhedra.specs.Hull.{IsValidAt, IsFacet}
 use Rattle.polyhedra.specs.Exactness.{homogenised, level, row_of, rows_of, IsOneOf, TightLiesIn, IsNamed, IsAccounted, IsSolved}
 use Rattle.polyhedra.proofs.Laws.{add_zero, mul_comm, mul_one, le_refl, le_trans, le_of_lt, mul_nonneg, zero_lt_one}
 use Rattle.polyhedra.proofs.Algebra.{zero_add, mul_zero, one_mul, neg_neg}
-use Rattle.polyhedra.proofs.Order.{le_or_lt, le_of_eq, add_nonneg, add_zero_left, mul_positive, mul_le, not_zero_of_positive, not_lt_of_le, le_of_difference, difference_nonneg}
+use Rattle.polyhedra.proofs.Order.{le_or_lt, add_nonneg, add_zero_left, mul_positive, mul_le, not_zero_of_positive, not_lt_of_le, le_of_difference, difference_nonneg}
 use Rattle.polyhedra.proofs.Linear.{dot_comm, plus_comm, dot-plus, dot-scaled, dot-zeros, length-plus, length-scaled, length-zeros, same_wide}
 use Rattle.polyhedra.proofs.Lists.{HoldsAt, Contains-here, Contains-there, Contains-cases}
 use Rattle.polyhedra.proofs.Members.{all_of_members, member_of, Contains-map, Contains-map_source}
 use Rattle.polyhedra.proofs.LeastQuotient.{IsLeastQuotient, least_quotient, less, less_value, less_back, less_width, less_tight, less_holds, less_reached}
-use Rattle.polyhedra.proofs.Generated.{generated_value, generated_plus, generated_scaled, generated_generator}
+use Rattle.polyhedra.proofs.Generated.{generated_value}
 use Rattle.polyhedra.proofs.Support.{InSupport, support_listed, support_zero, support_positive}
 use Rattle.polyhedra.proofs.Farkas.{farkas, generated_nonneg}
 use Rattle.polyhedra.proofs.Homogenised.{length-homogenised, dot-homogenised, plus-homogenised, homogenised-same, IsHomogenised, unhomogenised, level_value, row_value_point}
-use Rattle.polyhedra.proofs.Cones.{IsSplit, split_support, IsOnRay, one_ray}
-use Rattle.polyhedra.proofs.Midpoints.{towards, away, towards_value, away_value, towards_width, away_width, two_sides, towards_same}
+use Rattle.polyhedra.proofs.Cones.{IsOnRay, one_ray}
+use Rattle.polyhedra.proofs.Midpoints.{towards, towards_value, towards_width, towards_same}
 use Rattle.polyhedra.proofs.SolvedSets.{InK, cut_valid, point_in, valid_at_point, valid_at_direction, generator_at_cut, generator_at_level}
 
 module _ (n : ℕ) (Set Directions : List ℚ → Type 0) (c : List ℚ) (cuts : List Inequality) (gens points directions : List (List ℚ)) (named : List Inequality)
@@ -308,71 +308,6 @@ module _ (n : ℕ) (Set Directions : List ℚ → Type 0) (c : List ℚ) (cuts :
         (⊖ (⊖ v0 ⊕ ⊖ v1)) (v0 ⊕ v1) refl in
         sym u.2 ∙ ap row_of (facet.no_midpoint u.0 v.0 u.1 v.1 parts.0 bounds).0
 
-    -- the facet is a cut
-    with_cut : (e : Inequality) → Contains cuts e → IsSplit (suc n) (rows_of n cuts) big (row_of e) → e ≡ f
-    unfolding big Nonneg
-    with_cut e k t =
-        let g : List ℚ = row_of e in
-        let e_valid : IsValidAt n Set c e = cut_is_valid e k in
-        let g_width : length g ≡ suc n = row_width e e_valid in
-        let others_width : length t.others ≡ suc n = Rattle.polyhedra.proofs.Generated.generated_width (suc n)
-        (rows_of n cuts) t.others s.described.rows_wide t.others_is in
-        let g_probe : dot probe g ≡ one_ℚ = dot_comm probe g ∙ row_probe e e_valid in
-        let others_probe : zero_ℚ ≤ℚ dot probe t.others = generated_nonneg (suc n) (rows_of n cuts) probe t.others rows_at_probe t.others_is in
-        let whole : t.factor +ℚ dot probe t.others ≡ one_ℚ =
-        ap (λ x. x +ℚ dot probe t.others) (sym (mul_one t.factor) ∙ ap (λ x. t.factor *ℚ x) (sym g_probe) ∙ sym (dot-scaled probe t.factor g))
-        ∙ sym (dot-plus probe (scaled t.factor g) t.others) ∙ ap (λ v. dot probe v) (sym t.same) ∙ big_probe in
-        let small : t.factor ≤ℚ one_ℚ = le_of_difference t.factor one_ℚ (dot probe t.others) others_probe whole in
-        let near : List ℚ = towards t.factor big g in
-        let far : List ℚ = away t.factor g t.others in
-        let near_nonneg : All (λ v. zero_ℚ ≤ℚ dot near v) gens = all_of_members (λ v. zero_ℚ ≤ℚ dot near v) gens (λ v m.
-        subst (λ (x : ℚ). zero_ℚ ≤ℚ x) (sym (towards_value t.factor big g v) ∙ dot_comm v near)
-        (add_nonneg ((one_ℚ +ℚ neg_ℚ t.factor) *ℚ dot v big) (t.factor *ℚ dot v g)
-        (mul_nonneg (one_ℚ +ℚ neg_ℚ t.factor) (dot v big) (difference_nonneg t.factor one_ℚ small)
-        (member_of (HoldsAt big) gens v (as_values big big_nonneg) m))
-        (mul_nonneg t.factor (dot v g) (le_of_lt zero_ℚ t.factor t.positive) (member_of (HoldsAt g) gens v (as_values g (valid_nonneg e e_valid)) m)))) in
-        let far_nonneg : All (λ v. zero_ℚ ≤ℚ dot far v) gens = all_of_members (λ v. zero_ℚ ≤ℚ dot far v) gens (λ v m.
-        subst (λ (x : ℚ). zero_ℚ ≤ℚ x) (sym (away_value t.factor g t.others v) ∙ dot_comm v far)
-        (add_nonneg ((t.factor *ℚ t.factor) *ℚ dot v g) ((one_ℚ +ℚ t.factor) *ℚ dot v t.others)
-        (mul_nonneg (t.factor *ℚ t.factor) (dot v g) (le_of_lt zero_ℚ (t.factor *ℚ t.factor) (mul_positive t.factor t.factor t.positive t.positive))
-        (member_of (HoldsAt g) gens v (as_values g (valid_nonneg e e_valid)) m))
-        (mul_nonneg (one_ℚ +ℚ t.factor) (dot v t.others) (add_nonneg one_ℚ t.factor (le_of_lt zero_ℚ one_ℚ zero_lt_one) (le_of_lt zero_ℚ t.factor t.positive))
-        (generated_nonneg (suc n) (rows_of n cuts) v t.others
-        (all_of_members (λ r. zero_ℚ ≤ℚ dot v r) (rows_of n cuts)
-        (λ r j. subst (λ (x : ℚ). zero_ℚ ≤ℚ x) (dot_comm r v) (member_of (HoldsAt v) (rows_of n cuts) r (rows_nonneg v m) j))) t.others_is)))) in
-        let near_probe : dot probe near ≡ one_ℚ =
-        towards_value t.factor big g probe ∙ ap₂ (λ x y. (one_ℚ +ℚ neg_ℚ t.factor) *ℚ x +ℚ t.factor *ℚ y) big_probe g_probe
-        ∙ ring rationals (t.factor ∷ []) ((num (pos 1) ⊝ v0) ⊗ num (pos 1) ⊕ v0 ⊗ num (pos 1)) (num (pos 1)) refl in
-        let stays : near ≡ big = midpoint_same near far (towards_width (suc n) t.factor big g big_width g_width)
-        (away_width (suc n) t.factor g t.others g_width others_width) near_nonneg far_nonneg near_probe
-        (two_sides (suc n) t.factor big g t.others big_width g_width others_width t.same) in
-        row_same e f (towards_same (suc n) t.factor big g t.positive big_width g_width stays)
-      where
-        rows_at_probe : All (λ r. zero_ℚ ≤ℚ dot probe r) (rows_of n cuts)
-        rows_at_probe = All-cons (λ r. zero_ℚ ≤ℚ dot probe r) (level n) (map row_of cuts)
-            (le_of_eq zero_ℚ (dot probe (level n)) (sym (dot_comm probe (level n) ∙ level_probe)))
-            (All-map (λ r. zero_ℚ ≤ℚ dot probe r) row_of cuts (all_of_members (λ x. zero_ℚ ≤ℚ dot probe (row_of x)) cuts (λ x j.
-            subst (λ (y : ℚ). zero_ℚ ≤ℚ y) (sym (dot_comm probe (row_of x) ∙ row_probe x (cut_is_valid x j))) (le_of_lt zero_ℚ one_ℚ zero_lt_one))))
-
-    is_cut : Contains cuts f
-    unfolding big
-    is_cut = start (from_rows big big_width big_nonneg)
-      where
-        start : IsGenerated (suc n) (rows_of n cuts) big → Contains cuts f
-        start g = first (support_positive g.multipliers (rows_of n cuts) probe g.at_least_zero
-            (subst (λ (x : ℚ). zero_ℚ <ℚ x) (sym big_probe ∙ generated_value (suc n) (rows_of n cuts) big g probe) zero_lt_one))
-          where
-            by_row : (r : List ℚ) → InSupport g.multipliers (rows_of n cuts) r → zero_ℚ <ℚ dot r probe → (level n ≡ r) ⊎
-                ((e : Inequality) × Contains cuts e × (row_of e ≡ r)) → Contains cuts f
-            by_row r m p (inl e) = absurd (not_zero_of_positive (dot r probe) p (ap (λ v. dot v probe) (sym e) ∙ level_probe))
-            by_row r m p (inr (e, k, t)) =
-                subst (λ (x : Inequality). Contains cuts x) (with_cut e k
-                (split_support (suc n) (rows_of n cuts) big (row_of e) s.described.rows_wide g
-                (subst (λ (v : List ℚ). InSupport g.multipliers (rows_of n cuts) v) (sym t) m))) k
-
-            first : ((v : List ℚ) × InSupport g.multipliers (rows_of n cuts) v × (zero_ℚ <ℚ dot v probe)) → Contains cuts f
-            first (v, m, p) = by_row v m p (which_row v (support_listed g.multipliers (rows_of n cuts) v m))
-
     -- a facet touches at a point
     not_at_level : TightLiesIn gens big (level n) → ⊥
     unfolding big Nonneg
@@ -470,6 +405,25 @@ module _ (n : ℕ) (Set Directions : List ℚ → Type 0) (c : List ℚ) (cuts :
         by : (q.quotient ≤ℚ one_ℚ) ⊎ (one_ℚ <ℚ q.quotient) → h ≡ f
         by (inl m) = with_share q.quotient q.above_zero m (le_refl q.quotient)
         by (inr m) = with_share one_ℚ zero_lt_one (le_refl one_ℚ) (le_of_lt one_ℚ q.quotient m)
+
+    -- the facet is a cut: one in its support is tight wherever it is
+    is_cut : Contains cuts f
+    unfolding big
+    is_cut = start (from_rows big big_width big_nonneg)
+      where
+        start : IsGenerated (suc n) (rows_of n cuts) big → Contains cuts f
+        start g = first (support_positive g.multipliers (rows_of n cuts) probe g.at_least_zero
+            (subst (λ (x : ℚ). zero_ℚ <ℚ x) (sym big_probe ∙ generated_value (suc n) (rows_of n cuts) big g probe) zero_lt_one))
+          where
+            by_row : (r : List ℚ) → InSupport g.multipliers (rows_of n cuts) r → zero_ℚ <ℚ dot r probe → (level n ≡ r) ⊎
+                ((e : Inequality) × Contains cuts e × (row_of e ≡ r)) → Contains cuts f
+            by_row r m p (inl e) = absurd (not_zero_of_positive (dot r probe) p (ap (λ v. dot v probe) (sym e) ∙ level_probe))
+            by_row r m p (inr (e, k, t)) =
+                subst (λ (x : Inequality). Contains cuts x)
+                (within_same e k (support_tight big (row_of e) g (subst (λ (v : List ℚ). InSupport g.multipliers (rows_of n cuts) v) (sym t) m))) k
+
+            first : ((v : List ℚ) × InSupport g.multipliers (rows_of n cuts) v × (zero_ℚ <ℚ dot v probe)) → Contains cuts f
+            first (v, m, p) = by_row v m p (which_row v (support_listed g.multipliers (rows_of n cuts) v m))
 
     pub facet_is_named_of : Contains named f
     unfolding big
