@@ -6,9 +6,8 @@ use Rattle.exact_field.specs.Vector.{dot}
 use Rattle.polyhedra.specs.DoubleDescription.{is_zero, Pair, same_vector, new_pairs, addition}
 use Rattle.polyhedra.specs.Examples.{wholes, three_rows, three_vectors, fourth_row, AdditionExample}
 use Rattle.std.proofs.Common.{pos, negsuc}
-use Rattle.polyhedra.proofs.TightRows.{both_true, zero_of_test}
 use Rattle.polyhedra.proofs.Lists.{wide-nil, wide-cons}
-use Rattle.polyhedra.proofs.NewPairs.{same_vector_is}
+use Rattle.polyhedra.proofs.Tests.{both_true, same_vector_is, zero_of_test}
 
 same_all : List (List ℚ) → List (List ℚ) → Bool
 same_all [] [] = true

@@ -10,9 +10,9 @@ use Rattle.polyhedra.specs.Hull.{IsNormedDirection}
 use Rattle.polyhedra.specs.Exactness.{homogenised, level, row_of, NormedArePointsOrDirections}
 use Rattle.polyhedra.proofs.Laws.{add_comm, add_zero, add_assoc, mul_one, le_of_lt}
 use Rattle.polyhedra.proofs.Algebra.{zero_add, one_mul, mul_zero}
-use Rattle.polyhedra.proofs.TightRows.{test_of_zero, test_of_other}
 use Rattle.polyhedra.proofs.Order.{zero_or_positive, not_zero_of_positive}
 use Rattle.polyhedra.proofs.Linear.{dot_comm, dot-zeros, length-zeros}
+use Rattle.polyhedra.proofs.Tests.{test_of_other, test_of_zero}
 
 pub length-homogenised : (n : ℕ) (y : List ℚ) (t : ℚ) → length y ≡ n → length (homogenised y t) ≡ suc n
 length-homogenised n y t h = omega (arith, length-append y (t ∷ []))

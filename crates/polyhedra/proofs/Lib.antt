@@ -8,7 +8,9 @@ pub mod CoveredPairs
 pub mod Dependence
 pub mod Duality
 pub mod Farkas
+pub mod FirstNamed
 pub mod Generated
+pub mod Generators
 pub mod Homogenised
 pub mod Image
 pub mod LargestTightSets
@@ -16,6 +18,8 @@ pub mod Laws
 pub mod LeastQuotient
 pub mod Linear
 pub mod Lists
+pub mod LiveList
+pub mod LiveSteps
 pub mod LowerDirection
 pub mod LowerImage
 pub mod Members
@@ -33,4 +37,5 @@ pub mod SolvedSets
 pub mod Sparse
 pub mod SquareExample
 pub mod Support
+pub mod Tests
 pub mod TightRows

@@ -15,9 +15,10 @@ use Rattle.polyhedra.proofs.Laws.{add_comm, add_zero, add_neg, mul_one, mul_comm
 use Rattle.polyhedra.proofs.Algebra.{mul_zero, neg_neg, neg_zero}
 use Rattle.polyhedra.proofs.Order.{le_or_lt, lt_irrefl, not_lt_of_le, lt_of_difference, difference_nonneg, add_positive_right, inverse_positive, mul_inverse_cancel, mul_positive, not_zero_of_positive, add_le_both, mul_le, le_of_difference}
 use Rattle.polyhedra.proofs.Linear.{dot_comm, dot-plus, dot-plus_left, dot-scaled, dot-scaled_left, dot-zeros, length-plus, length-scaled, length-zeros, same_wide}
-use Rattle.polyhedra.proofs.TightRows.{test_of_zero, zero_of_test, same_vector_or_not}
+use Rattle.polyhedra.proofs.TightRows.{same_vector_or_not}
 use Rattle.polyhedra.proofs.Homogenised.{length-homogenised, dot-homogenised, plus-homogenised, scaled-homogenised, zeros-homogenised, homogenised-same, IsHomogenised, unhomogenised}
 use Rattle.polyhedra.proofs.ConvexSets.{direction_value}
+use Rattle.polyhedra.proofs.Tests.{test_of_zero, zero_of_test}
 
 -- a line that stays above another for ever does not fall from it
 steady : (a b g e : ℚ) → ((s : ℚ) → zero_ℚ ≤ℚ s → g +ℚ s *ℚ e ≤ℚ a +ℚ s *ℚ b) → e ≤ℚ b

@@ -1,47 +1,14 @@
 -- The list of new pairs has each opposite pair that no third generator covers, and once.
-use Rattle.std.proofs.Common.{◌≡◌, ℕ, List, [], ◌∷◌, ◌++◌, map, All, AllPairs, Contains, refl, sym, ap, ap₂, ◌∙◌, subst, ◌⊎◌, inl, inr, Bool, true, false, true≢false, not, ◌&&◌, ◌||◌, filter, flat_map}
-use Rattle.std.specs.List.{list_all}
-use Rattle.std.proofs.lemmas.List.Elements.{All-nil, All-cons, All-head, All-tail, Contains-append_left, Contains-append_right, Contains-append_cases}
-use Rattle.exact_field.specs.Rational.{ℚ, zero_ℚ, le_ℚ, lt_ℚ, ◌<ℚ◌}
+use Rattle.std.proofs.Common.{◌≡◌, ℕ, List, [], ◌∷◌, ◌++◌, map, All, AllPairs, Contains, refl, sym, ap, ◌∙◌, subst, ◌⊎◌, inl, inr, Bool, true, not, ◌||◌, filter, flat_map}
+use Rattle.std.proofs.lemmas.List.Elements.{All-head, All-tail, Contains-append_left, Contains-append_right, Contains-append_cases}
+use Rattle.exact_field.specs.Rational.{ℚ, zero_ℚ, lt_ℚ, ◌<ℚ◌}
 use Rattle.exact_field.specs.Vector.{dot}
 use Rattle.polyhedra.specs.TightSets.{IsTight, Covers, AreApart, IsDoubleDescriptionPair}
 use Rattle.polyhedra.specs.DoubleDescription.{is_zero, same_vector, covers, is_uncovered, opposite_pairs, new_pairs, Pair, IsNewPair, ArePairs, NewPairsAreExact, AdditionDescribes}
-use Rattle.polyhedra.proofs.Laws.{le_refl, le_antisymm}
 use Rattle.polyhedra.proofs.Lists.{Contains-here, Contains-there, Contains-cases, Contains-nil}
 use Rattle.polyhedra.proofs.Members.{all_of_members, member_of, Contains-map, Contains-map_source, Contains-filter, Contains-filter_source, pairs-nil, pairs-head, pairs-tail, pairs-append, pairs-filter, pairs-map, pairs-weaker}
 use Rattle.polyhedra.proofs.OneAddition.{one_addition}
-use Rattle.polyhedra.proofs.TightRows.{zero_of_test, test_of_zero, both_true, both_hold}
-
--- ---- tests of every element
-list_all-true : {X : Type 0} (test : X → Bool) (xs : List X) → list_all test xs ≡ true → All (λ x. test x ≡ true) xs
-list_all-true test [] h = All-nil (λ x. test x ≡ true)
-list_all-true test (x ∷ xs) h = let b : (test x ≡ true) × (list_all test xs ≡ true) = both_true (test x) (list_all test xs) h in All-cons
-    (λ y. test y ≡ true) x xs b.0 (list_all-true test xs b.1)
-
-true-list_all : {X : Type 0} (test : X → Bool) (xs : List X) → All (λ x. test x ≡ true) xs → list_all test xs ≡ true
-true-list_all test [] h = refl
-true-list_all test (x ∷ xs) h = both_hold (test x) (list_all test xs) (All-head (λ y. test y ≡ true) x xs h)
-    (true-list_all test xs (All-tail (λ y. test y ≡ true) x xs h))
-
-either_true : (a b : Bool) → (a || b) ≡ true → (a ≡ true) ⊎ (b ≡ true)
-either_true true b h = inl refl
-either_true false b h = inr h
-
-or_left : (a b : Bool) → a ≡ true → (a || b) ≡ true
-or_left true b h = refl
-or_left false b h = absurd (true≢false (sym h))
-
-or_right : (a b : Bool) → b ≡ true → (a || b) ≡ true
-or_right true b h = refl
-or_right false b h = h
-
-not_true : (a : Bool) → not a ≡ true → a ≡ true → ⊥
-not_true true h k = true≢false (sym h)
-not_true false h k = true≢false (sym k)
-
-true_or_not : (a : Bool) → (a ≡ true) ⊎ (not a ≡ true)
-true_or_not true = inl refl
-true_or_not false = inr refl
+use Rattle.polyhedra.proofs.Tests.{either_true, list_all-true, not_true, or_left, or_right, same_vector-self, same_vector_is, test_of_zero, true-list_all, true_or_not, zero_of_test}
 
 -- ---- what the tests say
 covers_is : (rows : List (List ℚ)) (a b g : List ℚ) → covers rows a b g ≡ true → Covers rows a b g
@@ -74,19 +41,6 @@ covers_test rows a b g h = true-list_all (λ w. not (is_zero (dot w a)) || not (
         (or_right (not (is_zero (dot r a))) (not (is_zero (dot r b))) t)
     at_row r k (inl m) (inl t) = or_right (not (is_zero (dot r a)) || not (is_zero (dot r b))) (is_zero (dot r g))
         (test_of_zero (dot r g) (k (zero_of_test (dot r a) m) (zero_of_test (dot r b) t)))
-
-pub same_vector_is : (u v : List ℚ) → same_vector u v ≡ true → u ≡ v
-same_vector_is [] [] h = refl
-same_vector_is [] (y ∷ v) h = absurd (true≢false (sym h))
-same_vector_is (x ∷ u) [] h = absurd (true≢false (sym h))
-same_vector_is (x ∷ u) (y ∷ v) h =
-    let b : ((le_ℚ x y && le_ℚ y x) ≡ true) × (same_vector u v ≡ true) = both_true (le_ℚ x y && le_ℚ y x) (same_vector u v) h in
-    let c : (le_ℚ x y ≡ true) × (le_ℚ y x ≡ true) = both_true (le_ℚ x y) (le_ℚ y x) b.0 in
-    ap₂ (λ p q. p ∷ q) (le_antisymm x y c.0 c.1) (same_vector_is u v b.1)
-
-same_vector-self : (u : List ℚ) → same_vector u u ≡ true
-same_vector-self [] = refl
-same_vector-self (x ∷ u) = both_hold (le_ℚ x x && le_ℚ x x) (same_vector u u) (both_hold (le_ℚ x x) (le_ℚ x x) (le_refl x) (le_refl x)) (same_vector-self u)
 
 abbrev Free : List (List ℚ) → Pair → List ℚ → Type 0
 Free rows pair g = (g ≡ pair.plus_side → ⊥) → (g ≡ pair.minus_side → ⊥) → Covers rows pair.plus_side pair.minus_side g → ⊥

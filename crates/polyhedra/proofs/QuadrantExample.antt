@@ -17,11 +17,11 @@ use Rattle.polyhedra.proofs.Algebra.{zero_add, mul_zero, zero_mul, one_mul}
 use Rattle.polyhedra.proofs.Order.{add_nonneg, add_positive, add_positive_right, zero_or_positive, not_zero_of_positive, lt_irrefl, difference_nonneg, le_of_eq}
 use Rattle.polyhedra.proofs.Lists.{wide-nil, wide-cons, nonneg-nil, nonneg-cons, Contains-here, Contains-there, Contains-cases, Contains-nil}
 use Rattle.polyhedra.proofs.Linear.{dot_comm}
-use Rattle.polyhedra.proofs.TightRows.{zero_of_test}
 use Rattle.polyhedra.proofs.Generated.{generated_by_values, generated_width}
 use Rattle.polyhedra.proofs.Farkas.{generated_nonneg}
 use Rattle.polyhedra.proofs.Corners.{start}
 use Rattle.polyhedra.proofs.SolvedExtremes.{listed_is_extreme, extreme_is_listed}
+use Rattle.polyhedra.proofs.Tests.{zero_of_test}
 
 c : List ℚ
 c = one_ℚ ∷ one_ℚ ∷ []

@@ -1,36 +1,15 @@
 -- How many rows are not tight at a vector, and tests that are decided over a list of rows.
 use Rattle.std.proofs.Common.{◌≡◌, ℕ, zero, suc, List, [], ◌∷◌, All, Contains, refl, sym, ap, ◌∙◌, subst, arith, ◌⊎◌, inl, inr, Bool, true, false, true≢false, cond, ◌&&◌, ◌<◌, ◌≤◌}
 use Rattle.std.proofs.lemmas.List.Elements.{All-head, All-tail}
-use Rattle.exact_field.specs.Rational.{ℚ, zero_ℚ, le_ℚ, ◌<ℚ◌}
+use Rattle.exact_field.specs.Rational.{ℚ, zero_ℚ, ◌<ℚ◌}
 use Rattle.exact_field.specs.Vector.{dot}
 use Rattle.polyhedra.specs.TightSets.{IsTight, LiesIn, Covers}
 use Rattle.polyhedra.specs.DoubleDescription.{is_zero}
-use Rattle.polyhedra.proofs.Laws.{le_antisymm}
-use Rattle.polyhedra.proofs.Order.{zero_or_positive, same_or_not, le_of_eq}
+use Rattle.polyhedra.proofs.Order.{zero_or_positive, same_or_not}
 use Rattle.polyhedra.proofs.Lists.{HoldsAt, Contains-cases, Contains-nil}
 use Rattle.polyhedra.proofs.Members.{all_or_not, member_of}
 use Rattle.polyhedra.proofs.LeastQuotient.{IsPositiveSomewhere}
-
-pub both_true : (a b : Bool) → (a && b) ≡ true → (a ≡ true) × (b ≡ true)
-both_true true b h = (refl, h)
-both_true false b h = absurd (true≢false (sym h))
-
-pub zero_of_test : (q : ℚ) → is_zero q ≡ true → q ≡ zero_ℚ
-zero_of_test q h = let b : (le_ℚ q zero_ℚ ≡ true) × (le_ℚ zero_ℚ q ≡ true) = both_true (le_ℚ q zero_ℚ) (le_ℚ zero_ℚ q) h in le_antisymm q zero_ℚ b.0 b.1
-
-pub both_hold : (a b : Bool) → a ≡ true → b ≡ true → (a && b) ≡ true
-both_hold true b h k = k
-both_hold false b h k = absurd (true≢false (sym h))
-
-pub test_of_zero : (q : ℚ) → q ≡ zero_ℚ → is_zero q ≡ true
-test_of_zero q e = both_hold (le_ℚ q zero_ℚ) (le_ℚ zero_ℚ q) (le_of_eq q zero_ℚ e) (le_of_eq zero_ℚ q (sym e))
-
-pub test_of_other : (q : ℚ) → (q ≡ zero_ℚ → ⊥) → is_zero q ≡ false
-test_of_other q h = go (is_zero q) refl
-  where
-    go : (b : Bool) → is_zero q ≡ b → is_zero q ≡ false
-    go true e = absurd (h (zero_of_test q e))
-    go false e = e
+use Rattle.polyhedra.proofs.Tests.{test_of_other, test_of_zero, zero_of_test}
 
 -- the number of rows that are not tight at z
 abbrev pub loose : List (List ℚ) → List ℚ → ℕ
