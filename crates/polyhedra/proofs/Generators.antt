@@ -86,15 +86,15 @@ module _ (n : ℕ) (rows gens : List (List ℚ)) (d : IsDoubleDescriptionPair n 
       (sym (dot-plus r a b) ∙ ap (λ v. dot r v) (sym e) ∙ t))) in
       record { factor = ray.factor; same = ray.same }
 
-  pub listed_is_extreme : (g : List ℚ) → Contains gens g → IsExtremeDirection n (IsInCone n rows) g
-  listed_is_extreme g c = record {
+  pub generator_is_extreme : (g : List ℚ) → Contains gens g → IsExtremeDirection n (IsInCone n rows) g
+  generator_is_extreme g c = record {
     member = member_of (IsInCone n rows) gens g d.inside c;
     not_zero = member_of (λ v. v ≡ zeros n → ⊥) gens g d.not_zero c;
     no_sum = λ a b a_in b_in e. (summand g a b c a_in b_in e, summand g b a c b_in a_in (e ∙ plus_comm a b));
   }
 
-  pub extreme_is_listed : (g : List ℚ) → All IsNormed gens → IsExtremeDirection n (IsInCone n rows) g → IsNormed g → Contains gens g
-  extreme_is_listed g normed_all extreme g_normed = start (tight_or_positive rows g extreme.member.within)
+  pub extreme_is_generator : (g : List ℚ) → All IsNormed gens → IsExtremeDirection n (IsInCone n rows) g → IsNormed g → Contains gens g
+  extreme_is_generator g normed_all extreme g_normed = start (tight_or_positive rows g extreme.member.within)
     where
       with_support : (s : IsGenerated n gens g) (v r : List ℚ) → InSupport s.multipliers gens v → zero_ℚ <ℚ dot r v → zero_ℚ <ℚ dot r g → Contains gens g
       with_support s v r m v_positive g_positive =
@@ -131,8 +131,8 @@ module _ (n : ℕ) (rows gens : List (List ℚ)) (d : IsDoubleDescriptionPair n 
 
 pub described_are_extreme : DescribedAreExtreme
 described_are_extreme n rows gens d normed_all g = (
-  λ c. (listed_is_extreme n rows gens d g c, member_of IsNormed gens g normed_all c),
-  λ e. extreme_is_listed n rows gens d g normed_all e.0 e.1,
+  λ c. (generator_is_extreme n rows gens d g c, member_of IsNormed gens g normed_all c),
+  λ e. extreme_is_generator n rows gens d g normed_all e.0 e.1,
 )
 
 -- ---- the dual

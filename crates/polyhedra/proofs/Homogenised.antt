@@ -4,11 +4,11 @@ use Rattle.std.proofs.lemmas.List.{same_from_push}
 use Rattle.exact_field.specs.Rational.{ℚ, zero_ℚ, one_ℚ, ◌+ℚ◌, ◌*ℚ◌, neg_ℚ, ◌≤ℚ◌, ◌<ℚ◌}
 use Rattle.exact_field.specs.Vector.{dot, entry}
 use Rattle.polyhedra.specs.Vectors.{zeros, plus, scaled}
-use Rattle.polyhedra.specs.DoubleDescription.{is_zero, magnitude, leading, norming}
+use Rattle.polyhedra.specs.DoubleDescription.{is_zero, magnitude, leading, norming, IsNormed}
 use Rattle.polyhedra.specs.Inequality.{Inequality}
 use Rattle.polyhedra.specs.Hull.{IsNormedDirection}
 use Rattle.polyhedra.specs.Exactness.{homogenised, level, row_of, NormedArePointsOrDirections}
-use Rattle.polyhedra.proofs.Laws.{add_comm, add_zero, add_assoc, mul_one, le_of_lt}
+use Rattle.polyhedra.proofs.Laws.{add_comm, add_zero, add_assoc, mul_one, le_of_lt, zero_lt_one}
 use Rattle.polyhedra.proofs.Algebra.{zero_add, one_mul, mul_zero}
 use Rattle.polyhedra.proofs.Order.{zero_or_positive, not_zero_of_positive}
 use Rattle.polyhedra.proofs.Linear.{dot_comm, dot-zeros, length-zeros}
@@ -86,6 +86,14 @@ last-homogenised y t = ap (λ n. slice_index_or (homogenised y t) n zero_ℚ) (c
 
 norming-homogenised : (y : List ℚ) (t : ℚ) → norming (homogenised y t) ≡ cond (is_zero t) (leading (homogenised y t)) t
 norming-homogenised y t = ap (λ a. cond (is_zero a) (leading (homogenised y t)) a) (last-homogenised y t)
+
+pub point_normed : (y : List ℚ) → IsNormed (homogenised y one_ℚ)
+point_normed y = ap magnitude (norming-homogenised y one_ℚ ∙ ap (λ b. cond b (leading (homogenised y one_ℚ)) one_ℚ) (test_of_other one_ℚ
+    (not_zero_of_positive one_ℚ zero_lt_one))) ∙ ap (λ b. cond b one_ℚ (neg_ℚ one_ℚ)) (le_of_lt zero_ℚ one_ℚ zero_lt_one)
+
+pub direction_normed : (d : List ℚ) → IsNormedDirection d → IsNormed (homogenised d zero_ℚ)
+direction_normed d h = ap magnitude (norming-homogenised d zero_ℚ ∙ ap (λ b. cond b (leading (homogenised d zero_ℚ)) zero_ℚ) (test_of_zero zero_ℚ refl)
+    ∙ leading-homogenised d) ∙ h
 
 pub points_or_directions : NormedArePointsOrDirections
 points_or_directions n g width normed high = by (unhomogenised n g width)

@@ -7,6 +7,9 @@ pub mod Corners
 pub mod CoveredPairs
 pub mod Dependence
 pub mod Duality
+pub mod Enclosed
+pub mod EnclosedDirections
+pub mod EnclosedVertices
 pub mod Farkas
 pub mod FirstNamed
 pub mod Generated
@@ -31,9 +34,7 @@ pub mod OneAddition
 pub mod Order
 pub mod QuadrantExample
 pub mod SolvedAreExact
-pub mod SolvedExtremes
 pub mod SolvedFacets
-pub mod SolvedSets
 pub mod Sparse
 pub mod SquareExample
 pub mod Support

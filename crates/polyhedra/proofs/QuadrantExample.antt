@@ -10,7 +10,7 @@ use Rattle.polyhedra.specs.Dependence.{AreCorners}
 use Rattle.polyhedra.specs.DoubleDescription.{is_zero}
 use Rattle.polyhedra.specs.Inequality.{Inequality}
 use Rattle.polyhedra.specs.Hull.{IsConvex, IsValidAt, IsExtremeDirection, IsNormedDirection}
-use Rattle.polyhedra.specs.Exactness.{homogenised, level, row_of, rows_of, IsOneOf, TightLiesIn, IsNamed, IsAccounted, IsSolved}
+use Rattle.polyhedra.specs.Exactness.{homogenised, level, row_of, rows_of, IsOneOf, TightLiesIn, IsNamed, IsAccounted, IsEnclosed, IsSolved}
 use Rattle.polyhedra.specs.Examples.{IsInQuadrant, left_side, lower_side, axes, QuadrantExample}
 use Rattle.polyhedra.proofs.Laws.{add_comm, add_zero, mul_one, le_refl, le_trans, le_of_lt, mul_nonneg, zero_lt_one}
 use Rattle.polyhedra.proofs.Algebra.{zero_add, mul_zero, zero_mul, one_mul}
@@ -20,7 +20,7 @@ use Rattle.polyhedra.proofs.Linear.{dot_comm}
 use Rattle.polyhedra.proofs.Generated.{generated_by_values, generated_width}
 use Rattle.polyhedra.proofs.Farkas.{generated_nonneg}
 use Rattle.polyhedra.proofs.Corners.{start}
-use Rattle.polyhedra.proofs.SolvedExtremes.{listed_is_extreme, extreme_is_listed}
+use Rattle.polyhedra.proofs.EnclosedDirections.{listed_is_extreme, extreme_is_listed}
 use Rattle.polyhedra.proofs.Tests.{zero_of_test}
 
 c : List ℚ
@@ -261,9 +261,9 @@ normed_diagonal : IsNormedDirection (one_ℚ ∷ one_ℚ ∷ [])
 unfolding whole le_ℚ
 normed_diagonal = refl
 
-quadrant_solved : IsSolved 2 IsInQuadrant IsInQuadrant c cuts gens origin axes cuts
+quadrant_enclosed : IsEnclosed 2 IsInQuadrant IsInQuadrant c cuts gens origin axes
 unfolding c cuts gens origin
-quadrant_solved = record {
+quadrant_enclosed = record {
   convex = quadrant_convex;
   c_wide = refl;
   cuts_valid = All-cons Valid left_side (lower_side ∷ []) left_valid (All-cons Valid lower_side [] lower_valid (All-nil Valid));
@@ -281,6 +281,25 @@ quadrant_solved = record {
       (All-cons IsInQuadrant (zero_ℚ ∷ one_ℚ ∷ []) [] (in_two zero_ℚ one_ℚ (le_refl zero_ℚ) zero_le_one) (All-nil IsInQuadrant));
   directions_normed = All-cons IsNormedDirection (one_ℚ ∷ zero_ℚ ∷ []) ((zero_ℚ ∷ one_ℚ ∷ []) ∷ []) normed_first
       (All-cons IsNormedDirection (zero_ℚ ∷ one_ℚ ∷ []) [] normed_second (All-nil IsNormedDirection));
+}
+  where
+    Valid : Inequality → Type 0
+    Valid e = IsValidAt 2 IsInQuadrant c e
+
+    One : List ℚ → Type 0
+    One g = IsOneOf origin axes g
+
+    first_listed : Contains axes (one_ℚ ∷ zero_ℚ ∷ [])
+    first_listed = Contains-here (one_ℚ ∷ zero_ℚ ∷ []) ((zero_ℚ ∷ one_ℚ ∷ []) ∷ []) (one_ℚ ∷ zero_ℚ ∷ []) refl
+
+    second_listed : Contains axes (zero_ℚ ∷ one_ℚ ∷ [])
+    second_listed = Contains-there (one_ℚ ∷ zero_ℚ ∷ []) ((zero_ℚ ∷ one_ℚ ∷ []) ∷ []) (zero_ℚ ∷ one_ℚ ∷ [])
+        (Contains-here (zero_ℚ ∷ one_ℚ ∷ []) [] (zero_ℚ ∷ one_ℚ ∷ []) refl)
+
+quadrant_solved : IsSolved 2 IsInQuadrant IsInQuadrant c cuts gens origin axes cuts
+unfolding c cuts gens origin
+quadrant_solved = record {
+  enclosed = quadrant_enclosed;
   names = quadrant_names;
   accounted = All-cons Accounted left_side (lower_side ∷ [])
       (record { within = inr (left_side, Contains-here left_side (lower_side ∷ []) left_side refl, λ k d h e. e) })
@@ -291,29 +310,16 @@ quadrant_solved = record {
       (All-nil Accounted));
 }
   where
-    Valid : Inequality → Type 0
-    Valid e = IsValidAt 2 IsInQuadrant c e
-
-    One : List ℚ → Type 0
-    One g = IsOneOf origin axes g
-
     Accounted : Inequality → Type 0
     Accounted e = IsAccounted 2 cuts gens e
 
-    first_listed : Contains axes (one_ℚ ∷ zero_ℚ ∷ [])
-    first_listed = Contains-here (one_ℚ ∷ zero_ℚ ∷ []) ((zero_ℚ ∷ one_ℚ ∷ []) ∷ []) (one_ℚ ∷ zero_ℚ ∷ []) refl
-
-    second_listed : Contains axes (zero_ℚ ∷ one_ℚ ∷ [])
-    second_listed = Contains-there (one_ℚ ∷ zero_ℚ ∷ []) ((zero_ℚ ∷ one_ℚ ∷ []) ∷ []) (zero_ℚ ∷ one_ℚ ∷ [])
-        (Contains-here (zero_ℚ ∷ one_ℚ ∷ []) [] (zero_ℚ ∷ one_ℚ ∷ []) refl)
-
 axis_is_extreme : IsExtremeDirection 2 IsInQuadrant (one_ℚ ∷ zero_ℚ ∷ [])
-axis_is_extreme = (listed_is_extreme 2 IsInQuadrant IsInQuadrant c cuts gens origin axes cuts quadrant_solved (one_ℚ ∷ zero_ℚ ∷ [])
+axis_is_extreme = (listed_is_extreme 2 IsInQuadrant IsInQuadrant c cuts gens origin axes quadrant_enclosed (one_ℚ ∷ zero_ℚ ∷ [])
     (Contains-here (one_ℚ ∷ zero_ℚ ∷ []) ((zero_ℚ ∷ one_ℚ ∷ []) ∷ []) (one_ℚ ∷ zero_ℚ ∷ []) refl)).0
 
 diagonal_is_none : IsExtremeDirection 2 IsInQuadrant (one_ℚ ∷ one_ℚ ∷ []) → ⊥
 diagonal_is_none h = by (Contains-cases (one_ℚ ∷ zero_ℚ ∷ []) ((zero_ℚ ∷ one_ℚ ∷ []) ∷ []) (one_ℚ ∷ one_ℚ ∷ [])
-    (extreme_is_listed 2 IsInQuadrant IsInQuadrant c cuts gens origin axes cuts quadrant_solved (one_ℚ ∷ one_ℚ ∷ []) h normed_diagonal))
+    (extreme_is_listed 2 IsInQuadrant IsInQuadrant c cuts gens origin axes quadrant_enclosed (one_ℚ ∷ one_ℚ ∷ []) h normed_diagonal))
   where
     last : (zero_ℚ ∷ one_ℚ ∷ [] ≡ one_ℚ ∷ one_ℚ ∷ []) ⊎ Contains [] (one_ℚ ∷ one_ℚ ∷ []) → ⊥
     last (inl e) = let f : one_ℚ ≡ zero_ℚ = cc in not_zero_of_positive one_ℚ zero_lt_one f

@@ -1,25 +1,31 @@
 -- A solved set's points, directions and named inequalities are exact, and what is exact is unique.
 use Rattle.std.proofs.Common.{◌≡◌, ℕ, List, Contains, length, arith, ◌<◌, [], ◌∷◌, AllPairs, IsTrue, refl, sym, subst, ◌∙◌, ap₂, ◌⊎◌, inl, inr}
 use Rattle.exact_field.specs.Rational.{ℚ}
-use Rattle.polyhedra.specs.Exactness.{Exactness, SameMembers, RisingListsAreEqual, Uniqueness}
+use Rattle.polyhedra.specs.Exactness.{EnclosedAreRepresented, Exactness, SameMembers, RisingListsAreEqual, Uniqueness}
 use Rattle.polyhedra.proofs.Lists.{Contains-here, Contains-there, Contains-cases, Contains-nil}
 use Rattle.polyhedra.proofs.Members.{member_of, pairs-head, pairs-tail}
-use Rattle.polyhedra.proofs.SolvedSets.{some_point, in_hull, from_hull}
-use Rattle.polyhedra.proofs.SolvedExtremes.{listed_is_vertex, vertex_is_listed, listed_is_extreme, extreme_is_listed}
+use Rattle.polyhedra.proofs.Enclosed.{some_point, in_hull, from_hull}
+use Rattle.polyhedra.proofs.EnclosedVertices.{listed_is_vertex, vertex_is_listed}
+use Rattle.polyhedra.proofs.EnclosedDirections.{listed_is_extreme, extreme_is_listed}
 use Rattle.polyhedra.proofs.SolvedFacets.{named_is_facet, facet_is_named}
 
-pub exactness : (Set Directions : List ℚ → Type 0) → Exactness Set Directions
-exactness Set Directions n c cuts gens points directions named s = record {
-  vertices = λ y. (listed_is_vertex n Set Directions c cuts gens points directions named s y, vertex_is_listed n Set Directions c cuts gens points directions named s y);
-  extreme = λ d. (listed_is_extreme n Set Directions c cuts gens points directions named s d, λ h. extreme_is_listed n Set Directions c cuts gens points directions named s d h.0 h.1);
-  facets_are = λ e. (named_is_facet n Set Directions c cuts gens points directions named s e, facet_is_named n Set Directions c cuts gens points directions named s e);
-  hull = λ y. (in_hull n Set Directions c cuts gens points directions named s y, from_hull n Set Directions c cuts gens points directions named s y);
-  some_point = (let p : (y : List ℚ) × Contains points y = some_point n Set Directions c cuts gens points directions named s in let
+pub enclosed_are_represented : (Set Directions : List ℚ → Type 0) → EnclosedAreRepresented Set Directions
+enclosed_are_represented Set Directions n c cuts gens points directions s = record {
+  vertices = λ y. (listed_is_vertex n Set Directions c cuts gens points directions s y, vertex_is_listed n Set Directions c cuts gens points directions s y);
+  extreme = λ d. (listed_is_extreme n Set Directions c cuts gens points directions s d, λ h. extreme_is_listed n Set Directions c cuts gens points directions s d h.0 h.1);
+  hull = λ y. (in_hull n Set Directions c cuts gens points directions s y, from_hull n Set Directions c cuts gens points directions s y);
+  some_point = (let p : (y : List ℚ) × Contains points y = some_point n Set Directions c cuts gens points directions s in let
       (y, k, h, e) = p' p in omega arith);
 }
   where
     p' : ((y : List ℚ) × Contains points y) → (y : List ℚ) × (k : ℕ) × (k < length points) × (Rattle.std.proofs.Common.slice_index_or points k y ≡ y)
     p' p = (p.0, p.1.0, p.1.1, p.1.2)
+
+pub exactness : (Set Directions : List ℚ → Type 0) → Exactness Set Directions
+exactness Set Directions n c cuts gens points directions named s = record {
+  representation = enclosed_are_represented Set Directions n c cuts gens points directions s.enclosed;
+  facets_are = λ e. (named_is_facet n Set Directions c cuts gens points directions named s e, facet_is_named n Set Directions c cuts gens points directions named s e);
+}
 
 pub uniqueness : (Set Directions : List ℚ → Type 0) → Uniqueness Set Directions
 uniqueness Set Directions n c points points' directions directions' facets facets' a b = (

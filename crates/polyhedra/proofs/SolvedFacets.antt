@@ -27,7 +27,7 @@ use Rattle.polyhedra.proofs.Farkas.{farkas, generated_nonneg}
 use Rattle.polyhedra.proofs.Homogenised.{length-homogenised, dot-homogenised, plus-homogenised, homogenised-same, IsHomogenised, unhomogenised, level_value, row_value_point}
 use Rattle.polyhedra.proofs.Cones.{IsOnRay, one_ray}
 use Rattle.polyhedra.proofs.Midpoints.{towards, towards_value, towards_width, towards_same}
-use Rattle.polyhedra.proofs.SolvedSets.{InK, cut_valid, point_in, valid_at_point, valid_at_direction, generator_at_cut, generator_at_level}
+use Rattle.polyhedra.proofs.Enclosed.{InK, cut_valid, point_in, valid_at_point, valid_at_direction, generator_at_cut, generator_at_level}
 
 module _ (n : ℕ) (Set Directions : List ℚ → Type 0) (c : List ℚ) (cuts : List Inequality) (gens points directions : List (List ℚ)) (named : List Inequality)
     (s : IsSolved n Set Directions c cuts gens points directions named) where
@@ -64,9 +64,9 @@ module _ (n : ℕ) (Set Directions : List ℚ → Type 0) (c : List ℚ) (cuts :
     where
       at : (g : List ℚ) → IsOneOf points directions g → zero_ℚ ≤ℚ dot (row_of e) g
       at g (inl (y, k, m)) = subst (λ (w : List ℚ). zero_ℚ ≤ℚ dot (row_of e) w) (sym m)
-          (valid_at_point n Set Directions c cuts gens points directions named s e y v (member_of Set points y s.points_in k))
+          (valid_at_point n Set Directions c cuts gens points directions s.enclosed e y v (member_of Set points y s.points_in k))
       at g (inr (d, k, m)) = subst (λ (w : List ℚ). zero_ℚ ≤ℚ dot (row_of e) w) (sym m)
-          (valid_at_direction n Set Directions c cuts gens points directions named s e d v (member_of Directions directions d s.directions_in k))
+          (valid_at_direction n Set Directions c cuts gens points directions s.enclosed e d v (member_of Directions directions d s.directions_in k))
 
   -- a row that is at least 0 at each generator and 1 at c is that of a valid inequality
   valid_from_row : (r : List ℚ) → length r ≡ suc n → Nonneg r → dot r probe ≡ one_ℚ → (e : Inequality) × IsValidAt n Set c e × (row_of e ≡ r)
@@ -82,7 +82,7 @@ module _ (n : ℕ) (Set Directions : List ℚ → Type 0) (c : List ℚ) (cuts :
             holds = λ y y_in.
                 le_of_difference (neg_ℚ u.last) (dot u.front y) (dot (row_of e) (homogenised y one_ℚ))
                 (generated_nonneg (suc n) gens (row_of e) (homogenised y one_ℚ) (subst (λ (v : List ℚ). All (λ g. zero_ℚ ≤ℚ dot v g) gens) (sym same) h)
-                (s.described.generates (homogenised y one_ℚ) (point_in n Set Directions c cuts gens points directions named s y y_in)))
+                (s.described.generates (homogenised y one_ℚ) (point_in n Set Directions c cuts gens points directions s.enclosed y y_in)))
                 (ap (λ x. neg_ℚ u.last +ℚ x) (row_value_point e y (u.wide ∙ sym (s.convex.wide y y_in)))
                 ∙ ring rationals (neg_ℚ u.last ∷ dot u.front y ∷ []) (v0 ⊕ (v1 ⊝ v0)) v1 refl);
           };
@@ -148,7 +148,7 @@ module _ (n : ℕ) (Set Directions : List ℚ → Type 0) (c : List ℚ) (cuts :
   cut_row_listed e k = Contains-there (level n) (map row_of cuts) (row_of e) (Contains-map row_of cuts e k)
 
   cut_is_valid : (e : Inequality) → Contains cuts e → IsValidAt n Set c e
-  cut_is_valid e k = cut_valid n Set Directions c cuts gens points directions named s e k
+  cut_is_valid e k = cut_valid n Set Directions c cuts gens points directions s.enclosed e k
 
   -- ---- a named inequality is a facet
   module _ (f : Inequality) (name : IsNamed n cuts gens f) where
@@ -172,7 +172,7 @@ module _ (n : ℕ) (Set Directions : List ℚ → Type 0) (c : List ℚ) (cuts :
       q : IsLeastQuotient gens face (row_of e)
       unfolding face
       q = row_quotient face (row_of e) (valid_nonneg f f_valid) (valid_nonneg e (cut_is_valid e e_cut)) lies
-          (generator_at_cut n Set Directions c cuts gens points directions named s e e_cut)
+          (generator_at_cut n Set Directions c cuts gens points directions s.enclosed e e_cut)
 
       rest : List ℚ
       rest = less face q.quotient (row_of e)
@@ -312,7 +312,7 @@ module _ (n : ℕ) (Set Directions : List ℚ → Type 0) (c : List ℚ) (cuts :
     not_at_level : TightLiesIn gens big (level n) → ⊥
     unfolding big Nonneg
     not_at_level lies =
-        let up : (g : List ℚ) × Contains gens g × (zero_ℚ <ℚ dot (level n) g) = generator_at_level n Set Directions c cuts gens points directions named s in
+        let up : (g : List ℚ) × Contains gens g × (zero_ℚ <ℚ dot (level n) g) = generator_at_level n Set Directions c cuts gens points directions s.enclosed in
         let q : IsLeastQuotient gens big (level n) = row_quotient big (level n) big_nonneg
         (row_nonneg (level n) (Contains-here (level n) (map row_of cuts) (level n) refl)) lies up in
         let level_width : length (level n) ≡ suc n = length-homogenised n (zeros n) one_ℚ (length-zeros n) in
@@ -363,7 +363,7 @@ module _ (n : ℕ) (Set Directions : List ℚ → Type 0) (c : List ℚ) (cuts :
         big_values = as_values big big_nonneg
 
         q : IsLeastQuotient gens big g
-        q = row_quotient big g big_nonneg (valid_nonneg h h_valid) lies (generator_at_cut n Set Directions c cuts gens points directions named s h k)
+        q = row_quotient big g big_nonneg (valid_nonneg h h_valid) lies (generator_at_cut n Set Directions c cuts gens points directions s.enclosed h k)
 
         -- for a share of at most 1 and at most the quotient
         with_share : (l : ℚ) → zero_ℚ <ℚ l → l ≤ℚ one_ℚ → l ≤ℚ q.quotient → h ≡ f

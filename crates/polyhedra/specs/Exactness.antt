@@ -80,9 +80,11 @@ LargestAccount = (n : ℕ) (cuts : List Inequality) (generators : List (List ℚ
     (g : Inequality) × Contains named g × TightLiesIn generators (row_of f) (row_of g)) →
     All (IsAccounted n named generators) cuts
 
--- cuts, generators, points, directions and named facets of a set, with the conditions that make them exact
-pub record IsSolved (n : ℕ) (Set Directions : List ℚ → Type 0) (c : List ℚ) (cuts : List Inequality)
-    (generators points directions : List (List ℚ)) (named : List Inequality) : Type 0 where
+-- cuts, generators, points and directions that enclose a set: the cuts are valid (the outer approximation), the points and
+-- directions belong to it (the inner one), and the two meet, since the cone of the rows of the cuts has exactly the points and
+-- directions as its generators
+pub record IsEnclosed (n : ℕ) (Set Directions : List ℚ → Type 0) (c : List ℚ) (cuts : List Inequality)
+    (generators points directions : List (List ℚ)) : Type 0 where
   pub convex : IsConvex n Set Directions
   pub c_wide : length c ≡ n
   pub cuts_valid : All (IsValidAt n Set c) cuts
@@ -93,20 +95,36 @@ pub record IsSolved (n : ℕ) (Set Directions : List ℚ → Type 0) (c : List �
   pub points_in : All Set points
   pub directions_in : All Directions directions
   pub directions_normed : All IsNormedDirection directions
+
+-- such a set with named facets: its conditions, and those that make all of them exact
+pub record IsSolved (n : ℕ) (Set Directions : List ℚ → Type 0) (c : List ℚ) (cuts : List Inequality)
+    (generators points directions : List (List ℚ)) (named : List Inequality) : Type 0 where
+  pub enclosed : IsEnclosed n Set Directions c cuts generators points directions
+  pub open enclosed use *
   pub names : All (IsNamed n cuts generators) named
   pub accounted : All (IsAccounted n named generators) cuts
 
--- the points are exactly the vertices, the directions the normed extreme directions, the named inequalities the facets; the hull
--- of points and directions is the set; and there is a point
-pub record IsExact (n : ℕ) (Set Directions : List ℚ → Type 0) (c : List ℚ) (points directions : List (List ℚ))
-    (facets : List Inequality) : Type 0 where
+-- the points and directions are the vertex representation of the set: the points are exactly the vertices, the directions exactly
+-- the normed extreme directions, their hull is the set, and there is a point
+pub record IsVertexRepresentation (n : ℕ) (Set Directions : List ℚ → Type 0) (points directions : List (List ℚ)) : Type 0 where
   pub vertices : (y : List ℚ) → Contains points y ↔ IsVertex Set y
   pub extreme : (d : List ℚ) → Contains directions d ↔ (IsExtremeDirection n Directions d × IsNormedDirection d)
-  pub facets_are : (e : Inequality) → Contains facets e ↔ IsFacet n Set c e
   pub hull : (y : List ℚ) → Set y ↔ IsInHull n points directions [] y
   pub some_point : 0 < length points
 
--- cuts and generators that meet the conditions for a set are exact for it
+-- they are, and the named inequalities are exactly the facets
+pub record IsExact (n : ℕ) (Set Directions : List ℚ → Type 0) (c : List ℚ) (points directions : List (List ℚ))
+    (facets : List Inequality) : Type 0 where
+  pub representation : IsVertexRepresentation n Set Directions points directions
+  pub open representation use *
+  pub facets_are : (e : Inequality) → Contains facets e ↔ IsFacet n Set c e
+
+-- the points and directions of an enclosed set are its vertex representation
+abbrev pub EnclosedAreRepresented : (List ℚ → Type 0) → (List ℚ → Type 0) → Type 0
+EnclosedAreRepresented Set Directions = (n : ℕ) (c : List ℚ) (cuts : List Inequality) (generators points directions : List (List ℚ)) →
+    IsEnclosed n Set Directions c cuts generators points directions → IsVertexRepresentation n Set Directions points directions
+
+-- cuts and generators that meet all conditions for a set are exact for it
 abbrev pub Exactness : (List ℚ → Type 0) → (List ℚ → Type 0) → Type 0
 Exactness Set Directions = (n : ℕ) (c : List ℚ) (cuts : List Inequality) (generators points directions : List (List ℚ)) (named : List Inequality) →
     IsSolved n Set Directions c cuts generators points directions named →

@@ -8,7 +8,7 @@ ghost use Rattle.polyhedra.specs.Dependence.{MoreAreDependent, CornersDetermine,
 ghost use Rattle.polyhedra.specs.DoubleDescription.{NewPairsAreExact, OneAddition, AdditionDescribes, MadeAreNormed};
 ghost use Rattle.polyhedra.specs.Duality.{DualCones, InteriorOfGenerated, InteriorOfRows};
 ghost use Rattle.polyhedra.specs.Examples.{AdditionExample, SquareExample, QuadrantExample};
-ghost use Rattle.polyhedra.specs.Exactness.{CornerStarts, NormedArePointsOrDirections, LargestAccount, Exactness, RisingListsAreEqual, Uniqueness};
+ghost use Rattle.polyhedra.specs.Exactness.{CornerStarts, NormedArePointsOrDirections, LargestAccount, EnclosedAreRepresented, Exactness, RisingListsAreEqual, Uniqueness};
 ghost use Rattle.polyhedra.specs.FirstNamed.{FirstAccount, TightSetsTellApart};
 ghost use Rattle.polyhedra.specs.Farkas.{FarkasLemma, OneAlternative, WeakDuality, NoSolution, DualOfGenerated, CutHolds};
 ghost use Rattle.polyhedra.specs.Generators.{DescribedAreDistinct, DescribedAreExtreme, DualOfDescribed, TightAtMeeting};
@@ -19,7 +19,7 @@ ghost use Rattle.polyhedra.specs.LowerImage.{VerticesAreFacets, OneLowerDirectio
 ghost use Rattle.polyhedra.specs.Sparse.{ProductOfSparse};
 
 /// A set of vectors, and the directions in which it goes on for ever. A law over a region holds for every set; a
-/// proof that needs it for a set of its own cites the lemma of the same name in `proofs/SolvedAreExact`.
+/// proof that needs it for a set of its own cites the lemma of the same name.
 pub trait Region {
     ghost members: { List ℚ → Type 0 };
 
@@ -204,6 +204,12 @@ pub fn first_account()
 /// Rows with different tight generators are different inequalities.
 pub fn tight_sets_tell_apart()
     ensures { TightSetsTellApart }
+{}
+
+/// Nothing missing, nothing too much, without the facets: the points and directions of a set between an outer and an
+/// inner approximation that meet are its vertices and extreme directions.
+pub fn enclosed_are_represented<R: Region>()
+    ensures { EnclosedAreRepresented R.members R.directions }
 {}
 
 /// Nothing missing, nothing too much: what cuts and generators show that meet the conditions on tight sets.

@@ -8,7 +8,7 @@ use Rattle.polyhedra.specs.Vectors.{AreWide, zeros, plus, scaled, values, combin
 use Rattle.polyhedra.specs.Cone.{IsGenerated, IsInCone}
 use Rattle.polyhedra.specs.Inequality.{Inequality}
 use Rattle.polyhedra.specs.Hull.{IsInHull, IsValidAt}
-use Rattle.polyhedra.specs.Exactness.{homogenised, level, row_of, rows_of, IsOneOf, IsSolved}
+use Rattle.polyhedra.specs.Exactness.{homogenised, level, row_of, rows_of, IsOneOf, IsEnclosed}
 use Rattle.polyhedra.proofs.Laws.{add_zero, mul_one, le_refl, le_of_lt, zero_lt_one}
 use Rattle.polyhedra.proofs.Algebra.{zero_add, zero_mul, mul_zero, one_mul, mul_neg}
 use Rattle.polyhedra.proofs.Order.{lt_of_difference, difference_nonneg, add_zero_left, not_zero_of_positive, lt_irrefl}
@@ -44,8 +44,8 @@ combination_of_nothing n (m ∷ ms) (v ∷ vs) w h e r =
     ap₂ (λ a b. a *ℚ dot v r +ℚ b) m_zero (combination_of_nothing n ms vs (Rattle.polyhedra.proofs.Lists.wide-tail n v vs w) (nonneg-tail m ms h) rest_zero r)
     ∙ ap (λ x. x +ℚ zero_ℚ) (zero_mul (dot v r)) ∙ add_zero zero_ℚ
 
-module _ (n : ℕ) (Set Directions : List ℚ → Type 0) (c : List ℚ) (cuts : List Inequality) (gens points directions : List (List ℚ)) (named : List Inequality)
-    (s : IsSolved n Set Directions c cuts gens points directions named) where
+module _ (n : ℕ) (Set Directions : List ℚ → Type 0) (c : List ℚ) (cuts : List Inequality) (gens points directions : List (List ℚ))
+    (s : IsEnclosed n Set Directions c cuts gens points directions) where
   unfoldable pub InK : List ℚ → Type 0
   InK z = IsInCone (suc n) (rows_of n cuts) z
 
