@@ -1,7 +1,7 @@
 -- The directions of an enclosed set are exactly its normed extreme directions, since the generators of the cone of the rows are
 -- exactly those of the cone.
-use Rattle.std.proofs.Common.{◌≡◌, ℕ, suc, List, map, length, All, Contains, refl, sym, ap, ap₂, ◌∙◌, subst, ◌⊎◌, inl, inr}
-use Rattle.exact_field.specs.Rational.{ℚ, zero_ℚ, one_ℚ, ◌+ℚ◌, ◌*ℚ◌, ◌≤ℚ◌}
+use Rattle.std.proofs.Common.{◌≡◌, ℕ, suc, List, map, All, Contains, refl, sym, ap, ap₂, ◌∙◌, subst, inl, inr}
+use Rattle.exact_field.specs.Rational.{ℚ, zero_ℚ, ◌+ℚ◌, ◌*ℚ◌, ◌≤ℚ◌}
 use Rattle.exact_field.specs.Vector.{dot}
 use Rattle.polyhedra.specs.Inequality.{Inequality}
 use Rattle.polyhedra.specs.Vectors.{zeros, plus, scaled}

@@ -1,29 +1,24 @@
 -- The points of an enclosed set are exactly its vertices.
-use Rattle.std.proofs.Common.{◌≡◌, ℕ, suc, List, map, length, All, Contains, refl, sym, ap, ap₂, ◌∙◌, subst, ◌⊎◌, inl, inr}
-use Rattle.exact_field.specs.Rational.{ℚ, zero_ℚ, one_ℚ, ◌+ℚ◌, ◌*ℚ◌, neg_ℚ, inverse_ℚ, ◌≤ℚ◌, ◌<ℚ◌}
+use Rattle.std.proofs.Common.{◌≡◌, ℕ, suc, List, map, length, Contains, refl, sym, ap, ap₂, ◌∙◌, subst}
+use Rattle.exact_field.specs.Rational.{ℚ, zero_ℚ, one_ℚ, ◌+ℚ◌, ◌*ℚ◌, neg_ℚ, ◌≤ℚ◌, ◌<ℚ◌}
 use Rattle.exact_field.specs.Vector.{dot}
-use Rattle.polyhedra.specs.Vectors.{zeros, plus, scaled}
+use Rattle.polyhedra.specs.Vectors.{plus, scaled}
 use Rattle.polyhedra.specs.Cone.{IsGenerated, IsInCone}
 use Rattle.polyhedra.specs.TightSets.{IsTight, LiesIn}
-use Rattle.polyhedra.specs.DoubleDescription.{magnitude, leading}
 use Rattle.polyhedra.specs.Inequality.{Inequality}
-use Rattle.polyhedra.specs.Hull.{IsVertex, IsMultiple, IsExtremeDirection, IsNormedDirection}
+use Rattle.polyhedra.specs.Hull.{IsVertex, IsMultiple}
 use Rattle.polyhedra.specs.Exactness.{homogenised, level, row_of, rows_of, IsEnclosed}
 use Rattle.polyhedra.proofs.Laws.{add_comm, add_zero, mul_comm, mul_assoc, mul_one, le_refl, le_of_lt, mul_nonneg, le_antisymm, zero_lt_one}
-use Rattle.polyhedra.proofs.Algebra.{zero_add, zero_mul, mul_zero}
-use Rattle.polyhedra.proofs.Order.{Sign, negative, none, positive, sign_of, add_nonneg, add_zero_left, mul_positive, le_of_difference, difference_nonneg, mul_inverse_cancel}
-use Rattle.polyhedra.proofs.Linear.{scaled-one, dot_comm, plus_comm, dot-plus, dot-scaled, dot-zeros, length-scaled, length-zeros, same_wide}
+use Rattle.polyhedra.proofs.Order.{add_nonneg, add_zero_left, mul_positive, le_of_difference, difference_nonneg}
+use Rattle.polyhedra.proofs.Linear.{scaled-one, dot_comm, plus_comm, dot-plus, dot-scaled}
 use Rattle.polyhedra.proofs.Lists.{HoldsAt, HasWidth, Contains-here}
 use Rattle.polyhedra.proofs.Members.{all_of_members, member_of}
-use Rattle.polyhedra.proofs.TightRows.{tight_or_positive}
-use Rattle.polyhedra.proofs.LeastQuotient.{IsPositiveSomewhere}
 use Rattle.polyhedra.proofs.Generated.{generated_value, generated_plus, generated_scaled, generated_generator}
 use Rattle.polyhedra.proofs.Support.{InSupport, support_listed, support_positive}
-use Rattle.polyhedra.proofs.Homogenised.{length-homogenised, plus-homogenised, scaled-homogenised, zeros-homogenised, homogenised-same, IsHomogenised, unhomogenised, level_value}
-use Rattle.polyhedra.proofs.Norming.{leading-scaled, magnitude-scaled}
-use Rattle.polyhedra.proofs.Cones.{IsSplit, split_support, IsOnRay, ray_of, generated_in, in_support_lies}
+use Rattle.polyhedra.proofs.Homogenised.{length-homogenised, plus-homogenised, scaled-homogenised, homogenised-same, IsHomogenised, unhomogenised, level_value}
+use Rattle.polyhedra.proofs.Cones.{IsSplit, split_support, IsOnRay, ray_of, generated_in}
 use Rattle.polyhedra.proofs.Midpoints.{towards, away, towards_value, two_sides, towards_same}
-use Rattle.polyhedra.proofs.Enclosed.{InK, points_wide, directions_wide, point_in, point_of, direction_of, direction_in, point_back, direction_back}
+use Rattle.polyhedra.proofs.Enclosed.{InK, points_wide, point_in, point_of, point_back}
 
 module _ (n : ℕ) (Set Directions : List ℚ → Type 0) (c : List ℚ) (cuts : List Inequality) (gens points directions : List (List ℚ))
     (s : IsEnclosed n Set Directions c cuts gens points directions) where

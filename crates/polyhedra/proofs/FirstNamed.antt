@@ -10,6 +10,9 @@ use Rattle.polyhedra.specs.Exactness.{level, row_of, rows_of, TightLiesIn, IsNam
 use Rattle.polyhedra.proofs.Lists.{Contains-here, Contains-there, Contains-cases, Contains-nil}
 use Rattle.polyhedra.proofs.Members.{all_of_members, member_of, Contains-filter, Contains-filter_source, pairs-nil, pairs-cons, pairs-filter, pairs-weaker}
 use Rattle.polyhedra.proofs.LargestTightSets.{largest_account, tight_through}
+use Rattle.exact_field.specs.Rational.{whole, fraction, ◌+ℚ◌, ◌*ℚ◌, neg_ℚ, le_ℚ}
+use Rattle.exact_field.specs.Gcd.{gcd}
+use Rattle.polyhedra.specs.Examples.{FirstExample}
 use Rattle.polyhedra.specs.FirstNamed.{tight_lies_in, same_tight, may_be_named, firsts, named_first, FirstAccount, TightSetsTellApart}
 use Rattle.polyhedra.proofs.Tests.{both_hold, both_true, implied, implies, list_all-true, refuted, test_of_zero, true-list_all, zero_of_test}
 
@@ -135,3 +138,7 @@ first_account n cuts gens = record {
 pub tight_sets_tell_apart : TightSetsTellApart
 tight_sets_tell_apart gens a b h e = h (all_of_members (λ g. IsTight (row_of a) g → IsTight (row_of b) g) gens
     (λ g c t. ap (λ v. dot (row_of v) g) (sym e) ∙ t))
+
+pub first_example : FirstExample
+unfolding whole fraction ◌+ℚ◌ ◌*ℚ◌ neg_ℚ le_ℚ gcd
+first_example = refl

@@ -1,16 +1,16 @@
 -- Generators that describe a cone: they are distinct, and the normed extreme directions; and the dual at them.
-use Rattle.std.proofs.Common.{◌≡◌, ℕ, List, length, All, Contains, sym, ap, ◌∙◌, subst, ◌⊎◌, inl, inr, Bool, true, false, cond, ◌-◌, zero, suc, [], ◌∷◌, slice_index_or, refl}
-use Rattle.exact_field.specs.Rational.{ℚ, zero_ℚ, one_ℚ, ◌*ℚ◌, neg_ℚ, inverse_ℚ, ◌≤ℚ◌, ◌<ℚ◌}
-use Rattle.exact_field.specs.Vector.{dot, entry}
+use Rattle.std.proofs.Common.{◌≡◌, ℕ, List, All, Contains, sym, ap, ◌∙◌, subst, ◌⊎◌, inl, inr}
+use Rattle.exact_field.specs.Rational.{ℚ, zero_ℚ, ◌*ℚ◌, neg_ℚ, inverse_ℚ, ◌≤ℚ◌, ◌<ℚ◌}
+use Rattle.exact_field.specs.Vector.{dot}
 use Rattle.polyhedra.specs.Vectors.{zeros, plus, scaled}
 use Rattle.polyhedra.specs.Cone.{IsGenerated, IsInCone, IsInDual}
 use Rattle.polyhedra.specs.TightSets.{IsTight, AreApart, IsDoubleDescriptionPair}
-use Rattle.polyhedra.specs.DoubleDescription.{is_zero, magnitude, leading, norming, meeting, IsNormed}
+use Rattle.polyhedra.specs.DoubleDescription.{meeting, IsNormed}
 use Rattle.polyhedra.specs.Hull.{IsMultiple, IsExtremeDirection}
-use Rattle.polyhedra.proofs.Laws.{le_of_lt, mul_comm, mul_assoc, mul_one}
-use Rattle.polyhedra.proofs.Algebra.{mul_zero, zero_mul}
-use Rattle.polyhedra.proofs.Order.{same_or_not, Sign, negative, none, positive, sign_of, lt_irrefl, lt_trans, not_zero_of_positive, add_zero_left, product_zero, mul_inverse_cancel, mul_negative}
-use Rattle.polyhedra.proofs.Linear.{dot_comm, dot-plus, dot-scaled, plus_comm, length-scaled, same_wide, scaled-one}
+use Rattle.polyhedra.proofs.Laws.{le_of_lt, mul_comm, mul_assoc}
+use Rattle.polyhedra.proofs.Algebra.{zero_mul}
+use Rattle.polyhedra.proofs.Order.{Sign, negative, none, positive, sign_of, lt_irrefl, lt_trans, not_zero_of_positive, add_zero_left, product_zero, mul_inverse_cancel, mul_negative}
+use Rattle.polyhedra.proofs.Linear.{dot_comm, dot-plus, dot-scaled, plus_comm, length-scaled, same_wide}
 use Rattle.polyhedra.proofs.Lists.{HoldsAt, HasWidth}
 use Rattle.polyhedra.proofs.Members.{all_of_members, member_of, pairs-weaker}
 use Rattle.polyhedra.proofs.TightRows.{tight_or_positive}
@@ -18,13 +18,12 @@ use Rattle.polyhedra.proofs.LeastQuotient.{IsPositiveSomewhere}
 use Rattle.polyhedra.proofs.Generated.{generated_value, generated_scaled, generated_generator}
 use Rattle.polyhedra.proofs.Support.{InSupport, support_listed, support_positive}
 use Rattle.polyhedra.proofs.Farkas.{generated_nonneg}
-use Rattle.polyhedra.proofs.Norming.{norm_factor, norm_factor-positive, leading-scaled, magnitude-scaled, normed_same}
+use Rattle.polyhedra.proofs.Norming.{norm_factor, norm_factor-positive, normed_same}
 use Rattle.polyhedra.proofs.Duality.{dual_cones}
 use Rattle.polyhedra.proofs.Cones.{IsSplit, split_support, IsOnRay, ray_of, generated_in, gens_same}
 use Rattle.polyhedra.proofs.CoveredPairs.{moved_value, moved_tight, moved_tight_left, moved_tight_right, moved_in}
 use Rattle.polyhedra.proofs.NewGenerators.{crossing, factor_positive, normed_tight}
 use Rattle.polyhedra.specs.Generators.{DescribedAreDistinct, TightAtMeeting, DescribedAreExtreme, DualOfDescribed}
-use Rattle.polyhedra.proofs.Tests.{test_of_other, test_of_zero}
 
 pub described_are_distinct : DescribedAreDistinct
 described_are_distinct n rows gens d = record {

@@ -16,6 +16,7 @@ pub mod Generated
 pub mod Generators
 pub mod Homogenised
 pub mod Image
+pub mod Involutions
 pub mod LargestTightSets
 pub mod Laws
 pub mod LeastQuotient
@@ -27,6 +28,7 @@ pub mod LowerDirection
 pub mod LowerImage
 pub mod Members
 pub mod Midpoints
+pub mod Negatives
 pub mod NewGenerators
 pub mod NewPairs
 pub mod Norming

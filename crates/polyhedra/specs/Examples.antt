@@ -7,6 +7,7 @@ use Rattle.polyhedra.specs.DoubleDescription.{new_pairs, addition}
 use Rattle.polyhedra.specs.Inequality.{Inequality}
 use Rattle.polyhedra.specs.Hull.{IsVertex, IsFacet, IsExtremeDirection}
 use Rattle.polyhedra.specs.Cone.{IsGenerated, IsInterior}
+use Rattle.polyhedra.specs.FirstNamed.{named_first}
 use Rattle.polyhedra.specs.Exactness.{homogenised, level, IsSolved}
 
 -- a vector of whole numbers
@@ -86,3 +87,9 @@ pub record QuadrantExample : Type 0 where
   pub solved : IsSolved 2 IsInQuadrant IsInQuadrant (one_ℚ ∷ one_ℚ ∷ []) (left_side ∷ lower_side ∷ [])
       (level 2 ∷ homogenised (one_ℚ ∷ zero_ℚ ∷ []) zero_ℚ ∷ homogenised (zero_ℚ ∷ one_ℚ ∷ []) zero_ℚ ∷ [])
       ((zero_ℚ ∷ zero_ℚ ∷ []) ∷ []) axes (left_side ∷ lower_side ∷ [])
+
+-- of a line at the corner of the quadrant, its left and lower side and the left side again, the left and the lower side are the
+-- first with the largest tight sets
+abbrev pub FirstExample : Type 0
+FirstExample = named_first 2 (corner_line ∷ left_side ∷ lower_side ∷ left_side ∷ [])
+    (level 2 ∷ homogenised (one_ℚ ∷ zero_ℚ ∷ []) zero_ℚ ∷ homogenised (zero_ℚ ∷ one_ℚ ∷ []) zero_ℚ ∷ []) ≡ left_side ∷ lower_side ∷ []

@@ -14,6 +14,7 @@ pub mod Linear
 pub mod LiveList
 pub mod LiveSteps
 pub mod LowerImage
+pub mod Negatives
 pub mod Sparse
 pub mod TightSets
 pub mod Vectors

@@ -7,7 +7,7 @@ ghost use Rattle.exact_field.specs.Rational.{ℚ};
 ghost use Rattle.polyhedra.specs.Dependence.{MoreAreDependent, CornersDetermine, Start};
 ghost use Rattle.polyhedra.specs.DoubleDescription.{NewPairsAreExact, OneAddition, AdditionDescribes, MadeAreNormed};
 ghost use Rattle.polyhedra.specs.Duality.{DualCones, InteriorOfGenerated, InteriorOfRows};
-ghost use Rattle.polyhedra.specs.Examples.{AdditionExample, SquareExample, QuadrantExample};
+ghost use Rattle.polyhedra.specs.Examples.{AdditionExample, FirstExample, SquareExample, QuadrantExample};
 ghost use Rattle.polyhedra.specs.Exactness.{CornerStarts, NormedArePointsOrDirections, LargestAccount, EnclosedAreRepresented, Exactness, RisingListsAreEqual, Uniqueness};
 ghost use Rattle.polyhedra.specs.FirstNamed.{FirstAccount, TightSetsTellApart};
 ghost use Rattle.polyhedra.specs.Farkas.{FarkasLemma, OneAlternative, WeakDuality, NoSolution, DualOfGenerated, CutHolds};
@@ -16,6 +16,7 @@ ghost use Rattle.polyhedra.specs.Image.{ImageIsConvex};
 ghost use Rattle.polyhedra.specs.Linear.{ProductIsSymmetric, IsLinear, ProductOfCombination, CombinationOfCombinations, SameProducts};
 ghost use Rattle.polyhedra.specs.LiveSteps.{AreLive, NumbersStay, NumbersTellApart, StepExample, StepIsAddition, ThirdByNumber};
 ghost use Rattle.polyhedra.specs.LowerImage.{VerticesAreFacets, OneLowerDirection};
+ghost use Rattle.polyhedra.specs.Negatives.{LowerOfNegatives, OfNegatives};
 ghost use Rattle.polyhedra.specs.Sparse.{ProductOfSparse};
 
 /// A set of vectors, and the directions in which it goes on for ever. A law over a region holds for every set; a
@@ -242,6 +243,16 @@ pub fn one_lower_direction<R: Region>()
     ensures { OneLowerDirection R.members R.directions }
 {}
 
+/// The mirror image of a set: its vertices, extreme directions, hull and facets.
+pub fn of_negatives<R: Region>()
+    ensures { OfNegatives R.members }
+{}
+
+/// The mirror image of a set: its lower image.
+pub fn lower_of_negatives<R: Region>()
+    ensures { LowerOfNegatives R.members }
+{}
+
 /// One addition of double description, computed.
 pub fn addition_example()
     ensures { AdditionExample }
@@ -250,6 +261,11 @@ pub fn addition_example()
 /// One step on numbered generators, computed.
 pub fn step_example()
     ensures { StepExample }
+{}
+
+/// The first cuts with the largest sets of tight generators, computed.
+pub fn first_example()
+    ensures { FirstExample }
 {}
 
 /// A vertex and a facet of a square, its centre and a line at its corner.
