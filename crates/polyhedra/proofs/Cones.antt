@@ -5,14 +5,14 @@ use Rattle.exact_field.specs.Rational.{ℚ, zero_ℚ, ◌+ℚ◌, ◌*ℚ◌, �
 use Rattle.exact_field.specs.Vector.{dot, sum_ℚ}
 use Rattle.polyhedra.specs.Vectors.{AreWide, plus, scaled, values, combination, AtLeastZero}
 use Rattle.polyhedra.specs.Cone.{IsGenerated, IsInCone}
-use Rattle.polyhedra.specs.TightSets.{IsTight, LiesIn, AreApart, IsDescribed}
+use Rattle.polyhedra.specs.TightSets.{IsTight, LiesIn, AreApart, IsDoubleDescriptionPair}
 use Rattle.polyhedra.proofs.Laws.{add_assoc, le_refl}
 use Rattle.polyhedra.proofs.Algebra.{zero_add, zero_mul, add_mul, add_left_comm}
 use Rattle.polyhedra.proofs.Order.{zero_or_positive, add_nonneg}
 use Rattle.polyhedra.proofs.Linear.{dot_comm, dot-plus, dot-scaled, dot-combination, length-plus, length-scaled, length-combination, same_wide}
 use Rattle.polyhedra.proofs.Lists.{HoldsAt, nonneg-nil, nonneg-cons, nonneg-head, nonneg-tail}
 use Rattle.polyhedra.proofs.Members.{all_of_members, member_of, pairs_of_members}
-use Rattle.polyhedra.proofs.Counting.{same_vector_or_not}
+use Rattle.polyhedra.proofs.TightRows.{same_vector_or_not}
 use Rattle.polyhedra.proofs.Generated.{generated_value, generated_width, generated_zero, generated_plus, generated_scaled}
 use Rattle.polyhedra.proofs.Support.{InSupport, support_listed, support_zero}
 
@@ -167,7 +167,7 @@ one_ray n gens a g wide width s k = record {
       ∙ sym (dot-scaled r (sum_ℚ s.multipliers) g ∙ ap (λ x. sum_ℚ s.multipliers *ℚ x) (dot_comm r g)));
 }
 
-module _ (n : ℕ) (rows gens : List (List ℚ)) (d : IsDescribed n rows gens) where
+module _ (n : ℕ) (rows gens : List (List ℚ)) (d : IsDoubleDescriptionPair n rows gens) where
   pub gens_same : (a b : List ℚ) → Contains gens a → Contains gens b → LiesIn rows a b → a ≡ b
   gens_same a b h k l = go (same_vector_or_not a b)
     where

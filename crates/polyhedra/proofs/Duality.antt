@@ -13,7 +13,7 @@ use Rattle.polyhedra.proofs.Order.{zero_or_positive, add_positive, add_positive_
 use Rattle.polyhedra.proofs.Linear.{dot_comm, dot-zeros, dot-combination, length-combination, length-zeros, same_wide}
 use Rattle.polyhedra.proofs.Lists.{HoldsAt, HasWidth, values_nonneg}
 use Rattle.polyhedra.proofs.Members.{all_of_members, member_of}
-use Rattle.polyhedra.proofs.Counting.{tight_or_positive}
+use Rattle.polyhedra.proofs.TightRows.{tight_or_positive}
 use Rattle.polyhedra.proofs.LeastQuotient.{IsPositiveSomewhere}
 use Rattle.polyhedra.proofs.Generated.{generated_value, generated_width, generated_generator}
 use Rattle.polyhedra.proofs.Support.{InSupport, support_listed, dot_nonneg}

@@ -6,28 +6,29 @@ use Rattle.exact_field.specs.Ring.{v0, v1, ◌⊕◌, ◌⊝◌, num}
 use Rattle.exact_field.proofs.RingTool.{ring}
 use Rattle.exact_field.proofs.Rationals.{rationals}
 use Rattle.polyhedra.specs.Vectors.{plus}
-use Rattle.polyhedra.specs.Hull.{IsVertex, Inequality, IsValid, IsValidAt, IsFacet}
-use Rattle.polyhedra.specs.Exactness.{lifted}
+use Rattle.polyhedra.specs.Inequality.{Inequality}
+use Rattle.polyhedra.specs.Hull.{IsVertex, IsValid, IsValidAt, IsFacet}
+use Rattle.polyhedra.specs.Exactness.{homogenised}
 use Rattle.polyhedra.specs.LowerImage.{completed, IsInLowerImage, VerticesAreFacets}
 use Rattle.polyhedra.proofs.Laws.{add_comm, mul_one}
 use Rattle.polyhedra.proofs.Algebra.{cancel}
 use Rattle.polyhedra.proofs.Linear.{dot_comm, dot-plus}
-use Rattle.polyhedra.proofs.Lifted.{dot-lifted, plus-lifted, lifted-same, IsLifted, unlift}
+use Rattle.polyhedra.proofs.Homogenised.{dot-homogenised, plus-homogenised, homogenised-same, IsHomogenised, unhomogenised}
 
 -- the last entry of a normal whose product with (c, 1) is 1
 last_of : ℚ → ℚ
 last_of a = one_ℚ +ℚ neg_ℚ a
 
 -- what is normed is completed
-normed_last : (n : ℕ) (c w : List ℚ) (t : ℚ) → length c ≡ n → length w ≡ n → dot (lifted w t) (lifted c one_ℚ) ≡ one_ℚ → t ≡ last_of (dot c w)
+normed_last : (n : ℕ) (c w : List ℚ) (t : ℚ) → length c ≡ n → length w ≡ n → dot (homogenised w t) (homogenised c one_ℚ) ≡ one_ℚ → t ≡ last_of (dot c w)
 unfolding last_of
 normed_last n c w t h k e =
     sym (cancel t (dot c w)) ∙ ap (λ x. x +ℚ neg_ℚ (dot c w))
-    (add_comm t (dot c w) ∙ ap₂ (λ a b. a +ℚ b) (dot_comm c w) (sym (mul_one t)) ∙ sym (dot-lifted w c t one_ℚ (k ∙ sym h)) ∙ e)
+    (add_comm t (dot c w) ∙ ap₂ (λ a b. a +ℚ b) (dot_comm c w) (sym (mul_one t)) ∙ sym (dot-homogenised w c t one_ℚ (k ∙ sym h)) ∙ e)
 
-completed_normed : (n : ℕ) (c w : List ℚ) (bound : ℚ) → length c ≡ n → length w ≡ n → dot (completed c w bound).normal (lifted c one_ℚ) ≡ one_ℚ
+completed_normed : (n : ℕ) (c w : List ℚ) (bound : ℚ) → length c ≡ n → length w ≡ n → dot (completed c w bound).normal (homogenised c one_ℚ) ≡ one_ℚ
 completed_normed n c w bound h k =
-    dot-lifted w c (one_ℚ +ℚ neg_ℚ (dot c w)) one_ℚ (k ∙ sym h)
+    dot-homogenised w c (one_ℚ +ℚ neg_ℚ (dot c w)) one_ℚ (k ∙ sym h)
     ∙ ap₂ (λ a b. a +ℚ b) (dot_comm w c) (mul_one (one_ℚ +ℚ neg_ℚ (dot c w)))
     ∙ ring rationals (dot c w ∷ []) (v0 ⊕ (num (pos 1) ⊝ v0)) (num (pos 1)) refl
 
@@ -49,15 +50,15 @@ module _ (Set : List ℚ → Type 0) (n : ℕ) (c w : List ℚ) (bound : ℚ) (c
     wide : length front ≡ n
     same : e ≡ completed c front e.bound
 
-  as_completed : (e : Inequality) → IsValidAt (suc n) Set (lifted c one_ℚ) e → IsCompleted e
+  as_completed : (e : Inequality) → IsValidAt (suc n) Set (homogenised c one_ℚ) e → IsCompleted e
   unfolding last_of
   as_completed e v =
-      let u : IsLifted n e.normal = unlift n e.normal v.wide in
-      let last : u.last ≡ one_ℚ +ℚ neg_ℚ (dot c u.front) = normed_last n c u.front u.last c_wide u.wide (ap (λ x. dot x (lifted c one_ℚ)) (sym u.same)
+      let u : IsHomogenised n e.normal = unhomogenised n e.normal v.wide in
+      let last : u.last ≡ one_ℚ +ℚ neg_ℚ (dot c u.front) = normed_last n c u.front u.last c_wide u.wide (ap (λ x. dot x (homogenised c one_ℚ)) (sym u.same)
       ∙ v.normed) in
-      record { front = u.front; wide = u.wide; same = λ i. record { normal = (u.same ∙ ap (λ t. lifted u.front t) last) i; bound = e.bound } }
+      record { front = u.front; wide = u.wide; same = λ i. record { normal = (u.same ∙ ap (λ t. homogenised u.front t) last) i; bound = e.bound } }
 
-  in_lower : (e : Inequality) (v : IsValidAt (suc n) Set (lifted c one_ℚ) e) (h : IsCompleted e) → IsInLowerImage n Set c (lifted h.front e.bound)
+  in_lower : (e : Inequality) (v : IsValidAt (suc n) Set (homogenised c one_ℚ) e) (h : IsCompleted e) → IsInLowerImage n Set c (homogenised h.front e.bound)
   in_lower e v h = record {
     front = h.front;
     bound = e.bound;
@@ -67,7 +68,7 @@ module _ (Set : List ℚ → Type 0) (n : ℕ) (c w : List ℚ) (bound : ℚ) (c
         (λ (x : Inequality). IsValid (suc n) Set x) h.same v.valid;
   }
 
-  to_facet : IsVertex (IsInLowerImage n Set c) (lifted w bound) → IsFacet (suc n) Set (lifted c one_ℚ) (completed c w bound)
+  to_facet : IsVertex (IsInLowerImage n Set c) (homogenised w bound) → IsFacet (suc n) Set (homogenised c one_ℚ) (completed c w bound)
   to_facet vertex = record {
     valid = record { valid = big_valid; normed = completed_normed n c w bound c_wide w_wide };
     no_midpoint = λ a b a_valid b_valid e f. (side a b a_valid b_valid e f, other_side a b a_valid b_valid e f);
@@ -75,60 +76,60 @@ module _ (Set : List ℚ → Type 0) (n : ℕ) (c w : List ℚ) (bound : ℚ) (c
     where
       big_valid : IsValid (suc n) Set (completed c w bound)
       big_valid =
-          let same : (w ≡ vertex.member.front) × (bound ≡ vertex.member.bound) = lifted-same w vertex.member.front bound vertex.member.bound vertex.member.same in
+          let same : (w ≡ vertex.member.front) × (bound ≡ vertex.member.bound) = homogenised-same w vertex.member.front bound vertex.member.bound vertex.member.same in
           subst (λ (x : Inequality). IsValid (suc n) Set x) (ap₂ (λ p q. completed c p q) (sym same.0) (sym same.1)) vertex.member.valid
 
-      ends : (a b : Inequality) (a_valid : IsValidAt (suc n) Set (lifted c one_ℚ) a) (b_valid : IsValidAt (suc n) Set (lifted c one_ℚ) b) →
+      ends : (a b : Inequality) (a_valid : IsValidAt (suc n) Set (homogenised c one_ℚ) a) (b_valid : IsValidAt (suc n) Set (homogenised c one_ℚ) b) →
           plus (completed c w bound).normal (completed c w bound).normal ≡ plus a.normal b.normal → bound +ℚ bound ≡ a.bound +ℚ b.bound →
-          (lifted (as_completed a a_valid).front a.bound ≡ lifted w bound) × (lifted (as_completed b b_valid).front b.bound ≡ lifted w bound)
+          (homogenised (as_completed a a_valid).front a.bound ≡ homogenised w bound) × (homogenised (as_completed b b_valid).front b.bound ≡ homogenised w bound)
       ends a b a_valid b_valid e f =
           let p : IsCompleted a = as_completed a a_valid in
           let q : IsCompleted b = as_completed b b_valid in
           let fronts : plus w w ≡ plus p.front q.front =
-          (lifted-same (plus w w) (plus p.front q.front) ((one_ℚ +ℚ neg_ℚ (dot c w)) +ℚ (one_ℚ +ℚ neg_ℚ (dot c w)))
+          (homogenised-same (plus w w) (plus p.front q.front) ((one_ℚ +ℚ neg_ℚ (dot c w)) +ℚ (one_ℚ +ℚ neg_ℚ (dot c w)))
           ((one_ℚ +ℚ neg_ℚ (dot c p.front)) +ℚ (one_ℚ +ℚ neg_ℚ (dot c q.front)))
-          (sym (plus-lifted w w (one_ℚ +ℚ neg_ℚ (dot c w)) (one_ℚ +ℚ neg_ℚ (dot c w)) refl) ∙ e
+          (sym (plus-homogenised w w (one_ℚ +ℚ neg_ℚ (dot c w)) (one_ℚ +ℚ neg_ℚ (dot c w)) refl) ∙ e
           ∙ ap₂ (λ x y. plus x.normal y.normal) p.same q.same
-          ∙ plus-lifted p.front q.front (one_ℚ +ℚ neg_ℚ (dot c p.front)) (one_ℚ +ℚ neg_ℚ (dot c q.front)) (p.wide ∙ sym q.wide))).0 in
-          vertex.no_midpoint (lifted p.front a.bound) (lifted q.front b.bound) (in_lower a a_valid p) (in_lower b b_valid q)
-          (plus-lifted w w bound bound refl ∙ ap₂ (λ x y. lifted x y) fronts f ∙ sym (plus-lifted p.front q.front a.bound b.bound (p.wide ∙ sym q.wide)))
+          ∙ plus-homogenised p.front q.front (one_ℚ +ℚ neg_ℚ (dot c p.front)) (one_ℚ +ℚ neg_ℚ (dot c q.front)) (p.wide ∙ sym q.wide))).0 in
+          vertex.no_midpoint (homogenised p.front a.bound) (homogenised q.front b.bound) (in_lower a a_valid p) (in_lower b b_valid q)
+          (plus-homogenised w w bound bound refl ∙ ap₂ (λ x y. homogenised x y) fronts f ∙ sym (plus-homogenised p.front q.front a.bound b.bound (p.wide ∙ sym q.wide)))
 
-      back : (a : Inequality) (p : IsCompleted a) → lifted p.front a.bound ≡ lifted w bound → a ≡ completed c w bound
+      back : (a : Inequality) (p : IsCompleted a) → homogenised p.front a.bound ≡ homogenised w bound → a ≡ completed c w bound
       back a p e =
-          let same : (p.front ≡ w) × (a.bound ≡ bound) = lifted-same p.front w a.bound bound e in
+          let same : (p.front ≡ w) × (a.bound ≡ bound) = homogenised-same p.front w a.bound bound e in
           p.same ∙ ap₂ (λ x y. completed c x y) same.0 same.1
 
-      side : (a b : Inequality) → IsValidAt (suc n) Set (lifted c one_ℚ) a → IsValidAt (suc n) Set (lifted c one_ℚ) b →
+      side : (a b : Inequality) → IsValidAt (suc n) Set (homogenised c one_ℚ) a → IsValidAt (suc n) Set (homogenised c one_ℚ) b →
           plus (completed c w bound).normal (completed c w bound).normal ≡ plus a.normal b.normal → bound +ℚ bound ≡ a.bound +ℚ b.bound →
           a ≡ completed c w bound
       side a b a_valid b_valid e f = back a (as_completed a a_valid) (ends a b a_valid b_valid e f).0
 
-      other_side : (a b : Inequality) → IsValidAt (suc n) Set (lifted c one_ℚ) a → IsValidAt (suc n) Set (lifted c one_ℚ) b →
+      other_side : (a b : Inequality) → IsValidAt (suc n) Set (homogenised c one_ℚ) a → IsValidAt (suc n) Set (homogenised c one_ℚ) b →
           plus (completed c w bound).normal (completed c w bound).normal ≡ plus a.normal b.normal → bound +ℚ bound ≡ a.bound +ℚ b.bound →
           b ≡ completed c w bound
       other_side a b a_valid b_valid e f = back b (as_completed b b_valid) (ends a b a_valid b_valid e f).1
 
-  to_vertex : IsFacet (suc n) Set (lifted c one_ℚ) (completed c w bound) → IsVertex (IsInLowerImage n Set c) (lifted w bound)
+  to_vertex : IsFacet (suc n) Set (homogenised c one_ℚ) (completed c w bound) → IsVertex (IsInLowerImage n Set c) (homogenised w bound)
   to_vertex facet = record {
     member = record { front = w; bound = bound; wide = w_wide; same = refl; valid = facet.valid.valid };
     no_midpoint = λ a b a_in b_in e.
         let parts : (plus w w ≡ plus a_in.front b_in.front) × (bound +ℚ bound ≡ a_in.bound +ℚ b_in.bound) =
-        lifted-same (plus w w) (plus a_in.front b_in.front) (bound +ℚ bound) (a_in.bound +ℚ b_in.bound)
-        (sym (plus-lifted w w bound bound refl) ∙ e ∙ ap₂ (λ x y. plus x y) a_in.same b_in.same
-        ∙ plus-lifted a_in.front b_in.front a_in.bound b_in.bound (a_in.wide ∙ sym b_in.wide)) in
+        homogenised-same (plus w w) (plus a_in.front b_in.front) (bound +ℚ bound) (a_in.bound +ℚ b_in.bound)
+        (sym (plus-homogenised w w bound bound refl) ∙ e ∙ ap₂ (λ x y. plus x y) a_in.same b_in.same
+        ∙ plus-homogenised a_in.front b_in.front a_in.bound b_in.bound (a_in.wide ∙ sym b_in.wide)) in
         let both : (completed c a_in.front a_in.bound ≡ completed c w bound) × (completed c b_in.front b_in.bound ≡ completed c w bound) =
         facet.no_midpoint (completed c a_in.front a_in.bound) (completed c b_in.front b_in.bound)
         (record { valid = a_in.valid; normed = completed_normed n c a_in.front a_in.bound c_wide a_in.wide })
         (record { valid = b_in.valid; normed = completed_normed n c b_in.front b_in.bound c_wide b_in.wide })
-        (plus-lifted w w (one_ℚ +ℚ neg_ℚ (dot c w)) (one_ℚ +ℚ neg_ℚ (dot c w)) refl
-        ∙ ap₂ (λ x y. lifted x y) parts.0 (completed_sum n c a_in.front b_in.front w c_wide a_in.wide b_in.wide parts.0)
-        ∙ sym (plus-lifted a_in.front b_in.front (one_ℚ +ℚ neg_ℚ (dot c a_in.front)) (one_ℚ +ℚ neg_ℚ (dot c b_in.front)) (a_in.wide ∙ sym b_in.wide)))
+        (plus-homogenised w w (one_ℚ +ℚ neg_ℚ (dot c w)) (one_ℚ +ℚ neg_ℚ (dot c w)) refl
+        ∙ ap₂ (λ x y. homogenised x y) parts.0 (completed_sum n c a_in.front b_in.front w c_wide a_in.wide b_in.wide parts.0)
+        ∙ sym (plus-homogenised a_in.front b_in.front (one_ℚ +ℚ neg_ℚ (dot c a_in.front)) (one_ℚ +ℚ neg_ℚ (dot c b_in.front)) (a_in.wide ∙ sym b_in.wide)))
         parts.1 in
         (a_in.same ∙ down a_in.front a_in.bound both.0, b_in.same ∙ down b_in.front b_in.bound both.1);
   }
     where
-      down : (u : List ℚ) (t : ℚ) → completed c u t ≡ completed c w bound → lifted u t ≡ lifted w bound
-      down u t e = ap₂ (λ x y. lifted x y) (lifted-same u w (one_ℚ +ℚ neg_ℚ (dot c u)) (one_ℚ +ℚ neg_ℚ (dot c w)) (ap (λ x. x.normal) e)).0
+      down : (u : List ℚ) (t : ℚ) → completed c u t ≡ completed c w bound → homogenised u t ≡ homogenised w bound
+      down u t e = ap₂ (λ x y. homogenised x y) (homogenised-same u w (one_ℚ +ℚ neg_ℚ (dot c u)) (one_ℚ +ℚ neg_ℚ (dot c w)) (ap (λ x. x.normal) e)).0
           (ap (λ x. x.bound) e)
 
 pub vertices_are_facets : (Set : List ℚ → Type 0) → VerticesAreFacets Set

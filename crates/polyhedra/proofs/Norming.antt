@@ -1,14 +1,14 @@
 -- A vector that is not 0 is normed by a positive factor.
 use Rattle.std.proofs.Common.{◌≡◌, List, [], ◌∷◌, length, refl, sym, ap, ap₂, ◌∙◌, ◌⊎◌, inl, inr, Bool, true, false, true≢false, cond, ℕ, zero, suc, ◌-◌, slice_index_or}
-use Rattle.exact_field.specs.Rational.{ℚ, zero_ℚ, ◌+ℚ◌, ◌*ℚ◌, neg_ℚ, inverse_ℚ, le_ℚ, ◌≤ℚ◌, ◌<ℚ◌}
+use Rattle.exact_field.specs.Rational.{ℚ, zero_ℚ, ◌+ℚ◌, ◌*ℚ◌, neg_ℚ, inverse_ℚ, le_ℚ, ◌≤ℚ◌, ◌<ℚ◌, one_ℚ}
 use Rattle.exact_field.specs.Vector.{dot, entry}
 use Rattle.polyhedra.specs.DoubleDescription.{is_zero, magnitude, leading, norming, normed, IsNormed}
 use Rattle.polyhedra.specs.Vectors.{scaled}
-use Rattle.polyhedra.proofs.Laws.{add_zero, le_of_lt, mul_nonneg, mul_comm, mul_inverse}
+use Rattle.polyhedra.proofs.Laws.{add_zero, le_of_lt, mul_nonneg, mul_comm, mul_inverse, mul_one}
 use Rattle.polyhedra.proofs.Algebra.{mul_zero, mul_neg}
 use Rattle.polyhedra.proofs.Order.{zero_or_positive, neg_positive, inverse_positive, le_or_lt, not_lt_of_le, product_zero, mul_negative}
-use Rattle.polyhedra.proofs.Linear.{dot-nil, length-scaled}
-use Rattle.polyhedra.proofs.Counting.{zero_of_test, test_of_zero, test_of_other}
+use Rattle.polyhedra.proofs.Linear.{dot-nil, length-scaled, scaled-one}
+use Rattle.polyhedra.proofs.Tests.{test_of_other, test_of_zero, zero_of_test}
 
 -- the magnitude of a number that is not 0 is positive
 pub magnitude-positive : (q : ℚ) → (q ≡ zero_ℚ → ⊥) → zero_ℚ <ℚ magnitude q
@@ -51,7 +51,7 @@ pub norm_factor-positive : (v r : List ℚ) → (dot r v ≡ zero_ℚ → ⊥) �
 norm_factor-positive v r h = inverse_positive (magnitude (norming v)) (magnitude-positive (norming v) (norming-other v r h))
 
 -- ---- the norm of a multiple
-is_zero-scaled : (q x : ℚ) → zero_ℚ <ℚ q → is_zero (q *ℚ x) ≡ is_zero x
+pub is_zero-scaled : (q x : ℚ) → zero_ℚ <ℚ q → is_zero (q *ℚ x) ≡ is_zero x
 is_zero-scaled q x p = go (is_zero x) refl
   where
     go : (b : Bool) → is_zero x ≡ b → is_zero (q *ℚ x) ≡ is_zero x
@@ -92,7 +92,7 @@ slice-scaled q [] k = sym (mul_zero q)
 slice-scaled q (x ∷ v) zero = refl
 slice-scaled q (x ∷ v) (suc k) = slice-scaled q v k
 
-norming-scaled : (q : ℚ) (v : List ℚ) → zero_ℚ <ℚ q → norming (scaled q v) ≡ q *ℚ norming v
+pub norming-scaled : (q : ℚ) (v : List ℚ) → zero_ℚ <ℚ q → norming (scaled q v) ≡ q *ℚ norming v
 norming-scaled q v p =
     ap (λ a. cond (is_zero a) (leading (scaled q v)) a) (ap (λ n. entry (scaled q v) n) (length-scaled q v) ∙ slice-scaled q v (length v - 1))
     ∙ ap (λ b. cond b (leading (scaled q v)) (q *ℚ entry v (length v))) (is_zero-scaled q (entry v (length v)) p)
@@ -108,3 +108,12 @@ normed_is_normed v r h =
     ∙ magnitude-scaled (norm_factor v) (norming v) (norm_factor-positive v r h)
     ∙ mul_comm (norm_factor v) (magnitude (norming v))
     ∙ mul_inverse (magnitude (norming v)) (magnitude-positive (norming v) (norming-other v r h))
+
+-- ---- of the positive multiples of a vector one is normed
+factor_one : (q x : ℚ) → zero_ℚ <ℚ q → magnitude x ≡ one_ℚ → magnitude (q *ℚ x) ≡ one_ℚ → q ≡ one_ℚ
+factor_one q x p h k = sym (mul_one q) ∙ ap (λ a. q *ℚ a) (sym h) ∙ sym (magnitude-scaled q x p) ∙ k
+
+pub normed_same : (q : ℚ) (d h : List ℚ) → zero_ℚ <ℚ q → h ≡ scaled q d → IsNormed d → IsNormed h → h ≡ d
+normed_same q d h p e d_normed h_normed =
+    e ∙ ap (λ a. scaled a d) (factor_one q (norming d) p d_normed (ap magnitude (sym (norming-scaled q d p)) ∙ ap (λ v. magnitude (norming v)) (sym e) ∙ h_normed))
+    ∙ scaled-one d

@@ -26,6 +26,6 @@ pub record IsInterior (n : ℕ) (Set : List ℚ → Type 0) (y : List ℚ) : Typ
   pub member : Set y
   pub inside : (w : List ℚ) → IsInDual n Set w → (w ≡ zeros n → ⊥) → zero_ℚ <ℚ dot w y
 
--- each row is 0 at no other vector of n entries than 0 at once
-abbrev pub IsPointed : ℕ → List (List ℚ) → Type 0
-IsPointed n rows = (z : List ℚ) → length z ≡ n → All (λ r. dot r z ≡ zero_ℚ) rows → z ≡ zeros n
+-- the vectors have full rank: no vector of n entries but 0 has the product 0 with each of them; the cone of such rows is pointed
+abbrev pub HasFullRank : ℕ → List (List ℚ) → Type 0
+HasFullRank n vs = (z : List ℚ) → length z ≡ n → All (λ v. dot v z ≡ zero_ℚ) vs → z ≡ zeros n

@@ -3,8 +3,8 @@ use Rattle.std.specs.Prelude.{ℕ, ◌<◌, List, [], ◌≡◌, ◌≢◌, leng
 use Rattle.exact_field.specs.Rational.{ℚ, zero_ℚ, ◌<ℚ◌}
 use Rattle.exact_field.specs.Vector.{dot}
 use Rattle.polyhedra.specs.Vectors.{AreWide, zeros, combination}
-use Rattle.polyhedra.specs.Cone.{IsPointed}
-use Rattle.polyhedra.specs.TightSets.{IsDescribed}
+use Rattle.polyhedra.specs.Cone.{HasFullRank}
+use Rattle.polyhedra.specs.TightSets.{IsDoubleDescriptionPair}
 
 -- some combination of the vectors is 0, and its multipliers are not all 0
 pub record AreDependent (n : ℕ) (vs : List (List ℚ)) : Type 0 where
@@ -27,10 +27,10 @@ pub record AreCorners (n : ℕ) (rows vectors : List (List ℚ)) : Type 0 where
   pub zero_elsewhere : (i j : ℕ) → i < n → j < n → i ≢ j →
       dot (slice_index_or rows i []) (slice_index_or vectors j []) ≡ zero_ℚ
 
--- such rows are 0 at no other vector than 0 at once
+-- such rows have full rank
 abbrev pub CornersDetermine : Type 0
-CornersDetermine = (n : ℕ) (rows vectors : List (List ℚ)) → AreCorners n rows vectors → IsPointed n rows
+CornersDetermine = (n : ℕ) (rows vectors : List (List ℚ)) → AreCorners n rows vectors → HasFullRank n rows
 
--- such vectors describe the cone of such rows
+-- such rows and vectors are a double description pair
 abbrev pub Start : Type 0
-Start = (n : ℕ) (rows vectors : List (List ℚ)) → AreCorners n rows vectors → IsDescribed n rows vectors
+Start = (n : ℕ) (rows vectors : List (List ℚ)) → AreCorners n rows vectors → IsDoubleDescriptionPair n rows vectors

@@ -4,7 +4,7 @@ use Rattle.std.specs.List.{list_all}
 use Rattle.exact_field.specs.Rational.{ℚ, zero_ℚ, one_ℚ, ◌/ℚ◌, neg_ℚ, inverse_ℚ, le_ℚ, lt_ℚ, ◌<ℚ◌}
 use Rattle.exact_field.specs.Vector.{dot, entry}
 use Rattle.polyhedra.specs.Vectors.{plus, scaled}
-use Rattle.polyhedra.specs.TightSets.{Covers, IsDescribed}
+use Rattle.polyhedra.specs.TightSets.{Covers, IsDoubleDescriptionPair}
 
 -- whether a number is 0
 abbrev pub is_zero : ℚ → Bool
@@ -98,24 +98,23 @@ new_pairs rows generators row = filter (is_uncovered rows generators) (opposite_
 abbrev pub addition : List (List ℚ) → List (List ℚ) → List ℚ → List (List ℚ)
 addition rows generators row = added row generators (new_pairs rows generators row)
 
--- of generators that describe a cone, the new pairs are exactly the opposite pairs that no third one covers
+-- of a double description pair, the new pairs are exactly the opposite pairs of generators that no third one covers
 abbrev pub NewPairsAreExact : Type 0
-NewPairsAreExact = (n : ℕ) (rows generators : List (List ℚ)) (row : List ℚ) → IsDescribed n rows generators →
+NewPairsAreExact = (n : ℕ) (rows generators : List (List ℚ)) (row : List ℚ) → IsDoubleDescriptionPair n rows generators →
     ArePairs rows generators row (new_pairs rows generators row)
 
--- where generators describe the cone of the rows, those after a new row describe the cone of the rows and the new one, whatever
--- the order of the pairs
+-- of a double description pair, the rows with a new one and the generators after it are one again, whatever the order of the pairs
 abbrev pub OneAddition : Type 0
 OneAddition = (n : ℕ) (rows generators : List (List ℚ)) (row : List ℚ) (pairs : List Pair) →
-    IsDescribed n rows generators → length row ≡ n → ArePairs rows generators row pairs →
-    IsDescribed n (rows ++ row ∷ []) (added row generators pairs)
+    IsDoubleDescriptionPair n rows generators → length row ≡ n → ArePairs rows generators row pairs →
+    IsDoubleDescriptionPair n (rows ++ row ∷ []) (added row generators pairs)
 
 -- the same of the generators after a new row in their order
 abbrev pub AdditionDescribes : Type 0
 AdditionDescribes = (n : ℕ) (rows generators : List (List ℚ)) (row : List ℚ) →
-    IsDescribed n rows generators → length row ≡ n → IsDescribed n (rows ++ row ∷ []) (addition rows generators row)
+    IsDoubleDescriptionPair n rows generators → length row ≡ n → IsDoubleDescriptionPair n (rows ++ row ∷ []) (addition rows generators row)
 
 -- the meeting points, normed, are normed vectors
 abbrev pub MadeAreNormed : Type 0
 MadeAreNormed = (n : ℕ) (rows generators : List (List ℚ)) (row : List ℚ) (pairs : List Pair) →
-    IsDescribed n rows generators → length row ≡ n → ArePairs rows generators row pairs → All IsNormed (made row pairs)
+    IsDoubleDescriptionPair n rows generators → length row ≡ n → ArePairs rows generators row pairs → All IsNormed (made row pairs)

@@ -3,7 +3,7 @@ use Rattle.std.specs.Prelude.{ℕ, List, ◌≡◌, ◌↔◌, ◌⊎◌, length
 use Rattle.exact_field.specs.Rational.{ℚ, zero_ℚ, ◌<ℚ◌}
 use Rattle.exact_field.specs.Vector.{dot}
 use Rattle.polyhedra.specs.Vectors.{AreWide, zeros, combination}
-use Rattle.polyhedra.specs.Cone.{IsGenerated, IsInCone, IsInDual, IsInterior, IsPointed}
+use Rattle.polyhedra.specs.Cone.{IsGenerated, IsInCone, IsInDual, IsInterior, HasFullRank}
 
 -- the dual of the cone that vectors generate is the cone of these vectors as rows, and the other way round
 pub record DualCones : Type 0 where
@@ -12,9 +12,9 @@ pub record DualCones : Type 0 where
   pub of_rows : (n : ℕ) (vs : List (List ℚ)) (w : List ℚ) → AreWide n vs →
       IsInDual n (IsInCone n vs) w ↔ IsGenerated n vs w
 
--- a combination of generators with positive multipliers is interior to their cone, where no vector but 0 has the product 0 with all
+-- a combination of generators with positive multipliers is interior to their cone, where they have full rank
 abbrev pub InteriorOfGenerated : Type 0
-InteriorOfGenerated = (n : ℕ) (generators : List (List ℚ)) (ms : List ℚ) → AreWide n generators → IsPointed n generators →
+InteriorOfGenerated = (n : ℕ) (generators : List (List ℚ)) (ms : List ℚ) → AreWide n generators → HasFullRank n generators →
     length ms ≡ length generators → All (λ m. zero_ℚ <ℚ m) ms →
     IsInterior n (IsGenerated n generators) (combination n ms generators)
 

@@ -3,21 +3,22 @@ use Rattle.std.specs.Prelude.{ℕ, suc, ◌<◌, List, [], ◌∷◌, ◌++◌, 
 use Rattle.exact_field.specs.Rational.{ℚ, zero_ℚ, one_ℚ, neg_ℚ, ◌≤ℚ◌, ◌<ℚ◌}
 use Rattle.exact_field.specs.Vector.{dot}
 use Rattle.polyhedra.specs.Vectors.{AreWide, zeros}
-use Rattle.polyhedra.specs.TightSets.{IsTight, IsDescribed}
+use Rattle.polyhedra.specs.TightSets.{IsTight, IsDoubleDescriptionPair}
 use Rattle.polyhedra.specs.DoubleDescription.{IsNormed}
-use Rattle.polyhedra.specs.Hull.{IsInHull, IsConvex, IsVertex, IsExtremeDirection, IsNormedDirection, Inequality, IsValidAt, IsFacet}
+use Rattle.polyhedra.specs.Inequality.{Inequality}
+use Rattle.polyhedra.specs.Hull.{IsInHull, IsConvex, IsVertex, IsExtremeDirection, IsNormedDirection, IsValidAt, IsFacet}
 
--- y followed by t: the point y for t = 1, the direction y for t = 0
-abbrev pub lifted : List ℚ → ℚ → List ℚ
-lifted y t = y ++ t ∷ []
+-- the homogenised vector (y, t): the point y for t = 1, the direction y for t = 0
+abbrev pub homogenised : List ℚ → ℚ → List ℚ
+homogenised y t = y ++ t ∷ []
 
 -- the row t ≥ 0
 abbrev pub level : ℕ → List ℚ
-level n = lifted (zeros n) one_ℚ
+level n = homogenised (zeros n) one_ℚ
 
 -- the row that says that (y, t) meets the inequality with t times its bound
 abbrev pub row_of : Inequality → List ℚ
-row_of e = lifted e.normal (neg_ℚ e.bound)
+row_of e = homogenised e.normal (neg_ℚ e.bound)
 
 -- the row t ≥ 0 and those of the cuts
 abbrev pub rows_of : ℕ → List Inequality → List (List ℚ)
@@ -26,14 +27,14 @@ rows_of n cuts = level n ∷ map row_of cuts
 -- g is one of the points or directions
 abbrev pub IsOneOf : List (List ℚ) → List (List ℚ) → List ℚ → Type 0
 IsOneOf points directions g =
-    ((y : List ℚ) × Contains points y × (g ≡ lifted y one_ℚ))
-    ⊎ ((d : List ℚ) × Contains directions d × (g ≡ lifted d zero_ℚ))
+    ((y : List ℚ) × Contains points y × (g ≡ homogenised y one_ℚ))
+    ⊎ ((d : List ℚ) × Contains directions d × (g ≡ homogenised d zero_ℚ))
 
 -- a normed vector of n + 1 entries, of which the last is at least 0, is a point or a normed direction
 abbrev pub NormedArePointsOrDirections : Type 0
 NormedArePointsOrDirections = (n : ℕ) (g : List ℚ) → length g ≡ suc n → IsNormed g → zero_ℚ ≤ℚ dot (level n) g →
-    ((y : List ℚ) × (length y ≡ n) × (g ≡ lifted y one_ℚ))
-    ⊎ ((d : List ℚ) × (length d ≡ n) × IsNormedDirection d × (g ≡ lifted d zero_ℚ))
+    ((y : List ℚ) × (length y ≡ n) × (g ≡ homogenised y one_ℚ))
+    ⊎ ((d : List ℚ) × (length d ≡ n) × IsNormedDirection d × (g ≡ homogenised d zero_ℚ))
 
 -- n cuts that are tight at a point, and for each a direction in which it grows while the others stay
 pub record IsCornerOf (n : ℕ) (cuts : List Inequality) (point : List ℚ) (directions : List (List ℚ)) : Type 0 where
@@ -48,11 +49,11 @@ pub record IsCornerOf (n : ℕ) (cuts : List Inequality) (point : List ℚ) (dir
   pub stays : (i j : ℕ) → i < n → j < n → i ≢ j →
       dot (slice_index_or (map (λ e. e.normal) cuts) i []) (slice_index_or directions j []) ≡ zero_ℚ
 
--- the point and the directions describe the cone of the rows of such cuts
+-- the rows of such cuts are a double description pair with the point and the directions
 abbrev pub CornerStarts : Type 0
 CornerStarts = (n : ℕ) (cuts : List Inequality) (point : List ℚ) (directions : List (List ℚ)) →
     IsCornerOf n cuts point directions →
-    IsDescribed (suc n) (rows_of n cuts) (lifted point one_ℚ ∷ map (λ d. lifted d zero_ℚ) directions)
+    IsDoubleDescriptionPair (suc n) (rows_of n cuts) (homogenised point one_ℚ ∷ map (λ d. homogenised d zero_ℚ) directions)
 
 -- each generator that is tight at row a is tight at row b
 abbrev pub TightLiesIn : List (List ℚ) → List ℚ → List ℚ → Type 0
@@ -79,33 +80,51 @@ LargestAccount = (n : ℕ) (cuts : List Inequality) (generators : List (List ℚ
     (g : Inequality) × Contains named g × TightLiesIn generators (row_of f) (row_of g)) →
     All (IsAccounted n named generators) cuts
 
--- cuts, generators, points, directions and named facets of a set, with the conditions that make them exact
-pub record IsSolved (n : ℕ) (Set Directions : List ℚ → Type 0) (c : List ℚ) (cuts : List Inequality)
-    (generators points directions : List (List ℚ)) (named : List Inequality) : Type 0 where
+-- cuts, generators, points and directions that enclose a set: the cuts are valid (the outer approximation), the points and
+-- directions belong to it (the inner one), and the two meet, since the cone of the rows of the cuts has exactly the points and
+-- directions as its generators
+pub record IsEnclosed (n : ℕ) (Set Directions : List ℚ → Type 0) (c : List ℚ) (cuts : List Inequality)
+    (generators points directions : List (List ℚ)) : Type 0 where
   pub convex : IsConvex n Set Directions
   pub c_wide : length c ≡ n
   pub cuts_valid : All (IsValidAt n Set c) cuts
-  pub described : IsDescribed (suc n) (rows_of n cuts) generators
+  pub described : IsDoubleDescriptionPair (suc n) (rows_of n cuts) generators
   pub each : All (IsOneOf points directions) generators
-  pub point_listed : All (λ y. Contains generators (lifted y one_ℚ)) points
-  pub direction_listed : All (λ d. Contains generators (lifted d zero_ℚ)) directions
+  pub point_listed : All (λ y. Contains generators (homogenised y one_ℚ)) points
+  pub direction_listed : All (λ d. Contains generators (homogenised d zero_ℚ)) directions
   pub points_in : All Set points
   pub directions_in : All Directions directions
   pub directions_normed : All IsNormedDirection directions
+
+-- such a set with named facets: its conditions, and those that make all of them exact
+pub record IsSolved (n : ℕ) (Set Directions : List ℚ → Type 0) (c : List ℚ) (cuts : List Inequality)
+    (generators points directions : List (List ℚ)) (named : List Inequality) : Type 0 where
+  pub enclosed : IsEnclosed n Set Directions c cuts generators points directions
+  pub open enclosed use *
   pub names : All (IsNamed n cuts generators) named
   pub accounted : All (IsAccounted n named generators) cuts
 
--- the points are exactly the vertices, the directions the normed extreme directions, the named inequalities the facets; the hull
--- of points and directions is the set; and there is a point
-pub record IsExact (n : ℕ) (Set Directions : List ℚ → Type 0) (c : List ℚ) (points directions : List (List ℚ))
-    (facets : List Inequality) : Type 0 where
+-- the points and directions are the vertex representation of the set: the points are exactly the vertices, the directions exactly
+-- the normed extreme directions, their hull is the set, and there is a point
+pub record IsVertexRepresentation (n : ℕ) (Set Directions : List ℚ → Type 0) (points directions : List (List ℚ)) : Type 0 where
   pub vertices : (y : List ℚ) → Contains points y ↔ IsVertex Set y
   pub extreme : (d : List ℚ) → Contains directions d ↔ (IsExtremeDirection n Directions d × IsNormedDirection d)
-  pub facets_are : (e : Inequality) → Contains facets e ↔ IsFacet n Set c e
   pub hull : (y : List ℚ) → Set y ↔ IsInHull n points directions [] y
   pub some_point : 0 < length points
 
--- cuts and generators that meet the conditions for a set are exact for it
+-- they are, and the named inequalities are exactly the facets
+pub record IsExact (n : ℕ) (Set Directions : List ℚ → Type 0) (c : List ℚ) (points directions : List (List ℚ))
+    (facets : List Inequality) : Type 0 where
+  pub representation : IsVertexRepresentation n Set Directions points directions
+  pub open representation use *
+  pub facets_are : (e : Inequality) → Contains facets e ↔ IsFacet n Set c e
+
+-- the points and directions of an enclosed set are its vertex representation
+abbrev pub EnclosedAreRepresented : (List ℚ → Type 0) → (List ℚ → Type 0) → Type 0
+EnclosedAreRepresented Set Directions = (n : ℕ) (c : List ℚ) (cuts : List Inequality) (generators points directions : List (List ℚ)) →
+    IsEnclosed n Set Directions c cuts generators points directions → IsVertexRepresentation n Set Directions points directions
+
+-- cuts and generators that meet all conditions for a set are exact for it
 abbrev pub Exactness : (List ℚ → Type 0) → (List ℚ → Type 0) → Type 0
 Exactness Set Directions = (n : ℕ) (c : List ℚ) (cuts : List Inequality) (generators points directions : List (List ℚ)) (named : List Inequality) →
     IsSolved n Set Directions c cuts generators points directions named →

@@ -4,9 +4,11 @@ use Rattle.exact_field.specs.Rational.{ℚ, whole, fraction, zero_ℚ, one_ℚ, 
 use Rattle.exact_field.specs.Vector.{entry}
 use Rattle.polyhedra.specs.Dependence.{AreCorners}
 use Rattle.polyhedra.specs.DoubleDescription.{new_pairs, addition}
-use Rattle.polyhedra.specs.Hull.{Inequality, IsVertex, IsFacet, IsExtremeDirection}
+use Rattle.polyhedra.specs.Inequality.{Inequality}
+use Rattle.polyhedra.specs.Hull.{IsVertex, IsFacet, IsExtremeDirection}
 use Rattle.polyhedra.specs.Cone.{IsGenerated, IsInterior}
-use Rattle.polyhedra.specs.Exactness.{lifted, level, IsSolved}
+use Rattle.polyhedra.specs.FirstNamed.{named_first}
+use Rattle.polyhedra.specs.Exactness.{homogenised, level, IsSolved}
 
 -- a vector of whole numbers
 abbrev pub wholes : List ℤ → List ℚ
@@ -83,5 +85,11 @@ pub record QuadrantExample : Type 0 where
   pub interior : IsInterior 2 IsInQuadrant (one_ℚ ∷ one_ℚ ∷ [])
   pub border : IsInterior 2 IsInQuadrant (one_ℚ ∷ zero_ℚ ∷ []) → ⊥
   pub solved : IsSolved 2 IsInQuadrant IsInQuadrant (one_ℚ ∷ one_ℚ ∷ []) (left_side ∷ lower_side ∷ [])
-      (level 2 ∷ lifted (one_ℚ ∷ zero_ℚ ∷ []) zero_ℚ ∷ lifted (zero_ℚ ∷ one_ℚ ∷ []) zero_ℚ ∷ [])
+      (level 2 ∷ homogenised (one_ℚ ∷ zero_ℚ ∷ []) zero_ℚ ∷ homogenised (zero_ℚ ∷ one_ℚ ∷ []) zero_ℚ ∷ [])
       ((zero_ℚ ∷ zero_ℚ ∷ []) ∷ []) axes (left_side ∷ lower_side ∷ [])
+
+-- of a line at the corner of the quadrant, its left and lower side and the left side again, the left and the lower side are the
+-- first with the largest tight sets
+abbrev pub FirstExample : Type 0
+FirstExample = named_first 2 (corner_line ∷ left_side ∷ lower_side ∷ left_side ∷ [])
+    (level 2 ∷ homogenised (one_ℚ ∷ zero_ℚ ∷ []) zero_ℚ ∷ homogenised (zero_ℚ ∷ one_ℚ ∷ []) zero_ℚ ∷ []) ≡ left_side ∷ lower_side ∷ []

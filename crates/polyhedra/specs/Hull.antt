@@ -4,6 +4,7 @@ use Rattle.std.specs.Prelude.{ℕ, List, ◌≡◌, length}
 use Rattle.exact_field.specs.Rational.{ℚ, one_ℚ, zero_ℚ, ◌+ℚ◌, neg_ℚ, ◌≤ℚ◌}
 use Rattle.exact_field.specs.Vector.{dot, sum_ℚ}
 use Rattle.polyhedra.specs.Vectors.{zeros, plus, scaled, combination, AtLeastZero}
+use Rattle.polyhedra.specs.Inequality.{Inequality}
 use Rattle.polyhedra.specs.DoubleDescription.{magnitude, leading}
 
 -- y is a sum of the points with multipliers of at least 0 that sum to 1, of the directions with multipliers of at least 0, and
@@ -51,11 +52,6 @@ pub record IsExtremeDirection (n : ℕ) (Directions : List ℚ → Type 0) (d : 
 -- the first entry of d that is not 0 is 1 or -1
 abbrev pub IsNormedDirection : List ℚ → Type 0
 IsNormedDirection d = magnitude (leading d) ≡ one_ℚ
-
--- the inequality normal . y ≥ bound
-pub record Inequality : Type 0 where
-  pub normal : List ℚ
-  pub bound : ℚ
 
 -- each member of the set meets the inequality, whose normal has n entries
 pub record IsValid (n : ℕ) (Set : List ℚ → Type 0) (e : Inequality) : Type 0 where

@@ -5,10 +5,16 @@ pub mod Duality
 pub mod Exactness
 pub mod Examples
 pub mod Farkas
+pub mod FirstNamed
+pub mod Generators
 pub mod Hull
 pub mod Image
+pub mod Inequality
 pub mod Linear
+pub mod LiveList
+pub mod LiveSteps
 pub mod LowerImage
+pub mod Negatives
 pub mod Sparse
 pub mod TightSets
 pub mod Vectors

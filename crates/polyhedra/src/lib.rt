@@ -7,16 +7,20 @@ ghost use Rattle.exact_field.specs.Rational.{ℚ};
 ghost use Rattle.polyhedra.specs.Dependence.{MoreAreDependent, CornersDetermine, Start};
 ghost use Rattle.polyhedra.specs.DoubleDescription.{NewPairsAreExact, OneAddition, AdditionDescribes, MadeAreNormed};
 ghost use Rattle.polyhedra.specs.Duality.{DualCones, InteriorOfGenerated, InteriorOfRows};
-ghost use Rattle.polyhedra.specs.Examples.{AdditionExample, SquareExample, QuadrantExample};
-ghost use Rattle.polyhedra.specs.Exactness.{CornerStarts, NormedArePointsOrDirections, LargestAccount, Exactness, RisingListsAreEqual, Uniqueness};
+ghost use Rattle.polyhedra.specs.Examples.{AdditionExample, FirstExample, SquareExample, QuadrantExample};
+ghost use Rattle.polyhedra.specs.Exactness.{CornerStarts, NormedArePointsOrDirections, LargestAccount, EnclosedAreRepresented, Exactness, RisingListsAreEqual, Uniqueness};
+ghost use Rattle.polyhedra.specs.FirstNamed.{FirstAccount, TightSetsTellApart};
 ghost use Rattle.polyhedra.specs.Farkas.{FarkasLemma, OneAlternative, WeakDuality, NoSolution, DualOfGenerated, CutHolds};
+ghost use Rattle.polyhedra.specs.Generators.{DescribedAreDistinct, DescribedAreExtreme, DualOfDescribed, TightAtMeeting};
 ghost use Rattle.polyhedra.specs.Image.{ImageIsConvex};
 ghost use Rattle.polyhedra.specs.Linear.{ProductIsSymmetric, IsLinear, ProductOfCombination, CombinationOfCombinations, SameProducts};
+ghost use Rattle.polyhedra.specs.LiveSteps.{AreLive, NumbersStay, NumbersTellApart, StepExample, StepIsAddition, ThirdByNumber};
 ghost use Rattle.polyhedra.specs.LowerImage.{VerticesAreFacets, OneLowerDirection};
+ghost use Rattle.polyhedra.specs.Negatives.{LowerOfNegatives, OfNegatives};
 ghost use Rattle.polyhedra.specs.Sparse.{ProductOfSparse};
 
 /// A set of vectors, and the directions in which it goes on for ever. A law over a region holds for every set; a
-/// proof that needs it for a set of its own cites the lemma of the same name in `proofs/Exact`.
+/// proof that needs it for a set of its own cites the lemma of the same name.
 pub trait Region {
     ghost members: { List ℚ → Type 0 };
 
@@ -133,6 +137,51 @@ pub fn made_are_normed()
     ensures { MadeAreNormed }
 {}
 
+/// Generators with the same tight rows are the same generator.
+pub fn described_are_distinct()
+    ensures { DescribedAreDistinct }
+{}
+
+/// Where a row is tight at a new generator.
+pub fn tight_at_meeting()
+    ensures { TightAtMeeting }
+{}
+
+/// The generators of a double description pair are the extreme directions of its cone.
+pub fn described_are_extreme()
+    ensures { DescribedAreExtreme }
+{}
+
+/// The dual of the cone of a double description pair, tested at the generators.
+pub fn dual_of_described()
+    ensures { DualOfDescribed }
+{}
+
+/// What a step keeps of the numbers of the live generators.
+pub fn numbers_stay()
+    ensures { NumbersStay }
+{}
+
+/// Live generators are told apart by number as by vector.
+pub fn numbers_tell_apart()
+    ensures { NumbersTellApart }
+{}
+
+/// The test for a third generator, by number and by vector.
+pub fn third_by_number()
+    ensures { ThirdByNumber }
+{}
+
+/// A step without its numbers.
+pub fn step_is_addition()
+    ensures { StepIsAddition }
+{}
+
+/// What steps from a double description pair give.
+pub fn are_live()
+    ensures { AreLive }
+{}
+
 /// The start at a point where as many cuts are tight as it has entries.
 pub fn corner_starts()
     ensures { CornerStarts }
@@ -146,6 +195,22 @@ pub fn points_or_directions()
 /// The cuts with the largest sets of tight generators account for all cuts.
 pub fn largest_account()
     ensures { LargestAccount }
+{}
+
+/// The first cuts with the largest sets of tight generators account for all cuts.
+pub fn first_account()
+    ensures { FirstAccount }
+{}
+
+/// Rows with different tight generators are different inequalities.
+pub fn tight_sets_tell_apart()
+    ensures { TightSetsTellApart }
+{}
+
+/// Nothing missing, nothing too much, without the facets: the points and directions of a set between an outer and an
+/// inner approximation that meet are its vertices and extreme directions.
+pub fn enclosed_are_represented<R: Region>()
+    ensures { EnclosedAreRepresented R.members R.directions }
 {}
 
 /// Nothing missing, nothing too much: what cuts and generators show that meet the conditions on tight sets.
@@ -178,9 +243,29 @@ pub fn one_lower_direction<R: Region>()
     ensures { OneLowerDirection R.members R.directions }
 {}
 
+/// The mirror image of a set: its vertices, extreme directions, hull and facets.
+pub fn of_negatives<R: Region>()
+    ensures { OfNegatives R.members }
+{}
+
+/// The mirror image of a set: its lower image.
+pub fn lower_of_negatives<R: Region>()
+    ensures { LowerOfNegatives R.members }
+{}
+
 /// One addition of double description, computed.
 pub fn addition_example()
     ensures { AdditionExample }
+{}
+
+/// One step on numbered generators, computed.
+pub fn step_example()
+    ensures { StepExample }
+{}
+
+/// The first cuts with the largest sets of tight generators, computed.
+pub fn first_example()
+    ensures { FirstExample }
 {}
 
 /// A vertex and a facet of a square, its centre and a line at its corner.

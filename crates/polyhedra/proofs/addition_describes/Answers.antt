@@ -1,4 +1,4 @@
-use Rattle.polyhedra.proofs.Pairs.{addition_describes}
+use Rattle.polyhedra.proofs.NewPairs.{addition_describes}
 use Rattle.polyhedra.proofs.addition_describes.Goals as goal
 
 pub returns : goal.returns

@@ -1,4 +1,4 @@
-use Rattle.polyhedra.proofs.Addition.{addition_example}
+use Rattle.polyhedra.proofs.AdditionExample.{addition_example}
 use Rattle.polyhedra.proofs.addition_example.Goals as goal
 
 pub returns : goal.returns

@@ -1,4 +1,4 @@
-use Rattle.polyhedra.proofs.CornerStart.{corner_starts}
+use Rattle.polyhedra.proofs.CornerStarts.{corner_starts}
 use Rattle.polyhedra.proofs.corner_starts.Goals as goal
 
 pub returns : goal.returns

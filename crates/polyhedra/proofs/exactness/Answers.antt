@@ -1,4 +1,4 @@
-use Rattle.polyhedra.proofs.Exact.{exactness}
+use Rattle.polyhedra.proofs.SolvedAreExact.{exactness}
 use Rattle.polyhedra.proofs.exactness.Goals as goal
 
 pub returns : goal.returns

@@ -1,4 +1,4 @@
-use Rattle.polyhedra.proofs.Largest.{largest_account}
+use Rattle.polyhedra.proofs.LargestTightSets.{largest_account}
 use Rattle.polyhedra.proofs.largest_account.Goals as goal
 
 pub returns : goal.returns

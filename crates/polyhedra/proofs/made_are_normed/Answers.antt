@@ -1,4 +1,4 @@
-use Rattle.polyhedra.proofs.Added.{made_are_normed}
+use Rattle.polyhedra.proofs.OneAddition.{made_are_normed}
 use Rattle.polyhedra.proofs.made_are_normed.Goals as goal
 
 pub returns : goal.returns

@@ -1,4 +1,4 @@
-use Rattle.polyhedra.proofs.Pairs.{new_pairs_are_exact}
+use Rattle.polyhedra.proofs.NewPairs.{new_pairs_are_exact}
 use Rattle.polyhedra.proofs.new_pairs_are_exact.Goals as goal
 
 pub returns : goal.returns

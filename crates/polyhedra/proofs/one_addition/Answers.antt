@@ -1,4 +1,4 @@
-use Rattle.polyhedra.proofs.Added.{one_addition}
+use Rattle.polyhedra.proofs.OneAddition.{one_addition}
 use Rattle.polyhedra.proofs.one_addition.Goals as goal
 
 pub returns : goal.returns

@@ -1,4 +1,4 @@
-use Rattle.polyhedra.proofs.Lifted.{points_or_directions}
+use Rattle.polyhedra.proofs.Homogenised.{points_or_directions}
 use Rattle.polyhedra.proofs.points_or_directions.Goals as goal
 
 pub returns : goal.returns

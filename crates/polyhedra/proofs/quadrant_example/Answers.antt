@@ -1,4 +1,4 @@
-use Rattle.polyhedra.proofs.Quadrant.{quadrant_example}
+use Rattle.polyhedra.proofs.QuadrantExample.{quadrant_example}
 use Rattle.polyhedra.proofs.quadrant_example.Goals as goal
 
 pub returns : goal.returns

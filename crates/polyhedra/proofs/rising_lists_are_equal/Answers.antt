@@ -1,4 +1,4 @@
-use Rattle.polyhedra.proofs.Exact.{rising_lists_are_equal}
+use Rattle.polyhedra.proofs.SolvedAreExact.{rising_lists_are_equal}
 use Rattle.polyhedra.proofs.rising_lists_are_equal.Goals as goal
 
 pub returns : goal.returns

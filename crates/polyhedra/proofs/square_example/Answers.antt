@@ -1,4 +1,4 @@
-use Rattle.polyhedra.proofs.Square.{square_example}
+use Rattle.polyhedra.proofs.SquareExample.{square_example}
 use Rattle.polyhedra.proofs.square_example.Goals as goal
 
 pub returns : goal.returns

@@ -1,4 +1,4 @@
-use Rattle.polyhedra.proofs.Exact.{uniqueness}
+use Rattle.polyhedra.proofs.SolvedAreExact.{uniqueness}
 use Rattle.polyhedra.proofs.uniqueness.Goals as goal
 
 pub returns : goal.returns

@@ -1,0 +1,23 @@
+-- A set of numbers below a bound: a list that says of each number below the bound whether the set has it.
+use Rattle.std.specs.Prelude.{ℕ, ◌≡◌, List, Bool, false, IsTrue, ◌&&◌, length, min, replicate, slice_index_or}
+
+-- whether the set has the number
+abbrev pub has : List Bool → ℕ → Bool
+has marks k = slice_index_or marks k false
+
+-- the empty set of numbers below a bound
+abbrev pub no_marks : ℕ → List Bool
+no_marks bound = replicate bound false
+
+-- the first set has each number of the second
+abbrev pub ContainsAll : List Bool → List Bool → Type 0
+ContainsAll marks other = (k : ℕ) → IsTrue (has other k) → IsTrue (has marks k)
+
+-- the first set has each common number of the two others
+abbrev pub CoversBoth : List Bool → List Bool → List Bool → Type 0
+CoversBoth marks a b = (k : ℕ) → IsTrue (has a k) → IsTrue (has b k) → IsTrue (has marks k)
+
+-- the first set has exactly the common numbers of the two others, and the lesser bound of theirs
+pub record IsMeet (marks a b : List Bool) : Type 0 where
+  pub bound : length marks ≡ min (length a) (length b)
+  pub common : (k : ℕ) → has marks k ≡ (has a k && has b k)

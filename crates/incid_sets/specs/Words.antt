@@ -1,0 +1,23 @@
+-- Numbers as the bits of words: number k is bit k % 64 of word k / 64.
+use Rattle.std.specs.Prelude.{ℕ, ◌*◌, ◌/◌, ◌%◌, ◌≤◌, List, Bool, ◌≡◌, ◌≢◌, true, false, map, length, ◌==◌, slice_index}
+use Rattle.std.specs.Int.{bit_at}
+use Rattle.std.specs.List.{range_with_len}
+
+-- whether the words have number k
+abbrev pub is_marked : List ℕ → ℕ → Bool
+is_marked words k = bit_at (slice_index words (k / 64)) (k % 64) == 1
+
+-- which numbers below a bound the words have
+abbrev pub marks_below : ℕ → List ℕ → List Bool
+marks_below bound words = map (is_marked words) (range_with_len 0 bound)
+
+-- the words have room for each number below the bound, and have no other
+pub record AreBounded (words : List ℕ) (bound : ℕ) : Type 0 where
+  pub room : bound ≤ 64 * length words
+  pub none_above : (k : ℕ) → bound ≤ k → is_marked words k ≡ false
+
+-- the words have the number, and else as before, and are as many
+pub record AddsMark (old new : List ℕ) (k : ℕ) : Type 0 where
+  pub many : length new ≡ length old
+  pub marked : is_marked new k ≡ true
+  pub others : (i : ℕ) → i ≢ k → is_marked new i ≡ is_marked old i

@@ -1,0 +1,103 @@
+//! Sets of numbers below a bound.
+ghost use Rattle.std.specs.Prelude.{◌≡◌, ◌<◌, ◌≤◌, ◌*◌, ◌-◌, ◌++◌, ◌↔◌, ℕ, IsTrue, true, OnOk, OnErr, IfOk, length, slice_set};
+ghost use Rattle.incid_sets.specs.Marks.{has, no_marks, ContainsAll, CoversBoth, IsMeet};
+
+use crate::words::{
+    contains_words, covers_words, grow_words, has_mark, set_mark, words_for, write_meet, zero_words,
+};
+use src_sink::NoMemory;
+use std::alloc::Global;
+use std::marker::Model;
+
+/// A finite set of numbers below a bound, which takes a bit for each number below it.
+#[derive(Debug, Drop)]
+pub struct Marks {
+    words: Vec<u64>,
+    bound: u32,
+}
+
+impl Model for Marks {
+    ghost use Rattle.std.specs.Prelude.{List, Bool};
+    ghost use Rattle.incid_sets.specs.Words.{marks_below, AreBounded};
+
+    ghost Value = { List Bool };
+
+    ghost view = { λ m. marks_below m.bound m.words.items };
+
+    ghost invariant = { λ m. AreBounded m.words.items m.bound };
+}
+
+impl Marks {
+    /// The empty set.
+    pub fn new(alloc: Global, bound: u32) -> Result<Marks, NoMemory>
+        ensures { IfOk result (λ marks. marks ≡ no_marks bound) }
+    {
+        let words = zero_words(alloc, words_for(bound))?;
+        Ok(Marks { words, bound })
+    }
+
+    /// The bound.
+    pub fn bound(&self) -> u32
+        ensures { result ≡ length self.now }
+    {
+        self.bound
+    }
+
+    /// Raises the bound, or leaves it where it is as great already.
+    pub fn grow(&mut self, bound: u32) -> Result<(), NoMemory>
+        ensures ok { OnOk result (self.new ≡ self.old ++ no_marks (bound - length self.old)) }
+        ensures err { OnErr result (self.new ≡ self.old) }
+    {
+        grow_words(&mut self.words, words_for(bound))?;
+        self.bound = self.bound.max(bound);
+        Ok(())
+    }
+
+    /// Gives the set a number.
+    pub fn insert(&mut self, k: u32)
+        requires { k < length self.old }
+        ensures { self.new ≡ slice_set self.old k true }
+    {
+        set_mark(&mut self.words, k as usize);
+    }
+
+    /// Whether the set has the number.
+    pub fn has(&self, k: u32) -> bool
+        ensures { result ≡ has self.now k }
+    {
+        has_mark(&self.words, k as usize)
+    }
+
+    /// Whether the set has each number of the other.
+    pub fn contains_all(&self, other: &Marks) -> bool
+        ensures { IsTrue result ↔ ContainsAll self.now other.now }
+    {
+        contains_words(&self.words, &other.words)
+    }
+
+    /// Whether the set has each common number of the two others.
+    pub fn covers(&self, a: &Marks, b: &Marks) -> bool
+        ensures { IsTrue result ↔ CoversBoth self.now a.now b.now }
+    {
+        covers_words(&self.words, &a.words, &b.words)
+    }
+
+    /// The common numbers of two sets.
+    pub fn meet(alloc: Global, a: &Marks, b: &Marks) -> Result<Marks, NoMemory>
+        ensures { IfOk result (λ marks. IsMeet marks a.now b.now) }
+    {
+        let bound = a.bound.min(b.bound);
+        let mut words = zero_words(alloc, words_for(bound))?;
+        write_meet(&mut words, &a.words, &b.words);
+        Ok(Marks { words, bound })
+    }
+
+    /// Makes the set that of the common numbers of two others with its bound. No memory is taken.
+    pub fn set_meet(&mut self, a: &Marks, b: &Marks)
+        requires first { length self.old ≡ length a.now }
+        requires second { length self.old ≡ length b.now }
+        ensures { IsMeet self.new a.now b.now }
+    {
+        write_meet(&mut self.words, &a.words, &b.words);
+    }
+}

@@ -1,0 +1,92 @@
+//! Bits of words, taken a word at a time. A list of words that is shorter counts as continued with zeros.
+ghost use Rattle.std.specs.Prelude.{◌≡◌, ◌<◌, ◌/◌, ◌*◌, ◌≤◌, ◌↔◌, ℕ, IsTrue, IfOk, OnOk, replicate, ◌&&◌, slice_index, vec_len};
+ghost use Rattle.incid_sets.specs.Words.{is_marked, AddsMark};
+
+use src_sink::NoMemory;
+use std::alloc::Global;
+
+/// How many numbers a word has bits for.
+pub const WORD: usize = 64;
+
+/// How many words have bits for the numbers below the bound.
+pub fn words_for(bound: u32) -> usize
+    ensures { bound ≤ 64 * result }
+{
+    (bound as usize).div_ceil(WORD)
+}
+
+/// Words without a number.
+pub fn zero_words(alloc: Global, count: usize) -> Result<Vec<u64>, NoMemory>
+    ensures { IfOk result (λ words. words.items ≡ replicate count 0) }
+{
+    Ok(vec![in alloc; 0; count]?)
+}
+
+/// Appends words without a number until there are as many as `count`.
+pub fn grow_words(words: &mut Vec<u64>, count: usize) -> Result<(), NoMemory>
+    ensures room { OnOk result (count ≤ vec_len words.new) }
+    ensures more { vec_len words.old ≤ vec_len words.new }
+    ensures same { (k : ℕ) → is_marked words.new.items k ≡ is_marked words.old.items k }
+{
+    while words.len() < count {
+        words.push(0)?;
+    }
+    Ok(())
+}
+
+/// Word `i`, or 0 past the end.
+fn word_at(words: &[u64], i: usize) -> u64
+    ensures { result ≡ slice_index words.now i }
+{
+    words.get(i).copied().unwrap_or(0)
+}
+
+/// Whether the words have number `k`.
+pub fn has_mark(words: &[u64], k: usize) -> bool
+    ensures { result ≡ is_marked words.now k }
+{
+    word_at(words, k / WORD) >> (k % WORD) & 1 == 1
+}
+
+/// Gives the words number `k`.
+pub fn set_mark(words: &mut Vec<u64>, k: usize)
+    requires { k < 64 * vec_len words.old }
+    ensures { AddsMark words.old.items words.new.items k }
+{
+    words[k / WORD] |= 1 << (k % WORD);
+}
+
+/// Whether the first words have each number of the others.
+pub fn contains_words(words: &[u64], other: &[u64]) -> bool
+    ensures { IsTrue result ↔ ((k : ℕ) → IsTrue (is_marked other.now k) → IsTrue (is_marked words.now k)) }
+{
+    for (i, word) in other.iter().enumerate() {
+        if *word & word_at(words, i) != *word {
+            return false;
+        }
+    }
+    true
+}
+
+/// Whether the first words have each common number of the two others.
+pub fn covers_words(words: &[u64], a: &[u64], b: &[u64]) -> bool
+    ensures { IsTrue result ↔ ((k : ℕ) → IsTrue (is_marked a.now k) → IsTrue (is_marked b.now k) → IsTrue (is_marked words.now k)) }
+{
+    for (i, word) in a.iter().enumerate() {
+        let common = *word & word_at(b, i);
+        if common & word_at(words, i) != common {
+            return false;
+        }
+    }
+    true
+}
+
+/// Makes the words have exactly the common numbers of the two others, as far as they have room.
+pub fn write_meet(words: &mut Vec<u64>, a: &[u64], b: &[u64])
+    ensures room { vec_len words.new ≡ vec_len words.old }
+    ensures common { (k : ℕ) → k < 64 * vec_len words.old → is_marked words.new.items k ≡ (is_marked a.now k && is_marked b.now k) }
+{
+    for i in 0..words.len() {
+        words[i] = word_at(a, i) & word_at(b, i);
+    }
+}
