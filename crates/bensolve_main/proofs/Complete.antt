@@ -2,8 +2,8 @@
 use Rattle.std.proofs.Common.{◌≡◌, ℕ, ◌≤◌, ◌<◌, List, length, Option, Some, true, false, ◌⊎◌, inl, inr, refl, subst, sym, arith}
 use Rattle.src_sink.specs.Ends.{TakesCount}
 use Rattle.src_sink.proofs.Known.{Consumes-to_end, TakesCount-known}
-use Rattle.vlp_reader.specs.Grammar.{Reads}
-use Rattle.vlp_reader.specs.Plain.{IsPlain}
+use Rattle.vlp_reader.specs.FirstFault.{Reads}
+use Rattle.vlp_reader.proofs.Faults.{never_both}
 use Rattle.bensolve_main.specs.Outcome.{Sources, Output, ReadWhole, LogText, Checked, Outcome, Honest}
 use Rattle.bensolve_main.specs.declared.status.LogRefusal.{LogRefusal}
 use Rattle.bensolve_main.specs.declared.status.LogRefusal.TheVariants.{Text, Wrong}
@@ -33,7 +33,8 @@ pub complete : (status : Status) (v w : Sources) (a b : Output) → Honest v w a
 complete Done v w a b honest outcome = inl refl
 complete Words v w a b honest outcome = absurd outcome
 complete (FileFault f) v w a b honest outcome =
-    absurd (outcome.told.not_plain (subst IsPlain (sym (same_bytes _ _ _ _ _ honest.problem outcome.told.read)) honest.plain))
+    absurd (never_both outcome.told.bytes honest.file f.line f.kind
+    (subst (λ (l : List ℕ). Reads l honest.file) (sym (same_bytes _ _ _ _ _ honest.problem outcome.told.read)) honest.reads) outcome.told.fault)
 complete NoMemory v w a b honest outcome = inr refl
 complete (ReadFault false) v w a b honest outcome = absurd (honest.problem_steady outcome.0.rose)
 complete (ReadFault true) v w a b honest outcome = absurd (honest.log_steady outcome.0.rose)

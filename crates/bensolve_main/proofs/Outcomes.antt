@@ -1,8 +1,7 @@
 -- From what the steps of a run tell to what its status says.
 use Rattle.std.proofs.Common.{◌≡◌, ℕ, ◌≤◌, List, length, Option, Result, Ok, Err, IfOk, subst, sym, inl, inr}
 use Rattle.src_sink.specs.Outside.{Consumes, IsAtEnd}
-use Rattle.vlp_reader.specs.Grammar.{Reads}
-use Rattle.vlp_reader.specs.Plain.{IsPlain}
+use Rattle.vlp_reader.specs.FirstFault.{Reads}
 use Rattle.vlp_reader.specs.declared.problem.Problem.{Problem}
 use Rattle.bensolve_main.specs.Outcome.{Sources, ReadWhole, GoodFile, LogVerdict, Told, Output, Written, Tells, Outcome, problem_limit, log_limit}
 use Rattle.bensolve_main.specs.declared.examine.Reply.{Reply}
@@ -15,9 +14,9 @@ read_whole old new limit bytes seen same consumed at_end within =
 
 -- a problem that was read to its end, and as a file
 pub good_file : (file : Problem) (v w : Sources) (bytes seen : List ℕ) → seen ≡ bytes → Consumes v.problem w.problem bytes → IsAtEnd w.problem → length bytes ≤ problem_limit →
-    IsPlain seen × Reads seen file → GoodFile file v w
+    Reads seen file → GoodFile file v w
 good_file file v w bytes seen same consumed at_end within reads =
-    record { bytes = seen; read = read_whole v.problem w.problem problem_limit bytes seen same consumed at_end within; plain = reads.0; reads = reads.1 }
+    record { bytes = seen; read = read_whole v.problem w.problem problem_limit bytes seen same consumed at_end within; reads = reads }
 
 told : (file : Problem) (v w : Sources) (bytes : List ℕ) (status : Status) (text : List ℕ) → GoodFile file v w → ReadWhole v.log w.log log_limit bytes → LogVerdict file bytes status text → Told status text v w
 told file v w bytes Done text good read verdict = record { file = file; good = good; bytes = bytes; read = read; verdict = verdict }

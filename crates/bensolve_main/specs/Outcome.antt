@@ -3,8 +3,7 @@
 use Rattle.std.specs.Prelude.{◌≡◌, ℕ, ◌<◌, ◌≤◌, ◌⊎◌, true, false, List, [], length, take, Option, Some, None}
 use Rattle.src_sink.specs.Outside.{Consumes, Appends, IsAtEnd, Rose}
 use Rattle.src_sink.specs.Ends.{TakesCount}
-use Rattle.vlp_reader.specs.Grammar.{Reads}
-use Rattle.vlp_reader.specs.Plain.{IsPlain, not_built}
+use Rattle.vlp_reader.specs.FirstFault.{FirstFault, Reads}
 use Rattle.vlp_reader.specs.declared.problem.Problem.{Problem}
 use Rattle.cert_check.specs.LogText.{log_text}
 use Rattle.cert_check.specs.PlainLog.{IsPlainLog, not_built as log_not_built}
@@ -49,12 +48,11 @@ pub record LogUntouched (v w : Sources) : Type 0 where
   pub left : w.log ≡ v.log
   pub faults : w.log_faults ≡ v.log_faults
 
--- the problem was read to its end and is no plain file
+-- the problem was read to its end, and this is its first fault
 pub record BadFile (f : AFileFault) (text : List ℕ) (v w : Sources) : Type 0 where
   pub bytes : List ℕ
   pub read : ReadWhole v.problem w.problem problem_limit bytes
-  pub fault : f ≡ not_built
-  pub not_plain : ¬ (IsPlain bytes)
+  pub fault : FirstFault bytes f.line f.kind
   pub log : LogUntouched v w
   pub line : text ≡ fault_text (FileFault f)
 
@@ -62,7 +60,6 @@ pub record BadFile (f : AFileFault) (text : List ℕ) (v w : Sources) : Type 0 w
 pub record GoodFile (file : Problem) (v w : Sources) : Type 0 where
   pub bytes : List ℕ
   pub read : ReadWhole v.problem w.problem problem_limit bytes
-  pub plain : IsPlain bytes
   pub reads : Reads bytes file
 
 -- the bytes of a log are the text of these entries, all of them
@@ -222,7 +219,8 @@ pub record Honest (v w : Sources) (a b : Output) : Type 0 where
   pub problem : v.problem ≡ Some bytes
   pub problem_steady : ¬ (Rose v.problem_faults w.problem_faults)
   pub problem_within : length bytes ≤ problem_limit
-  pub plain : IsPlain bytes
+  pub file : Problem
+  pub reads : Reads bytes file
   pub log_bytes : List ℕ
   pub log : v.log ≡ Some log_bytes
   pub log_steady : ¬ (Rose v.log_faults w.log_faults)

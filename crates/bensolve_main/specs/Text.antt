@@ -4,7 +4,7 @@ use Rattle.std.specs.List.{flat_map}
 use Rattle.frac128.specs.Text.{frac_text}
 use Rattle.frac128.specs.declared.vectors.Spot.{Spot}
 use Rattle.vlp_reader.specs.Faults.{kind_number, kind_name}
-use Rattle.vlp_reader.specs.Plain.{line_text}
+use Rattle.vlp_reader.specs.Lines.{line_text}
 use Rattle.vlp_reader.specs.Sides.{is_unsaid}
 use Rattle.vlp_reader.specs.declared.problem.Problem.{Problem}
 use Rattle.cert_check.specs.LogText.{sparse_words}

@@ -1,6 +1,5 @@
 //! Reading and checking: what is to be told of a problem and a log.
 ghost use Rattle.std.specs.Prelude.{◌≡◌, ◌≤◌, length, IfOk, IfErr};
-ghost use Rattle.vlp_reader.specs.Plain.{IsSmall};
 ghost use Rattle.bensolve_main.specs.Outcome.{LogVerdict, Told, Silent, sources};
 
 use crate::status::{LogRefusal, Status};
@@ -25,8 +24,7 @@ pub(crate) struct Reply {
 
 /// What the bytes of a log say for a problem. An `Err` is want of memory.
 fn examine_log(alloc: Global, file: &Problem, bytes: &[u8]) -> Result<Reply, Status>
-    requires room { length bytes.now ≤ MOST_ITEMS }
-    requires small { IsSmall file.now }
+    requires { length bytes.now ≤ MOST_ITEMS }
     ensures told { IfOk result (λ r. LogVerdict file.now bytes.now r.status r.text) }
     ensures silent { IfErr result (λ s. s ≡ Status.NoMemory) }
 {

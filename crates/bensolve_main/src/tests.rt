@@ -25,6 +25,12 @@ const FREE_COLUMNS: &str = "report 1\nanswer infeasible\nfree 0 8\nwitnesses\nu 
 const WIDE: &str =
     "p vlp min 2 2 4 1 1\na 1 1 1\na 1 2 1\na 2 1 1\na 2 2 -1\no 1 1 1\ni 1 u 1\ni 2 l 0\nj 1 u 5\nj 2 l 1\ne\n";
 
+/// A column whose lower bound is above its upper one.
+const CROSSED: &str = "p vlp min 0 1 0 1 1\no 1 1 1\nj 1 d 1 0\ne\n";
+
+/// The same with a bound that is no whole number.
+const FRACTION: &str = "p vlp min 0 1 0 1 1\no 1 1 1\nj 1 d 1 0.5\ne\n";
+
 /// What the outside does: the bytes that a call moves, and the number of the call of each object that
 /// fails, 0 for none.
 #[derive(Clone, Copy)]
@@ -144,7 +150,15 @@ fn tells_each_refusal_by_its_line(rt: HostRuntime) -> Result<(), Fail> {
             9,
             "fault 9 entry 2 rule 7 Sign\n",
         ),
-        ("", LOG, 3, "fault 3 line 0 kind 10 NotBuilt\n"),
+        (CROSSED, LOG, 0, REPORT),
+        (FRACTION, LOG, 9, "fault 9 entry 2 rule 16 NotBuilt\n"),
+        ("", LOG, 3, "fault 3 line 1 kind 1 NoProblem\n"),
+        (
+            "p vlp min 1 1 1 1 1\na 1 1 1e37\n",
+            LOG,
+            3,
+            "fault 3 line 2 kind 4 NumberWide\n",
+        ),
         (FILE, "", 9, "fault 9 line 0 kind 6 NotBuilt\n"),
     ];
     for (file, log, code, text) in table {
@@ -276,7 +290,7 @@ fn is_answered(
 #[test]
 fn each_front_and_each_change_is_answered(rt: HostRuntime) -> Result<(), Fail> {
     for end in 0..FILE.len() {
-        is_answered(&rt, &FILE.as_bytes()[..end], LOG.as_bytes(), &[])?;
+        is_answered(&rt, &FILE.as_bytes()[..end], LOG.as_bytes(), &[REPORT])?;
         let mut text = FILE.as_bytes().to_vec(rt.alloc())?;
         text[end] = b'9';
         let reports = [REPORT, FREE_ROWS, FREE_COLUMNS];

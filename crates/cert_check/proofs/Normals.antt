@@ -9,7 +9,7 @@ use Rattle.exact_field.specs.Vector.{entry}
 use Rattle.exact_field.proofs.Rationals.{neg-zero_ℚ}
 use Rattle.exact_field.proofs.RationalLaws.{whole-neg}
 use Rattle.vlp_reader.specs.Cells.{coefficient}
-use Rattle.vlp_reader.specs.Plain.{is_small}
+use Rattle.cert_check.specs.SmallProblem.{is_small}
 use Rattle.vlp_reader.specs.Sides.{Side, numbers_from, row_vector, unit, at_most, at_least}
 use Rattle.vlp_reader.specs.declared.problem.Problem.{Problem}
 use Rattle.cert_check.specs.Table.{vector_of, side_of}

@@ -13,7 +13,7 @@ use Rattle.exact_field.specs.Rational.{ℚ, same_parts}
 use Rattle.frac128.specs.Text.{frac_text}
 use Rattle.frac128.specs.Sparse.{rises_above}
 use Rattle.frac128.specs.declared.vectors.Spot.{Spot}
-use Rattle.vlp_reader.specs.Plain.{is_small}
+use Rattle.cert_check.specs.SmallProblem.{is_small}
 use Rattle.cert_check.specs.LogText.{sparse_words}
 use Rattle.cert_check.specs.PlainLog.{is_small_sparse, is_small_spot, spot_words}
 use Rattle.cert_check.proofs.Pieces.{Lacks}

@@ -19,7 +19,7 @@ use Rattle.exact_field.specs.Rational.{ℚ, whole}
 use Rattle.frac128.specs.Text.{frac_text}
 use Rattle.frac128.specs.Sparse.{is_zero, rises_above}
 use Rattle.frac128.specs.declared.vectors.Spot.{Spot}
-use Rattle.vlp_reader.specs.Plain.{is_small}
+use Rattle.cert_check.specs.SmallProblem.{is_small}
 use Rattle.cert_check.specs.PlainLog.{is_small_spot, spot_words}
 use Rattle.cert_check.proofs.Numbers.{small_text, same_spot}
 

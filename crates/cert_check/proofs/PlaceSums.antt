@@ -14,7 +14,7 @@ use Rattle.exact_field.proofs.RationalLaws.{whole-add, whole-mul}
 use Rattle.exact_field.proofs.Rationals.{add_comm_ℚ, add_assoc_ℚ}
 use Rattle.frac128.specs.Sparse.{sparse_dot, rises_above, is_zero}
 use Rattle.frac128.specs.declared.vectors.Spot.{Spot}
-use Rattle.vlp_reader.specs.Plain.{IsSmall, is_small}
+use Rattle.cert_check.specs.SmallProblem.{IsSmall, is_small}
 use Rattle.vlp_reader.specs.Sides.{Side, sides, at_most, at_least}
 use Rattle.vlp_reader.specs.declared.problem.Problem.{Problem}
 use Rattle.cert_check.specs.PlainLog.{is_small_spot, is_small_sparse}

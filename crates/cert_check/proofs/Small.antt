@@ -4,12 +4,14 @@ use Rattle.std.specs.Prelude.{◌&&◌, ◌==◌, nat_lt, if◌then◌else◌}
 use Rattle.std.proofs.lemmas.Bool.Decides.{nat_tests}
 use Rattle.std.proofs.lemmas.Int.{to_z-of_z, fits_signed_from_abs}
 use Rattle.std.proofs.lemmas.List.Elements.{All-nil, All-cons, All-head, All-tail, All-append}
+use Rattle.std.proofs.lemmas.List.Sums.{AllPass-from_list_all}
+use Rattle.std.specs.List.{list_all}
 use mir.Syntax.{w128}
 use Rattle.exact_field.specs.Rational.{ℚ, whole, zero_ℚ, neg_ℚ}
 use Rattle.exact_field.proofs.Rationals.{neg-num, neg-den, neg-neg_ℚ}
 use Rattle.frac128.proofs.Whole.{is_whole}
 use Rattle.vlp_reader.specs.Cells.{coefficient}
-use Rattle.vlp_reader.specs.Plain.{IsSmall, is_small, is_small_bound}
+use Rattle.cert_check.specs.SmallProblem.{IsSmall, is_small, is_small_bound, is_small_problem}
 use Rattle.vlp_reader.specs.Sides.{Side, sides, sides_of, sides_from, at_least, at_most, row_vector, unit}
 use Rattle.vlp_reader.specs.declared.problem.Problem.{Problem}
 use Rattle.vlp_reader.specs.declared.problem.Bound.{Bound}
@@ -84,3 +86,14 @@ pub small_sides : (file : Problem) → IsSmall file → All (λ s. IsTrue (is_sm
 small_sides file h =
     All-append (λ (s : Side). IsTrue (is_small s.bound)) (sides_from (row_vector file) 1 file.row_bounds) (sides_from (unit file.cols) 1 file.col_bounds)
     (small_sides_from (row_vector file) 1 file.row_bounds h.row_bounds) (small_sides_from (unit file.cols) 1 file.col_bounds h.col_bounds)
+
+-- the test, of each entry and each bound
+pub small_problem : (file : Problem) → IsTrue (is_small_problem file) → IsSmall file
+small_problem file h =
+    let one = both (list_all (λ c. is_small c.value) file.a) (list_all is_small_bound file.row_bounds && list_all is_small_bound file.col_bounds) h in
+    let two = both (list_all is_small_bound file.row_bounds) (list_all is_small_bound file.col_bounds) one.1 in
+    record {
+      a = AllPass-from_list_all (λ c. is_small c.value) file.a one.0;
+      row_bounds = AllPass-from_list_all is_small_bound file.row_bounds two.0;
+      col_bounds = AllPass-from_list_all is_small_bound file.col_bounds two.1;
+    }

@@ -16,7 +16,8 @@ use Rattle.vlp_reader.specs.declared.problem.Problem.{Problem}
 use Rattle.cert_check.specs.PlainLog.{ends_once, is_end, is_small_spot, is_small_sparse}
 use Rattle.cert_check.specs.Proves.{MeetsFarkas, MeetsEnd, Meets, AllMeet}
 use Rattle.cert_check.specs.Right.{IsFarkas}
-use Rattle.cert_check.specs.Rules.{tests, begins, is_farkas, failing, farkas_tests, end_tests, entry_tests, wrong_at, first_wrong}
+use Rattle.cert_check.specs.Rules.{tests, begins, is_farkas, failing, farkas_tests, multiplier_tests, end_tests, entry_tests, wrong_at, first_wrong}
+use Rattle.cert_check.specs.SmallProblem.{is_small_problem}
 use Rattle.cert_check.specs.SmallLog.{has_small_multipliers}
 use Rattle.cert_check.specs.Verdict.{Accepts}
 use Rattle.cert_check.specs.declared.answer.Answer.TheVariants as answer
@@ -64,11 +65,12 @@ meets_version before n h =
     let version = passes (n == 1) None rule.Version order.1 in
     (empty_from_test before order.0, same_from_test n 1 version.0)
 
-meets_farkas : (file : Problem) (before : List Entry) (u : List Spot) → IsTrue (is_small_sparse u) → failing (tests rule.Order (begins before && not (list_any is_farkas before)) ∷ farkas_tests file u) ≡ None → MeetsFarkas file before u
+meets_farkas : (file : Problem) (before : List Entry) (u : List Spot) → IsTrue (is_small_sparse u) → failing (tests rule.Order (begins before && not (list_any is_farkas before)) ∷ multiplier_tests file u) ≡ None → MeetsFarkas file before u
 meets_farkas file before u small h =
-    let order = passes (begins before && not (list_any is_farkas before)) (failing (farkas_tests file u)) rule.Order h in
+    let order = passes (begins before && not (list_any is_farkas before)) (failing (multiplier_tests file u)) rule.Order h in
+    let built = passes (is_small_problem file) (failing (farkas_tests file u)) rule.NotBuilt order.1 in
     let ordered = both (begins before) (not (list_any is_farkas before)) order.0 in
-    let all = all_pass file u order.1 in
+    let all = all_pass file u built.1 in
     record {
       version_first = ordered.0;
       only = false_from_not (list_any is_farkas before) ordered.1;

@@ -1,10 +1,11 @@
+pub mod Earlier
 pub mod LogText
 pub mod Names
 pub mod PlainLog
-pub mod Rules
-pub mod Right
 pub mod Proves
-pub mod Verdict
-pub mod Table
+pub mod Right
+pub mod Rules
 pub mod SmallLog
-pub mod Earlier
+pub mod SmallProblem
+pub mod Table
+pub mod Verdict

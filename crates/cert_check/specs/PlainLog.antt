@@ -6,7 +6,7 @@ use Rattle.std.specs.List.{list_all, join_with_byte}
 use Rattle.frac128.specs.Text.{frac_text}
 use Rattle.frac128.specs.Sparse.{rises_above}
 use Rattle.frac128.specs.declared.vectors.Spot.{Spot}
-use Rattle.vlp_reader.specs.Plain.{is_small}
+use Rattle.cert_check.specs.SmallProblem.{is_small}
 use Rattle.cert_check.specs.LogText.{entry_words, log_text}
 use Rattle.cert_check.specs.declared.entry.EndKind.{EndKind}
 use Rattle.cert_check.specs.declared.entry.EndKind.TheVariants.{Infeasible, Whole as WholeEnd, NoVertex, Solved}

@@ -6,6 +6,7 @@ use Rattle.frac128.specs.Sparse.{is_zero, sparse_dot}
 use Rattle.frac128.specs.declared.vectors.Spot.{Spot}
 use Rattle.vlp_reader.specs.Sides.{sides, side_column, side_bounds, numbers_from}
 use Rattle.vlp_reader.specs.declared.problem.Problem.{Problem}
+use Rattle.cert_check.specs.SmallProblem.{is_small_problem}
 use Rattle.cert_check.specs.declared.entry.EndKind.{EndKind}
 use Rattle.cert_check.specs.declared.entry.EndKind.TheVariants.{Infeasible, Whole as WholeEnd, NoVertex, Solved}
 use Rattle.cert_check.specs.declared.entry.Entry.{Entry}
@@ -65,6 +66,10 @@ farkas_tests file u =
     ∷ tests rule.Sign (list_all (λ s. lt_ℚ zero_ℚ s.value) u)
     ∷ (balance_tests file u ++ tests rule.Bound (lt_ℚ zero_ℚ (sparse_dot (side_bounds file) u)) ∷ [])
 
+-- the sums of multipliers are built for problems of short whole numbers
+abbrev pub multiplier_tests : Problem → List Spot → List Test
+multiplier_tests file u = tests rule.NotBuilt (is_small_problem file) ∷ farkas_tests file u
+
 -- an end of this kind has what it needs among the entries before it
 abbrev pub end_tests : List Entry → EndKind → List Test
 end_tests before Infeasible = tests rule.Order (begins before) ∷ tests rule.Missing (list_any is_farkas before) ∷ []
@@ -81,7 +86,7 @@ entry_tests file before (Start cuts point directions) = tests rule.NotBuilt fals
 entry_tests file before (Add cut pairs) = tests rule.NotBuilt false ∷ []
 entry_tests file before (Point generator x m) = tests rule.NotBuilt false ∷ []
 entry_tests file before (Ray generator x m) = tests rule.NotBuilt false ∷ []
-entry_tests file before (Farkas u) = tests rule.Order (begins before && not (list_any is_farkas before)) ∷ farkas_tests file u
+entry_tests file before (Farkas u) = tests rule.Order (begins before && not (list_any is_farkas before)) ∷ multiplier_tests file u
 entry_tests file before (Whole x ray m) = tests rule.NotBuilt false ∷ []
 entry_tests file before (Line d x ray m back n) = tests rule.NotBuilt false ∷ []
 entry_tests file before (Facet cut) = tests rule.NotBuilt false ∷ []

@@ -3,8 +3,8 @@ use Rattle.std.specs.Prelude.{◌≡◌, ℕ, if◌then◌else◌, List, map}
 use Rattle.exact_field.specs.Rational.{ℚ}
 use Rattle.vlp_reader.specs.Sides.{Side, row_vector, unit, at_least, at_most, sides}
 use Rattle.vlp_reader.specs.declared.problem.Problem.{Problem}
-use Rattle.cert_check.specs.declared.sides.Axis.{Axis}
-use Rattle.cert_check.specs.declared.sides.Axis.TheVariants.{Row, Column}
+use Rattle.vlp_reader.specs.declared.statement.Axis.{Axis}
+use Rattle.vlp_reader.specs.declared.statement.Axis.TheVariants.{Row, Column}
 use Rattle.cert_check.specs.declared.sides.BoundSide.{BoundSide}
 
 -- the vector that a bound number k is of: a row of the matrix, or a unit vector

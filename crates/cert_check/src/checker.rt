@@ -2,7 +2,6 @@
 //! proves.
 ghost use Rattle.std.specs.Prelude.{◌≡◌, [], IfOk, IfErr, IsTrue, Contains};
 ghost use Rattle.std.specs.List.{list_all, list_any};
-ghost use Rattle.vlp_reader.specs.Plain.{IsSmall};
 ghost use Rattle.cert_check.specs.PlainLog.{ends_once};
 ghost use Rattle.cert_check.specs.Rules.{is_farkas, first_wrong};
 ghost use Rattle.cert_check.specs.SmallLog.{has_small_multipliers};
@@ -26,7 +25,6 @@ fn first_failure(
     table: &Items<BoundSide>,
     entries: &Entries,
 ) -> Option<(u32, Rule)>
-    requires small { IsSmall problem.now }
     requires sides { IsTableOf problem.now table.now }
     requires multipliers { IsTrue (list_all has_small_multipliers entries.now) }
     ensures { result ≡ first_wrong problem.now [] entries.now }
@@ -60,7 +58,6 @@ fn multipliers(alloc: Global, entries: &Entries) -> Result<Sparse, NoMemory>
 /// fails and its entry.
 pub fn check(alloc: Global, problem: &Problem, entries: &Entries) -> Result<Answer, Refusal>
     requires ends { IsTrue (ends_once entries.now) }
-    requires small_file { IsSmall problem.now }
     requires small_log { IsTrue (list_all has_small_multipliers entries.now) }
     ensures ok { IfOk result (Accepts problem.now entries.now) }
     ensures refused { IfErr result (Refuses problem.now entries.now) }

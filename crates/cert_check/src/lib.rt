@@ -11,6 +11,7 @@ mod entry;
 mod fault;
 mod laws;
 mod log;
+mod magnitude;
 mod rules;
 mod sides;
 mod sums;

@@ -3,10 +3,10 @@ ghost use Rattle.std.specs.Prelude.{◌≡◌, ◌≤◌, ◌∷◌, [], ◌==�
 ghost use Rattle.std.specs.List.{list_all};
 ghost use Rattle.exact_field.specs.Rational.{zero_ℚ, lt_ℚ};
 ghost use Rattle.frac128.specs.Sparse.{is_zero, sparse_dot};
-ghost use Rattle.vlp_reader.specs.Plain.{IsSmall};
+ghost use Rattle.cert_check.specs.SmallProblem.{IsSmall};
 ghost use Rattle.vlp_reader.specs.Sides.{side_column, side_bounds, numbers_from};
 ghost use Rattle.cert_check.specs.PlainLog.{is_small_sparse};
-ghost use Rattle.cert_check.specs.Rules.{tests, failing, farkas_tests, end_tests, entry_tests};
+ghost use Rattle.cert_check.specs.Rules.{tests, failing, farkas_tests, multiplier_tests, end_tests, entry_tests};
 ghost use Rattle.cert_check.specs.declared.fault.Rule.TheVariants as rule;
 ghost use Rattle.cert_check.specs.SmallLog.{has_small_multipliers};
 ghost use Rattle.cert_check.specs.Table.{IsTableOf};
@@ -16,6 +16,7 @@ ghost use Rattle.cert_check.specs.declared.entry.Entry.{Entry};
 use crate::earlier::Earlier;
 use crate::entry::{EndKind, Entry};
 use crate::fault::Rule;
+use crate::magnitude::is_small_problem;
 use crate::sides::BoundSide;
 use crate::sums::{bound_sum, column_sum};
 use exact_field::Field;
@@ -105,6 +106,18 @@ fn farkas_failure(problem: &Problem, table: &Items<BoundSide>, u: &Sparse) -> Op
     }
 }
 
+/// The same, behind the test that the sums are built for such a problem.
+fn multiplier_failure(problem: &Problem, table: &Items<BoundSide>, u: &Sparse) -> Option<Rule>
+    requires sides { IsTableOf problem.now table.now }
+    requires multipliers { IsTrue (is_small_sparse u.now) }
+    ensures { result ≡ failing (multiplier_tests problem.now u.now) }
+{
+    if !is_small_problem(problem) {
+        return Some(Rule::NotBuilt);
+    }
+    farkas_failure(problem, table, u)
+}
+
 /// The first test of a `version` that is not passed.
 fn version_failure(earlier: Earlier, number: u32) -> Option<Rule>
     ensures { result ≡ failing (tests rule.Order (earlier.count == 0) ∷ tests rule.Version (number == 1) ∷ []) }
@@ -137,7 +150,6 @@ pub fn entry_failure(
     earlier: Earlier,
     entry: &Entry,
 ) -> Option<Rule>
-    requires small { IsSmall problem.now }
     requires sides { IsTableOf problem.now table.now }
     requires multipliers { IsTrue (has_small_multipliers entry.now) }
     ensures { (before : List Entry) → IsEarlier before earlier
@@ -147,7 +159,7 @@ pub fn entry_failure(
         Entry::Version(number) => version_failure(earlier, *number),
         Entry::Farkas { u } => {
             if earlier.begins && !earlier.has_farkas {
-                farkas_failure(problem, table, u)
+                multiplier_failure(problem, table, u)
             } else {
                 Some(Rule::Order)
             }

@@ -7,14 +7,7 @@ ghost use Rattle.cert_check.specs.Table.{IsTableOf, side_of, vector_of};
 use frac128::Frac;
 use src_sink::{Items, NoMemory};
 use std::alloc::Global;
-use vlp_reader::{Bound, Problem};
-
-/// What a bound is of.
-#[derive(Clone, Copy, Debug)]
-pub enum Axis {
-    Row,
-    Column,
-}
+use vlp_reader::{Axis, Bound, Problem};
 
 /// One side: a lower or an upper bound of the row or column of this number, from 1.
 #[derive(Clone, Copy, Debug)]

@@ -3,17 +3,17 @@ ghost use Rattle.std.specs.Prelude.{◌≡◌, ◌≤◌, ◌<◌, ◌^◌, ◌+
 ghost use Rattle.exact_field.specs.Rational.{whole};
 ghost use Rattle.exact_field.specs.Vector.{entry};
 ghost use Rattle.frac128.specs.Sparse.{sparse_dot};
-ghost use Rattle.vlp_reader.specs.Plain.{IsSmall, is_small};
+ghost use Rattle.cert_check.specs.SmallProblem.{IsSmall, is_small};
 ghost use Rattle.vlp_reader.specs.Sides.{side_column, side_bounds};
 ghost use Rattle.vlp_reader.specs.declared.problem.Problem.{Problem};
 ghost use Rattle.cert_check.specs.PlainLog.{is_small_sparse};
 ghost use Rattle.cert_check.specs.Table.{IsTableOf, side_of, vector_of};
 
-use crate::sides::{Axis, BoundSide};
+use crate::sides::BoundSide;
 use exact_field::Field;
 use frac128::Sparse;
 use src_sink::Items;
-use vlp_reader::Problem;
+use vlp_reader::{Axis, Problem};
 
 /// An entry of the vector that a bound is of.
 fn vector_entry(problem: &Problem, axis: Axis, number: u32, col: u32) -> i128

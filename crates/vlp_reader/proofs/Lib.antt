@@ -1,17 +1,18 @@
-mod CellPlaces
-mod Digits
-mod Drafts
-mod Following
-mod Heads
-mod LineFaults
-mod MoreLines
-mod PlainLines
-mod PlainNumbers
-mod PlainWords
-mod Refusals
-mod SideCount
-mod Small
-mod Tables
-mod Utterances
-mod WholeLines
-mod Words
+pub mod CellPlaces
+pub mod Digits
+pub mod Drafts
+pub mod Exponents
+pub mod LineTests
+pub mod MoreStatements
+pub mod Numbers
+pub mod Powers
+pub mod Readings
+pub mod SideCount
+pub mod Tables
+pub mod Texts
+pub mod Zeros
+pub mod Faults
+pub mod OneProblem
+pub mod SomeProblem
+pub mod BuiltCells
+pub mod Worked

@@ -3,6 +3,7 @@ use Rattle.std.proofs.Common.{◌≡◌, refl, ℕ, Bool, true, false, not, ◌&
 use Rattle.std.specs.Prelude.{unsigned_abs}
 use Rattle.std.specs.Int.{◌∣◌}
 use Rattle.std.specs.declared.cmp.Ordering.TheVariants.{Less}
+use Rattle.std.specs.Option.{option_or}
 use Rattle.std.specs.Ordering.{is_eq}
 use Rattle.std.specs.Map.{lookup, keys_of}
 use Rattle.std.specs.BTreeMap.{BTreeMap, is_at, get, Updates, IsUnchanged}
@@ -15,7 +16,10 @@ use Rattle.std.proofs.lemmas.Nat.Gcd.{dvd-zero}
 use Rattle.exact_field.specs.Rational.{ℚ, whole, zero_ℚ, same_parts}
 use Rattle.frac128.specs.Sparse.{is_zero}
 use Rattle.vlp_reader.specs.Cells.{place_before, is_within, cells_behind, are_cells, coefficient}
+use Rattle.vlp_reader.specs.Grammar.{must, wrong}
 use Rattle.vlp_reader.specs.Places.{place_cmp, given}
+use Rattle.vlp_reader.specs.declared.fault.FileKind.{FileKind}
+use Rattle.vlp_reader.specs.declared.fault.FileKind.TheVariants.{OutOfRange, Twice}
 use Rattle.vlp_reader.specs.declared.problem.Cell.{Cell}
 
 abbrev pub Values : Type 0
@@ -163,3 +167,11 @@ cells_of-zero e es h = cond-true (is_zero e.1) (cells_of es) _ h
 
 pub cells_of-some : (e : (ℕ × ℕ) × ℚ) (es : Values) → is_zero e.1 ≡ false → cells_of (e ∷ es) ≡ record { row = e.0.0; col = e.0.1; value = e.1 } ∷ cells_of es
 cells_of-some e es h = cond-false (is_zero e.1) (cells_of es) _ h
+
+-- the tests of an entry that pass
+pub entry_passes : (within : Bool) (number : Result ℚ FileKind) (v : ℚ) (before : Option ℚ) → within ≡ true → number ≡ Ok v → is_some before ≡ false
+    → option_or (must within OutOfRange) (option_or (wrong number) (must (not (is_some before)) Twice)) ≡ None
+entry_passes within number v before w n b =
+    ap (λ t. option_or (must t OutOfRange) (option_or (wrong number) (must (not (is_some before)) Twice))) w
+    ∙ ap (λ r. option_or (wrong r) (must (not (is_some before)) Twice)) n
+    ∙ ap (λ t. must (not t) Twice) b

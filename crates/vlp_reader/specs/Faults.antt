@@ -1,7 +1,7 @@
 -- How fault lines show what is wrong with a file.
 use Rattle.std.specs.Prelude.{ℕ, List, codes}
 use Rattle.vlp_reader.specs.declared.fault.FileKind.{FileKind}
-use Rattle.vlp_reader.specs.declared.fault.FileKind.TheVariants.{NoProblem, BadLine, BadNumber, NumberWide, Digits, OutOfRange, Twice, CountWrong, LimitPassed, NotBuilt, LineLong}
+use Rattle.vlp_reader.specs.declared.fault.FileKind.TheVariants.{NoProblem, BadLine, BadNumber, NumberWide, Digits, OutOfRange, Twice, CountWrong, LimitPassed, LineLong}
 
 -- the number of a kind
 abbrev pub kind_number : FileKind → ℕ
@@ -14,7 +14,6 @@ kind_number OutOfRange = 6
 kind_number Twice = 7
 kind_number CountWrong = 8
 kind_number LimitPassed = 9
-kind_number NotBuilt = 10
 kind_number LineLong = 11
 
 -- the bytes of its name
@@ -28,5 +27,4 @@ kind_name OutOfRange = codes "OutOfRange"
 kind_name Twice = codes "Twice"
 kind_name CountWrong = codes "CountWrong"
 kind_name LimitPassed = codes "LimitPassed"
-kind_name NotBuilt = codes "NotBuilt"
 kind_name LineLong = codes "LineLong"

@@ -1,13 +1,18 @@
+-- The subject: Cells, Cones, Sides (a problem); Lines, Number, Statements, Grammar, FirstFault (the grammar of files), with Laws and Examples; Faults.
+-- What only serves proofs: Ends, Tables, Drafts, Places, Reading.
 pub mod Cells
 pub mod Cones
 pub mod Drafts
+pub mod Ends
+pub mod Examples
 pub mod Faults
+pub mod FirstFault
 pub mod Grammar
-pub mod Headers
 pub mod Lines
 pub mod Number
-pub mod Pieces
 pub mod Places
-pub mod Plain
+pub mod Reading
 pub mod Sides
 pub mod Statements
+pub mod Tables
+pub mod Laws

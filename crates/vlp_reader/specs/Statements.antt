@@ -1,73 +1,119 @@
--- What the reader takes from a line between the first and the last one.
-use Rattle.std.specs.Prelude.{◌≡◌, ℕ, Bool, ◌==◌, ◌&&◌, ◌||◌, if◌then◌else◌, List, [], ◌∷◌, Some, IsTrue}
+-- What the words of one line say, before any test that looks at other lines.
+use Rattle.std.specs.Prelude.{ℕ, ◌==◌, Bool, true, false, if◌then◌else◌, List, [], ◌∷◌, codes, Option, None, Some, unwrap_or, Result, Ok, Err}
+use Rattle.std.specs.Option.{option_map}
+use Rattle.std.specs.Str.{byte, bytes_eq}
 use Rattle.exact_field.specs.Rational.{ℚ}
-use Rattle.vlp_reader.specs.Lines.{letter, Said, cell, bounds, Sizes, Matrix, constraints, objectives, Axis, of_rows, of_columns}
-use Rattle.vlp_reader.specs.Number.{natural}
-use Rattle.vlp_reader.specs.Grammar.{said, first_told, told_sizes, line_fault, said_fault, bound_of}
-use Rattle.vlp_reader.specs.Pieces.{Means}
-use Rattle.vlp_reader.specs.Plain.{is_plain_natural}
+use Rattle.vlp_reader.specs.Lines.{words_of, letter}
+use Rattle.vlp_reader.specs.Number.{natural, number_of}
+use Rattle.vlp_reader.specs.declared.fault.FileKind.{FileKind}
 use Rattle.vlp_reader.specs.declared.problem.Bound.{Bound}
-use Rattle.vlp_reader.specs.declared.problem.Bound.TheVariants.{Lower, Upper}
-use Rattle.vlp_reader.specs.declared.statement.Part.{Part}
-use Rattle.vlp_reader.specs.declared.statement.Part.TheVariants.{Constraints, Objectives}
-use Rattle.vlp_reader.specs.declared.statement.Bounded.{Bounded}
-use Rattle.vlp_reader.specs.declared.statement.Bounded.TheVariants.{Row, Column}
+use Rattle.vlp_reader.specs.declared.problem.Bound.TheVariants.{Free, Lower, Upper, Double, Fixed}
+use Rattle.vlp_reader.specs.declared.problem.Dir.{Dir}
+use Rattle.vlp_reader.specs.declared.problem.Dir.TheVariants.{Min, Max}
+use Rattle.vlp_reader.specs.declared.sizes.ConeSizes.{ConeSizes}
+use Rattle.vlp_reader.specs.declared.sizes.Sizes.{Sizes}
+use Rattle.vlp_reader.specs.declared.statement.Matrix.{Matrix}
+use Rattle.vlp_reader.specs.declared.statement.Matrix.TheVariants.{Constraints, Objectives, ConeVectors, Duality}
+use Rattle.vlp_reader.specs.declared.statement.Axis.{Axis}
+use Rattle.vlp_reader.specs.declared.statement.Axis.TheVariants.{Row, Column}
 use Rattle.vlp_reader.specs.declared.statement.Statement.{Statement}
-use Rattle.vlp_reader.specs.declared.statement.Statement.TheVariants.{Entry, Limit}
+use Rattle.vlp_reader.specs.declared.statement.Statement.TheVariants.{Silent, Heading, Entry, Limit, End}
 
--- the matrix of a part, and its letter
-abbrev pub matrix_of : Part → Matrix
-matrix_of Constraints = constraints
-matrix_of Objectives = objectives
+abbrev pub direction : List ℕ → Option Dir
+direction word = if bytes_eq word (codes "min") then Some Min else if bytes_eq word (codes "max") then Some Max else None
 
-abbrev pub part_letter : Part → ℕ
-part_letter Constraints = 97
-part_letter Objectives = 111
+-- whether the vectors are those of the dual cone: `cone` or `dualcone`
+abbrev pub cone_word : List ℕ → Option Bool
+cone_word word = if bytes_eq word (codes "cone") then Some false else if bytes_eq word (codes "dualcone") then Some true else None
 
--- rows or columns, and their letter
-abbrev pub axis_of : Bounded → Axis
-axis_of Row = of_rows
-axis_of Column = of_columns
+abbrev pub cone_from : Option Bool → Option ℕ → Option ℕ → Option (Option ConeSizes)
+cone_from (Some dual) (Some vectors) (Some entries) = Some (Some (record { dual = dual; vectors = vectors; entries = entries }))
+cone_from _ _ _ = None
 
-abbrev pub bounded_letter : Bounded → ℕ
-bounded_letter Row = 105
-bounded_letter Column = 106
+-- the words CONE GENS GENNONZ, or none
+abbrev pub cone_sizes : List (List ℕ) → Option (Option ConeSizes)
+cone_sizes [] = Some None
+cone_sizes (kind ∷ vectors ∷ entries ∷ []) = cone_from (cone_word kind) (natural vectors) (natural entries)
+cone_sizes _ = None
 
--- the bound of a type `l`, or else `u`
-abbrev pub one_bound : ℕ → ℚ → Bound
-one_bound kind value = if kind == 108 then Lower value else Upper value
+abbrev pub sizes_from : Option Dir → Option ℕ → Option ℕ → Option ℕ → Option ℕ → Option ℕ → Option (Option ConeSizes) → Option Sizes
+sizes_from (Some dir) (Some rows) (Some cols) (Some entries) (Some objs) (Some obj_entries) (Some cone) =
+    Some (record { dir = dir; rows = rows; cols = cols; entries = entries; objs = objs; obj_entries = obj_entries; cone = cone })
+sizes_from _ _ _ _ _ _ _ = None
 
--- whether a third word fits the letter of a line
-abbrev pub third_fits : ℕ → List ℕ → Bool
-third_fits kind third =
-    (kind == 97 || kind == 111) && is_plain_natural third || (kind == 105 || kind == 106) && (letter third == 108 || letter third == 117)
+-- the words vlp DIR ROWS COLS NONZ OBJS OBJNONZ and those of a cone
+abbrev pub sizes_of : List (List ℕ) → Option Sizes
+sizes_of (vlp ∷ dir ∷ rows ∷ cols ∷ entries ∷ objs ∷ obj_entries ∷ cone) =
+    if bytes_eq vlp (codes "vlp")
+    then sizes_from (direction dir) (natural rows) (natural cols) (natural entries) (natural objs) (natural obj_entries) (cone_sizes cone)
+    else None
+sizes_of _ = None
 
--- an entry, from the letter, the number, the third word and the value of its line
-pub record IsEntry (part : Part) (row col : ℕ) (entry : ℚ) (kind number : ℕ) (third : List ℕ) (value : ℚ) : Type 0 where
-  pub same_letter : kind ≡ part_letter part
-  pub same_row : row ≡ number
-  pub natural_col : IsTrue (is_plain_natural third)
-  pub same_col : col ≡ natural third
-  pub same_value : entry ≡ value
+abbrev pub entry_from : Matrix → Option ℕ → Option ℕ → Result ℚ FileKind → Option Statement
+entry_from m (Some i) (Some j) number = Some (Entry m i j number)
+entry_from m _ _ number = None
 
--- a bound, likewise
-pub record IsLimit (bounded : Bounded) (at : ℕ) (bound : Bound) (kind number : ℕ) (third : List ℕ) (value : ℚ) : Type 0 where
-  pub same_letter : kind ≡ bounded_letter bounded
-  pub same_number : at ≡ number
-  pub type : IsTrue (letter third == 108 || letter third == 117)
-  pub same_bound : bound ≡ one_bound (letter third) value
+-- the words i j v
+abbrev pub entry_of : Matrix → List (List ℕ) → Option Statement
+entry_of m (i ∷ j ∷ v ∷ []) = entry_from m (natural i) (natural j) (number_of v)
+entry_of m _ = None
 
-abbrev pub States : Statement → (kind number : ℕ) → List ℕ → ℚ → Type 0
-States (Entry part row col entry) kind number third value = IsEntry part row col entry kind number third value
-States (Limit bounded at bound) kind number third value = IsLimit bounded at bound kind number third value
+-- an entry of a cone vector; that of column 0 is one of the duality vector, which is a matrix of one column
+abbrev pub in_cone : Statement → Statement
+in_cone (Entry m i j number) = if j == 0 then Entry Duality i 1 number else Entry m i j number
+in_cone s = s
 
--- what a line says, in the words of the grammar
-abbrev pub IsSaid : Statement → Said → Type 0
-IsSaid (Entry part row col value) says = (word : List ℕ) × (says ≡ cell (matrix_of part) row col word) × Means word value
-IsSaid (Limit bounded at bound) says =
-    (kind : ℕ) × (word : List ℕ) × (value : ℚ) × (says ≡ bounds (axis_of bounded) at kind (word ∷ [])) × Means word value × (bound ≡ bound_of kind (word ∷ []))
+-- the bounds of a type with its number, or what is wrong with the number
+abbrev pub bound_by : (ℚ → Bound) → Result ℚ FileKind → Result Bound FileKind
+bound_by type (Ok v) = Ok (type v)
+bound_by type (Err kind) = Err kind
 
--- a line says this, and its tests are those of what it says
-pub record Utters (statement : Statement) (line : List ℕ) : Type 0 where
-  pub says : IsSaid statement (said line)
-  pub tests : (earlier : List (List ℕ)) (s : Sizes) → first_told told_sizes earlier ≡ Some s → line_fault earlier line ≡ said_fault earlier s (said line)
+-- a lower and an upper bound, or what is wrong with the first number that is wrong
+abbrev pub double_bound : Result ℚ FileKind → Result ℚ FileKind → Result Bound FileKind
+double_bound (Ok v) (Ok w) = Ok (Double v w)
+double_bound (Ok v) (Err kind) = Err kind
+double_bound (Err kind) _ = Err kind
+
+-- `l`, `u` or `s`
+abbrev pub single_bound : ℕ → Result ℚ FileKind → Option (Result Bound FileKind)
+single_bound type v =
+    if type == byte "l" then Some (bound_by Lower v)
+    else if type == byte "u" then Some (bound_by Upper v)
+    else if type == byte "s" then Some (bound_by Fixed v)
+    else None
+
+-- a type of bounds, and the words behind it: none for `f`, one for `l`, `u` and `s`, two for `d`
+abbrev pub bound_of : ℕ → List (List ℕ) → Option (Result Bound FileKind)
+bound_of type [] = if type == byte "f" then Some (Ok Free) else None
+bound_of type (v ∷ []) = single_bound type (number_of v)
+bound_of type (v ∷ w ∷ []) = if type == byte "d" then Some (double_bound (number_of v) (number_of w)) else None
+bound_of type _ = None
+
+abbrev pub limit_from : Axis → Option ℕ → Option (Result Bound FileKind) → Option Statement
+limit_from axis (Some n) (Some bound) = Some (Limit axis n bound)
+limit_from axis _ _ = None
+
+-- the words of a row or column, of a type and of its numbers
+abbrev pub limit_of : Axis → List (List ℕ) → Option Statement
+limit_of axis (n ∷ type ∷ values) = limit_from axis (natural n) (bound_of (letter type) values)
+limit_of axis _ = None
+
+-- what the words behind a first word of this letter say, or that they have not the form of its kind
+abbrev pub statement_of : ℕ → List (List ℕ) → Option Statement
+statement_of kind words =
+    if kind == byte "p" then option_map Heading (sizes_of words)
+    else if kind == byte "a" then entry_of Constraints words
+    else if kind == byte "o" then entry_of Objectives words
+    else if kind == byte "k" then option_map in_cone (entry_of ConeVectors words)
+    else if kind == byte "i" then limit_of Row words
+    else if kind == byte "j" then limit_of Column words
+    else if kind == byte "e" then Some End
+    else None
+
+abbrev pub words_statement : List (List ℕ) → Statement
+words_statement [] = Silent
+words_statement (first ∷ words) = unwrap_or (statement_of (letter first) words) Silent
+
+-- the statement of a line; a blank line, a comment and a line that has not the form of its kind have none
+abbrev pub statement_on : List ℕ → Statement
+statement_on line = words_statement (words_of line)

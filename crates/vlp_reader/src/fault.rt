@@ -1,5 +1,6 @@
 //! Why a file is refused.
 ghost use Rattle.std.specs.Prelude.{◌≡◌};
+ghost use Rattle.vlp_reader.specs.declared.fault.LineEnd.TheVariants as line;
 ghost use Rattle.vlp_reader.specs.declared.fault.VlpEnd.TheVariants.{NoMemory};
 
 use src_sink::NoMemory as WantOfMemory;
@@ -27,17 +28,9 @@ pub enum FileKind {
     CountWrong = 8,
     /// A size past the limits of this reader.
     LimitPassed = 9,
-    /// A form that is not built yet.
-    NotBuilt = 10,
     /// A line of more than 4,096 bytes.
     LineLong = 11,
 }
-
-/// The end at a file that is not plain, so far the only fault that is found.
-pub(crate) const NOT_BUILT: VlpEnd = VlpEnd::Fault(FileFault {
-    line: 0,
-    kind: FileKind::NotBuilt,
-});
 
 impl FileKind {
     ghost use Rattle.vlp_reader.specs.Faults.{kind_number, kind_name};
@@ -63,13 +56,12 @@ impl FileKind {
             FileKind::Twice => "Twice",
             FileKind::CountWrong => "CountWrong",
             FileKind::LimitPassed => "LimitPassed",
-            FileKind::NotBuilt => "NotBuilt",
             FileKind::LineLong => "LineLong",
         }
     }
 }
 
-/// The first fault of a file: its line, from 1, or 0 where the fault is of no one line.
+/// The first fault of a file: its line, from 1, and what is wrong there.
 #[derive(Clone, Copy, Debug, PartialEq, Eq)]
 pub struct FileFault {
     pub line: u32,
@@ -106,5 +98,59 @@ impl<T: Drop> From<AllocFailed<T>> for VlpEnd {
 
     fn from(_e: AllocFailed<T>) -> VlpEnd {
         VlpEnd::NoMemory
+    }
+}
+
+/// Why a line was not taken.
+#[derive(Clone, Copy, Debug, PartialEq, Eq)]
+pub(crate) enum LineEnd {
+    Kind(FileKind),
+    NoMemory,
+}
+
+impl From<FileKind> for LineEnd {
+    ghost from_gives = { λ kind e. e ≡ line.Kind kind };
+
+    fn from(kind: FileKind) -> LineEnd {
+        LineEnd::Kind(kind)
+    }
+}
+
+impl From<WantOfMemory> for LineEnd {
+    ghost from_gives = { λ _ e. e ≡ line.NoMemory };
+
+    fn from(_e: WantOfMemory) -> LineEnd {
+        LineEnd::NoMemory
+    }
+}
+
+impl From<AllocError> for LineEnd {
+    ghost from_gives = { λ _ e. e ≡ line.NoMemory };
+
+    fn from(_e: AllocError) -> LineEnd {
+        LineEnd::NoMemory
+    }
+}
+
+impl<T: Drop> From<AllocFailed<T>> for LineEnd {
+    ghost from_gives = { λ _ e. e ≡ line.NoMemory };
+
+    fn from(_e: AllocFailed<T>) -> LineEnd {
+        LineEnd::NoMemory
+    }
+}
+
+impl VlpEnd {
+    ghost use Rattle.std.specs.Prelude.{◌≡◌};
+    ghost use Rattle.vlp_reader.specs.Ends.{end_at};
+
+    /// The end at a line of this number.
+    pub(crate) fn at(line: u32, end: LineEnd) -> VlpEnd
+        ensures { result ≡ end_at line end }
+    {
+        match end {
+            LineEnd::Kind(kind) => VlpEnd::Fault(FileFault { line, kind }),
+            LineEnd::NoMemory => VlpEnd::NoMemory,
+        }
     }
 }

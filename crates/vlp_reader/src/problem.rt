@@ -15,7 +15,7 @@ pub enum Dir {
 
 /// The bounds of a row's product or of a column's variable. `Unsaid` is that of a row or column that
 /// the file gives none; it is free, as `Free` is.
-#[derive(Clone, Copy, Debug)]
+#[derive(Clone, Copy, Debug, PartialEq, Eq)]
 pub enum Bound {
     Unsaid,
     Free,
@@ -38,7 +38,7 @@ pub enum Cone {
 }
 
 /// An entry of a matrix that is not 0, at its row and column, both from 1.
-#[derive(Clone, Copy, Debug)]
+#[derive(Clone, Copy, Debug, PartialEq, Eq)]
 pub struct Cell {
     pub row: u32,
     pub col: u32,

@@ -1,78 +1,137 @@
-//! What a plain line between the first and the last one says.
-ghost use Rattle.std.specs.Prelude.{◌≡◌, ◌≤◌, ◌==◌, ◌||◌, length, IsTrue, IfOk, IfErr};
-ghost use Rattle.vlp_reader.specs.Pieces.{pieces};
-ghost use Rattle.vlp_reader.specs.Plain.{plain_line, Refuses};
-ghost use Rattle.vlp_reader.specs.Statements.{one_bound, third_fits, States, Utters};
+//! What the words of a line say.
+ghost use Rattle.std.specs.Prelude.{◌≡◌, Result};
+ghost use Rattle.vlp_reader.specs.Lines.{words_of};
+ghost use Rattle.vlp_reader.specs.Statements.{single_bound, double_bound, bound_of};
 
-use crate::fault::{NOT_BUILT, VlpEnd};
-use crate::number::{letter, natural, number, words};
+use crate::fault::FileKind;
+use crate::number::number;
 use crate::problem::Bound;
+use crate::sizes::Sizes;
+use crate::text::{letter, natural, next_word};
 use frac128::Frac;
-use std::alloc::Global;
 
-/// The matrix of the constraints, or that of the objectives.
-#[derive(Clone, Copy)]
-pub(crate) enum Part {
+/// The matrices whose entries lines give. The duality vector is one of a single column.
+#[derive(Clone, Copy, Debug)]
+pub(crate) enum Matrix {
     Constraints,
     Objectives,
+    ConeVectors,
+    Duality,
 }
 
-/// A row, or a column.
-#[derive(Clone, Copy)]
-pub(crate) enum Bounded {
+/// Rows, or columns.
+#[derive(Clone, Copy, Debug)]
+pub enum Axis {
     Row,
     Column,
 }
 
-/// What such a line says.
-#[derive(Clone, Copy)]
+/// What the words of a line say. Where a word should be a number, this is its value, or what is wrong
+/// with it.
+#[derive(Clone, Copy, Debug)]
 pub(crate) enum Statement {
+    /// Nothing.
+    Silent,
+    /// The sizes of the problem.
+    Heading(Sizes),
     /// The entry of a matrix at a row and a column.
-    Entry(Part, u32, u32, Frac),
-    /// The bound of a row or column.
-    Limit(Bounded, u32, Bound),
+    Entry(Matrix, u32, u32, Result<Frac, FileKind>),
+    /// The bounds of a row or column of this number.
+    Limit(Axis, u32, Result<Bound, FileKind>),
+    /// The last line that is looked at.
+    End,
 }
 
-/// The bound of a type `l` or `u`.
-fn bound_from(kind: u8, value: Frac) -> Result<Bound, VlpEnd>
-    ensures form { IfOk result (λ _. IsTrue (kind == 108 || kind == 117)) }
-    ensures value { IfOk result (λ bound. bound ≡ one_bound kind value) }
-    ensures refused { IfErr result (Refuses (IsTrue (kind == 108 || kind == 117))) }
+/// The bounds of a type with one number.
+fn one_bound(kind: u8, number: Result<Frac, FileKind>) -> Option<Result<Bound, FileKind>>
+    ensures { result ≡ single_bound kind number }
 {
     match kind {
-        b'l' => Ok(Bound::Lower(value)),
-        b'u' => Ok(Bound::Upper(value)),
-        _ => Err(NOT_BUILT),
+        b'l' => Some(number.map(Bound::Lower)),
+        b'u' => Some(number.map(Bound::Upper)),
+        b's' => Some(number.map(Bound::Fixed)),
+        _ => None,
     }
 }
 
-/// What a line of this letter, number, third word and value says.
-fn stated(kind: u8, number: u32, third: &[u8], value: Frac) -> Result<Statement, VlpEnd>
-    ensures form { IfOk result (λ _. IsTrue (third_fits kind third.now)) }
-    ensures value { IfOk result (λ s. States s kind number third.now value) }
-    ensures refused { IfErr result (Refuses (IsTrue (third_fits kind third.now))) }
+/// A lower and an upper bound.
+fn two_bounds(low: Result<Frac, FileKind>, high: Result<Frac, FileKind>) -> Result<Bound, FileKind>
+    ensures { result ≡ double_bound low high }
 {
-    match kind {
-        b'a' => Ok(Statement::Entry(Part::Constraints, number, natural(third)?, value)),
-        b'o' => Ok(Statement::Entry(Part::Objectives, number, natural(third)?, value)),
-        b'i' => Ok(Statement::Limit(Bounded::Row, number, bound_from(letter(third), value)?)),
-        b'j' => Ok(Statement::Limit(Bounded::Column, number, bound_from(letter(third), value)?)),
-        _ => Err(NOT_BUILT),
+    Ok(Bound::Double(low?, high?))
+}
+
+/// The bounds of a type with the words behind it.
+fn bounds(kind: u8, words: &[u8]) -> Option<Result<Bound, FileKind>>
+    ensures { result ≡ bound_of kind (words_of words.now) }
+{
+    let Some((first, rest)) = next_word(words) else {
+        return if kind == b'f' {
+            Some(Ok(Bound::Free))
+        } else {
+            None
+        };
+    };
+    let Some((second, rest)) = next_word(rest) else {
+        return one_bound(kind, number(first));
+    };
+    if next_word(rest).is_some() || kind != b'd' {
+        return None;
     }
+    Some(two_bounds(number(first), number(second)))
 }
 
 impl Statement {
-    /// What a line says.
-    pub(crate) fn read(alloc: Global, line: &[u8]) -> Result<Statement, VlpEnd>
-        ensures form { IfOk result (λ _. IsTrue (plain_line (pieces line.now))) }
-        ensures says { IfOk result (λ s. Utters s line.now) }
-        ensures refused { IfErr result (Refuses
-            (IsTrue (plain_line (pieces line.now)) × (length line.now ≤ 4096))) }
+    ghost use Rattle.vlp_reader.specs.Statements.{entry_of, limit_of, in_cone, statement_of};
+    ghost use Rattle.std.specs.Option.{option_map};
+
+    /// An entry, from the words i j v.
+    fn entry(matrix: Matrix, words: &[u8]) -> Option<Statement>
+        ensures { result ≡ entry_of matrix (words_of words.now) }
     {
-        let words = words(alloc, line)?;
-        let [kind, second, third, value] = words.as_slice() else {
-            return Err(NOT_BUILT);
-        };
-        stated(letter(kind), natural(second)?, third, number(value)?)
+        let (row, rest) = next_word(words)?;
+        let (col, rest) = next_word(rest)?;
+        let (value, rest) = next_word(rest)?;
+        if next_word(rest).is_some() {
+            return None;
+        }
+        Some(Statement::Entry(matrix, natural(row)?, natural(col)?, number(value)))
+    }
+
+    /// An entry of a cone vector or of the duality vector, from the words i j v.
+    fn cone_entry(words: &[u8]) -> Option<Statement>
+        ensures { result ≡ option_map in_cone (entry_of Matrix.ConeVectors (words_of words.now)) }
+    {
+        match Statement::entry(Matrix::ConeVectors, words)? {
+            Statement::Entry(_, row, 0, number) => {
+                Some(Statement::Entry(Matrix::Duality, row, 1, number))
+            }
+            entry => Some(entry),
+        }
+    }
+
+    /// Bounds, from the words of a row or column, of their type and of its numbers.
+    fn limit(axis: Axis, words: &[u8]) -> Option<Statement>
+        ensures { result ≡ limit_of axis (words_of words.now) }
+    {
+        let (at, rest) = next_word(words)?;
+        let (kind, rest) = next_word(rest)?;
+        Some(Statement::Limit(axis, natural(at)?, bounds(letter(kind), rest)?))
+    }
+
+    /// What the words behind a first word of this letter say, where they have the form of its kind.
+    pub(crate) fn read(kind: u8, words: &[u8]) -> Option<Statement>
+        ensures { result ≡ statement_of kind (words_of words.now) }
+    {
+        match kind {
+            b'p' => Sizes::read(words).map(Statement::Heading),
+            b'a' => Statement::entry(Matrix::Constraints, words),
+            b'o' => Statement::entry(Matrix::Objectives, words),
+            b'k' => Statement::cone_entry(words),
+            b'i' => Statement::limit(Axis::Row, words),
+            b'j' => Statement::limit(Axis::Column, words),
+            b'e' => Some(Statement::End),
+            _ => None,
+        }
     }
 }

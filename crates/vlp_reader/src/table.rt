@@ -1,14 +1,14 @@
-//! The places of a matrix that a file gives.
-ghost use Rattle.std.specs.Prelude.{◌≡◌, ℕ, ◌+◌, ◌==◌, ◌&&◌, IsTrue, IfOk, is_some, is_none, unwrap_or, if◌then◌else◌};
-ghost use Rattle.std.specs.Bool.{OnTrue};
+//! The entries of a matrix that a file gives.
+ghost use Rattle.std.specs.Prelude.{◌≡◌, ◌^◌, ◌<◌, ℕ, IsTrue, IfOk, is_some, unwrap_or, None, MatchResult};
 ghost use Rattle.std.specs.BTreeMap.{btree_map_len};
 ghost use Rattle.exact_field.specs.Rational.{zero_ℚ};
 ghost use Rattle.vlp_reader.specs.Cells.{is_within, are_cells, coefficient};
 ghost use Rattle.vlp_reader.specs.Places.{given};
 
+use crate::fault::{FileKind, LineEnd};
 use crate::problem::Cell;
 use exact_field::Field;
-use frac128::Frac;
+use frac128::{Frac, Vector};
 use src_sink::{Items, NoMemory};
 use std::alloc::Global;
 use std::collections::BTreeMap;
@@ -24,6 +24,9 @@ pub(crate) struct Table {
 }
 
 impl Table {
+    ghost use Rattle.vlp_reader.specs.Ends.{ComesFrom};
+    ghost use Rattle.vlp_reader.specs.Tables.{Adds, place_fault, table_column};
+
     /// No value is given yet.
     pub(crate) fn new(alloc: Global, rows: u32, cols: u32) -> Table
         ensures rows { result.rows ≡ rows }
@@ -40,7 +43,8 @@ impl Table {
 
     /// How many values are given.
     pub(crate) fn len(&self) -> usize
-        ensures { result ≡ btree_map_len self.now.cells }
+        ensures value { result ≡ btree_map_len self.now.cells }
+        ensures bound { result < 2 ^ 63 }
     {
         self.cells.len()
     }
@@ -52,22 +56,27 @@ impl Table {
         0 < row && row <= self.rows && 0 < col && col <= self.cols
     }
 
-    /// Gives a value, and answers whether the place is one of the matrix and had none.
-    pub(crate) fn give(&mut self, row: u32, col: u32, value: Frac) -> Result<bool, NoMemory>
+    /// Gives a place its value.
+    pub(crate) fn give(
+        &mut self,
+        row: u32,
+        col: u32,
+        number: Result<Frac, FileKind>,
+    ) -> Result<(), LineEnd>
         ensures rows { self.new.rows ≡ self.old.rows }
         ensures cols { self.new.cols ≡ self.old.cols }
-        ensures fresh { IfOk result (λ fresh. fresh ≡ (is_within self.old.rows self.old.cols row col
-            && is_none (given self.old.cells row col))) }
-        ensures given { IfOk result (λ fresh. OnTrue fresh ((i j : ℕ) → given self.new.cells i j
-            ≡ (if i == row && j == col then Some value else given self.old.cells i j))) }
-        ensures count { IfOk result (λ fresh. OnTrue fresh
-            (btree_map_len self.new.cells ≡ btree_map_len self.old.cells + 1)) }
+        ensures given { MatchResult result
+            (λ _. (place_fault self.old row col number ≡ None) × Adds self.old self.new row col number)
+            (ComesFrom (place_fault self.old row col number)) }
     {
         if !self.is_place(row, col) {
-            return Ok(false);
+            return Err(LineEnd::Kind(FileKind::OutOfRange));
         }
-        let before = self.cells.insert((row, col), value)?;
-        Ok(before.is_none())
+        let before = self.cells.insert((row, col), number?)?;
+        if before.is_some() {
+            return Err(LineEnd::Kind(FileKind::Twice));
+        }
+        Ok(())
     }
 
     /// The values that are not 0, in the order of their places.
@@ -88,5 +97,26 @@ impl Table {
             }
         }
         Ok(cells)
+    }
+
+    /// The value given a place, or 0.
+    fn value_at(&self, row: u32, col: u32) -> Frac
+        ensures { result ≡ unwrap_or (given self.now.cells row col) zero_ℚ }
+    {
+        match self.cells.get(&(row, col)) {
+            Some(value) => *value,
+            None => Frac::from(0),
+        }
+    }
+
+    /// A column of the matrix.
+    pub(crate) fn column(&self, alloc: Global, col: u32) -> Result<Vector, NoMemory>
+        ensures { IfOk result (λ v. v ≡ table_column self.now col) }
+    {
+        let mut entries = Items::new(alloc);
+        for before in 0..self.rows {
+            entries.push(self.value_at(before + 1, col))?;
+        }
+        Ok(entries)
     }
 }

@@ -1,2 +1,3 @@
+//! Files that are read, and files that are refused.
+mod faults;
 mod reads;
-mod refuses;

@@ -4,7 +4,7 @@ ghost use Rattle.exact_field.specs.Rational.{ℚ};
 ghost use Rattle.frac128.specs.Text.{frac_text};
 ghost use Rattle.frac128.specs.Sparse.{rises_above};
 ghost use Rattle.frac128.specs.declared.vectors.Spot.{Spot};
-ghost use Rattle.vlp_reader.specs.Plain.{is_small};
+ghost use Rattle.cert_check.specs.SmallProblem.{is_small};
 ghost use Rattle.cert_check.specs.PlainLog.{is_small_spot, spot_words};
 
 use exact_field::Field;

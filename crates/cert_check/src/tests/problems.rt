@@ -1,7 +1,6 @@
 //! Two files whose sides contradict each other.
-ghost use Rattle.std.specs.Prelude.{◌≡◌, IfOk};
+ghost use Rattle.std.specs.Prelude.{◌≡◌};
 ghost use Rattle.exact_field.specs.Rational.{whole};
-ghost use Rattle.vlp_reader.specs.Plain.{IsSmall};
 
 use frac128::Frac;
 use src_sink::{Items, NoMemory};
@@ -21,9 +20,7 @@ fn cell(row: u32, col: u32, value: i64) -> Cell
 
 /// Minimise x subject to x <= 0, as a row, and x >= 1.
 #[tactic(auto, unfolding(exact_field::specs::Rational::whole))]
-pub fn one_column(alloc: Global) -> Result<Problem, NoMemory>
-    ensures { IfOk result IsSmall }
-{
+pub fn one_column(alloc: Global) -> Result<Problem, NoMemory> {
     Ok(Problem {
         dir: Dir::Min,
         rows: 1,
@@ -40,9 +37,7 @@ pub fn one_column(alloc: Global) -> Result<Problem, NoMemory>
 
 /// 2 x - 3 y <= 5 and x + y >= -7, as rows, with x >= 10 and y <= 4.
 #[tactic(auto, unfolding(exact_field::specs::Rational::whole))]
-pub fn two_columns(alloc: Global) -> Result<Problem, NoMemory>
-    ensures { IfOk result IsSmall }
-{
+pub fn two_columns(alloc: Global) -> Result<Problem, NoMemory> {
     let a = vec![in alloc; cell(1, 1, 2), cell(1, 2, -3), cell(2, 1, 1), cell(2, 2, 1)]?;
     let rows = vec![in alloc; Bound::Upper(Frac::from(5)), Bound::Lower(Frac::from(-7))]?;
     let cols = vec![in alloc; Bound::Lower(Frac::from(10)), Bound::Upper(Frac::from(4))]?;

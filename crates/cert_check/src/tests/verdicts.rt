@@ -1,7 +1,6 @@
 //! What the checker says of logs.
 ghost use Rattle.std.specs.Prelude.{IsTrue};
 ghost use Rattle.std.specs.List.{list_all};
-ghost use Rattle.vlp_reader.specs.Plain.{IsSmall};
 ghost use Rattle.cert_check.specs.PlainLog.{ends_once};
 ghost use Rattle.cert_check.specs.SmallLog.{has_small_multipliers};
 
@@ -30,7 +29,6 @@ fn shows(answer: &Answer, want: &[(u32, i128)]) -> bool {
 /// The rule that fails, and its entry.
 fn failure(alloc: Global, problem: &Problem, entries: &Entries) -> Option<(u32, Rule)>
     requires ends { IsTrue (ends_once entries.now) }
-    requires small_file { IsSmall problem.now }
     requires small_log { IsTrue (list_all has_small_multipliers entries.now) }
 {
     match check(alloc, problem, entries) {

@@ -6,7 +6,7 @@ returns-in-Err-TooLong-read_all-clause-told g c =
     let taken = rw c.in-Err-TooLong-read_all.field-0-is at c.in-Err-TooLong-read_all.ensures.err in
     record {
       file = c.in-Ok-read_vlp.file;
-      good = good_file _ _ _ _ _ c.as_slice.ensures.items c.in-Ok.ensures.all c.in-Ok.ensures.end c.in-Ok.ensures.within c.in-Ok-read_vlp.ensures.ok;
+      good = good_file _ _ _ _ _ c.as_slice.ensures.items c.in-Ok.ensures.all c.in-Ok.ensures.end c.in-Ok.ensures.within c.in-Ok-read_vlp.ensures;
       above = taken.0;
       taken = taken.1;
       line = c.in_ok-text-in-Err-TooLong-read_all.ensures;
@@ -17,14 +17,14 @@ returns-in-Err-Fault-read_all-clause-silent g c =
     let failed = rw c.in-Err-Fault-read_all.field-0-is at c.in-Err-Fault-read_all.ensures.err in
     record {
       file = c.in-Ok-read_vlp.file;
-      good = good_file _ _ _ _ _ c.as_slice.ensures.items c.in-Ok.ensures.all c.in-Ok.ensures.end c.in-Ok.ensures.within c.in-Ok-read_vlp.ensures.ok;
+      good = good_file _ _ _ _ _ c.as_slice.ensures.items c.in-Ok.ensures.all c.in-Ok.ensures.end c.in-Ok.ensures.within c.in-Ok-read_vlp.ensures;
       rose = failed.0;
     }
 
 pub returns-clause-told : goal.returns-clause-told
 returns-clause-told g c =
     both_told c.in-Ok-read_vlp.file _ _ c.as_slice-2.result.now
-    (good_file _ _ _ _ _ c.as_slice.ensures.items c.in-Ok.ensures.all c.in-Ok.ensures.end c.in-Ok.ensures.within c.in-Ok-read_vlp.ensures.ok)
+    (good_file _ _ _ _ _ c.as_slice.ensures.items c.in-Ok.ensures.all c.in-Ok.ensures.end c.in-Ok.ensures.within c.in-Ok-read_vlp.ensures)
     (read_whole _ _ _ _ _ c.as_slice-2.ensures.items c.in-Ok-read_all.ensures.all c.in-Ok-read_all.ensures.end c.in-Ok-read_all.ensures.within)
     _
     c.examine_log.ensures.told

@@ -3,7 +3,7 @@ use Rattle.std.specs.Prelude.{Bool, pos, ◌==◌}
 use mir.Val.{bool_byte}
 use Rattle.exact_field.specs.Rational.{whole}
 use Rattle.exact_field.specs.Vector.{entry}
-use Rattle.vlp_reader.specs.Plain.{is_small}
+use Rattle.cert_check.specs.SmallProblem.{is_small}
 use Rattle.cert_check.specs.Table.{vector_of}
 use Rattle.cert_check.proofs.Normals.{entry-row, entry-unit, whole-bit, bit-small}
 use Rattle.cert_check.proofs.Small.{small_coefficient, small_is_whole, small_below, kept}
