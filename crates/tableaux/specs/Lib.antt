@@ -1,0 +1,7 @@
+pub mod Dictionary
+pub mod Examples
+pub mod Laws
+pub mod Lex
+pub mod Phases
+pub mod Simplex
+pub mod Table
