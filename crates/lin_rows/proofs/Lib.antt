@@ -1,1 +1,5 @@
+pub mod CellLists
+pub mod Errors
+pub mod Merging
+pub mod Signs
 pub mod Wide

@@ -1,1 +1,3 @@
+pub mod Clear
+pub mod Lines
 pub mod Widths
