@@ -1,5 +1,6 @@
 pub mod CellLists
 pub mod Errors
+pub mod ManyLines
 pub mod Merging
 pub mod Places
 pub mod Signs
