@@ -2,6 +2,8 @@ pub mod CellLists
 pub mod Errors
 pub mod ManyLines
 pub mod Merging
+pub mod PivotRows
+pub mod Pivoted
 pub mod Places
 pub mod Signs
 pub mod Wide

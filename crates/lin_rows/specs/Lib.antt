@@ -1,3 +1,4 @@
 pub mod Clear
 pub mod Lines
+pub mod Pivot
 pub mod Widths
