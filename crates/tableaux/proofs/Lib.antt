@@ -2,9 +2,11 @@ pub mod Back
 pub mod Computed
 pub mod Decided
 pub mod Definition
+pub mod Eliminated
 pub mod Ends
 pub mod Entries
 pub mod Found
+pub mod Inverse
 pub mod Lexicographic
 pub mod Matrix
 pub mod Phases

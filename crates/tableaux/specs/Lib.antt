@@ -1,4 +1,5 @@
 pub mod Dictionary
+pub mod Elimination
 pub mod Examples
 pub mod Laws
 pub mod Lex
