@@ -1,4 +1,5 @@
 pub mod CellLists
+pub mod Eliminating
 pub mod Errors
 pub mod ManyLines
 pub mod Merging

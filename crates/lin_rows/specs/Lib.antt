@@ -1,4 +1,5 @@
 pub mod Clear
+pub mod Eliminate
 pub mod Lines
 pub mod Pivot
 pub mod Widths
