@@ -1,3 +1,4 @@
+pub mod Building
 pub mod CellLists
 pub mod Eliminating
 pub mod Errors
