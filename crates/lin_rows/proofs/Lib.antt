@@ -1,7 +1,9 @@
 pub mod Building
 pub mod CellLists
 pub mod Eliminating
+pub mod EliminationEnds
 pub mod Errors
+pub mod Lists
 pub mod ManyLines
 pub mod Merging
 pub mod PivotRows

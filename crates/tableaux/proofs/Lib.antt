@@ -9,6 +9,7 @@ pub mod Found
 pub mod Inverse
 pub mod Lexicographic
 pub mod Matrix
+pub mod Orthogonal
 pub mod Phases
 pub mod Places
 pub mod Products
