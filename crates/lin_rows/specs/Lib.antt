@@ -4,4 +4,5 @@ pub mod Eliminate
 pub mod Lines
 pub mod Pivot
 pub mod Read
+pub mod Sums
 pub mod Widths
