@@ -10,4 +10,5 @@ pub mod PivotRows
 pub mod Pivoted
 pub mod Places
 pub mod Signs
+pub mod Summing
 pub mod Wide
