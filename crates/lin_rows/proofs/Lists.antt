@@ -1,10 +1,10 @@
 -- Lists of n values, one more.
-use Rattle.std.proofs.Common.{◌≡◌, ℕ, zero, suc, List, [], ◌∷◌, ◌++◌, length, map, take, refl, sym, ap, ap₂, ◌∙◌, arith, ◌<◌, ◌≤◌, ◌+◌, ◌-◌, slice_index_or}
+use Rattle.std.proofs.Common.{◌≡◌, ℕ, zero, suc, List, [], ◌∷◌, ◌++◌, length, map, take, sym, ap, ap₂, ◌∙◌, arith, ◌<◌, ◌≤◌, ◌+◌, ◌-◌, slice_index_or}
 use Rattle.std.specs.Prelude.{◌==◌, if◌then◌else◌}
 use Rattle.std.proofs.lemmas.List.{map_push, take_more, get_or-map, length-map}
 use Rattle.exact_field.specs.Rational.{ℚ, zero_ℚ, one_ℚ, neg_ℚ}
 use Rattle.exact_field.specs.Vector.{entry}
-use Rattle.tableaux.specs.Table.{Table, row_of, column_of, list_from, listed}
+use Rattle.tableaux.specs.Table.{Table, column_of, list_from, listed}
 use Rattle.tableaux.specs.Dictionary.{value_of_column}
 use Rattle.tableaux.specs.Elimination.{ray_of}
 use Rattle.tableaux.proofs.Places.{listed-place}
@@ -36,8 +36,8 @@ pub ray_is : (n : ℕ) (basis : List ℕ) (d : Table) (c : ℕ) (values : List �
     listed n (λ j. if j == c then one_ℚ else neg_ℚ (entry values j)) ≡ ray_of n basis d c
 ray_is n basis d c values e =
     list_from-same 1 n (λ j. if j == c then one_ℚ else neg_ℚ (entry values j)) (λ j. if j == c then one_ℚ else neg_ℚ (value_of_column basis (column_of d c) j))
-      (λ j l u. ap (λ q. if j == c then one_ℚ else neg_ℚ q)
-        (ap (λ v. entry v j) e ∙ listed-place n (value_of_column basis (column_of d c)) j zero_ℚ l (omega arith)))
+    (λ j l u. ap (λ q. if j == c then one_ℚ else neg_ℚ q)
+    (ap (λ v. entry v j) e ∙ listed-place n (value_of_column basis (column_of d c)) j zero_ℚ l (omega arith)))
 
 module _ {F : Type 0} (value : F → ℚ) where
   -- entry j of one row more
@@ -49,9 +49,9 @@ module _ {F : Type 0} (value : F → ℚ) where
       let t_long : length t ≡ length list = numbers_long value list in
       let same : k + 1 - 1 ≡ k = omega arith in
       let own : slice_index_or (column_of t j) k zero_ℚ ≡ value x =
-          column_entry t j k (omega (arith, inside, t_long))
-          ∙ ap (λ r. entry r j) (get_or-map (map value) list k [] [] inside ∙ ap (map value) (sym (row_is ∙ ap (λ m. slice_index_or list m []) same)))
-          ∙ get_or-map value row (j - 1) x zero_ℚ (omega arith) ∙ ap value (sym x_is) in
+      column_entry t j k (omega (arith, inside, t_long))
+      ∙ ap (λ r. entry r j) (get_or-map (map value) list k [] [] inside ∙ ap (map value) (sym (row_is ∙ ap (λ m. slice_index_or list m []) same)))
+      ∙ get_or-map value row (j - 1) x zero_ℚ (omega arith) ∙ ap value (sym x_is) in
       ap (map value) pushed ∙ map_push value old x ∙ ap₂ (λ a b. a ++ b ∷ []) is (sym own)
       ∙ sym (take_more (column_of t j) k zero_ℚ (omega (arith, inside, t_long, length-map t (λ r. entry r j))))
 

@@ -44,19 +44,20 @@ module _ {F : Type 0} (value : F → ℚ) (holds : ℚ → Bool) where
     sum_more total new is e =
         e ∙ ap (λ q. q +ℚ value x *ℚ value y) is
         ∙ ap₂ (λ p q. partial xs ys i +ℚ p *ℚ q)
-          (sym (get_or-map value a i x zero_ℚ l ∙ ap value (sym x_is))) (sym (get_or-map value b i y zero_ℚ (omega arith) ∙ ap value (sym y_is)))
+        (sym (get_or-map value a i x zero_ℚ l ∙ ap value (sym x_is))) (sym (get_or-map value b i y zero_ℚ (omega arith) ∙ ap value (sym y_is)))
         ∙ sym (partial-more xs ys i (omega (arith, l, length-map a value)) (omega (arith, l, same, length-map b value)))
 
     pub held_more : (total : ℚ) → total ≡ partial xs ys i → AreHeld holds xs ys i →
         (value x ≢ zero_ℚ → value y ≢ zero_ℚ → IsTrue (holds (value x *ℚ value y)) × IsTrue (holds (total +ℚ value x *ℚ value y))) → AreHeld holds xs ys (i + 1)
     held_more total is before here =
         places_more (λ k. entry xs k ≢ zero_ℚ → entry ys k ≢ zero_ℚ → IsTrue (holds (entry xs k *ℚ entry ys k)) × IsTrue (holds (partial xs ys k))) i before
-          (λ p q.
-            let first = entry_read a i x l x_is in
-            let second = entry_read b i y (omega arith) y_is in
-            let both = here (λ e. p (first ∙ e)) (λ e. q (second ∙ e)) in
-            ( subst (λ (r : ℚ). IsTrue (holds r)) (sym (ap₂ (λ r s. r *ℚ s) first second)) both.0
-            , subst (λ (r : ℚ). IsTrue (holds r)) (sum_more total (total +ℚ value x *ℚ value y) is refl) both.1 ))
+        (λ p q.
+        let first = entry_read a i x l x_is in
+        let second = entry_read b i y (omega arith) y_is in
+        let both = here (λ e. p (first ∙ e)) (λ e. q (second ∙ e)) in (
+          subst (λ (r : ℚ). IsTrue (holds r)) (sym (ap₂ (λ r s. r *ℚ s) first second)) both.0,
+          subst (λ (r : ℚ). IsTrue (holds r)) (sum_more total (total +ℚ value x *ℚ value y) is refl) both.1,
+        ))
 
     -- ---- a + k b
     plus_at : (k : ℚ) → slice_index_or (plus xs (scaled k ys)) i zero_ℚ ≡ value x +ℚ k *ℚ value y
@@ -77,23 +78,24 @@ module _ {F : Type 0} (value : F → ℚ) (holds : ℚ → Bool) where
     sums_held_more k before here =
         let first = entry_read a i x l x_is in
         let second = entry_read b i y (omega arith) y_is in
-        places_more (λ j. IsTrue (holds (k *ℚ entry ys j)) × IsTrue (holds (entry xs j +ℚ k *ℚ entry ys j))) i before
-          ( subst (λ (r : ℚ). IsTrue (holds r)) (sym (ap (λ q. k *ℚ q) second)) here.0
-          , subst (λ (r : ℚ). IsTrue (holds r)) (sym (ap₂ (λ p q. p +ℚ k *ℚ q) first second)) here.1 )
+        places_more (λ j. IsTrue (holds (k *ℚ entry ys j)) × IsTrue (holds (entry xs j +ℚ k *ℚ entry ys j))) i before (
+          subst (λ (r : ℚ). IsTrue (holds r)) (sym (ap (λ q. k *ℚ q) second)) here.0,
+          subst (λ (r : ℚ). IsTrue (holds r)) (sym (ap₂ (λ p q. p +ℚ k *ℚ q) first second)) here.1,
+        )
 
   module _ (a : List F) (i : ℕ) (x : F) (l : i < length a) (x_is : x ≡ slice_index_or a i x) where
     pub products_more : (k : ℚ) (old new : List F) (z : F) → new ≡ old ++ z ∷ [] → map value old ≡ take i (scaled k (map value a)) → value z ≡ k *ℚ value x →
         map value new ≡ take (i + 1) (scaled k (map value a))
     products_more k old new z pushed is own =
         let here : slice_index_or (scaled k (map value a)) i zero_ℚ ≡ k *ℚ value x =
-            ap (λ m. slice_index_or (scaled k (map value a)) m zero_ℚ) (back i) ∙ entry-scaled k (map value a) (i + 1) ∙ ap (λ q. k *ℚ q) (entry_read a i x l x_is) in
+        ap (λ m. slice_index_or (scaled k (map value a)) m zero_ℚ) (back i) ∙ entry-scaled k (map value a) (i + 1) ∙ ap (λ q. k *ℚ q) (entry_read a i x l x_is) in
         ap (map value) pushed ∙ map_push value old z ∙ ap₂ (λ p q. p ++ q ∷ []) is (own ∙ sym here)
         ∙ sym (take_more (scaled k (map value a)) i zero_ℚ (omega (arith, l, length-scaled k (map value a), length-map a value)))
 
     pub products_held_more : (k : ℚ) → AreProductsHeld holds k (map value a) i → IsTrue (holds (k *ℚ value x)) → AreProductsHeld holds k (map value a) (i + 1)
     products_held_more k before here =
         places_more (λ j. IsTrue (holds (k *ℚ entry (map value a) j))) i before
-          (subst (λ (r : ℚ). IsTrue (holds r)) (sym (ap (λ q. k *ℚ q) (entry_read a i x l x_is))) here)
+        (subst (λ (r : ℚ). IsTrue (holds r)) (sym (ap (λ q. k *ℚ q) (entry_read a i x l x_is))) here)
 
   pub plus_all : (a b : List F) (i : ℕ) (k : ℚ) (out : List F) → length a ≡ length b → length a ≤ i → map value out ≡ take i (plus (map value a) (scaled k (map value b))) →
       map value out ≡ plus (map value a) (scaled k (map value b))

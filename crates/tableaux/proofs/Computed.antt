@@ -4,8 +4,8 @@ use Rattle.std.specs.Prelude.{◌&&◌}
 use Rattle.exact_field.specs.Gcd.{gcd}
 use Rattle.exact_field.specs.Rational.{whole, fraction, ◌+ℚ◌, ◌*ℚ◌, neg_ℚ, inverse_ℚ, le_ℚ}
 use Rattle.polyhedra.specs.DoubleDescription.{same_vector}
-use Rattle.polyhedra.proofs.TightRows.{both_true}
-use Rattle.polyhedra.proofs.NewPairs.{same_vector_is}
+use Rattle.polyhedra.proofs.Tests.{both_true}
+use Rattle.polyhedra.proofs.Tests.{same_vector_is}
 use Rattle.tableaux.specs.Table.{Table}
 use Rattle.tableaux.specs.Examples.{SimplexExamples}
 

@@ -1,7 +1,7 @@
-use Rattle.std.proofs.Common.{◌≡◌, ◌∙◌, ◌+◌, ◌<◌, sym, ap, ap₂, subst, arith, length, map, List, ℕ}
+use Rattle.std.proofs.Common.{◌∙◌, ◌+◌, sym, subst, arith, map}
 use Rattle.exact_field.specs.Rational.{ℚ}
 use Rattle.exact_field.specs.Vector.{entry}
-use Rattle.lin_rows.specs.Sums.{partial, IsDotLeft, IsTermLeft}
+use Rattle.lin_rows.specs.Sums.{IsDotLeft, IsTermLeft}
 use Rattle.std.proofs.lemmas.List.{length-map}
 use Rattle.lin_rows.proofs.Errors.{err_holds}
 use Rattle.lin_rows.proofs.Summing.{entry_read, sum_more, held_more}
@@ -19,17 +19,17 @@ returns-in_err-total-clause-left g c =
     let first = entry_read value holds a i c.index-a-i.result (omega arith) c.index-a-i.is in
     let second = entry_read value holds b i c.index-b-i.result (omega arith) c.index-b-i.is in
     err_holds c.from_residual.result left (IsDotLeft value holds (map value a) (map value b)) c.from_residual.ensures.1
-      (record {
-        earlier = i;
-        within = omega (arith, length-map a value);
-        held = c.loop-i.invariant.held;
-        first = λ e. ok.first (sym first ∙ e);
-        second = λ e. ok.second (sym second ∙ e);
-        step =
+    (record {
+      earlier = i;
+      within = omega (arith, length-map a value);
+      held = c.loop-i.invariant.held;
+      first = λ e. ok.first (sym first ∙ e);
+      second = λ e. ok.second (sym second ∙ e);
+      step =
           subst (λ (t : ℚ). IsTermLeft value holds t (entry (map value a) (i + 1)) (entry (map value b) (i + 1)) left) c.loop-i.invariant.sum
-            (subst (λ (p : ℚ). IsTermLeft value holds (value c.loop-i.total) p (entry (map value b) (i + 1)) left) (sym first)
-              (subst (λ (q : ℚ). IsTermLeft value holds (value c.loop-i.total) (value c.index-a-i.result) q left) (sym second) ok.left));
-      })
+          (subst (λ (p : ℚ). IsTermLeft value holds (value c.loop-i.total) p (entry (map value b) (i + 1)) left) (sym first)
+          (subst (λ (q : ℚ). IsTermLeft value holds (value c.loop-i.total) (value c.index-a-i.result) q left) (sym second) ok.left));
+    })
 
 pub loop-i-preserved : goal.loop-i-preserved
 loop-i-preserved g c =
