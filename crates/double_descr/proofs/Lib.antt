@@ -1,0 +1,2 @@
+pub mod SignTests
+pub mod StepLists

@@ -1,0 +1,42 @@
+-- What a double description holds: the rows in their order, and the live generators under their numbers.
+use Rattle.std.specs.Prelude.{ℕ, List, ◌≡◌, map, All, Bool, refl, [], ◌∷◌}
+use Rattle.std.specs.Coded.{Coded, code_by, coded×, coded_ℕ, coded_list}
+use Rattle.std.proofs.Common.{ap, ap₂}
+use Rattle.std.specs.declared.alloc.Global.{Global}
+use Rattle.exact_field.specs.Rational.{ℚ, coded_ℚ}
+use Rattle.exact_field.specs.Vector.{dot}
+use Rattle.polyhedra.specs.DoubleDescription.{is_zero}
+use Rattle.polyhedra.specs.LiveList.{Numbered, LiveList}
+use Rattle.double_descr.specs.Steps.{values}
+use Rattle.double_descr.specs.declared.generator.Generator.{Generator}
+
+-- the width of the rows, the rows, and the live list
+pub record State : Type 0 where
+  pub width : ℕ
+  pub rows : List (List ℚ)
+  pub list : LiveList
+
+abbrev pub numbered_code : Coded Numbered
+numbered_code = code_by (ℕ × List ℚ) (coded× coded_ℕ (coded_list coded_ℚ)) (λ g. (g.number, g.vector)) (λ p. record { number = p.0; vector = p.1 }) (λ _. refl)
+
+abbrev pub list_code : Coded LiveList
+list_code = code_by (List Numbered × ℕ) (coded× (coded_list numbered_code) coded_ℕ) (λ l. (l.live, l.next)) (λ p. record { live = p.0; next = p.1 }) (λ _. refl)
+
+abbrev pub state_code : Coded State
+state_code = code_by (ℕ × List (List ℚ) × LiveList) (coded× coded_ℕ (coded× (coded_list (coded_list coded_ℚ)) list_code))
+    (λ s. (s.width, (s.rows, s.list))) (λ p. record { width = p.0; rows = p.1.0; list = p.1.1 }) (λ _. refl)
+
+-- the set of the rows that are tight at a vector, as tests of the rows in their order
+abbrev pub tight_set : List (List ℚ) → List ℚ → List Bool
+tight_set rows v = map (λ r. is_zero (dot r v)) rows
+
+-- a generator in numbers
+abbrev pub numbered_of : {F : Type 0} → (F → ℚ) → Generator F → Numbered
+numbered_of value g = record { number = g.number; vector = values value g.vector.items }
+
+abbrev pub live_of : {F : Type 0} → (F → ℚ) → List (Generator F) → List Numbered
+live_of value gs = map (numbered_of value) gs
+
+-- the generator's set is that of the rows that are tight at it
+abbrev pub HasTightSet : {F : Type 0} → (F → ℚ) → List (List ℚ) → Generator F → Type 0
+HasTightSet value rows g = g.tight ≡ tight_set rows (values value g.vector.items)

@@ -1,0 +1,10 @@
+//! Double description: the generators of the cone of rows, kept by one row at a time.
+#![tactic(auto)]
+
+mod fault;
+mod generator;
+mod points;
+mod signs;
+mod steps;
+
+pub use fault::{Change, DdFault, Pair};
