@@ -19,6 +19,7 @@ use Rattle.double_descr.specs.declared.steps.Stop.{Stop}
 use Rattle.double_descr.specs.Steps.{Runs, StopsAt, combination_steps, quotient_steps, multiple_steps, product_steps, term_steps, Step, exact, IsHeld, IsFirst, IsSoFar}
 use Rattle.polyhedra.proofs.Algebra.{zero_mul, mul_zero}
 use Rattle.polyhedra.proofs.Laws.{add_zero}
+use Rattle.polyhedra.proofs.Members.{member_of}
 
 pub start : (holds : ℚ → Bool) (steps : List Step) → IsSoFar holds steps steps 0
 start holds steps = record { before = []; split = refl; held = All-nil (IsHeld holds); counted = refl }
@@ -159,3 +160,7 @@ leading_at v v' x e h = sym (ap leading e ∙ ap (λ b. cond b (leading v') x) h
 
 pub leading_here : (v v' : List ℚ) (x : ℚ) → v ≡ x ∷ v' → is_zero x ≡ false → x ≡ leading v
 leading_here v v' x e h = sym (ap leading e ∙ ap (λ b. cond b (leading v') x) h)
+
+-- an element that was read
+pub listed : {A : Type 0} (P : A → Type 0) (xs : List A) (i : ℕ) (x : A) → All P xs → i < length xs → x ≡ slice_index_or xs i x → P x
+listed P xs i x h l e = member_of P xs x h (i, l, sym e)

@@ -1,12 +1,12 @@
 -- What a double description holds: the rows in their order, and the live generators under their numbers.
-use Rattle.std.specs.Prelude.{ℕ, List, ◌≡◌, map, All, Bool, refl, [], ◌∷◌}
+use Rattle.std.specs.Prelude.{ℕ, List, ◌≡◌, map, All, Bool, not, ◌||◌, nat_eq, refl, [], ◌∷◌}
 use Rattle.std.specs.Coded.{Coded, code_by, coded×, coded_ℕ, coded_list}
 use Rattle.std.proofs.Common.{ap, ap₂}
 use Rattle.std.specs.declared.alloc.Global.{Global}
 use Rattle.exact_field.specs.Rational.{ℚ, coded_ℚ}
 use Rattle.exact_field.specs.Vector.{dot}
-use Rattle.polyhedra.specs.DoubleDescription.{is_zero}
-use Rattle.polyhedra.specs.LiveList.{Numbered, LiveList}
+use Rattle.polyhedra.specs.DoubleDescription.{is_zero, covers}
+use Rattle.polyhedra.specs.LiveList.{Numbered, LiveList, LivePair}
 use Rattle.double_descr.specs.Steps.{values}
 use Rattle.double_descr.specs.declared.generator.Generator.{Generator}
 
@@ -23,7 +23,7 @@ abbrev pub list_code : Coded LiveList
 list_code = code_by (List Numbered × ℕ) (coded× (coded_list numbered_code) coded_ℕ) (λ l. (l.live, l.next)) (λ p. record { live = p.0; next = p.1 }) (λ _. refl)
 
 abbrev pub state_code : Coded State
-state_code = code_by (ℕ × List (List ℚ) × LiveList) (coded× coded_ℕ (coded× (coded_list (coded_list coded_ℚ)) list_code))
+state_code = code_by (ℕ × (List (List ℚ) × LiveList)) (coded× coded_ℕ (coded× (coded_list (coded_list coded_ℚ)) list_code))
     (λ s. (s.width, (s.rows, s.list))) (λ p. record { width = p.0; rows = p.1.0; list = p.1.1 }) (λ _. refl)
 
 -- the set of the rows that are tight at a vector, as tests of the rows in their order
@@ -40,3 +40,12 @@ live_of value gs = map (numbered_of value) gs
 -- the generator's set is that of the rows that are tight at it
 abbrev pub HasTightSet : {F : Type 0} → (F → ℚ) → List (List ℚ) → Generator F → Type 0
 HasTightSet value rows g = g.tight ≡ tight_set rows (values value g.vector.items)
+
+-- a pair of generators in numbers
+abbrev pub pair_of : {F : Type 0} → (F → ℚ) → Generator F → Generator F → LivePair
+pair_of value p m = record { plus_side = numbered_of value p; minus_side = numbered_of value m }
+
+-- whether a live generator is one of the pair or does not cover it
+abbrev pub third_test : List (List ℚ) → LivePair → Numbered → Bool
+third_test rows pair g = nat_eq g.number pair.plus_side.number || nat_eq g.number pair.minus_side.number
+    || not (covers rows pair.plus_side.vector pair.minus_side.vector g.vector)
