@@ -1,5 +1,10 @@
 -- Sets of tight rows: what it means that one contains the common rows of two others.
-use Rattle.std.proofs.Common.{◌≡◌, ℕ, zero, suc, ◌<◌, List, [], ◌∷◌, length, map, All, Bool, true, false, true≢false, not, ◌&&◌, ◌||◌, nat_eq, refl, sym, ap, ap₂, ◌∙◌, subst, arith, get_or}
+use Rattle.std.proofs.lemmas.List.{length-map, map-append}
+use Rattle.polyhedra.specs.TightSets.{IsTight}
+use Rattle.polyhedra.proofs.Tests.{zero_of_test, test_of_zero}
+use Rattle.polyhedra.proofs.Lists.{Contains-here, Contains-there}
+use Rattle.incid_sets.specs.Marks.{no_marks}
+use Rattle.std.proofs.Common.{Contains, ◌+◌, ◌-◌, ◌++◌, min, set, ◌≡◌, ℕ, zero, suc, ◌<◌, List, [], ◌∷◌, length, map, All, Bool, true, false, true≢false, not, ◌&&◌, ◌||◌, nat_eq, refl, sym, ap, ap₂, ◌∙◌, subst, arith, get_or}
 use Rattle.std.specs.Prelude.{IsTrue, ◌↔◌}
 use Rattle.std.specs.List.{list_all}
 use Rattle.exact_field.specs.Rational.{ℚ}
@@ -68,3 +73,60 @@ test_false a b e h = sym e ∙ ap not h
 
 pub test_true : (a b : Bool) → not a ≡ b → a ≡ false → b ≡ true
 test_true a b e h = sym e ∙ ap not h
+
+-- ---- sets as lists of tests
+pub same_marks : (xs ys : List Bool) → length xs ≡ length ys → ((k : ℕ) → has xs k ≡ has ys k) → xs ≡ ys
+same_marks [] [] l h = refl
+same_marks [] (y ∷ ys) l h = absurd (omega arith)
+same_marks (x ∷ xs) [] l h = absurd (omega arith)
+same_marks (x ∷ xs) (y ∷ ys) l h = ap₂ (λ a b. a ∷ b) (h 0) (same_marks xs ys (omega arith) (λ k. h (suc k)))
+
+both_same : (a : Bool) → (a && a) ≡ a
+both_same true = refl
+both_same false = refl
+
+pub meet_self : (common t : List Bool) → IsMeet common t t → common ≡ t
+meet_self common t m = same_marks common t (let b : length common ≡ min (length t) (length t) = m.bound in omega arith) (λ k. m.common k ∙ both_same (has t k))
+
+-- one more number, in the set or not
+set_last : (xs : List Bool) → set (xs ++ false ∷ []) (length xs) true ≡ xs ++ true ∷ []
+set_last [] = refl
+set_last (x ∷ xs) = ap (λ ys. x ∷ ys) (set_last xs)
+
+one_more_is : (common : List Bool) (count : ℕ) → count ≡ length common → common ++ no_marks (count + 1 - length common) ≡ common ++ false ∷ []
+one_more_is common count e = ap (λ n. common ++ no_marks n) (let h : count + 1 - length common ≡ suc zero = omega arith in h)
+
+pub with_true : (common grown : List Bool) (count : ℕ) → grown ≡ common ++ no_marks (count + 1 - length common) → count ≡ length common →
+    set grown count true ≡ common ++ true ∷ []
+with_true common grown count e f = ap₂ (λ xs n. set xs n true) (e ∙ one_more_is common count f) f ∙ set_last common
+
+pub with_false : (common grown : List Bool) (count : ℕ) → grown ≡ common ++ no_marks (count + 1 - length common) → count ≡ length common →
+    grown ≡ common ++ false ∷ []
+with_false common grown count e f = e ∙ one_more_is common count f
+
+-- ---- the set of a new generator
+pub tight_everywhere : (rows : List (List ℚ)) (p m z : List ℚ) →
+    ((r : List ℚ) → Contains rows r → IsTight r z ↔ (IsTight r p × IsTight r m)) → (k : ℕ) →
+    (has (tight_set rows p) k && has (tight_set rows m) k) ≡ has (tight_set rows z) k
+tight_everywhere [] p m z h k = refl
+tight_everywhere (r ∷ rows) p m z h zero = same_tests (is_zero (dot r p) && is_zero (dot r m)) (is_zero (dot r z))
+    (λ e. let b : (is_zero (dot r p) ≡ true) × (is_zero (dot r m) ≡ true) = both_true (is_zero (dot r p)) (is_zero (dot r m)) e in
+    test_of_zero (dot r z) ((h r (Contains-here r rows r refl)).1 (zero_of_test (dot r p) b.0, zero_of_test (dot r m) b.1)))
+    (λ e. let b : IsTight r p × IsTight r m = (h r (Contains-here r rows r refl)).0 (zero_of_test (dot r z) e) in
+    both_hold (is_zero (dot r p)) (is_zero (dot r m)) (test_of_zero (dot r p) b.0) (test_of_zero (dot r m) b.1))
+tight_everywhere (r ∷ rows) p m z h (suc k) = tight_everywhere rows p m z (λ s c. h s (Contains-there r rows s c)) k
+
+length-tight_set : (rows : List (List ℚ)) (v : List ℚ) → length (tight_set rows v) ≡ length rows
+length-tight_set rows v = length-map rows (λ r. is_zero (dot r v))
+
+pub meet_is_tight : (rows : List (List ℚ)) (p m z : List ℚ) (common : List Bool) → IsMeet common (tight_set rows p) (tight_set rows m) →
+    ((r : List ℚ) → Contains rows r → IsTight r z ↔ (IsTight r p × IsTight r m)) → common ≡ tight_set rows z
+meet_is_tight rows p m z common i h = same_marks common (tight_set rows z)
+    (let b : length common ≡ min (length (tight_set rows p)) (length (tight_set rows m)) = i.bound in
+    let x : length (tight_set rows p) ≡ length rows = length-tight_set rows p in
+    let y : length (tight_set rows m) ≡ length rows = length-tight_set rows m in
+    let w : length (tight_set rows z) ≡ length rows = length-tight_set rows z in omega arith)
+    (λ k. i.common k ∙ tight_everywhere rows p m z h k)
+
+pub tight_with : (rows : List (List ℚ)) (row v : List ℚ) → tight_set (rows ++ row ∷ []) v ≡ tight_set rows v ++ is_zero (dot row v) ∷ []
+tight_with rows row v = map-append (λ r. is_zero (dot r v)) rows (row ∷ [])

@@ -4,7 +4,8 @@ use Rattle.exact_field.specs.Rational.{ℚ, zero_ℚ}
 use Rattle.exact_field.specs.Vector.{dot}
 use Rattle.polyhedra.specs.LiveList.{Numbered, LivePair, LiveList, dropped, live_pairs, pairs, first_new}
 use Rattle.double_descr.specs.Steps.{Step, IsHeld, IsFirst, product_steps, meeting_steps}
-use Rattle.double_descr.specs.State.{State}
+use Rattle.double_descr.specs.Steps.{values}
+use Rattle.double_descr.specs.declared.generator.Generator.{Generator}
 use Rattle.double_descr.specs.declared.fault.DdFault.{DdFault}
 use Rattle.double_descr.specs.declared.fault.DdFault.TheVariants.{Left as Stuck, NoMemory}
 use Rattle.double_descr.specs.declared.fault.Change.{Change}
@@ -58,3 +59,11 @@ pub record IsChange (rows : List (List ℚ)) (list : LiveList) (row : List ℚ) 
   pub gone : change.dropped ≡ dropped row list.live
   pub paired : map (λ (p : Pair). (p.plus, p.minus)) change.pairs ≡ pairs rows list.live row
   pub from : change.first_new ≡ first_new list
+
+-- the block of two generators, from the values of the row there
+abbrev pub block_of : {F : Type 0} → (F → ℚ) → Generator F → Generator F → ℚ → ℚ → Block
+block_of value p m a b = record {
+  first = p.number;
+  second = m.number;
+  steps = meeting_steps a b (values value p.vector.items) (values value m.vector.items);
+}
