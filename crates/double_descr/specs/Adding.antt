@@ -27,9 +27,12 @@ pair_block row pair = record {
   steps = meeting_steps (dot row pair.plus_side.vector) (dot row pair.minus_side.vector) pair.plus_side.vector pair.minus_side.vector;
 }
 
+abbrev pub pair_blocks : List (List ℚ) → List Numbered → List ℚ → List Block
+pair_blocks rows live row = map (pair_block row) (live_pairs rows live row)
+
 -- the values of all live generators, then the opposite pairs that no third one covers
 abbrev pub add_blocks : List (List ℚ) → List Numbered → List ℚ → List Block
-add_blocks rows live row = map (value_block row) live ++ map (pair_block row) (live_pairs rows live row)
+add_blocks rows live row = map (value_block row) live ++ pair_blocks rows live row
 
 -- each step of the block is held
 abbrev pub AreHeld : (ℚ → Bool) → Block → Type 0

@@ -3,6 +3,7 @@
 
 mod fault;
 mod generator;
+mod made;
 mod pairs;
 mod points;
 mod signs;

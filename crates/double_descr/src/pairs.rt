@@ -34,7 +34,7 @@ fn covers_pair<F: Field>(
 }
 
 /// Whether no third generator covers the pair. The one that covered last is tried first.
-fn is_uncovered<F: Field>(
+pub fn is_uncovered<F: Field>(
     generators: &[Generator<F>],
     plus: &Generator<F>,
     minus: &Generator<F>,

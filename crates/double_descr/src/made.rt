@@ -1,0 +1,73 @@
+//! The new generators of an addition.
+ghost use Rattle.std.specs.Prelude.{◌≡◌, ◌≢◌, ◌+◌, ◌<◌, ◌++◌, ℕ, List, All, Contains, IfErr, OnOk, length};
+ghost use Rattle.exact_field.specs.Rational.{ℚ, zero_ℚ, ◌<ℚ◌};
+ghost use Rattle.exact_field.specs.Vector.{dot};
+ghost use Rattle.polyhedra.specs.DoubleDescription.{norming};
+ghost use Rattle.polyhedra.specs.LiveList.{LivePair, is_uncovered_live, live_pairs};
+ghost use Rattle.double_descr.specs.Adding.{IsAddFault, block_of, pair_blocks};
+ghost use Rattle.double_descr.specs.Making.{IsAddition, IsMadeSoFar, IsPairFault, IsTried, candidates, candidates_of};
+ghost use Rattle.double_descr.specs.State.{HasTightSet, live_of, numbered_of, pair_of};
+ghost use Rattle.double_descr.specs.Steps.{between, values};
+
+use crate::fault::{DdFault, Pair};
+use crate::generator::{Generator, between_two};
+use crate::pairs::is_uncovered;
+use crate::signs::{is_above, is_below};
+use exact_field::Field;
+use incid_sets::Marks;
+use src_sink::{Items, MOST_ITEMS};
+use std::alloc::Global;
+
+/// The pairs of an addition so far, with their new generators.
+#[derive(Debug, Drop)]
+pub struct Made<F: Drop> {
+    /// The pairs.
+    pub pairs: Items<Pair>,
+    /// A new generator for each pair.
+    pub generators: Items<Generator<F>>,
+    /// Where the common tight rows of a pair are written.
+    pub common: Marks,
+    /// The place of the generator that covered last.
+    pub last: usize,
+    /// The number of the first new generator.
+    pub first_new: u32,
+}
+
+/// Makes the new generator of an opposite pair, unless a third one covers it.
+fn try_pair<F: Field>(
+    alloc: Global,
+    generators: &[Generator<F>],
+    plus: &Generator<F>,
+    minus: &Generator<F>,
+    at_plus: F,
+    at_minus: F,
+    so_far: &mut Made<F>,
+) -> Result<(), DdFault<F>>
+    requires same { length plus.now.vector.items ≡ length minus.now.vector.items }
+    requires narrow { length plus.now.vector.items < 4294967296 }
+    requires bounds { length plus.now.tight ≡ length minus.now.tight }
+    requires common { length so_far.old.common ≡ length plus.now.tight }
+    requires room { length plus.now.tight + 1 < 4294967296 }
+    requires below { F.value at_minus <ℚ zero_ℚ }
+    requires not_zero { norming (between (F.value at_plus) (F.value at_minus) (values F.value plus.now.vector.items) (values F.value minus.now.vector.items)) ≢ zero_ℚ }
+    ensures from { so_far.new.first_new ≡ so_far.old.first_new }
+    ensures bound { length so_far.new.common ≡ length so_far.old.common }
+    ensures ok { (rows : List (List ℚ)) → All (HasTightSet F.value rows) generators.now → HasTightSet F.value rows plus.now → HasTightSet F.value rows minus.now → OnOk result (IsTried F.value F.holds (is_uncovered_live rows (live_of F.value generators.now) (pair_of F.value plus.now minus.now)) plus.now minus.now (F.value at_plus) (F.value at_minus) so_far.old so_far.new) }
+    ensures left { (rows : List (List ℚ)) → All (HasTightSet F.value rows) generators.now → HasTightSet F.value rows plus.now → HasTightSet F.value rows minus.now → IfErr result (λ fault. IsPairFault F.value F.holds (is_uncovered_live rows (live_of F.value generators.now) (pair_of F.value plus.now minus.now)) (block_of F.value plus.now minus.now (F.value at_plus) (F.value at_minus)) fault) }
+{
+    so_far.common.set_meet(&plus.tight, &minus.tight);
+    if !is_uncovered(generators, plus, minus, &so_far.common, &mut so_far.last) {
+        return Ok(());
+    }
+    if so_far.first_new as usize + so_far.generators.len() > MOST_ITEMS {
+        return Err(DdFault::NoMemory);
+    }
+    let number = so_far.first_new + so_far.generators.len() as u32;
+    let generator = between_two(alloc, plus, minus, at_plus, at_minus, number)?;
+    so_far.generators.push(generator)?;
+    so_far.pairs.push(Pair {
+        plus: plus.number,
+        minus: minus.number,
+    })?;
+    Ok(())
+}
