@@ -1,3 +1,4 @@
 pub mod Covering
+pub mod MadePairs
 pub mod SignTests
 pub mod StepLists
