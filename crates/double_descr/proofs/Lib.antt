@@ -1,4 +1,5 @@
 pub mod Covering
 pub mod MadePairs
+pub mod NotZero
 pub mod SignTests
 pub mod StepLists

@@ -1,6 +1,8 @@
 -- The new generators of an addition, one opposite pair at a time.
 use Rattle.std.proofs.Common.{◌≡◌, ℕ, zero, suc, ◌+◌, ◌<◌, List, [], ◌∷◌, ◌++◌, map, length, filter, All, Contains, Bool, true, false, cond, refl, sym, ap, ap₂, ◌∙◌, subst, arith, append_assoc, get_or}
-use Rattle.std.proofs.lemmas.List.{map-append, length-map, append-nil}
+use Rattle.double_descr.proofs.NotZero.{meeting_not_zero}
+use Rattle.polyhedra.specs.DoubleDescription.{norming}
+use Rattle.std.proofs.lemmas.List.{get_or-map, map-append, length-map, append-nil}
 use Rattle.std.proofs.lemmas.List.Elements.{All-nil, All-cons, All-append}
 use Rattle.exact_field.specs.Rational.{ℚ, zero_ℚ, lt_ℚ, ◌<ℚ◌}
 use Rattle.exact_field.specs.Vector.{dot}
@@ -137,23 +139,57 @@ module _ {F : Type 0} (value : F → ℚ) (holds : ℚ → Bool) (n : ℕ) (rows
     }
 
 -- ---- the candidates
-pub negatives_at : (row : List ℚ) (p m : Numbered) (live live' : List Numbered) → live ≡ m ∷ live' → (b : Bool) → b ≡ lt_ℚ (dot row m.vector) zero_ℚ →
-    with_negatives row p live ≡ cond b (record { plus_side = p; minus_side = m } ∷ with_negatives row p live') (with_negatives row p live')
-negatives_at row p m live live' e b f = ap (with_negatives row p) e ∙ ap (λ c. map (λ k. record { plus_side = p; minus_side = k }) (cond c (m ∷ filter (λ g. lt_ℚ (dot row g.vector) zero_ℚ) live')
-    (filter (λ g. lt_ℚ (dot row g.vector) zero_ℚ) live'))) (sym f) ∙ go b
+pub negatives_at : (row : List ℚ) (p m : Numbered) (all all' : List Numbered) → all ≡ m ∷ all' → (b : Bool) → b ≡ lt_ℚ (dot row m.vector) zero_ℚ →
+    with_negatives row p all ≡ cond b (record { plus_side = p; minus_side = m } ∷ with_negatives row p all') (with_negatives row p all')
+negatives_at row p m all all' e b f = ap (with_negatives row p) e ∙ ap (λ c. map (λ k. record { plus_side = p; minus_side = k }) (cond c (m ∷ filter (λ g. lt_ℚ (dot row g.vector) zero_ℚ) all')
+    (filter (λ g. lt_ℚ (dot row g.vector) zero_ℚ) all'))) (sym f) ∙ go b
   where
-    go : (c : Bool) → map (λ k. record { plus_side = p; minus_side = k }) (cond c (m ∷ filter (λ g. lt_ℚ (dot row g.vector) zero_ℚ) live') (filter (λ g. lt_ℚ (dot row g.vector) zero_ℚ) live'))
-        ≡ cond c (record { plus_side = p; minus_side = m } ∷ with_negatives row p live') (with_negatives row p live')
+    go : (c : Bool) → map (λ k. record { plus_side = p; minus_side = k }) (cond c (m ∷ filter (λ g. lt_ℚ (dot row g.vector) zero_ℚ) all') (filter (λ g. lt_ℚ (dot row g.vector) zero_ℚ) all'))
+        ≡ cond c (record { plus_side = p; minus_side = m } ∷ with_negatives row p all') (with_negatives row p all')
     go true = refl
     go false = refl
 
 -- the candidates of all generators are the opposite pairs
-pub candidates_are : (row : List ℚ) (ps live : List Numbered) →
-    candidates row ps live ≡ products (filter (λ g. lt_ℚ zero_ℚ (dot row g.vector)) ps) (filter (λ g. lt_ℚ (dot row g.vector) zero_ℚ) live)
-candidates_are row [] live = refl
-candidates_are row (p ∷ ps) live = ap (λ l. candidates_of row p live ++ l) (candidates_are row ps live) ∙ go (lt_ℚ zero_ℚ (dot row p.vector))
+pub candidates_are : (row : List ℚ) (ps all : List Numbered) →
+    candidates row ps all ≡ products (filter (λ g. lt_ℚ zero_ℚ (dot row g.vector)) ps) (filter (λ g. lt_ℚ (dot row g.vector) zero_ℚ) all)
+candidates_are row [] all = refl
+candidates_are row (p ∷ ps) all = ap (λ l. candidates_of row p all ++ l) (candidates_are row ps all) ∙ go (lt_ℚ zero_ℚ (dot row p.vector))
   where
-    go : (c : Bool) → cond c (with_negatives row p live) [] ++ products (filter (λ g. lt_ℚ zero_ℚ (dot row g.vector)) ps) (filter (λ g. lt_ℚ (dot row g.vector) zero_ℚ) live)
-        ≡ products (cond c (p ∷ filter (λ g. lt_ℚ zero_ℚ (dot row g.vector)) ps) (filter (λ g. lt_ℚ zero_ℚ (dot row g.vector)) ps)) (filter (λ g. lt_ℚ (dot row g.vector) zero_ℚ) live)
+    go : (c : Bool) → cond c (with_negatives row p all) [] ++ products (filter (λ g. lt_ℚ zero_ℚ (dot row g.vector)) ps) (filter (λ g. lt_ℚ (dot row g.vector) zero_ℚ) all)
+        ≡ products (cond c (p ∷ filter (λ g. lt_ℚ zero_ℚ (dot row g.vector)) ps) (filter (λ g. lt_ℚ zero_ℚ (dot row g.vector)) ps)) (filter (λ g. lt_ℚ (dot row g.vector) zero_ℚ) all)
     go true = refl
     go false = refl
+
+-- ---- what an addition says of one generator and its value
+module _ {F : Type 0} (value : F → ℚ) (n : ℕ) (rows : List (List ℚ)) (row : List ℚ) (gens : List (Generator F)) (vals : List F)
+    (ctx : IsAddition value n rows row gens vals) where
+  pub wide_of : (p : Generator F) → Contains gens p → length p.vector.items ≡ n
+  wide_of p c = sym (length-map p.vector.items value) ∙ member_of (λ v. length v ≡ n) (vectors (live_of value gens)) (values value p.vector.items)
+      ctx.described.generators_wide.wide (Contains-map (λ (g : Numbered). g.vector) (live_of value gens) (numbered_of value p) (Contains-map (numbered_of value) gens p c))
+
+  pub bound_of : (p : Generator F) → Contains gens p → length p.tight ≡ length rows
+  bound_of p c = ap length (member_of (HasTightSet value rows) gens p ctx.tight c) ∙ length-map rows (λ r. is_zero (dot r (values value p.vector.items)))
+
+  pub value_of : (j : ℕ) (x : F) (g : Generator F) → j < length vals → j < length gens → x ≡ get_or vals j x → g ≡ get_or gens j g →
+      value x ≡ dot row (values value g.vector.items)
+  value_of j x g lv lg xe ge =
+      ap value xe ∙ sym (get_or-map value vals j x (value x) lv) ∙ ap (λ l. get_or l j (value x)) (ctx.at_row ∙ through gens)
+      ∙ get_or-map (λ (h : Generator F). dot row (values value h.vector.items)) gens j g (value x) lg ∙ sym (ap (λ (h : Generator F). dot row (values value h.vector.items)) ge)
+    where
+      through : (gs : List (Generator F)) → map (λ (h : Numbered). dot row h.vector) (live_of value gs) ≡ map (λ (h : Generator F). dot row (values value h.vector.items)) gs
+      through [] = refl
+      through (h ∷ gs) = ap (λ l. dot row (values value h.vector.items) ∷ l) (through gs)
+
+  -- a meeting point is not 0
+  pub norming_of : (p m : Generator F) (a b : ℚ) → Contains gens p → Contains gens m → a ≡ dot row (values value p.vector.items) → b ≡ dot row (values value m.vector.items) →
+      zero_ℚ <ℚ a → b <ℚ zero_ℚ → norming (between a b (values value p.vector.items) (values value m.vector.items)) ≡ zero_ℚ → ⊥
+  norming_of p m a b pc mc ae be up down e = meeting_not_zero n rows (vectors (live_of value gens)) row (values value p.vector.items) (values value m.vector.items) ctx.described
+      (listed p pc) (listed m mc) (subst (λ (x : ℚ). zero_ℚ <ℚ x) ae up) (subst (λ (x : ℚ). x <ℚ zero_ℚ) be down)
+      (ap₂ (λ x y. norming (between x y (values value p.vector.items) (values value m.vector.items))) (sym ae) (sym be) ∙ e)
+    where
+      listed : (g : Generator F) → Contains gens g → Contains (vectors (live_of value gens)) (values value g.vector.items)
+      listed g c = Contains-map (λ (h : Numbered). h.vector) (live_of value gens) (numbered_of value g) (Contains-map (numbered_of value) gens g c)
+
+pub candidates_at : (row : List ℚ) (p : Numbered) (ps ps' all : List Numbered) → ps ≡ p ∷ ps' → (b : Bool) → b ≡ lt_ℚ zero_ℚ (dot row p.vector) →
+    candidates row ps all ≡ cond b (with_negatives row p all) [] ++ candidates row ps' all
+candidates_at row p ps ps' all e b f = ap (λ l. candidates row l all) e ∙ ap (λ c. cond c (with_negatives row p all) [] ++ candidates row ps' all) (sym f)

@@ -14,7 +14,7 @@ use Rattle.polyhedra.proofs.Tests.{either_true, zero_of_test}
 use Rattle.exact_field.specs.Vector.{dot}
 use Rattle.polyhedra.proofs.Laws.{add_assoc}
 use Rattle.std.proofs.Common.{Result, Ok, Err}
-use Rattle.std.specs.Prelude.{IsErrAnd, IfOk, MatchResult}
+use Rattle.std.specs.Prelude.{IsErrAnd, IfOk, IfErr, OnOk, MatchResult}
 use Rattle.double_descr.specs.declared.steps.Stop.{Stop}
 use Rattle.double_descr.specs.Steps.{Runs, StopsAt, combination_steps, quotient_steps, multiple_steps, product_steps, term_steps, Step, exact, IsHeld, IsFirst, IsSoFar}
 use Rattle.polyhedra.proofs.Algebra.{zero_mul, mul_zero}
@@ -164,3 +164,16 @@ leading_here v v' x e h = sym (ap leading e ∙ ap (λ b. cond b (leading v') x)
 -- an element that was read
 pub listed : {A : Type 0} (P : A → Type 0) (xs : List A) (i : ℕ) (x : A) → All P xs → i < length xs → x ≡ slice_index_or xs i x → P x
 listed P xs i x h l e = member_of P xs x h (i, l, sym e)
+
+-- ---- answers that are handed on
+pub on_ok_map : {T E : Type 0} (r : Result T E) (P Q : Type 0) → OnOk r P → (P → Q) → OnOk r Q
+on_ok_map (Ok x) P Q h f = f h
+on_ok_map (Err e) P Q h f = tt
+
+pub if_err_map : {T E : Type 0} (r : Result T E) (P Q : E → Type 0) → IfErr r P → ((e : E) → P e → Q e) → IfErr r Q
+if_err_map (Ok x) P Q h f = tt
+if_err_map (Err e) P Q h f = f e h
+
+pub err_holds : {T E : Type 0} (r : Result T E) (s : E) (Q : E → Type 0) → IsErrAnd r (λ e. e ≡ s) → Q s → IfErr r Q
+err_holds (Ok x) s Q h q = tt
+err_holds (Err e) s Q h q = subst Q (sym h) q

@@ -1,6 +1,6 @@
 -- The new generators of an addition, made one opposite pair at a time.
-use Rattle.std.specs.Prelude.{ℕ, ◌+◌, ◌<◌, ◌≡◌, List, [], ◌∷◌, ◌++◌, map, length, filter, All, Bool, true, false, if◌then◌else◌}
-use Rattle.exact_field.specs.Rational.{ℚ, zero_ℚ, lt_ℚ}
+use Rattle.std.specs.Prelude.{ℕ, ◌+◌, ◌<◌, ◌≡◌, List, [], ◌∷◌, ◌++◌, map, length, filter, All, Contains, Bool, true, false, if◌then◌else◌}
+use Rattle.exact_field.specs.Rational.{ℚ, zero_ℚ, lt_ℚ, ◌<ℚ◌}
 use Rattle.exact_field.specs.Vector.{dot}
 use Rattle.polyhedra.specs.TightSets.{IsDoubleDescriptionPair}
 use Rattle.polyhedra.specs.DoubleDescription.{normed, made}
@@ -76,3 +76,11 @@ pub record IsMadeSoFar {F : Type 0} (value : F → ℚ) (holds : ℚ → Bool) (
   pub held : All (AreHeld holds) (map (pair_block row) done)
   pub from : m.first_new ≡ next
   pub bound : length m.common ≡ length rows
+
+-- a generator of an addition at which the row is positive, with its value
+pub record IsPlus {F : Type 0} (value : F → ℚ) (n : ℕ) (rows : List (List ℚ)) (row : List ℚ) (gens : List (Generator F)) (vals : List F)
+    (plus : Generator F) (at : F) : Type 0 where
+  pub addition : IsAddition value n rows row gens vals
+  pub listed : Contains gens plus
+  pub valued : value at ≡ dot row (values value plus.vector.items)
+  pub positive : zero_ℚ <ℚ value at

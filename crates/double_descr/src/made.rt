@@ -1,11 +1,11 @@
 //! The new generators of an addition.
-ghost use Rattle.std.specs.Prelude.{◌≡◌, ◌≢◌, ◌+◌, ◌<◌, ◌++◌, ℕ, List, All, Contains, IfErr, OnOk, length};
+ghost use Rattle.std.specs.Prelude.{◌≡◌, ◌≢◌, ◌+◌, ◌<◌, ◌++◌, ℕ, List, All, Contains, [], IfErr, OnOk, drop, length};
 ghost use Rattle.exact_field.specs.Rational.{ℚ, zero_ℚ, ◌<ℚ◌};
 ghost use Rattle.exact_field.specs.Vector.{dot};
 ghost use Rattle.polyhedra.specs.DoubleDescription.{norming};
 ghost use Rattle.polyhedra.specs.LiveList.{LivePair, is_uncovered_live, live_pairs};
 ghost use Rattle.double_descr.specs.Adding.{IsAddFault, block_of, pair_blocks};
-ghost use Rattle.double_descr.specs.Making.{IsAddition, IsMadeSoFar, IsPairFault, IsTried, candidates, candidates_of};
+ghost use Rattle.double_descr.specs.Making.{IsAddition, IsMadeSoFar, IsPairFault, IsPlus, IsTried, candidates, with_negatives};
 ghost use Rattle.double_descr.specs.State.{HasTightSet, live_of, numbered_of, pair_of};
 ghost use Rattle.double_descr.specs.Steps.{between, values};
 
@@ -69,5 +69,100 @@ fn try_pair<F: Field>(
         plus: plus.number,
         minus: minus.number,
     })?;
+    Ok(())
+}
+
+/// Makes the new generator of one generator, at which the row is positive, with generator `j`, if the row is negative there.
+fn try_minus<F: Field>(
+    alloc: Global,
+    generators: &[Generator<F>],
+    values: &[F],
+    plus: &Generator<F>,
+    at_plus: F,
+    j: usize,
+    so_far: &mut Made<F>,
+) -> Result<(), DdFault<F>>
+    requires plus { (n : ℕ) × (rows : List (List ℚ)) × (row : List ℚ) × IsPlus F.value n rows row generators.now values.now plus.now at_plus × (length so_far.old.common ≡ length rows) }
+    requires same { length values.now ≡ length generators.now }
+    requires inside { j < length generators.now }
+    ensures bound { length so_far.new.common ≡ length so_far.old.common }
+    ensures ok { (n next : ℕ) (rows : List (List ℚ)) (row : List ℚ) (left : List LivePair) → IsPlus F.value n rows row generators.now values.now plus.now at_plus → IsMadeSoFar F.value F.holds rows row (live_of F.value generators.now) next (with_negatives row (numbered_of F.value plus.now) (drop j (live_of F.value generators.now)) ++ left) so_far.old → OnOk result (IsMadeSoFar F.value F.holds rows row (live_of F.value generators.now) next (with_negatives row (numbered_of F.value plus.now) (drop (j + 1) (live_of F.value generators.now)) ++ left) so_far.new) }
+    ensures left { (n next : ℕ) (rows : List (List ℚ)) (row : List ℚ) (left : List LivePair) → IsPlus F.value n rows row generators.now values.now plus.now at_plus → IsMadeSoFar F.value F.holds rows row (live_of F.value generators.now) next (with_negatives row (numbered_of F.value plus.now) (drop j (live_of F.value generators.now)) ++ left) so_far.old → IfErr result (λ fault. IsAddFault F.value F.holds (pair_blocks rows (live_of F.value generators.now) row) fault) }
+{
+    let at_minus = values[j];
+    if !is_below(at_minus) {
+        return Ok(());
+    }
+    try_pair(
+        alloc,
+        generators,
+        plus,
+        &generators[j],
+        at_plus,
+        at_minus,
+        so_far,
+    )
+}
+
+/// Makes the new generators of one generator at which the row is positive, with each at which it is negative.
+fn meet_with<F: Field>(
+    alloc: Global,
+    generators: &[Generator<F>],
+    values: &[F],
+    plus: &Generator<F>,
+    at_plus: F,
+    so_far: &mut Made<F>,
+) -> Result<(), DdFault<F>>
+    requires plus { (n : ℕ) × (rows : List (List ℚ)) × (row : List ℚ) × IsPlus F.value n rows row generators.now values.now plus.now at_plus × (length so_far.old.common ≡ length rows) }
+    requires same { length values.now ≡ length generators.now }
+    ensures bound { length so_far.new.common ≡ length so_far.old.common }
+    ensures ok { (n next : ℕ) (rows : List (List ℚ)) (row : List ℚ) (left : List LivePair) → IsPlus F.value n rows row generators.now values.now plus.now at_plus → IsMadeSoFar F.value F.holds rows row (live_of F.value generators.now) next (with_negatives row (numbered_of F.value plus.now) (live_of F.value generators.now) ++ left) so_far.old → OnOk result (IsMadeSoFar F.value F.holds rows row (live_of F.value generators.now) next left so_far.new) }
+    ensures left { (n next : ℕ) (rows : List (List ℚ)) (row : List ℚ) (left : List LivePair) → IsPlus F.value n rows row generators.now values.now plus.now at_plus → IsMadeSoFar F.value F.holds rows row (live_of F.value generators.now) next (with_negatives row (numbered_of F.value plus.now) (live_of F.value generators.now) ++ left) so_far.old → IfErr result (λ fault. IsAddFault F.value F.holds (pair_blocks rows (live_of F.value generators.now) row) fault) }
+{
+    for j in 0..generators.len() {
+        try_minus(alloc, generators, values, plus, at_plus, j, so_far)?;
+    }
+    Ok(())
+}
+
+/// Makes the new generators of generator `i`, if the row is positive there.
+fn try_plus<F: Field>(
+    alloc: Global,
+    generators: &[Generator<F>],
+    values: &[F],
+    i: usize,
+    so_far: &mut Made<F>,
+) -> Result<(), DdFault<F>>
+    requires addition { (n : ℕ) × (rows : List (List ℚ)) × (row : List ℚ) × IsAddition F.value n rows row generators.now values.now × (length so_far.old.common ≡ length rows) }
+    requires same { length values.now ≡ length generators.now }
+    requires inside { i < length generators.now }
+    ensures bound { length so_far.new.common ≡ length so_far.old.common }
+    ensures ok { (n next : ℕ) (rows : List (List ℚ)) (row : List ℚ) → IsAddition F.value n rows row generators.now values.now → IsMadeSoFar F.value F.holds rows row (live_of F.value generators.now) next (candidates row (drop i (live_of F.value generators.now)) (live_of F.value generators.now)) so_far.old → OnOk result (IsMadeSoFar F.value F.holds rows row (live_of F.value generators.now) next (candidates row (drop (i + 1) (live_of F.value generators.now)) (live_of F.value generators.now)) so_far.new) }
+    ensures left { (n next : ℕ) (rows : List (List ℚ)) (row : List ℚ) → IsAddition F.value n rows row generators.now values.now → IsMadeSoFar F.value F.holds rows row (live_of F.value generators.now) next (candidates row (drop i (live_of F.value generators.now)) (live_of F.value generators.now)) so_far.old → IfErr result (λ fault. IsAddFault F.value F.holds (pair_blocks rows (live_of F.value generators.now) row) fault) }
+{
+    let plus = &generators[i];
+    let at_plus = values[i];
+    if !is_above(at_plus) {
+        return Ok(());
+    }
+    meet_with(alloc, generators, values, plus, at_plus, so_far)
+}
+
+/// Makes all new generators of an addition, from the values of the row at the live generators. The cost is at the worst that
+/// of the opposite pairs times the live generators times the words of a tight set; most scans stop early.
+pub fn meet_all<F: Field>(
+    alloc: Global,
+    generators: &[Generator<F>],
+    values: &[F],
+    so_far: &mut Made<F>,
+) -> Result<(), DdFault<F>>
+    requires addition { (n : ℕ) × (rows : List (List ℚ)) × (row : List ℚ) × IsAddition F.value n rows row generators.now values.now × (length so_far.old.common ≡ length rows) }
+    requires same { length values.now ≡ length generators.now }
+    ensures ok { (n next : ℕ) (rows : List (List ℚ)) (row : List ℚ) → IsAddition F.value n rows row generators.now values.now → IsMadeSoFar F.value F.holds rows row (live_of F.value generators.now) next (candidates row (live_of F.value generators.now) (live_of F.value generators.now)) so_far.old → OnOk result (IsMadeSoFar F.value F.holds rows row (live_of F.value generators.now) next [] so_far.new) }
+    ensures left { (n next : ℕ) (rows : List (List ℚ)) (row : List ℚ) → IsAddition F.value n rows row generators.now values.now → IsMadeSoFar F.value F.holds rows row (live_of F.value generators.now) next (candidates row (live_of F.value generators.now) (live_of F.value generators.now)) so_far.old → IfErr result (λ fault. IsAddFault F.value F.holds (pair_blocks rows (live_of F.value generators.now) row) fault) }
+{
+    for i in 0..generators.len() {
+        try_plus(alloc, generators, values, i, so_far)?;
+    }
     Ok(())
 }

@@ -16,8 +16,11 @@ returns-clause-ok g c = λ rows all a b.
       pair = c.in_ok-push-2.ensures.ok;
       generator = c.in_ok-generator.generator;
       added = c.in_ok-push.ensures.ok;
-      is = c.in_ok-generator.ensures.new ∙ ap (λ n. record { number = n; vector = normed (between (value c.args.at_plus) (value c.args.at_minus)
-          (values value c.args.plus.now.vector.items) (values value c.args.minus.now.vector.items)) }) (ap (λ n. c.args.so_far.now.first_new + n) c.len-2.ensures.value);
+      is = c.in_ok-generator.ensures.new ∙ ap (λ n. record {
+        number = n;
+        vector = normed (between (value c.args.at_plus) (value c.args.at_minus)
+            (values value c.args.plus.now.vector.items) (values value c.args.minus.now.vector.items));
+      }) (ap (λ n. c.args.so_far.now.first_new + n) c.len-2.ensures.value);
       common = c.in_ok-generator.ensures.tight.0;
       meet = c.in_ok-generator.ensures.tight.1;
       tight = c.in_ok-generator.ensures.tight.2;
