@@ -1,12 +1,13 @@
 -- What a double description holds: the rows in their order, and the live generators under their numbers.
-use Rattle.std.specs.Prelude.{ℕ, List, ◌≡◌, map, All, Bool, not, ◌||◌, nat_eq, refl, [], ◌∷◌}
+use Rattle.std.specs.Prelude.{ℕ, ◌<◌, List, ◌≡◌, map, All, Bool, not, ◌||◌, nat_eq, refl, [], ◌∷◌}
 use Rattle.std.specs.Coded.{Coded, code_by, coded×, coded_ℕ, coded_list}
 use Rattle.std.proofs.Common.{ap, ap₂}
 use Rattle.std.specs.declared.alloc.Global.{Global}
 use Rattle.exact_field.specs.Rational.{ℚ, coded_ℚ}
 use Rattle.exact_field.specs.Vector.{dot}
 use Rattle.polyhedra.specs.DoubleDescription.{is_zero, covers}
-use Rattle.polyhedra.specs.LiveList.{Numbered, LiveList, LivePair}
+use Rattle.polyhedra.specs.LiveList.{Numbered, LiveList, LivePair, numbers}
+use Rattle.polyhedra.specs.LiveSteps.{IsLive}
 use Rattle.double_descr.specs.Steps.{values}
 use Rattle.double_descr.specs.declared.generator.Generator.{Generator}
 
@@ -49,3 +50,10 @@ pair_of value p m = record { plus_side = numbered_of value p; minus_side = numbe
 abbrev pub third_test : List (List ℚ) → LivePair → Numbered → Bool
 third_test rows pair g = nat_eq g.number pair.plus_side.number || nat_eq g.number pair.minus_side.number
     || not (covers rows pair.plus_side.vector pair.minus_side.vector g.vector)
+
+-- what a double description keeps: the live list of its rows, with the numbers as a list of their own and the tight sets
+pub record IsKept {F : Type 0} (value : F → ℚ) (width : ℕ) (rows : List (List F)) (nums : List ℕ) (gens : List (Generator F)) (next : ℕ) : Type 0 where
+  pub live : IsLive width (map (values value) rows) (record { live = live_of value gens; next = next })
+  pub numbers_are : nums ≡ numbers (live_of value gens)
+  pub tight : All (HasTightSet value (map (values value) rows)) gens
+  pub narrow : width < 4294967296

@@ -1,6 +1,7 @@
 //! Double description: the generators of the cone of rows, kept by one row at a time.
 #![tactic(auto)]
 
+mod dd;
 mod fault;
 mod generator;
 mod made;
@@ -9,4 +10,5 @@ mod points;
 mod signs;
 mod steps;
 
+pub use dd::Dd;
 pub use fault::{Change, DdFault, Pair};
