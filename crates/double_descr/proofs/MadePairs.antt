@@ -4,18 +4,18 @@ use Rattle.double_descr.proofs.NotZero.{meeting_not_zero}
 use Rattle.polyhedra.specs.DoubleDescription.{norming}
 use Rattle.std.proofs.lemmas.List.{get_or-map, map-append, length-map, append-nil}
 use Rattle.std.proofs.lemmas.List.Elements.{All-nil, All-cons, All-append}
-use Rattle.exact_field.specs.Rational.{ℚ, zero_ℚ, lt_ℚ, ◌<ℚ◌}
+use Rattle.exact_field.specs.Rational.{ℚ, zero_ℚ, le_ℚ, lt_ℚ, ◌<ℚ◌}
 use Rattle.exact_field.specs.Vector.{dot}
 use Rattle.incid_sets.specs.Marks.{IsMeet}
 use Rattle.polyhedra.specs.TightSets.{IsTight, IsDoubleDescriptionPair}
 use Rattle.polyhedra.specs.DoubleDescription.{is_zero, normed, made, meeting}
 use Rattle.polyhedra.specs.Generators.{IsTightAtBoth}
-use Rattle.polyhedra.specs.LiveList.{Numbered, LivePair, vectors, numbered, products, without_numbers, is_uncovered_live, live_pairs}
+use Rattle.polyhedra.specs.LiveList.{staying, dropped, Numbered, LivePair, vectors, numbered, products, without_numbers, is_uncovered_live, live_pairs}
 use Rattle.polyhedra.proofs.Generators.{tight_at_meeting}
 use Rattle.polyhedra.proofs.Members.{member_of, Contains-map}
 use Rattle.double_descr.specs.Steps.{values, between}
 use Rattle.double_descr.specs.State.{numbered_of, live_of, pair_of, HasTightSet, tight_set}
-use Rattle.double_descr.specs.Adding.{Block, AreHeld, IsFault, IsFirstIn, IsAddFault, block_of, pair_block, pair_blocks}
+use Rattle.double_descr.specs.Adding.{Block, AreHeld, IsFault, IsFirstIn, IsAddFault, value_block, block_of, pair_block, pair_blocks}
 use Rattle.double_descr.specs.Making.{IsAddition, with_negatives, candidates_of, candidates, AddsPair, IsTried, IsPairFault, pair_numbers, live_numbers, IsMadeSoFar}
 use Rattle.double_descr.specs.declared.generator.Generator.{Generator}
 use Rattle.double_descr.specs.declared.made.Made.{Made}
@@ -193,3 +193,44 @@ module _ {F : Type 0} (value : F → ℚ) (n : ℕ) (rows : List (List ℚ)) (ro
 pub candidates_at : (row : List ℚ) (p : Numbered) (ps ps' all : List Numbered) → ps ≡ p ∷ ps' → (b : Bool) → b ≡ lt_ℚ zero_ℚ (dot row p.vector) →
     candidates row ps all ≡ cond b (with_negatives row p all) [] ++ candidates row ps' all
 candidates_at row p ps ps' all e b f = ap (λ l. candidates row l all) e ∙ ap (λ c. cond c (with_negatives row p all) [] ++ candidates row ps' all) (sym f)
+
+-- ---- lists that are made from the front
+pub value_at_index : {F : Type 0} (value : F → ℚ) (row : List ℚ) (gens : List (Generator F)) (vals : List F) →
+    map value vals ≡ map (λ (h : Numbered). dot row h.vector) (live_of value gens) → (j : ℕ) (x : F) (g : Generator F) → j < length vals → j < length gens →
+    x ≡ get_or vals j x → g ≡ get_or gens j g → value x ≡ dot row (values value g.vector.items)
+value_at_index {F} value row gens vals at j x g lv lg xe ge =
+    ap value xe ∙ sym (get_or-map value vals j x (value x) lv) ∙ ap (λ l. get_or l j (value x)) (at ∙ through gens)
+    ∙ get_or-map (λ (h : Generator F). dot row (values value h.vector.items)) gens j g (value x) lg ∙ sym (ap (λ (h : Generator F). dot row (values value h.vector.items)) ge)
+  where
+    through : (gs : List (Generator F)) → map (λ (h : Numbered). dot row h.vector) (live_of value gs) ≡ map (λ (h : Generator F). dot row (values value h.vector.items)) gs
+    through [] = refl
+    through (h ∷ gs) = ap (λ l. dot row (values value h.vector.items) ∷ l) (through gs)
+
+filter_one : {X : Type 0} (t : X → Bool) (x : X) (xs : List X) → filter t (x ∷ []) ++ filter t xs ≡ filter t (x ∷ xs)
+filter_one t x xs = go (t x)
+  where
+    go : (b : Bool) → cond b (x ∷ []) [] ++ filter t xs ≡ cond b (x ∷ filter t xs) (filter t xs)
+    go true = refl
+    go false = refl
+
+pub staying_on : (row : List ℚ) (m : Numbered) (rest rest' old new whole : List Numbered) → rest ≡ m ∷ rest' → new ≡ old ++ staying row (m ∷ []) →
+    old ++ staying row rest ≡ whole → new ++ staying row rest' ≡ whole
+staying_on row m rest rest' old new whole e n h = ap (λ l. l ++ staying row rest') n ∙ append_assoc old (staying row (m ∷ [])) (staying row rest')
+    ∙ ap (λ l. old ++ l) (filter_one (λ g. le_ℚ zero_ℚ (dot row g.vector)) m rest' ∙ ap (staying row) (sym e)) ∙ h
+
+pub dropped_on : (row : List ℚ) (m : Numbered) (rest rest' : List Numbered) (old new whole : List ℕ) → rest ≡ m ∷ rest' → new ≡ old ++ dropped row (m ∷ []) →
+    old ++ dropped row rest ≡ whole → new ++ dropped row rest' ≡ whole
+dropped_on row m rest rest' old new whole e n h = ap (λ l. l ++ dropped row rest') n ∙ append_assoc old (dropped row (m ∷ [])) (dropped row rest')
+    ∙ ap (λ l. old ++ l) (sym (map-append (λ (g : Numbered). g.number) (filter (λ g. lt_ℚ (dot row g.vector) zero_ℚ) (m ∷ [])) (filter (λ g. lt_ℚ (dot row g.vector) zero_ℚ) rest'))
+    ∙ ap (map (λ (g : Numbered). g.number)) (filter_one (λ g. lt_ℚ (dot row g.vector) zero_ℚ) m rest') ∙ ap (dropped row) (sym e)) ∙ h
+
+-- the first block that is given up
+pub fault_at : {F : Type 0} (value : F → ℚ) (holds : ℚ → Bool) (blocks before after : List Block) (block : Block) (fault : DdFault F) → blocks ≡ before ++ block ∷ after →
+    All (AreHeld holds) before → IsFault value holds block fault → IsAddFault value holds blocks fault
+fault_at value holds blocks before after block NoMemory e h k = tt
+fault_at value holds blocks before after block (Stuck first second step left) e h k = record { before = before; block = block; after = after; split = e; held = h; here = k }
+
+-- one more block is held
+pub block_on : (row : List ℚ) (m : Numbered) (rest rest' : List Numbered) (whole done : List Block) → rest ≡ m ∷ rest' → whole ≡ done ++ map (value_block row) rest →
+    whole ≡ (done ++ value_block row m ∷ []) ++ map (value_block row) rest'
+block_on row m rest rest' whole done e h = h ∙ ap (λ l. done ++ map (value_block row) l) e ∙ sym (append_assoc done (value_block row m ∷ []) (map (value_block row) rest'))

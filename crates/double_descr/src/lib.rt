@@ -6,6 +6,7 @@ mod fault;
 mod generator;
 mod made;
 mod pairs;
+mod parts;
 mod points;
 mod signs;
 mod steps;

@@ -1,0 +1,20 @@
+use Rattle.std.proofs.Common.{◌≡◌, ℕ, ◌*◌, ◌+◌, ◌-◌, ◌<◌, ◌≤◌, Bool, true, false, List, [], ◌∷◌, ◌++◌, length, map, drop, All, Contains, refl, sym, ap, ap₂, ◌∙◌, subst, arith, min, cond, slice_index_or}
+use Rattle.std.proofs.lemmas.List.{drop_all, length-map}
+use Rattle.exact_field.specs.Rational.{ℚ, zero_ℚ, lt_ℚ, ◌<ℚ◌}
+use Rattle.exact_field.specs.Vector.{dot}
+use Rattle.polyhedra.specs.LiveList.{Numbered, dropped, staying}
+use Rattle.double_descr.specs.Steps.{values}
+use Rattle.double_descr.specs.State.{HasTightSet, live_of, numbered_of}
+use Rattle.double_descr.specs.Adding.{AreHeld, Block, value_block}
+use Rattle.double_descr.proofs.parts.keep_all.Given as goal
+
+abbrev pub invariant-loop-i : goal.invariant-loop-i
+invariant-loop-i g l =
+    let value = g.F.Field.value in
+    let live = live_of value l.generators in
+    record {
+      stays : (row : List ℚ) → map value l.vals ≡ map (λ (h : Numbered). dot row h.vector) live → live_of value l.stays ++ staying row (drop l.i live) ≡ staying row live;
+      gone : (row : List ℚ) → map value l.vals ≡ map (λ (h : Numbered). dot row h.vector) live → l.gone ++ dropped row (drop l.i live) ≡ dropped row live;
+      tight : (rows : List (List ℚ)) (row : List ℚ) → map value l.vals ≡ map (λ (h : Numbered). dot row h.vector) live → All (HasTightSet value rows) l.generators →
+          All (HasTightSet value (rows ++ row ∷ [])) l.stays;
+    }
