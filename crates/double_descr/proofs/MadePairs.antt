@@ -34,7 +34,7 @@ numbered_push k [] v = ap (λ n. record { number = n; vector = v } ∷ []) (let 
 numbered_push k (w ∷ vs) v = ap (λ l. record { number = k; vector = w } ∷ l) (numbered_push (suc k) vs v
     ∙ ap (λ n. numbered (suc k) vs ++ record { number = n; vector = v } ∷ []) (let e : suc k + length vs ≡ k + suc (length vs) = omega arith in e))
 
-module _ {F : Type 0} (value : F → ℚ) (holds : ℚ → Bool) (n : ℕ) (rows : List (List ℚ)) (row : List ℚ) (gens : List (Generator F)) (vals : List F) (next : ℕ)
+module _ {F : Type 0} (value : F → ℚ) (holds : ℚ → Bool) (n : ℕ) (rows : List (List ℚ)) (row : List ℚ) (gens : List (Generator F)) (vals : List F) (kept : List Numbered) (next : ℕ)
     (ctx : IsAddition value n rows row gens vals) where
   live : List Numbered
   live = live_of value gens
@@ -69,9 +69,9 @@ module _ {F : Type 0} (value : F → ℚ) (holds : ℚ → Bool) (n : ℕ) (rows
     same_point : normed (between a b (values value p.vector.items) (values value m.vector.items)) ≡ normed (meeting row (values value p.vector.items) (values value m.vector.items))
     same_point = ap₂ (λ x y. normed (between x y (values value p.vector.items) (values value m.vector.items))) ae be
 
-    taken : IsMadeSoFar value holds rows row (live_of value gens) next (pair_of value p m ∷ todo) old → is_uncovered_live rows (live_of value gens) (pair_of value p m) ≡ true →
+    taken : IsMadeSoFar value holds rows row (live_of value gens) kept next (pair_of value p m ∷ todo) old → is_uncovered_live rows (live_of value gens) (pair_of value p m) ≡ true →
         AddsPair value holds p m a b old new → new.first_new ≡ old.first_new → length new.common ≡ length old.common →
-        IsMadeSoFar value holds rows row (live_of value gens) next todo new
+        IsMadeSoFar value holds rows row (live_of value gens) kept next todo new
     taken h e t from bound = record {
       done = h.done ++ pair_of value p m ∷ [];
       split = h.split ∙ ap (λ c. h.done ++ cond c (pair_of value p m ∷ filter (is_uncovered_live rows (live_of value gens)) todo) (filter (is_uncovered_live rows (live_of value gens)) todo)) e
@@ -80,9 +80,10 @@ module _ {F : Type 0} (value : F → ℚ) (holds : ℚ → Bool) (n : ℕ) (rows
           ∙ ap (λ l. l ++ live_numbers (pair_of value p m) ∷ []) h.pairs_are ∙ sym (map-append live_numbers h.done (pair_of value p m ∷ []));
       new_are = ap (live_of value) t.added ∙ map-append (numbered_of value) old.generators (t.generator ∷ [])
           ∙ ap₂ (λ l g. l ++ g ∷ []) h.new_are (t.is ∙ ap₂ (λ k v. record { number = k; vector = v }) number same_point)
-          ∙ sym (numbered_push next (made row (map without_numbers h.done)) (normed (meeting row (values value p.vector.items) (values value m.vector.items))))
+          ∙ append_assoc kept (numbered next (made row (map without_numbers h.done))) (record { number = next + length (made row (map without_numbers h.done)); vector = normed (meeting row (values value p.vector.items) (values value m.vector.items)) } ∷ [])
+          ∙ ap (λ l. kept ++ l) (sym (numbered_push next (made row (map without_numbers h.done)) (normed (meeting row (values value p.vector.items) (values value m.vector.items))))
           ∙ ap (numbered next) (sym (ap (made row) (map-append without_numbers h.done (pair_of value p m ∷ []))
-          ∙ map-append (λ q. normed (meeting row q.plus_side q.minus_side)) (map without_numbers h.done) (without_numbers (pair_of value p m) ∷ [])));
+          ∙ map-append (λ q. normed (meeting row q.plus_side q.minus_side)) (map without_numbers h.done) (without_numbers (pair_of value p m) ∷ []))));
       tight = subst (λ (gs : List (Generator F)). All (HasTightSet value (rows ++ row ∷ [])) gs) (sym t.added)
           (All-append (HasTightSet value (rows ++ row ∷ [])) old.generators (t.generator ∷ []) h.tight
           (All-cons (HasTightSet value (rows ++ row ∷ [])) t.generator []
@@ -96,12 +97,13 @@ module _ {F : Type 0} (value : F → ℚ) (holds : ℚ → Bool) (n : ℕ) (rows
       bound = bound ∙ h.bound;
     }
       where
-        number : old.first_new + length old.generators ≡ next + length (made row (map without_numbers h.done))
-        number = ap₂ (λ x y. x + y) h.from (sym (length-map old.generators (numbered_of value)) ∙ ap length h.new_are ∙ length-numbered next (made row (map without_numbers h.done)))
+        number : old.first_new + length old.pairs ≡ next + length (made row (map without_numbers h.done))
+        number = ap₂ (λ x y. x + y) h.from (sym (length-map old.pairs pair_numbers) ∙ ap length h.pairs_are ∙ length-map h.done live_numbers
+            ∙ sym (length-map (map without_numbers h.done) (λ q. normed (meeting row q.plus_side q.minus_side)) ∙ length-map h.done without_numbers))
 
-    passed : IsMadeSoFar value holds rows row (live_of value gens) next (pair_of value p m ∷ todo) old → is_uncovered_live rows (live_of value gens) (pair_of value p m) ≡ false →
+    passed : IsMadeSoFar value holds rows row (live_of value gens) kept next (pair_of value p m ∷ todo) old → is_uncovered_live rows (live_of value gens) (pair_of value p m) ≡ false →
         (new.pairs ≡ old.pairs) × (new.generators ≡ old.generators) → new.first_new ≡ old.first_new → length new.common ≡ length old.common →
-        IsMadeSoFar value holds rows row (live_of value gens) next todo new
+        IsMadeSoFar value holds rows row (live_of value gens) kept next todo new
     passed h e t from bound = record {
       done = h.done;
       split = h.split ∙ ap (λ c. h.done ++ cond c (pair_of value p m ∷ filter (is_uncovered_live rows (live_of value gens)) todo) (filter (is_uncovered_live rows (live_of value gens)) todo)) e;
@@ -113,18 +115,18 @@ module _ {F : Type 0} (value : F → ℚ) (holds : ℚ → Bool) (n : ℕ) (rows
       bound = bound ∙ h.bound;
     }
 
-    pub tried : IsMadeSoFar value holds rows row (live_of value gens) next (pair_of value p m ∷ todo) old →
+    pub tried : IsMadeSoFar value holds rows row (live_of value gens) kept next (pair_of value p m ∷ todo) old →
         IsTried value holds (is_uncovered_live rows (live_of value gens) (pair_of value p m)) p m a b old new → new.first_new ≡ old.first_new →
-        length new.common ≡ length old.common → IsMadeSoFar value holds rows row (live_of value gens) next todo new
+        length new.common ≡ length old.common → IsMadeSoFar value holds rows row (live_of value gens) kept next todo new
     tried h t from bound = go (is_uncovered_live rows (live_of value gens) (pair_of value p m)) refl t
       where
         go : (u : Bool) → is_uncovered_live rows (live_of value gens) (pair_of value p m) ≡ u → IsTried value holds u p m a b old new →
-            IsMadeSoFar value holds rows row (live_of value gens) next todo new
+            IsMadeSoFar value holds rows row (live_of value gens) kept next todo new
         go true e k = taken h e k from bound
         go false e k = passed h e k from bound
 
     -- where the pair was given up, it is the first block with a step that is not held
-    pub tried_fault : IsMadeSoFar value holds rows row (live_of value gens) next (pair_of value p m ∷ todo) old → (fault : DdFault F) →
+    pub tried_fault : IsMadeSoFar value holds rows row (live_of value gens) kept next (pair_of value p m ∷ todo) old → (fault : DdFault F) →
         IsPairFault value holds (is_uncovered_live rows (live_of value gens) (pair_of value p m)) (block_of value p m a b) fault →
         IsAddFault value holds (pair_blocks rows (live_of value gens) row) fault
     tried_fault h NoMemory k = tt

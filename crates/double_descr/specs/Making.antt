@@ -41,7 +41,7 @@ pub record AddsPair {F : Type 0} (value : F → ℚ) (holds : ℚ → Bool) (p m
   pub generator : Generator F
   pub added : new.generators ≡ old.generators ++ generator ∷ []
   pub is : numbered_of value generator ≡ record {
-    number = old.first_new + length old.generators;
+    number = old.first_new + length old.pairs;
     vector = normed (between a b (values value p.vector.items) (values value m.vector.items));
   }
   pub common : List Bool
@@ -65,13 +65,13 @@ pair_numbers p = (p.plus, p.minus)
 abbrev pub live_numbers : LivePair → ℕ × ℕ
 live_numbers pair = (pair.plus_side.number, pair.minus_side.number)
 
--- of all pairs some are made, and the candidates that are left give the others
-pub record IsMadeSoFar {F : Type 0} (value : F → ℚ) (holds : ℚ → Bool) (rows : List (List ℚ)) (row : List ℚ) (live : List Numbered) (next : ℕ)
+-- of all pairs some are made, behind the generators that stay, and the candidates that are left give the others
+pub record IsMadeSoFar {F : Type 0} (value : F → ℚ) (holds : ℚ → Bool) (rows : List (List ℚ)) (row : List ℚ) (live kept : List Numbered) (next : ℕ)
     (left : List LivePair) (m : Made F) : Type 0 where
   pub done : List LivePair
   pub split : live_pairs rows live row ≡ done ++ filter (is_uncovered_live rows live) left
   pub pairs_are : map pair_numbers m.pairs ≡ map live_numbers done
-  pub new_are : live_of value m.generators ≡ numbered next (made row (map without_numbers done))
+  pub new_are : live_of value m.generators ≡ kept ++ numbered next (made row (map without_numbers done))
   pub tight : All (HasTightSet value (rows ++ row ∷ [])) m.generators
   pub held : All (AreHeld holds) (map (pair_block row) done)
   pub from : m.first_new ≡ next

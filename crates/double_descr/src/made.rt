@@ -3,7 +3,7 @@ ghost use Rattle.std.specs.Prelude.{◌≡◌, ◌≢◌, ◌+◌, ◌<◌, ◌+
 ghost use Rattle.exact_field.specs.Rational.{ℚ, zero_ℚ, ◌<ℚ◌};
 ghost use Rattle.exact_field.specs.Vector.{dot};
 ghost use Rattle.polyhedra.specs.DoubleDescription.{norming};
-ghost use Rattle.polyhedra.specs.LiveList.{LivePair, is_uncovered_live, live_pairs};
+ghost use Rattle.polyhedra.specs.LiveList.{LivePair, Numbered, is_uncovered_live, live_pairs};
 ghost use Rattle.double_descr.specs.Adding.{IsAddFault, block_of, pair_blocks};
 ghost use Rattle.double_descr.specs.Making.{IsAddition, IsMadeSoFar, IsPairFault, IsPlus, IsTried, candidates, with_negatives};
 ghost use Rattle.double_descr.specs.State.{HasTightSet, live_of, numbered_of, pair_of};
@@ -23,7 +23,7 @@ use std::alloc::Global;
 pub struct Made<F: Drop> {
     /// The pairs.
     pub pairs: Items<Pair>,
-    /// A new generator for each pair.
+    /// The generators that stay, and then a new one for each pair.
     pub generators: Items<Generator<F>>,
     /// Where the common tight rows of a pair are written.
     pub common: Marks,
@@ -59,10 +59,10 @@ fn try_pair<F: Field>(
     if !is_uncovered(generators, plus, minus, &so_far.common, &mut so_far.last) {
         return Ok(());
     }
-    if so_far.first_new as usize + so_far.generators.len() > MOST_ITEMS {
+    if so_far.first_new as usize + so_far.pairs.len() > MOST_ITEMS {
         return Err(DdFault::NoMemory);
     }
-    let number = so_far.first_new + so_far.generators.len() as u32;
+    let number = so_far.first_new + so_far.pairs.len() as u32;
     let generator = between_two(alloc, plus, minus, at_plus, at_minus, number)?;
     so_far.generators.push(generator)?;
     so_far.pairs.push(Pair {
@@ -86,8 +86,8 @@ fn try_minus<F: Field>(
     requires same { length values.now ≡ length generators.now }
     requires inside { j < length generators.now }
     ensures bound { length so_far.new.common ≡ length so_far.old.common }
-    ensures ok { (n next : ℕ) (rows : List (List ℚ)) (row : List ℚ) (left : List LivePair) → IsPlus F.value n rows row generators.now values.now plus.now at_plus → IsMadeSoFar F.value F.holds rows row (live_of F.value generators.now) next (with_negatives row (numbered_of F.value plus.now) (drop j (live_of F.value generators.now)) ++ left) so_far.old → OnOk result (IsMadeSoFar F.value F.holds rows row (live_of F.value generators.now) next (with_negatives row (numbered_of F.value plus.now) (drop (j + 1) (live_of F.value generators.now)) ++ left) so_far.new) }
-    ensures left { (n next : ℕ) (rows : List (List ℚ)) (row : List ℚ) (left : List LivePair) → IsPlus F.value n rows row generators.now values.now plus.now at_plus → IsMadeSoFar F.value F.holds rows row (live_of F.value generators.now) next (with_negatives row (numbered_of F.value plus.now) (drop j (live_of F.value generators.now)) ++ left) so_far.old → IfErr result (λ fault. IsAddFault F.value F.holds (pair_blocks rows (live_of F.value generators.now) row) fault) }
+    ensures ok { (kept : List Numbered) (n next : ℕ) (rows : List (List ℚ)) (row : List ℚ) (left : List LivePair) → IsPlus F.value n rows row generators.now values.now plus.now at_plus → IsMadeSoFar F.value F.holds rows row (live_of F.value generators.now) kept next (with_negatives row (numbered_of F.value plus.now) (drop j (live_of F.value generators.now)) ++ left) so_far.old → OnOk result (IsMadeSoFar F.value F.holds rows row (live_of F.value generators.now) kept next (with_negatives row (numbered_of F.value plus.now) (drop (j + 1) (live_of F.value generators.now)) ++ left) so_far.new) }
+    ensures left { (kept : List Numbered) (n next : ℕ) (rows : List (List ℚ)) (row : List ℚ) (left : List LivePair) → IsPlus F.value n rows row generators.now values.now plus.now at_plus → IsMadeSoFar F.value F.holds rows row (live_of F.value generators.now) kept next (with_negatives row (numbered_of F.value plus.now) (drop j (live_of F.value generators.now)) ++ left) so_far.old → IfErr result (λ fault. IsAddFault F.value F.holds (pair_blocks rows (live_of F.value generators.now) row) fault) }
 {
     let at_minus = values[j];
     if !is_below(at_minus) {
@@ -116,8 +116,8 @@ fn meet_with<F: Field>(
     requires plus { (n : ℕ) × (rows : List (List ℚ)) × (row : List ℚ) × IsPlus F.value n rows row generators.now values.now plus.now at_plus × (length so_far.old.common ≡ length rows) }
     requires same { length values.now ≡ length generators.now }
     ensures bound { length so_far.new.common ≡ length so_far.old.common }
-    ensures ok { (n next : ℕ) (rows : List (List ℚ)) (row : List ℚ) (left : List LivePair) → IsPlus F.value n rows row generators.now values.now plus.now at_plus → IsMadeSoFar F.value F.holds rows row (live_of F.value generators.now) next (with_negatives row (numbered_of F.value plus.now) (live_of F.value generators.now) ++ left) so_far.old → OnOk result (IsMadeSoFar F.value F.holds rows row (live_of F.value generators.now) next left so_far.new) }
-    ensures left { (n next : ℕ) (rows : List (List ℚ)) (row : List ℚ) (left : List LivePair) → IsPlus F.value n rows row generators.now values.now plus.now at_plus → IsMadeSoFar F.value F.holds rows row (live_of F.value generators.now) next (with_negatives row (numbered_of F.value plus.now) (live_of F.value generators.now) ++ left) so_far.old → IfErr result (λ fault. IsAddFault F.value F.holds (pair_blocks rows (live_of F.value generators.now) row) fault) }
+    ensures ok { (kept : List Numbered) (n next : ℕ) (rows : List (List ℚ)) (row : List ℚ) (left : List LivePair) → IsPlus F.value n rows row generators.now values.now plus.now at_plus → IsMadeSoFar F.value F.holds rows row (live_of F.value generators.now) kept next (with_negatives row (numbered_of F.value plus.now) (live_of F.value generators.now) ++ left) so_far.old → OnOk result (IsMadeSoFar F.value F.holds rows row (live_of F.value generators.now) kept next left so_far.new) }
+    ensures left { (kept : List Numbered) (n next : ℕ) (rows : List (List ℚ)) (row : List ℚ) (left : List LivePair) → IsPlus F.value n rows row generators.now values.now plus.now at_plus → IsMadeSoFar F.value F.holds rows row (live_of F.value generators.now) kept next (with_negatives row (numbered_of F.value plus.now) (live_of F.value generators.now) ++ left) so_far.old → IfErr result (λ fault. IsAddFault F.value F.holds (pair_blocks rows (live_of F.value generators.now) row) fault) }
 {
     for j in 0..generators.len() {
         try_minus(alloc, generators, values, plus, at_plus, j, so_far)?;
@@ -137,8 +137,8 @@ fn try_plus<F: Field>(
     requires same { length values.now ≡ length generators.now }
     requires inside { i < length generators.now }
     ensures bound { length so_far.new.common ≡ length so_far.old.common }
-    ensures ok { (n next : ℕ) (rows : List (List ℚ)) (row : List ℚ) → IsAddition F.value n rows row generators.now values.now → IsMadeSoFar F.value F.holds rows row (live_of F.value generators.now) next (candidates row (drop i (live_of F.value generators.now)) (live_of F.value generators.now)) so_far.old → OnOk result (IsMadeSoFar F.value F.holds rows row (live_of F.value generators.now) next (candidates row (drop (i + 1) (live_of F.value generators.now)) (live_of F.value generators.now)) so_far.new) }
-    ensures left { (n next : ℕ) (rows : List (List ℚ)) (row : List ℚ) → IsAddition F.value n rows row generators.now values.now → IsMadeSoFar F.value F.holds rows row (live_of F.value generators.now) next (candidates row (drop i (live_of F.value generators.now)) (live_of F.value generators.now)) so_far.old → IfErr result (λ fault. IsAddFault F.value F.holds (pair_blocks rows (live_of F.value generators.now) row) fault) }
+    ensures ok { (kept : List Numbered) (n next : ℕ) (rows : List (List ℚ)) (row : List ℚ) → IsAddition F.value n rows row generators.now values.now → IsMadeSoFar F.value F.holds rows row (live_of F.value generators.now) kept next (candidates row (drop i (live_of F.value generators.now)) (live_of F.value generators.now)) so_far.old → OnOk result (IsMadeSoFar F.value F.holds rows row (live_of F.value generators.now) kept next (candidates row (drop (i + 1) (live_of F.value generators.now)) (live_of F.value generators.now)) so_far.new) }
+    ensures left { (kept : List Numbered) (n next : ℕ) (rows : List (List ℚ)) (row : List ℚ) → IsAddition F.value n rows row generators.now values.now → IsMadeSoFar F.value F.holds rows row (live_of F.value generators.now) kept next (candidates row (drop i (live_of F.value generators.now)) (live_of F.value generators.now)) so_far.old → IfErr result (λ fault. IsAddFault F.value F.holds (pair_blocks rows (live_of F.value generators.now) row) fault) }
 {
     let plus = &generators[i];
     let at_plus = values[i];
@@ -158,8 +158,8 @@ pub fn meet_all<F: Field>(
 ) -> Result<(), DdFault<F>>
     requires addition { (n : ℕ) × (rows : List (List ℚ)) × (row : List ℚ) × IsAddition F.value n rows row generators.now values.now × (length so_far.old.common ≡ length rows) }
     requires same { length values.now ≡ length generators.now }
-    ensures ok { (n next : ℕ) (rows : List (List ℚ)) (row : List ℚ) → IsAddition F.value n rows row generators.now values.now → IsMadeSoFar F.value F.holds rows row (live_of F.value generators.now) next (candidates row (live_of F.value generators.now) (live_of F.value generators.now)) so_far.old → OnOk result (IsMadeSoFar F.value F.holds rows row (live_of F.value generators.now) next [] so_far.new) }
-    ensures left { (n next : ℕ) (rows : List (List ℚ)) (row : List ℚ) → IsAddition F.value n rows row generators.now values.now → IsMadeSoFar F.value F.holds rows row (live_of F.value generators.now) next (candidates row (live_of F.value generators.now) (live_of F.value generators.now)) so_far.old → IfErr result (λ fault. IsAddFault F.value F.holds (pair_blocks rows (live_of F.value generators.now) row) fault) }
+    ensures ok { (kept : List Numbered) (n next : ℕ) (rows : List (List ℚ)) (row : List ℚ) → IsAddition F.value n rows row generators.now values.now → IsMadeSoFar F.value F.holds rows row (live_of F.value generators.now) kept next (candidates row (live_of F.value generators.now) (live_of F.value generators.now)) so_far.old → OnOk result (IsMadeSoFar F.value F.holds rows row (live_of F.value generators.now) kept next [] so_far.new) }
+    ensures left { (kept : List Numbered) (n next : ℕ) (rows : List (List ℚ)) (row : List ℚ) → IsAddition F.value n rows row generators.now values.now → IsMadeSoFar F.value F.holds rows row (live_of F.value generators.now) kept next (candidates row (live_of F.value generators.now) (live_of F.value generators.now)) so_far.old → IfErr result (λ fault. IsAddFault F.value F.holds (pair_blocks rows (live_of F.value generators.now) row) fault) }
 {
     for i in 0..generators.len() {
         try_plus(alloc, generators, values, i, so_far)?;

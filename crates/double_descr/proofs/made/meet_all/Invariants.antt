@@ -15,7 +15,7 @@ invariant-loop-i g l =
     let live = live_of value l.generators in
     record {
       bound : length l.so_far.common ≡ length l.fn.so_far.common;
-      so_far : (n next : ℕ) (rows : List (List ℚ)) (row : List ℚ) → IsAddition value n rows row l.generators l.values →
-          IsMadeSoFar value g.F.Field.holds rows row live next (candidates row live live) l.fn.so_far →
-          IsMadeSoFar value g.F.Field.holds rows row live next (candidates row (drop l.i live) live) l.so_far;
+      so_far : (kept : List Numbered) (n next : ℕ) (rows : List (List ℚ)) (row : List ℚ) → IsAddition value n rows row l.generators l.values →
+          IsMadeSoFar value g.F.Field.holds rows row live kept next (candidates row live live) l.fn.so_far →
+          IsMadeSoFar value g.F.Field.holds rows row live kept next (candidates row (drop l.i live) live) l.so_far;
     }

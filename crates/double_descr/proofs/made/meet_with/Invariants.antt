@@ -1,5 +1,6 @@
 use Rattle.std.proofs.Common.{◌≡◌, ℕ, ◌*◌, ◌+◌, ◌-◌, ◌<◌, ◌≤◌, Bool, true, false, List, [], ◌∷◌, ◌++◌, length, drop, Contains, refl, sym, ap, ap₂, ◌∙◌, subst, arith, min}
 use Rattle.exact_field.specs.Rational.{ℚ}
+use Rattle.polyhedra.specs.LiveList.{Numbered}
 use Rattle.polyhedra.specs.LiveList.{LivePair, is_uncovered_live}
 use Rattle.double_descr.specs.State.{live_of, numbered_of, pair_of}
 use Rattle.double_descr.specs.Making.{IsMadeSoFar, IsPlus, IsTried, with_negatives}
@@ -12,7 +13,7 @@ invariant-loop-j g l =
     let plus = numbered_of value l.plus in
     record {
       bound : length l.so_far.common ≡ length l.fn.so_far.common;
-      so_far : (n next : ℕ) (rows : List (List ℚ)) (row : List ℚ) (left : List LivePair) → IsPlus value n rows row l.generators l.values l.plus l.at_plus →
-          IsMadeSoFar value g.F.Field.holds rows row live next (with_negatives row plus live ++ left) l.fn.so_far →
-          IsMadeSoFar value g.F.Field.holds rows row live next (with_negatives row plus (drop l.j live) ++ left) l.so_far;
+      so_far : (kept : List Numbered) (n next : ℕ) (rows : List (List ℚ)) (row : List ℚ) (left : List LivePair) → IsPlus value n rows row l.generators l.values l.plus l.at_plus →
+          IsMadeSoFar value g.F.Field.holds rows row live kept next (with_negatives row plus live ++ left) l.fn.so_far →
+          IsMadeSoFar value g.F.Field.holds rows row live kept next (with_negatives row plus (drop l.j live) ++ left) l.so_far;
     }

@@ -89,19 +89,19 @@ try_pair-requires-clause-not_zero g c =
     P.listed mc P.valued be P.positive down
 
 pub returns-then-not-is_below-clause-ok : goal.returns-then-not-is_below-clause-ok
-returns-then-not-is_below-clause-ok g c = λ n next rows row left P h.
+returns-then-not-is_below-clause-ok g c = λ kept n next rows row left P h.
     let value = g.F.Field.value in
     let m : Generator _ = slice_index_or c.args.generators.now c.args.j c.args.plus.now in
     let ge : m ≡ slice_index_or c.args.generators.now c.args.j m = get_or_default c.args.generators.now c.args.j c.args.plus.now m c.requires.inside in
     let be : value c.index-values-j.result ≡ dot row (values value m.vector.items) = value_of value n rows row c.args.generators.now c.args.values.now P.addition
     c.args.j c.index-values-j.result m (omega arith) c.requires.inside c.index-values-j.is ge in
     let e = drop_value (numbered_of value) c.args.generators.now c.args.j m c.requires.inside ge in
-    subst (λ (l : List LivePair). IsMadeSoFar value g.F.Field.holds rows row (live_of value c.args.generators.now) next l c.args.so_far.now)
+    subst (λ (l : List LivePair). IsMadeSoFar value g.F.Field.holds rows row (live_of value c.args.generators.now) kept next l c.args.so_far.now)
     (ap (λ l. l ++ left) (negatives_at row (numbered_of value c.args.plus.now) (numbered_of value m) (drop c.args.j (live_of value c.args.generators.now)) (drop (c.args.j + 1) (live_of value c.args.generators.now)) e false
     (sym (ap (λ x. lt_ℚ x zero_ℚ) (sym be) ∙ sym c.is_below.ensures ∙ c.if-not-is_below.true)))) h
 
 pub returns-clause-ok : goal.returns-clause-ok
-returns-clause-ok g c = λ n next rows row left P h.
+returns-clause-ok g c = λ kept n next rows row left P h.
     let value = g.F.Field.value in
     let m = c.index-generators-j.result in
     let mc : Contains c.args.generators.now m = (c.args.j, c.requires.inside, sym c.index-generators-j.is) in
@@ -111,17 +111,17 @@ returns-clause-ok g c = λ n next rows row left P h.
     let e = drop_value (numbered_of value) c.args.generators.now c.args.j m c.requires.inside c.index-generators-j.is in
     let todo = with_negatives row (numbered_of value c.args.plus.now) (drop (c.args.j + 1) (live_of value c.args.generators.now)) ++ left in
     let tight = P.addition.tight in
-    let here : IsMadeSoFar value g.F.Field.holds rows row (live_of value c.args.generators.now) next (pair_of value c.args.plus.now m ∷ todo) c.args.so_far.now =
-    subst (λ (l : List LivePair). IsMadeSoFar value g.F.Field.holds rows row (live_of value c.args.generators.now) next l c.args.so_far.now)
+    let here : IsMadeSoFar value g.F.Field.holds rows row (live_of value c.args.generators.now) kept next (pair_of value c.args.plus.now m ∷ todo) c.args.so_far.now =
+    subst (λ (l : List LivePair). IsMadeSoFar value g.F.Field.holds rows row (live_of value c.args.generators.now) kept next l c.args.so_far.now)
     (ap (λ l. l ++ left) (negatives_at row (numbered_of value c.args.plus.now) (numbered_of value m) (drop c.args.j (live_of value c.args.generators.now)) (drop (c.args.j + 1) (live_of value c.args.generators.now)) e true
     (sym (ap (λ x. lt_ℚ x zero_ℚ) (sym be) ∙ down)))) h in
     on_ok_map c.try_pair.result _ _ (c.try_pair.ensures.ok rows tight (member_of (HasTightSet value rows) c.args.generators.now c.args.plus.now tight P.listed)
     (member_of (HasTightSet value rows) c.args.generators.now m tight mc))
-    (λ t. tried value g.F.Field.holds n rows row c.args.generators.now c.args.values.now next P.addition c.args.plus.now m P.listed mc (value c.args.at_plus) (value c.index-values-j.result)
+    (λ t. tried value g.F.Field.holds n rows row c.args.generators.now c.args.values.now kept next P.addition c.args.plus.now m P.listed mc (value c.args.at_plus) (value c.index-values-j.result)
     P.valued be P.positive down todo c.args.so_far.now c.try_pair.new.so_far here t c.try_pair.ensures.from c.try_pair.ensures.bound)
 
 pub returns-clause-left : goal.returns-clause-left
-returns-clause-left g c = λ n next rows row left P h.
+returns-clause-left g c = λ kept n next rows row left P h.
     let value = g.F.Field.value in
     let m = c.index-generators-j.result in
     let mc : Contains c.args.generators.now m = (c.args.j, c.requires.inside, sym c.index-generators-j.is) in
@@ -131,11 +131,11 @@ returns-clause-left g c = λ n next rows row left P h.
     let e = drop_value (numbered_of value) c.args.generators.now c.args.j m c.requires.inside c.index-generators-j.is in
     let todo = with_negatives row (numbered_of value c.args.plus.now) (drop (c.args.j + 1) (live_of value c.args.generators.now)) ++ left in
     let tight = P.addition.tight in
-    let here : IsMadeSoFar value g.F.Field.holds rows row (live_of value c.args.generators.now) next (pair_of value c.args.plus.now m ∷ todo) c.args.so_far.now =
-    subst (λ (l : List LivePair). IsMadeSoFar value g.F.Field.holds rows row (live_of value c.args.generators.now) next l c.args.so_far.now)
+    let here : IsMadeSoFar value g.F.Field.holds rows row (live_of value c.args.generators.now) kept next (pair_of value c.args.plus.now m ∷ todo) c.args.so_far.now =
+    subst (λ (l : List LivePair). IsMadeSoFar value g.F.Field.holds rows row (live_of value c.args.generators.now) kept next l c.args.so_far.now)
     (ap (λ l. l ++ left) (negatives_at row (numbered_of value c.args.plus.now) (numbered_of value m) (drop c.args.j (live_of value c.args.generators.now)) (drop (c.args.j + 1) (live_of value c.args.generators.now)) e true
     (sym (ap (λ x. lt_ℚ x zero_ℚ) (sym be) ∙ down)))) h in
     if_err_map c.try_pair.result _ _ (c.try_pair.ensures.left rows tight (member_of (HasTightSet value rows) c.args.generators.now c.args.plus.now tight P.listed)
     (member_of (HasTightSet value rows) c.args.generators.now m tight mc))
-    (λ fault k. tried_fault value g.F.Field.holds n rows row c.args.generators.now c.args.values.now next P.addition c.args.plus.now m P.listed mc (value c.args.at_plus) (value c.index-values-j.result)
+    (λ fault k. tried_fault value g.F.Field.holds n rows row c.args.generators.now c.args.values.now kept next P.addition c.args.plus.now m P.listed mc (value c.args.at_plus) (value c.index-values-j.result)
     P.valued be P.positive down todo c.args.so_far.now c.try_pair.new.so_far here fault k)

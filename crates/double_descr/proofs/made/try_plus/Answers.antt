@@ -26,41 +26,41 @@ meet_with-requires-clause-plus g c =
     (n, rows, row, record { addition = P; listed = pc; valued = ae; positive = sym c.is_above.ensures ∙ c.if-not-is_above.false }, c.requires.addition.4)
 
 pub returns-then-not-is_above-clause-ok : goal.returns-then-not-is_above-clause-ok
-returns-then-not-is_above-clause-ok g c = λ n next rows row P h.
+returns-then-not-is_above-clause-ok g c = λ kept n next rows row P h.
     let value = g.F.Field.value in
     let p = c.index-generators-i.result in
     let pc : Contains c.args.generators.now p = (c.args.i, c.requires.inside, sym c.index-generators-i.is) in
     let e = drop_value (numbered_of value) c.args.generators.now c.args.i p c.requires.inside c.index-generators-i.is in
     let ae : value c.index-values-i.result ≡ dot row (values value p.vector.items) = value_of value n rows row c.args.generators.now c.args.values.now P
     c.args.i c.index-values-i.result p (omega arith) c.requires.inside c.index-values-i.is c.index-generators-i.is in
-    subst (λ (l : List LivePair). IsMadeSoFar value g.F.Field.holds rows row (live_of value c.args.generators.now) next l c.args.so_far.now)
+    subst (λ (l : List LivePair). IsMadeSoFar value g.F.Field.holds rows row (live_of value c.args.generators.now) kept next l c.args.so_far.now)
     (candidates_at row (numbered_of value p) (drop c.args.i (live_of value c.args.generators.now)) (drop (c.args.i + 1) (live_of value c.args.generators.now)) (live_of value c.args.generators.now) e false
     (sym (ap (λ x. lt_ℚ zero_ℚ x) (sym ae) ∙ sym c.is_above.ensures ∙ c.if-not-is_above.true))) h
 
 pub returns-clause-ok : goal.returns-clause-ok
-returns-clause-ok g c = λ n next rows row P h.
+returns-clause-ok g c = λ kept n next rows row P h.
     let value = g.F.Field.value in
     let p = c.index-generators-i.result in
     let pc : Contains c.args.generators.now p = (c.args.i, c.requires.inside, sym c.index-generators-i.is) in
     let e = drop_value (numbered_of value) c.args.generators.now c.args.i p c.requires.inside c.index-generators-i.is in
     let ae : value c.index-values-i.result ≡ dot row (values value p.vector.items) = value_of value n rows row c.args.generators.now c.args.values.now P
     c.args.i c.index-values-i.result p (omega arith) c.requires.inside c.index-values-i.is c.index-generators-i.is in
-    c.meet_with.ensures.ok n next rows row (candidates row (drop (c.args.i + 1) (live_of value c.args.generators.now)) (live_of value c.args.generators.now))
+    c.meet_with.ensures.ok kept n next rows row (candidates row (drop (c.args.i + 1) (live_of value c.args.generators.now)) (live_of value c.args.generators.now))
     (record { addition = P; listed = pc; valued = ae; positive = sym c.is_above.ensures ∙ c.if-not-is_above.false })
-    (subst (λ (l : List LivePair). IsMadeSoFar value g.F.Field.holds rows row (live_of value c.args.generators.now) next l c.args.so_far.now)
+    (subst (λ (l : List LivePair). IsMadeSoFar value g.F.Field.holds rows row (live_of value c.args.generators.now) kept next l c.args.so_far.now)
     (candidates_at row (numbered_of value p) (drop c.args.i (live_of value c.args.generators.now)) (drop (c.args.i + 1) (live_of value c.args.generators.now)) (live_of value c.args.generators.now) e true
     (sym (ap (λ x. lt_ℚ zero_ℚ x) (sym ae) ∙ sym c.is_above.ensures ∙ c.if-not-is_above.false))) h)
 
 pub returns-clause-left : goal.returns-clause-left
-returns-clause-left g c = λ n next rows row P h.
+returns-clause-left g c = λ kept n next rows row P h.
     let value = g.F.Field.value in
     let p = c.index-generators-i.result in
     let pc : Contains c.args.generators.now p = (c.args.i, c.requires.inside, sym c.index-generators-i.is) in
     let e = drop_value (numbered_of value) c.args.generators.now c.args.i p c.requires.inside c.index-generators-i.is in
     let ae : value c.index-values-i.result ≡ dot row (values value p.vector.items) = value_of value n rows row c.args.generators.now c.args.values.now P
     c.args.i c.index-values-i.result p (omega arith) c.requires.inside c.index-values-i.is c.index-generators-i.is in
-    c.meet_with.ensures.left n next rows row (candidates row (drop (c.args.i + 1) (live_of value c.args.generators.now)) (live_of value c.args.generators.now))
+    c.meet_with.ensures.left kept n next rows row (candidates row (drop (c.args.i + 1) (live_of value c.args.generators.now)) (live_of value c.args.generators.now))
     (record { addition = P; listed = pc; valued = ae; positive = sym c.is_above.ensures ∙ c.if-not-is_above.false })
-    (subst (λ (l : List LivePair). IsMadeSoFar value g.F.Field.holds rows row (live_of value c.args.generators.now) next l c.args.so_far.now)
+    (subst (λ (l : List LivePair). IsMadeSoFar value g.F.Field.holds rows row (live_of value c.args.generators.now) kept next l c.args.so_far.now)
     (candidates_at row (numbered_of value p) (drop c.args.i (live_of value c.args.generators.now)) (drop (c.args.i + 1) (live_of value c.args.generators.now)) (live_of value c.args.generators.now) e true
     (sym (ap (λ x. lt_ℚ zero_ℚ x) (sym ae) ∙ sym c.is_above.ensures ∙ c.if-not-is_above.false))) h)
