@@ -1,5 +1,6 @@
 pub mod Covering
 pub mod MadePairs
+pub mod NextLists
 pub mod NotZero
 pub mod SignTests
 pub mod StepLists

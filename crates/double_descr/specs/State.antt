@@ -10,6 +10,7 @@ use Rattle.polyhedra.specs.LiveList.{Numbered, LiveList, LivePair, numbers}
 use Rattle.polyhedra.specs.LiveSteps.{IsLive}
 use Rattle.double_descr.specs.Steps.{values}
 use Rattle.double_descr.specs.declared.generator.Generator.{Generator}
+use Rattle.double_descr.specs.declared.next.Next.{Next}
 
 -- the width of the rows, the rows, and the live list
 pub record State : Type 0 where
@@ -57,3 +58,13 @@ pub record IsKept {F : Type 0} (value : F → ℚ) (width : ℕ) (rows : List (L
   pub numbers_are : nums ≡ numbers (live_of value gens)
   pub tight : All (HasTightSet value (map (values value) rows)) gens
   pub narrow : width < 4294967296
+
+-- generators with the number that the next new one gets, as a live list
+abbrev pub list_of : {F : Type 0} → (F → ℚ) → List (Generator F) → ℕ → LiveList
+list_of value gens next = record { live = live_of value gens; next = next }
+
+-- what is made is this live list over these rows, with its numbers and tight sets
+pub record IsNext {F : Type 0} (value : F → ℚ) (rows : List (List ℚ)) (list : LiveList) (next : Next F) : Type 0 where
+  pub is : list_of value next.generators next.next ≡ list
+  pub numbers_are : next.numbers ≡ numbers (live_of value next.generators)
+  pub tight : All (HasTightSet value rows) next.generators

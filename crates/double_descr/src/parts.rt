@@ -95,3 +95,17 @@ pub fn keep_all<F: Field>(
     }
     Ok(())
 }
+
+/// The numbers of generators.
+pub fn numbers_of<F: Drop>(
+    alloc: Global,
+    generators: &[Generator<F>],
+) -> Result<Items<u32>, NoMemory>
+    ensures { IfOk result (λ ns. ns ≡ map (λ g. g.number) generators.now) }
+{
+    let mut out = Items::new(alloc);
+    for i in 0..generators.len() {
+        out.push(generators[i].number)?;
+    }
+    Ok(out)
+}
