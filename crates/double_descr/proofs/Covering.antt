@@ -4,7 +4,7 @@ use Rattle.polyhedra.specs.TightSets.{IsTight}
 use Rattle.polyhedra.proofs.Tests.{zero_of_test, test_of_zero}
 use Rattle.polyhedra.proofs.Lists.{Contains-here, Contains-there}
 use Rattle.incid_sets.specs.Marks.{no_marks}
-use Rattle.std.proofs.Common.{Contains, ◌+◌, ◌-◌, ◌++◌, min, set, ◌≡◌, ℕ, zero, suc, ◌<◌, List, [], ◌∷◌, length, map, All, Bool, true, false, true≢false, not, ◌&&◌, ◌||◌, nat_eq, refl, sym, ap, ap₂, ◌∙◌, subst, arith, get_or}
+use Rattle.std.proofs.Common.{Contains, ◌+◌, ◌-◌, ◌++◌, min, set, ◌≡◌, ℕ, zero, suc, ◌<◌, List, [], ◌∷◌, length, map, Bool, true, false, true≢false, not, ◌&&◌, ◌||◌, refl, sym, ap, ap₂, ◌∙◌, arith, get_or}
 use Rattle.std.specs.Prelude.{IsTrue, ◌↔◌}
 use Rattle.std.specs.List.{list_all}
 use Rattle.exact_field.specs.Rational.{ℚ}

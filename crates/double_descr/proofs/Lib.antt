@@ -1,4 +1,5 @@
 pub mod Covering
+pub mod KeptNext
 pub mod MadePairs
 pub mod NextLists
 pub mod NotZero

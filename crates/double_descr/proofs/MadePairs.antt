@@ -1,21 +1,20 @@
 -- The new generators of an addition, one opposite pair at a time.
-use Rattle.std.proofs.Common.{◌≡◌, ℕ, zero, suc, ◌+◌, ◌<◌, List, [], ◌∷◌, ◌++◌, map, length, filter, All, Contains, Bool, true, false, cond, refl, sym, ap, ap₂, ◌∙◌, subst, arith, append_assoc, get_or}
+use Rattle.std.proofs.Common.{◌≡◌, ℕ, suc, ◌+◌, ◌<◌, List, [], ◌∷◌, ◌++◌, map, length, filter, All, Contains, Bool, true, false, cond, refl, sym, ap, ap₂, ◌∙◌, subst, arith, append_assoc, get_or}
 use Rattle.double_descr.proofs.NotZero.{meeting_not_zero}
 use Rattle.polyhedra.specs.DoubleDescription.{norming}
-use Rattle.std.proofs.lemmas.List.{get_or-map, map-append, length-map, append-nil}
+use Rattle.std.proofs.lemmas.List.{get_or-map, map-append, length-map}
 use Rattle.std.proofs.lemmas.List.Elements.{All-nil, All-cons, All-append}
 use Rattle.exact_field.specs.Rational.{ℚ, zero_ℚ, le_ℚ, lt_ℚ, ◌<ℚ◌}
 use Rattle.exact_field.specs.Vector.{dot}
 use Rattle.incid_sets.specs.Marks.{IsMeet}
-use Rattle.polyhedra.specs.TightSets.{IsTight, IsDoubleDescriptionPair}
 use Rattle.polyhedra.specs.DoubleDescription.{is_zero, normed, made, meeting}
 use Rattle.polyhedra.specs.Generators.{IsTightAtBoth}
-use Rattle.polyhedra.specs.LiveList.{staying, dropped, Numbered, LivePair, vectors, numbered, products, without_numbers, is_uncovered_live, live_pairs}
+use Rattle.polyhedra.specs.LiveList.{staying, dropped, Numbered, LivePair, vectors, numbered, products, without_numbers, is_uncovered_live}
 use Rattle.polyhedra.proofs.Generators.{tight_at_meeting}
 use Rattle.polyhedra.proofs.Members.{member_of, Contains-map}
 use Rattle.double_descr.specs.Steps.{values, between}
 use Rattle.double_descr.specs.State.{numbered_of, live_of, pair_of, HasTightSet, tight_set}
-use Rattle.double_descr.specs.Adding.{Block, AreHeld, IsFault, IsFirstIn, IsAddFault, value_block, block_of, pair_block, pair_blocks}
+use Rattle.double_descr.specs.Adding.{Block, AreHeld, IsFault, IsAddFault, value_block, block_of, pair_block, pair_blocks}
 use Rattle.double_descr.specs.Making.{IsAddition, with_negatives, candidates_of, candidates, AddsPair, IsTried, IsPairFault, pair_numbers, live_numbers, IsMadeSoFar}
 use Rattle.double_descr.specs.declared.generator.Generator.{Generator}
 use Rattle.double_descr.specs.declared.made.Made.{Made}

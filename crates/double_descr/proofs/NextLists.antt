@@ -1,19 +1,17 @@
 -- The live list after one more row: from the values, the generators that stay and the new ones.
-use Rattle.std.proofs.Common.{◌≡◌, ℕ, ◌+◌, ◌<◌, List, [], ◌∷◌, ◌++◌, map, length, filter, All, Bool, refl, sym, ap, ap₂, ◌∙◌, subst, arith, append_assoc}
-use Rattle.std.proofs.lemmas.List.{map-append, length-map, append-nil}
+use Rattle.std.proofs.Common.{◌≡◌, ℕ, ◌+◌, ◌<◌, List, [], ◌∷◌, ◌++◌, map, length, filter, All, Bool, refl, sym, ap, ◌∙◌, subst, append_assoc}
+use Rattle.std.proofs.lemmas.List.{length-map, append-nil}
 use Rattle.std.proofs.lemmas.List.Elements.{All-nil, All-append}
 use Rattle.exact_field.specs.Rational.{ℚ}
 use Rattle.exact_field.specs.Vector.{dot}
 use Rattle.polyhedra.specs.DoubleDescription.{made}
-use Rattle.polyhedra.specs.LiveList.{Numbered, LivePair, LiveList, numbers, numbered, staying, dropped, pairs, step, without_numbers, is_uncovered_live, live_pairs}
+use Rattle.polyhedra.specs.LiveList.{Numbered, LivePair, numbers, numbered, staying, dropped, step, without_numbers, is_uncovered_live, live_pairs}
 use Rattle.polyhedra.specs.LiveSteps.{IsLive}
-use Rattle.double_descr.specs.Steps.{values}
 use Rattle.double_descr.specs.State.{live_of, list_of, HasTightSet, IsNext}
-use Rattle.double_descr.specs.Adding.{Block, AreHeld, IsFault, IsFirstIn, IsAddFault, IsChange, value_block, pair_block, pair_blocks, add_blocks}
+use Rattle.double_descr.specs.Adding.{AreHeld, IsAddFault, IsChange, value_block, pair_block, pair_blocks, add_blocks}
 use Rattle.double_descr.specs.Making.{IsAddition, candidates, IsMadeSoFar, pair_numbers, live_numbers}
 use Rattle.double_descr.specs.declared.generator.Generator.{Generator}
 use Rattle.double_descr.specs.declared.made.Made.{Made}
-use Rattle.double_descr.specs.declared.next.Next.{Next}
 use Rattle.double_descr.specs.declared.fault.Change.{Change}
 use Rattle.double_descr.specs.declared.fault.DdFault.{DdFault}
 use Rattle.double_descr.specs.declared.fault.DdFault.TheVariants.{Left as Stuck, NoMemory}

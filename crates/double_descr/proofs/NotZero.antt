@@ -1,5 +1,5 @@
 -- The meeting point of two generators of a double description pair is not 0.
-use Rattle.std.proofs.Common.{◌≡◌, ℕ, List, length, All, Contains, refl, sym, ap, ◌∙◌, subst, ◌⊎◌, inl, inr}
+use Rattle.std.proofs.Common.{◌≡◌, ℕ, List, length, Contains, ◌⊎◌, inl, inr}
 use Rattle.exact_field.specs.Rational.{ℚ, zero_ℚ, ◌<ℚ◌}
 use Rattle.exact_field.specs.Vector.{dot}
 use Rattle.polyhedra.specs.Vectors.{zeros}

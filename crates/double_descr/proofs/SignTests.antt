@@ -1,5 +1,5 @@
 -- The sign that a field answers, as tests of the number.
-use Rattle.std.proofs.Common.{◌≡◌, ℕ, refl, sym, ap, ◌∙◌, inl, inr, ◌⊎◌, ℤ, of_z, w8, nat_eq, Bool, true, false, cond}
+use Rattle.std.proofs.Common.{◌≡◌, refl, sym, ap, ◌∙◌, inl, inr, ◌⊎◌, ℤ, of_z, w8, nat_eq, Bool, true, false, cond}
 use Rattle.std.specs.Prelude.{not}
 use Rattle.exact_field.specs.Rational.{ℚ, zero_ℚ, neg_ℚ, le_ℚ, lt_ℚ, ◌≤ℚ◌, ◌<ℚ◌}
 use Rattle.exact_field.specs.Order.{sign_ℚ}

@@ -1,13 +1,12 @@
 -- Steps that are done and steps that are left.
-use Rattle.std.proofs.Common.{◌≡◌, ℕ, zero, suc, ◌+◌, ◌<◌, List, [], ◌∷◌, ◌++◌, length, drop, map, ◌≤◌, All, Bool, true, false, cond, refl, sym, ap, ap₂, ◌∙◌, subst, arith, ◌||◌, ◌⊎◌, inl, inr, slice_index_or, append_assoc, length-append}
-use Rattle.std.specs.Prelude.{IsTrue, IsFalse}
+use Rattle.std.proofs.Common.{◌≡◌, ℕ, zero, suc, ◌+◌, ◌<◌, List, [], ◌∷◌, ◌++◌, length, drop, map, All, Bool, true, false, cond, refl, sym, ap, ap₂, ◌∙◌, subst, arith, ◌||◌, ◌⊎◌, inl, inr, slice_index_or, append_assoc, length-append}
+use Rattle.std.specs.Prelude.{IsFalse}
 use Rattle.std.proofs.lemmas.List.{append-nil, map-append}
 use Rattle.exact_field.specs.declared.op.Op.TheVariants.{Div}
 use Rattle.std.proofs.lemmas.List.Elements.{All-nil, All-cons, All-append}
 use Rattle.exact_field.specs.Rational.{ℚ}
 use Rattle.exact_field.specs.declared.op.Left.{Left}
 use Rattle.exact_field.specs.Rational.{zero_ℚ, ◌+ℚ◌, ◌*ℚ◌}
-use Rattle.exact_field.specs.declared.op.Op.TheVariants.{Add, Mul}
 use Rattle.polyhedra.specs.Vectors.{plus, scaled}
 use Rattle.polyhedra.specs.DoubleDescription.{is_zero, leading}
 use Rattle.polyhedra.proofs.Tests.{either_true, zero_of_test}

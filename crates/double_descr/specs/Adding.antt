@@ -1,5 +1,5 @@
 -- The steps of an addition in their order, and where it is given up.
-use Rattle.std.specs.Prelude.{ℕ, ◌≡◌, List, [], ◌∷◌, ◌++◌, map, All, Bool}
+use Rattle.std.specs.Prelude.{ℕ, ◌≡◌, List, ◌∷◌, ◌++◌, map, All, Bool}
 use Rattle.exact_field.specs.Rational.{ℚ, zero_ℚ}
 use Rattle.exact_field.specs.Vector.{dot}
 use Rattle.polyhedra.specs.LiveList.{Numbered, LivePair, LiveList, dropped, live_pairs, pairs, first_new}

@@ -6,7 +6,7 @@ use Rattle.polyhedra.specs.TightSets.{IsDoubleDescriptionPair}
 use Rattle.polyhedra.specs.DoubleDescription.{normed, made}
 use Rattle.polyhedra.specs.LiveList.{Numbered, LivePair, vectors, numbered, without_numbers, is_uncovered_live, live_pairs}
 use Rattle.double_descr.specs.Steps.{values, between}
-use Rattle.double_descr.specs.State.{numbered_of, live_of, pair_of, HasTightSet}
+use Rattle.double_descr.specs.State.{numbered_of, live_of, HasTightSet}
 use Rattle.double_descr.specs.Adding.{Block, AreHeld, IsFault, block_of, pair_block}
 use Rattle.double_descr.specs.declared.generator.Generator.{Generator}
 use Rattle.double_descr.specs.declared.fault.Pair.{Pair}

@@ -1,8 +1,6 @@
 -- What a double description holds: the rows in their order, and the live generators under their numbers.
-use Rattle.std.specs.Prelude.{ℕ, ◌<◌, List, ◌≡◌, map, All, Bool, not, ◌||◌, nat_eq, refl, [], ◌∷◌}
+use Rattle.std.specs.Prelude.{ℕ, ◌<◌, List, ◌≡◌, map, All, Bool, not, ◌||◌, nat_eq, refl}
 use Rattle.std.specs.Coded.{Coded, code_by, coded×, coded_ℕ, coded_list}
-use Rattle.std.proofs.Common.{ap, ap₂}
-use Rattle.std.specs.declared.alloc.Global.{Global}
 use Rattle.exact_field.specs.Rational.{ℚ, coded_ℚ}
 use Rattle.exact_field.specs.Vector.{dot}
 use Rattle.polyhedra.specs.DoubleDescription.{is_zero, covers}

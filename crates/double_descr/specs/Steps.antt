@@ -1,7 +1,6 @@
 -- Steps of a calculation in their order, and the first one whose result is not held.
-use Rattle.std.specs.Prelude.{ℕ, suc, ◌+◌, ◌≡◌, List, [], ◌∷◌, ◌++◌, map, length, All, Bool, IsTrue, IsFalse, ◌||◌, if◌then◌else◌, Result, MatchResult}
-use Rattle.exact_field.specs.Rational.{ℚ, zero_ℚ, ◌+ℚ◌, ◌-ℚ◌, ◌*ℚ◌, ◌/ℚ◌, neg_ℚ}
-use Rattle.exact_field.specs.Vector.{dot}
+use Rattle.std.specs.Prelude.{ℕ, ◌+◌, ◌≡◌, List, [], ◌∷◌, ◌++◌, map, length, All, Bool, IsTrue, IsFalse, ◌||◌, if◌then◌else◌, Result, MatchResult}
+use Rattle.exact_field.specs.Rational.{ℚ, ◌+ℚ◌, ◌-ℚ◌, ◌*ℚ◌, ◌/ℚ◌, neg_ℚ}
 use Rattle.exact_field.specs.declared.op.Op.{Op}
 use Rattle.exact_field.specs.declared.op.Op.TheVariants.{Add, Sub, Mul, Div}
 use Rattle.exact_field.specs.declared.op.Left.{Left}

@@ -1,10 +1,13 @@
 //! A double description.
-ghost use Rattle.std.specs.Prelude.{◌≡◌, ◌<◌, ℕ, length, map, Contains, slice_index_or, []};
-ghost use Rattle.polyhedra.specs.LiveList.{numbers};
+ghost use Rattle.std.specs.Prelude.{◌≡◌, [], ◌∷◌, ◌++◌, All, IfErr, IfOk, OnErr, OnOk, length};
+ghost use Rattle.polyhedra.specs.LiveList.{numbers, step};
 ghost use Rattle.polyhedra.specs.LiveSteps.{IsLive};
-ghost use Rattle.double_descr.specs.State.{HasTightSet};
+ghost use Rattle.double_descr.specs.Adding.{AreHeld, IsAddFault, IsChange, add_blocks};
+ghost use Rattle.double_descr.specs.Steps.{values};
 
+use crate::fault::{Change, DdFault};
 use crate::generator::Generator;
+use crate::next::{Next, next_list};
 use exact_field::Field;
 use src_sink::Items;
 use std::alloc::Global;
@@ -53,5 +56,39 @@ impl<F: Field> Dd<F> {
         ensures { result ≡ length self.now.rows }
     {
         self.rows.len() as u32
+    }
+
+    /// Adds a row of this width, as its next one. The generators at which it is negative are dropped, and each opposite pair that
+    /// no third live generator covers gives a new one, where the row is 0 between the two. After a refusal all is as before: the
+    /// next live list is made aside, with a copy of each generator that stays. The cost is at the worst that of the opposite
+    /// pairs times the live generators times the words of a set of rows.
+    pub fn add(&mut self, row: &[F]) -> Result<Change, DdFault<F>>
+        requires { length row.now ≡ self.old.width }
+        ensures ok { OnOk result (self.new ≡ record { width = self.old.width; rows = self.old.rows ++ values F.value row.now ∷ []; list = step self.old.rows self.old.list (values F.value row.now) }) }
+        ensures change { IfOk result (λ change. IsChange self.old.rows self.old.list (values F.value row.now) change) }
+        ensures held { OnOk result (All (AreHeld F.holds) (add_blocks self.old.rows self.old.list.live (values F.value row.now))) }
+        ensures left { IfErr result (λ fault. IsAddFault F.value F.holds (add_blocks self.old.rows self.old.list.live (values F.value row.now)) fault) }
+        ensures err { OnErr result (self.new ≡ self.old) }
+    {
+        let made = next_list(
+            self.alloc,
+            self.rows.len() as u32,
+            row,
+            self.generators.as_slice(),
+            self.next,
+        )?;
+        let mut line = Items::new(self.alloc);
+        line.append(row)?;
+        self.rows.push(line)?;
+        let Next {
+            numbers,
+            generators,
+            next,
+            change,
+        } = made;
+        self.numbers = numbers;
+        self.generators = generators;
+        self.next = next;
+        Ok(change)
     }
 }

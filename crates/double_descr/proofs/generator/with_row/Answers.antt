@@ -1,4 +1,4 @@
-use Rattle.std.proofs.Common.{◌≡◌, ℕ, ◌*◌, ◌+◌, ◌-◌, ◌<◌, ◌≤◌, Bool, true, false, List, [], ◌∷◌, ◌++◌, length, refl, sym, ap, ap₂, ◌∙◌, subst, arith, min}
+use Rattle.std.proofs.Common.{◌≡◌, [], ◌∷◌, ◌++◌, length, sym, ap, ◌∙◌, arith, min}
 use Rattle.double_descr.proofs.generator.with_row.Goals as goal
 use Rattle.double_descr.proofs.generator.with_row.Goals.{then-tight, else-tight}
 use Rattle.double_descr.proofs.Covering.{with_true, with_false}

@@ -1,12 +1,8 @@
-use Rattle.std.proofs.Common.{◌≡◌, ℕ, ◌*◌, ◌+◌, ◌-◌, ◌<◌, ◌≤◌, Bool, true, false, List, [], ◌∷◌, ◌++◌, length, drop, Contains, refl, sym, ap, ap₂, ◌∙◌, subst, arith, min, cond, slice_index_or}
-use Rattle.std.proofs.lemmas.List.{drop_all, length-map, get_or_default}
-use Rattle.exact_field.specs.Rational.{ℚ, zero_ℚ, lt_ℚ, ◌<ℚ◌}
-use Rattle.exact_field.specs.Vector.{dot}
-use Rattle.polyhedra.specs.LiveList.{LivePair, Numbered, is_uncovered_live}
-use Rattle.double_descr.specs.Steps.{values}
-use Rattle.double_descr.specs.State.{live_of, numbered_of, pair_of}
-use Rattle.double_descr.specs.Making.{IsAddition, IsMadeSoFar, IsPlus, IsTried, with_negatives, candidates, candidates_of}
-use Rattle.double_descr.specs.declared.generator.Generator.{Generator}
+use Rattle.std.proofs.Common.{List, ◌∙◌, subst, arith}
+use Rattle.std.proofs.lemmas.List.{drop_all, length-map}
+use Rattle.polyhedra.specs.LiveList.{Numbered}
+use Rattle.double_descr.specs.State.{live_of, numbered_of}
+use Rattle.double_descr.specs.Making.{IsMadeSoFar, candidates}
 use Rattle.double_descr.proofs.made.meet_all.Goals as goal
 use Rattle.double_descr.proofs.StepLists.{err_holds}
 

@@ -1,10 +1,6 @@
-use Rattle.std.proofs.Common.{◌≡◌, ℕ, ◌*◌, ◌+◌, ◌-◌, ◌<◌, ◌≤◌, Bool, true, false, List, [], ◌∷◌, ◌++◌, length, drop, Contains, refl, sym, ap, ap₂, ◌∙◌, subst, arith, min, cond}
-use Rattle.exact_field.specs.Rational.{ℚ, zero_ℚ, ◌<ℚ◌}
-use Rattle.exact_field.specs.Vector.{dot}
-use Rattle.polyhedra.specs.LiveList.{LivePair, is_uncovered_live}
-use Rattle.double_descr.specs.Steps.{values}
-use Rattle.double_descr.specs.State.{live_of, numbered_of, pair_of}
-use Rattle.double_descr.specs.Making.{IsMadeSoFar, IsPlus, IsTried, with_negatives}
+use Rattle.std.proofs.Common.{List, ◌++◌, ◌∙◌, subst, arith}
+use Rattle.double_descr.specs.State.{live_of, numbered_of}
+use Rattle.double_descr.specs.Making.{IsMadeSoFar, with_negatives}
 use Rattle.std.proofs.lemmas.List.{drop_all, length-map}
 use Rattle.polyhedra.specs.LiveList.{Numbered}
 use Rattle.double_descr.proofs.made.meet_with.Goals as goal

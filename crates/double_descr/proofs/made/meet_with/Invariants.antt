@@ -1,9 +1,9 @@
-use Rattle.std.proofs.Common.{◌≡◌, ℕ, ◌*◌, ◌+◌, ◌-◌, ◌<◌, ◌≤◌, Bool, true, false, List, [], ◌∷◌, ◌++◌, length, drop, Contains, refl, sym, ap, ap₂, ◌∙◌, subst, arith, min}
+use Rattle.std.proofs.Common.{◌≡◌, ℕ, List, ◌++◌, length, drop}
 use Rattle.exact_field.specs.Rational.{ℚ}
 use Rattle.polyhedra.specs.LiveList.{Numbered}
-use Rattle.polyhedra.specs.LiveList.{LivePair, is_uncovered_live}
-use Rattle.double_descr.specs.State.{live_of, numbered_of, pair_of}
-use Rattle.double_descr.specs.Making.{IsMadeSoFar, IsPlus, IsTried, with_negatives}
+use Rattle.polyhedra.specs.LiveList.{LivePair}
+use Rattle.double_descr.specs.State.{live_of, numbered_of}
+use Rattle.double_descr.specs.Making.{IsMadeSoFar, IsPlus, with_negatives}
 use Rattle.double_descr.proofs.made.meet_with.Given as goal
 
 abbrev pub invariant-loop-j : goal.invariant-loop-j

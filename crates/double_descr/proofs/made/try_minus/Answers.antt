@@ -1,10 +1,10 @@
-use Rattle.std.proofs.Common.{◌≡◌, ℕ, ◌*◌, ◌+◌, ◌-◌, ◌<◌, ◌≤◌, Bool, true, false, List, [], ◌∷◌, ◌++◌, length, drop, Contains, refl, sym, ap, ap₂, ◌∙◌, subst, arith, min, cond}
-use Rattle.exact_field.specs.Rational.{ℚ, zero_ℚ, ◌<ℚ◌, lt_ℚ}
+use Rattle.std.proofs.Common.{◌≡◌, ℕ, ◌+◌, ◌<◌, true, false, List, ◌∷◌, ◌++◌, drop, Contains, sym, ap, ◌∙◌, subst, arith}
+use Rattle.exact_field.specs.Rational.{zero_ℚ, ◌<ℚ◌, lt_ℚ}
 use Rattle.exact_field.specs.Vector.{dot}
-use Rattle.polyhedra.specs.LiveList.{LivePair, is_uncovered_live}
+use Rattle.polyhedra.specs.LiveList.{LivePair}
 use Rattle.double_descr.specs.Steps.{values}
 use Rattle.double_descr.specs.State.{live_of, numbered_of, pair_of, HasTightSet}
-use Rattle.double_descr.specs.Making.{IsMadeSoFar, IsPlus, IsTried, with_negatives}
+use Rattle.double_descr.specs.Making.{IsMadeSoFar, IsPlus, with_negatives}
 use Rattle.std.proofs.Common.{slice_index_or}
 use Rattle.std.proofs.lemmas.List.{get_or_default}
 use Rattle.double_descr.specs.declared.generator.Generator.{Generator}

@@ -1,6 +1,4 @@
-use Rattle.std.proofs.Common.{◌≡◌, ℕ, ◌*◌, ◌+◌, ◌-◌, ◌<◌, ◌≤◌, Bool, true, false, List, [], ◌∷◌, ◌++◌, length, refl, sym, ap, ap₂, ◌∙◌, subst, arith, min}
-use Rattle.polyhedra.specs.LiveList.{is_uncovered_live}
-use Rattle.double_descr.specs.State.{live_of, numbered_of, pair_of}
+use Rattle.std.proofs.Common.{◌+◌, Bool, sym, ap, ◌∙◌, subst}
 use Rattle.double_descr.specs.Making.{IsTried}
 use Rattle.double_descr.proofs.made.try_pair.Goals as goal
 use Rattle.polyhedra.specs.DoubleDescription.{normed}

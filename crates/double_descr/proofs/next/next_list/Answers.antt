@@ -1,12 +1,8 @@
-use Rattle.std.proofs.Common.{◌≡◌, ℕ, ◌*◌, ◌+◌, ◌-◌, ◌<◌, ◌≤◌, Bool, true, false, List, [], ◌∷◌, ◌++◌, length, map, drop, All, Contains, refl, sym, ap, ap₂, ◌∙◌, subst, arith, min, cond, slice_index_or}
-use Rattle.std.proofs.lemmas.List.{drop_all, length-map, length-replicate}
-use Rattle.exact_field.specs.Rational.{ℚ}
-use Rattle.exact_field.specs.Vector.{dot}
-use Rattle.polyhedra.specs.LiveList.{Numbered, dropped, staying, vectors, step}
+use Rattle.std.proofs.Common.{◌≡◌, ℕ, ◌+◌, [], ◌∷◌, ◌++◌, length, map, All, sym, ap, ◌∙◌, subst, arith}
+use Rattle.std.proofs.lemmas.List.{length-map}
+use Rattle.polyhedra.specs.LiveList.{Numbered, staying, vectors, step}
 use Rattle.polyhedra.specs.LiveSteps.{IsLive}
-use Rattle.double_descr.specs.Steps.{values}
 use Rattle.double_descr.specs.State.{HasTightSet, live_of, list_of, numbered_of, IsNext}
-use Rattle.double_descr.specs.Adding.{AreHeld, Block, value_block}
 use Rattle.double_descr.specs.Making.{IsAddition, IsMadeSoFar, candidates}
 use Rattle.double_descr.specs.declared.generator.Generator.{Generator}
 use Rattle.double_descr.proofs.next.next_list.Goals as goal

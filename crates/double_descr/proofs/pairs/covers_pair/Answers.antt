@@ -1,13 +1,5 @@
-use Rattle.std.proofs.Common.{◌≡◌, ℕ, ◌*◌, ◌+◌, ◌-◌, ◌<◌, ◌≤◌, Bool, true, false, List, [], ◌∷◌, ◌++◌, length, drop, take, map, All, refl, sym, ap, ap₂, ◌∙◌, subst, arith, ◌⊎◌, inl, inr, slice_index_or, not, ◌||◌, nat_eq, IsTrue, ◌↔◌}
-use Rattle.std.specs.List.{list_all}
-use Rattle.std.proofs.lemmas.List.{drop_all, length-map}
-use Rattle.exact_field.specs.Rational.{ℚ}
+use Rattle.std.proofs.Common.{Bool, List, map, sym, ◌∙◌, subst, IsTrue, ◌↔◌}
 use Rattle.incid_sets.specs.Marks.{ContainsAll, IsMeet}
-use Rattle.polyhedra.specs.DoubleDescription.{covers}
-use Rattle.polyhedra.specs.LiveList.{is_uncovered_live}
-use Rattle.double_descr.specs.State.{HasTightSet, live_of, numbered_of, pair_of, tight_set}
-use Rattle.double_descr.specs.Steps.{values}
-use Rattle.double_descr.specs.declared.generator.Generator.{Generator}
 use Rattle.double_descr.proofs.pairs.covers_pair.Goals as goal
 use Rattle.double_descr.proofs.Covering.{one_of, third_one, contains_is}
 

@@ -1,13 +1,7 @@
-use Rattle.std.proofs.Common.{◌≡◌, ℕ, ◌*◌, ◌+◌, ◌-◌, ◌<◌, ◌≤◌, Bool, true, false, List, [], ◌∷◌, ◌++◌, length, drop, take, map, All, refl, sym, ap, ap₂, ◌∙◌, subst, arith, ◌⊎◌, inl, inr, slice_index_or, not, ◌||◌, nat_eq}
+use Rattle.std.proofs.Common.{◌+◌, drop, refl, sym, ap, ◌∙◌, arith}
 use Rattle.std.specs.List.{list_all}
 use Rattle.std.proofs.lemmas.List.{drop_all, length-map}
-use Rattle.exact_field.specs.Rational.{ℚ}
-use Rattle.incid_sets.specs.Marks.{ContainsAll, IsMeet}
-use Rattle.polyhedra.specs.DoubleDescription.{covers}
-use Rattle.polyhedra.specs.LiveList.{is_uncovered_live}
-use Rattle.double_descr.specs.State.{HasTightSet, live_of, numbered_of, pair_of, tight_set, third_test}
-use Rattle.double_descr.specs.Steps.{values}
-use Rattle.double_descr.specs.declared.generator.Generator.{Generator}
+use Rattle.double_descr.specs.State.{HasTightSet, live_of, numbered_of, pair_of, third_test}
 use Rattle.double_descr.proofs.pairs.is_uncovered.Goals as goal
 use Rattle.double_descr.proofs.Covering.{none_at, test_false, all_but, test_true}
 use Rattle.double_descr.proofs.StepLists.{listed, drop_value}

@@ -1,13 +1,8 @@
-use Rattle.std.proofs.Common.{◌≡◌, ℕ, ◌*◌, ◌+◌, ◌-◌, ◌<◌, ◌≤◌, Bool, true, false, List, [], ◌∷◌, ◌++◌, length, drop, take, map, All, refl, sym, ap, ap₂, ◌∙◌, subst, arith, ◌⊎◌, inl, inr, slice_index_or, not, ◌||◌, nat_eq}
+use Rattle.std.proofs.Common.{◌≡◌, List, drop, All}
 use Rattle.std.specs.List.{list_all}
-use Rattle.std.proofs.lemmas.List.{drop_all, length-map}
 use Rattle.exact_field.specs.Rational.{ℚ}
-use Rattle.incid_sets.specs.Marks.{ContainsAll, IsMeet}
-use Rattle.polyhedra.specs.DoubleDescription.{covers}
-use Rattle.polyhedra.specs.LiveList.{is_uncovered_live}
-use Rattle.double_descr.specs.State.{HasTightSet, live_of, numbered_of, pair_of, tight_set, third_test}
-use Rattle.double_descr.specs.Steps.{values}
-use Rattle.double_descr.specs.declared.generator.Generator.{Generator}
+use Rattle.incid_sets.specs.Marks.{IsMeet}
+use Rattle.double_descr.specs.State.{HasTightSet, live_of, pair_of, third_test}
 use Rattle.double_descr.proofs.pairs.is_uncovered.Given as goal
 
 abbrev pub invariant-loop-i : goal.invariant-loop-i

@@ -1,11 +1,8 @@
-use Rattle.std.proofs.Common.{◌≡◌, ℕ, ◌*◌, ◌+◌, ◌-◌, ◌<◌, ◌≤◌, Bool, true, false, List, [], ◌∷◌, ◌++◌, length, map, drop, All, Contains, refl, sym, ap, ap₂, ◌∙◌, subst, arith, min, cond, slice_index_or}
-use Rattle.std.proofs.lemmas.List.{drop_all, length-map}
-use Rattle.exact_field.specs.Rational.{ℚ, zero_ℚ, lt_ℚ, ◌<ℚ◌}
+use Rattle.std.proofs.Common.{◌≡◌, List, [], ◌∷◌, ◌++◌, map, drop, All}
+use Rattle.exact_field.specs.Rational.{ℚ}
 use Rattle.exact_field.specs.Vector.{dot}
 use Rattle.polyhedra.specs.LiveList.{Numbered, dropped, staying}
-use Rattle.double_descr.specs.Steps.{values}
-use Rattle.double_descr.specs.State.{HasTightSet, live_of, numbered_of}
-use Rattle.double_descr.specs.Adding.{AreHeld, Block, value_block}
+use Rattle.double_descr.specs.State.{HasTightSet, live_of}
 use Rattle.double_descr.proofs.parts.keep_all.Given as goal
 
 abbrev pub invariant-loop-i : goal.invariant-loop-i

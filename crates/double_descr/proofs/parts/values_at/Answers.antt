@@ -1,12 +1,9 @@
-use Rattle.std.proofs.Common.{◌≡◌, ℕ, ◌*◌, ◌+◌, ◌-◌, ◌<◌, ◌≤◌, Bool, true, false, List, [], ◌∷◌, ◌++◌, length, map, drop, All, Contains, refl, sym, ap, ap₂, ◌∙◌, subst, arith, min, cond, slice_index_or}
-use Rattle.std.proofs.lemmas.List.{drop_all, length-map}
+use Rattle.std.proofs.Common.{◌+◌, [], ◌∷◌, ◌++◌, map, drop, sym, ap, ◌∙◌}
 use Rattle.std.proofs.lemmas.List.Elements.{All-nil, All-cons, All-append}
-use Rattle.exact_field.specs.Rational.{ℚ, zero_ℚ, lt_ℚ, ◌<ℚ◌}
 use Rattle.exact_field.specs.Vector.{dot}
-use Rattle.polyhedra.specs.LiveList.{Numbered, dropped, staying}
-use Rattle.double_descr.specs.Steps.{values}
-use Rattle.double_descr.specs.State.{HasTightSet, live_of, numbered_of}
-use Rattle.double_descr.specs.Adding.{AreHeld, Block, value_block}
+use Rattle.polyhedra.specs.LiveList.{Numbered}
+use Rattle.double_descr.specs.State.{live_of, numbered_of}
+use Rattle.double_descr.specs.Adding.{AreHeld, value_block}
 use Rattle.double_descr.proofs.parts.values_at.Goals as goal
 use Rattle.double_descr.proofs.StepLists.{drop_value, err_holds, write_on}
 use Rattle.double_descr.proofs.MadePairs.{fault_at, block_on}

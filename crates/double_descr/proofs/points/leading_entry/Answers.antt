@@ -1,9 +1,4 @@
-use Rattle.std.proofs.Common.{◌≡◌, ℕ, ◌*◌, ◌+◌, ◌-◌, ◌<◌, ◌≤◌, Bool, true, false, List, [], ◌∷◌, ◌++◌, length, drop, take, map, refl, sym, ap, ap₂, ◌∙◌, subst, arith, ◌⊎◌, inl, inr, slice_index_or}
-use Rattle.std.proofs.lemmas.List.{drop_all, length-map, append-nil}
-use Rattle.exact_field.specs.Rational.{ℚ, zero_ℚ, inverse_ℚ, ◌+ℚ◌, ◌*ℚ◌, ◌/ℚ◌, neg_ℚ}
-use Rattle.polyhedra.specs.Vectors.{plus, scaled}
-use Rattle.polyhedra.specs.DoubleDescription.{leading, magnitude, norming}
-use Rattle.double_descr.specs.Steps.{Step, IsSoFar, between, meeting_steps, combination_steps, quotient_steps}
+use Rattle.std.proofs.Common.{drop, map, sym, ◌∙◌}
 use Rattle.double_descr.proofs.points.leading_entry.Goals as goal
 use Rattle.double_descr.proofs.StepLists.{leading_here, leading_at, drop_value}
 

@@ -1,4 +1,4 @@
-use Rattle.std.proofs.Common.{◌≡◌, ℕ, ◌*◌, ◌+◌, ◌-◌, ◌<◌, ◌≤◌, Bool, true, false, List, [], ◌∷◌, ◌++◌, length, drop, take, map, refl, sym, ap, ap₂, ◌∙◌, subst, arith, ◌⊎◌, inl, inr, slice_index_or}
+use Rattle.std.proofs.Common.{◌≡◌, drop, map}
 use Rattle.polyhedra.specs.DoubleDescription.{leading}
 use Rattle.double_descr.proofs.points.leading_entry.Given as goal
 

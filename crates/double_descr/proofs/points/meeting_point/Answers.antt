@@ -1,10 +1,10 @@
-use Rattle.std.proofs.Common.{◌≡◌, ℕ, ◌*◌, ◌+◌, ◌-◌, ◌<◌, ◌≤◌, Bool, true, false, List, [], ◌∷◌, ◌++◌, length, drop, take, map, refl, sym, ap, ap₂, ◌∙◌, subst, arith, ◌⊎◌, inl, inr, slice_index_or}
+use Rattle.std.proofs.Common.{◌≡◌, [], ◌++◌, length, map, sym, ap, ap₂, ◌∙◌, arith}
 use Rattle.std.specs.Prelude.{IsTrue}
-use Rattle.std.proofs.lemmas.List.{drop_all, length-map, append-nil}
-use Rattle.exact_field.specs.Rational.{ℚ, zero_ℚ, inverse_ℚ, ◌+ℚ◌, ◌*ℚ◌, ◌/ℚ◌, neg_ℚ}
+use Rattle.std.proofs.lemmas.List.{length-map, append-nil}
+use Rattle.exact_field.specs.Rational.{inverse_ℚ, ◌/ℚ◌, neg_ℚ}
 use Rattle.polyhedra.specs.Vectors.{plus, scaled}
-use Rattle.polyhedra.specs.DoubleDescription.{leading, magnitude, norming}
-use Rattle.double_descr.specs.Steps.{Step, IsSoFar, between, meeting_steps, combination_steps, quotient_steps}
+use Rattle.polyhedra.specs.DoubleDescription.{magnitude, norming}
+use Rattle.double_descr.specs.Steps.{IsSoFar, between, meeting_steps, combination_steps, quotient_steps}
 use Rattle.double_descr.proofs.points.meeting_point.Goals as goal
 use Rattle.polyhedra.proofs.Order.{not_zero_of_positive, neg_positive}
 use Rattle.double_descr.proofs.StepLists.{stopped, same_left, start, one_more, stop_runs, finish}

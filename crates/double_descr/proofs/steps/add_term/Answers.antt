@@ -1,7 +1,4 @@
-use Rattle.std.proofs.Common.{◌≡◌, ℕ, ◌*◌, ◌+◌, ◌-◌, ◌<◌, ◌≤◌, Bool, true, false, List, [], ◌∷◌, ◌++◌, length, drop, take, map, refl, sym, ap, ap₂, ◌∙◌, subst, arith, ◌⊎◌, inl, inr, slice_index_or}
-use Rattle.exact_field.specs.Rational.{ℚ, zero_ℚ, inverse_ℚ, ◌+ℚ◌, ◌*ℚ◌}
-use Rattle.exact_field.specs.Vector.{dot}
-use Rattle.exact_field.specs.declared.op.Op.TheVariants.{Add, Sub, Mul, Div}
+use Rattle.std.proofs.Common.{◌++◌, sym, ap, ◌∙◌}
 use Rattle.double_descr.proofs.steps.add_term.Goals as goal
 use Rattle.double_descr.proofs.StepLists.{same_left, no_product, no_term, a_term}
 

@@ -1,9 +1,6 @@
-use Rattle.std.proofs.Common.{◌≡◌, ℕ, ◌*◌, ◌+◌, ◌-◌, ◌<◌, ◌≤◌, Bool, true, false, List, [], ◌∷◌, ◌++◌, length, drop, take, map, refl, sym, ap, ap₂, ◌∙◌, subst, arith, ◌⊎◌, inl, inr, slice_index_or}
+use Rattle.std.proofs.Common.{◌+◌, ◌++◌, drop, map, sym, ap₂, ◌∙◌, arith}
 use Rattle.std.proofs.lemmas.List.{drop_all, length-map}
-use Rattle.exact_field.specs.Rational.{ℚ, zero_ℚ, inverse_ℚ, ◌+ℚ◌, ◌*ℚ◌}
-use Rattle.exact_field.specs.declared.op.Op.TheVariants.{Add, Sub, Mul, Div}
-use Rattle.double_descr.specs.declared.steps.Stop.TheVariants.{NoMemory}
-use Rattle.double_descr.specs.Steps.{Step, IsSoFar, combination_steps, quotient_steps}
+use Rattle.double_descr.specs.Steps.{combination_steps}
 use Rattle.polyhedra.specs.Vectors.{plus, scaled}
 use Rattle.double_descr.proofs.steps.combination.Goals as goal
 use Rattle.double_descr.proofs.StepLists.{drop_value, at_number, written_all, match_stop, same_left, plus_end, combination_at, combination_end, write_on}

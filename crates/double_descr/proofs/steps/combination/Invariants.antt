@@ -1,8 +1,5 @@
-use Rattle.std.proofs.Common.{◌≡◌, ℕ, ◌*◌, ◌+◌, ◌-◌, ◌<◌, ◌≤◌, Bool, true, false, List, [], ◌∷◌, ◌++◌, length, drop, take, map, refl, sym, ap, ap₂, ◌∙◌, subst, arith, ◌⊎◌, inl, inr, slice_index_or}
-use Rattle.exact_field.specs.Rational.{ℚ, zero_ℚ, inverse_ℚ, ◌+ℚ◌, ◌*ℚ◌}
-use Rattle.exact_field.specs.Vector.{dot}
-use Rattle.exact_field.specs.declared.op.Op.TheVariants.{Add, Sub, Mul, Div}
-use Rattle.double_descr.specs.Steps.{Step, IsSoFar, combination_steps, quotient_steps}
+use Rattle.std.proofs.Common.{◌≡◌, ◌*◌, ◌+◌, List, ◌++◌, drop, map}
+use Rattle.double_descr.specs.Steps.{Step, IsSoFar, combination_steps}
 use Rattle.polyhedra.specs.Vectors.{plus, scaled}
 use Rattle.double_descr.proofs.steps.combination.Given as goal
 

@@ -1,7 +1,6 @@
-use Rattle.std.proofs.Common.{◌≡◌, ℕ, ◌*◌, ◌+◌, ◌-◌, ◌<◌, ◌≤◌, Bool, true, false, List, [], ◌∷◌, ◌++◌, length, drop, take, map, refl, sym, ap, ap₂, ◌∙◌, subst, arith, ◌⊎◌, inl, inr, slice_index_or}
-use Rattle.exact_field.specs.Rational.{ℚ, zero_ℚ, ◌+ℚ◌, ◌*ℚ◌}
+use Rattle.std.proofs.Common.{◌+◌, drop, map, sym, ap, ◌∙◌, arith}
+use Rattle.exact_field.specs.Rational.{zero_ℚ, ◌+ℚ◌}
 use Rattle.exact_field.specs.Vector.{dot}
-use Rattle.exact_field.specs.declared.op.Op.TheVariants.{Add, Sub, Mul, Div}
 use Rattle.std.proofs.lemmas.List.{drop_all, length-map}
 use Rattle.double_descr.proofs.steps.product.Goals as goal
 use Rattle.double_descr.proofs.StepLists.{same_left, drop_value, product_done, stop_runs, start, product_at, sum_at_term}

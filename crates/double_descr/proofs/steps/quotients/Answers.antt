@@ -1,10 +1,7 @@
-use Rattle.std.proofs.Common.{◌≡◌, ℕ, ◌*◌, ◌+◌, ◌-◌, ◌<◌, ◌≤◌, Bool, true, false, List, [], ◌∷◌, ◌++◌, length, drop, take, map, refl, sym, ap, ap₂, ◌∙◌, subst, arith, ◌⊎◌, inl, inr, slice_index_or}
+use Rattle.std.proofs.Common.{◌+◌, ◌++◌, drop, map, sym, ap, ◌∙◌, arith}
 use Rattle.std.proofs.lemmas.List.{drop_all, length-map}
-use Rattle.exact_field.specs.Rational.{ℚ, zero_ℚ, inverse_ℚ, ◌+ℚ◌, ◌*ℚ◌}
-use Rattle.exact_field.specs.declared.op.Op.TheVariants.{Add, Sub, Mul, Div}
-use Rattle.double_descr.specs.declared.steps.Stop.TheVariants.{NoMemory}
-use Rattle.double_descr.specs.Steps.{Step, IsSoFar, combination_steps, quotient_steps}
-use Rattle.polyhedra.specs.Vectors.{plus, scaled}
+use Rattle.exact_field.specs.Rational.{inverse_ℚ}
+use Rattle.polyhedra.specs.Vectors.{scaled}
 use Rattle.double_descr.proofs.steps.quotients.Goals as goal
 use Rattle.double_descr.proofs.StepLists.{drop_value, at_number, written_all, stopped, one_more, same_left, quotients_at, quotients_end, write_on}
 use Rattle.polyhedra.proofs.Laws.{mul_comm}

@@ -1,9 +1,7 @@
-use Rattle.std.proofs.Common.{◌≡◌, ℕ, ◌*◌, ◌+◌, ◌-◌, ◌<◌, ◌≤◌, Bool, true, false, List, [], ◌∷◌, ◌++◌, length, drop, take, map, refl, sym, ap, ap₂, ◌∙◌, subst, arith, ◌⊎◌, inl, inr, slice_index_or}
-use Rattle.exact_field.specs.Rational.{ℚ, zero_ℚ, inverse_ℚ, ◌+ℚ◌, ◌*ℚ◌}
-use Rattle.exact_field.specs.Vector.{dot}
-use Rattle.exact_field.specs.declared.op.Op.TheVariants.{Add, Sub, Mul, Div}
-use Rattle.double_descr.specs.Steps.{Step, IsSoFar, combination_steps, quotient_steps}
-use Rattle.polyhedra.specs.Vectors.{plus, scaled}
+use Rattle.std.proofs.Common.{◌≡◌, ◌+◌, List, ◌++◌, drop, map}
+use Rattle.exact_field.specs.Rational.{inverse_ℚ}
+use Rattle.double_descr.specs.Steps.{Step, IsSoFar, quotient_steps}
+use Rattle.polyhedra.specs.Vectors.{scaled}
 use Rattle.double_descr.proofs.steps.quotients.Given as goal
 
 abbrev pub invariant-loop-i : goal.invariant-loop-i
