@@ -1,2 +1,3 @@
 //! One table a subject.
+mod double;
 mod rows;

@@ -1,0 +1,76 @@
+use Rattle.std.proofs.Common.{◌≡◌, List, [], ◌∷◌, ◌++◌, length, map, All, sym, ap, ◌∙◌, subst}
+use Rattle.std.proofs.lemmas.List.{length-map}
+use Rattle.double_descr.specs.Steps.{values}
+use Rattle.double_descr.specs.State.{State, list_of, live_of, HasTightSet, IsNext}
+use Rattle.polyhedra.specs.LiveSteps.{IsLive}
+use Rattle.polyhedra.specs.LiveList.{step}
+use Rattle.double_descr.specs.declared.generator.Generator.{Generator}
+use Rattle.double_descr.specs.Adding.{AreHeld, IsChange, add_blocks}
+use Rattle.double_descr.proofs.KeptNext.{live_at, kept_next, view_next}
+use Rattle.double_descr.proofs.dd.Dd.add.Goals as goal
+
+pub invariant_of-self-2 : goal.invariant_of-self-2
+invariant_of-self-2 g c =
+    let value = g.F.Field.value in
+    let s = c.self.inside in
+    let row = c.args.row.now in
+    let rows = map (values value) s.rows in
+    let w : length row ≡ s.width = c.requires ∙ sym (ap (λ (x : State). x.width) c.self.view_is) in
+    let gens_is : c.as_slice.result.now ≡ s.generators = c.as_slice.ensures.items in
+    let l : IsLive (length row) rows (list_of value c.as_slice.result.now s.next) = subst (λ (gs : List (Generator _)). IsLive (length row) rows (list_of value gs s.next)) (sym gens_is)
+    (live_at value s.width s.rows s.numbers s.generators s.next c.self.invariant row w) in
+    let tight : All (HasTightSet value rows) c.as_slice.result.now = subst (λ (gs : List (Generator _)). All (HasTightSet value rows) gs) (sym gens_is) c.self.invariant.tight in
+    let many : length rows ≡ c.len.result = length-map s.rows (values value) ∙ sym c.len.ensures.value in
+    let after : c.push.new.self ≡ s.rows ++ row ∷ [] = c.in_ok-push.ensures.ok ∙ ap (λ r. s.rows ++ r ∷ []) (c.in_ok-append.ensures.ok ∙ ap (λ r. r ++ row) c.new-line.ensures) in
+    let made : IsNext value (rows ++ values value row ∷ []) (step rows (list_of value s.generators s.next) (values value row)) c.in_ok-made.made =
+    subst (λ (gs : List (Generator _)). IsNext value (rows ++ values value row ∷ []) (step rows (list_of value gs s.next) (values value row)) c.in_ok-made.made) gens_is
+    (c.in_ok-made.ensures.next rows l tight many) in
+    kept_next value s.width s.rows s.numbers s.generators s.next c.self.invariant row w c.push.new.self after c.in_ok-made.made made
+
+pub returns-clause-ok : goal.returns-clause-ok
+returns-clause-ok g c =
+    let value = g.F.Field.value in
+    let s = c.self.inside in
+    let row = c.args.row.now in
+    let rows = map (values value) s.rows in
+    let w : length row ≡ s.width = c.requires ∙ sym (ap (λ (x : State). x.width) c.self.view_is) in
+    let gens_is : c.as_slice.result.now ≡ s.generators = c.as_slice.ensures.items in
+    let l : IsLive (length row) rows (list_of value c.as_slice.result.now s.next) = subst (λ (gs : List (Generator _)). IsLive (length row) rows (list_of value gs s.next)) (sym gens_is)
+    (live_at value s.width s.rows s.numbers s.generators s.next c.self.invariant row w) in
+    let tight : All (HasTightSet value rows) c.as_slice.result.now = subst (λ (gs : List (Generator _)). All (HasTightSet value rows) gs) (sym gens_is) c.self.invariant.tight in
+    let many : length rows ≡ c.len.result = length-map s.rows (values value) ∙ sym c.len.ensures.value in
+    let after : c.push.new.self ≡ s.rows ++ row ∷ [] = c.in_ok-push.ensures.ok ∙ ap (λ r. s.rows ++ r ∷ []) (c.in_ok-append.ensures.ok ∙ ap (λ r. r ++ row) c.new-line.ensures) in
+    let made : IsNext value (rows ++ values value row ∷ []) (step rows (list_of value s.generators s.next) (values value row)) c.in_ok-made.made =
+    subst (λ (gs : List (Generator _)). IsNext value (rows ++ values value row ∷ []) (step rows (list_of value gs s.next) (values value row)) c.in_ok-made.made) gens_is
+    (c.in_ok-made.ensures.next rows l tight many) in
+    view_next value s.width s.rows s.numbers s.generators s.next c.self.invariant row w c.push.new.self after c.in_ok-made.made made c.args.self.now c.self.view_is
+
+pub returns-clause-change : goal.returns-clause-change
+returns-clause-change g c =
+    let value = g.F.Field.value in
+    let s = c.self.inside in
+    let row = c.args.row.now in
+    let rows = map (values value) s.rows in
+    let w : length row ≡ s.width = c.requires ∙ sym (ap (λ (x : State). x.width) c.self.view_is) in
+    let gens_is : c.as_slice.result.now ≡ s.generators = c.as_slice.ensures.items in
+    let l : IsLive (length row) rows (list_of value c.as_slice.result.now s.next) = subst (λ (gs : List (Generator _)). IsLive (length row) rows (list_of value gs s.next)) (sym gens_is)
+    (live_at value s.width s.rows s.numbers s.generators s.next c.self.invariant row w) in
+    let tight : All (HasTightSet value rows) c.as_slice.result.now = subst (λ (gs : List (Generator _)). All (HasTightSet value rows) gs) (sym gens_is) c.self.invariant.tight in
+    let many : length rows ≡ c.len.result = length-map s.rows (values value) ∙ sym c.len.ensures.value in
+    subst (λ (x : State). IsChange x.rows x.list (values value row) c.in_ok-made.made.change) c.self.view_is
+    (subst (λ (gs : List (Generator _)). IsChange rows (list_of value gs s.next) (values value row) c.in_ok-made.made.change) gens_is (c.in_ok-made.ensures.change rows l tight many))
+
+pub returns-clause-held : goal.returns-clause-held
+returns-clause-held g c =
+    let value = g.F.Field.value in
+    let s = c.self.inside in
+    let row = c.args.row.now in
+    let rows = map (values value) s.rows in
+    let w : length row ≡ s.width = c.requires ∙ sym (ap (λ (x : State). x.width) c.self.view_is) in
+    let gens_is : c.as_slice.result.now ≡ s.generators = c.as_slice.ensures.items in
+    let l : IsLive (length row) rows (list_of value c.as_slice.result.now s.next) = subst (λ (gs : List (Generator _)). IsLive (length row) rows (list_of value gs s.next)) (sym gens_is)
+    (live_at value s.width s.rows s.numbers s.generators s.next c.self.invariant row w) in
+    let tight : All (HasTightSet value rows) c.as_slice.result.now = subst (λ (gs : List (Generator _)). All (HasTightSet value rows) gs) (sym gens_is) c.self.invariant.tight in
+    let many : length rows ≡ c.len.result = length-map s.rows (values value) ∙ sym c.len.ensures.value in
+    subst (λ (x : State). All (AreHeld g.F.Field.holds) (add_blocks x.rows x.list.live (values value row))) c.self.view_is
+    (subst (λ (gs : List (Generator _)). All (AreHeld g.F.Field.holds) (add_blocks rows (live_of value gs) (values value row))) gens_is (c.in_ok-made.ensures.held rows l tight many))

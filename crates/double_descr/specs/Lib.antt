@@ -1,0 +1,4 @@
+pub mod Adding
+pub mod Making
+pub mod State
+pub mod Steps

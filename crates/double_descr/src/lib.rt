@@ -1,0 +1,16 @@
+//! Double description: the generators of the cone of rows, kept by one row at a time.
+#![tactic(auto)]
+
+mod dd;
+mod fault;
+mod generator;
+mod made;
+mod next;
+mod pairs;
+mod parts;
+mod points;
+mod signs;
+mod steps;
+
+pub use dd::Dd;
+pub use fault::{Change, DdFault, Pair};

@@ -1,0 +1,168 @@
+//! The new generators of an addition.
+ghost use Rattle.std.specs.Prelude.{◌≡◌, ◌≢◌, ◌+◌, ◌<◌, ◌++◌, ℕ, List, All, Contains, [], IfErr, OnOk, drop, length};
+ghost use Rattle.exact_field.specs.Rational.{ℚ, zero_ℚ, ◌<ℚ◌};
+ghost use Rattle.exact_field.specs.Vector.{dot};
+ghost use Rattle.polyhedra.specs.DoubleDescription.{norming};
+ghost use Rattle.polyhedra.specs.LiveList.{LivePair, Numbered, is_uncovered_live, live_pairs};
+ghost use Rattle.double_descr.specs.Adding.{IsAddFault, block_of, pair_blocks};
+ghost use Rattle.double_descr.specs.Making.{IsAddition, IsMadeSoFar, IsPairFault, IsPlus, IsTried, candidates, with_negatives};
+ghost use Rattle.double_descr.specs.State.{HasTightSet, live_of, numbered_of, pair_of};
+ghost use Rattle.double_descr.specs.Steps.{between, values};
+
+use crate::fault::{DdFault, Pair};
+use crate::generator::{Generator, between_two};
+use crate::pairs::is_uncovered;
+use crate::signs::{is_above, is_below};
+use exact_field::Field;
+use incid_sets::Marks;
+use src_sink::{Items, MOST_ITEMS};
+use std::alloc::Global;
+
+/// The pairs of an addition so far, with their new generators.
+#[derive(Debug, Drop)]
+pub struct Made<F: Drop> {
+    /// The pairs.
+    pub pairs: Items<Pair>,
+    /// The generators that stay, and then a new one for each pair.
+    pub generators: Items<Generator<F>>,
+    /// Where the common tight rows of a pair are written.
+    pub common: Marks,
+    /// The place of the generator that covered last.
+    pub last: usize,
+    /// The number of the first new generator.
+    pub first_new: u32,
+}
+
+/// Makes the new generator of an opposite pair, unless a third one covers it.
+fn try_pair<F: Field>(
+    alloc: Global,
+    generators: &[Generator<F>],
+    plus: &Generator<F>,
+    minus: &Generator<F>,
+    at_plus: F,
+    at_minus: F,
+    so_far: &mut Made<F>,
+) -> Result<(), DdFault<F>>
+    requires same { length plus.now.vector.items ≡ length minus.now.vector.items }
+    requires narrow { length plus.now.vector.items < 4294967296 }
+    requires bounds { length plus.now.tight ≡ length minus.now.tight }
+    requires common { length so_far.old.common ≡ length plus.now.tight }
+    requires room { length plus.now.tight + 1 < 4294967296 }
+    requires below { F.value at_minus <ℚ zero_ℚ }
+    requires not_zero { norming (between (F.value at_plus) (F.value at_minus) (values F.value plus.now.vector.items) (values F.value minus.now.vector.items)) ≢ zero_ℚ }
+    ensures from { so_far.new.first_new ≡ so_far.old.first_new }
+    ensures bound { length so_far.new.common ≡ length so_far.old.common }
+    ensures ok { (rows : List (List ℚ)) → All (HasTightSet F.value rows) generators.now → HasTightSet F.value rows plus.now → HasTightSet F.value rows minus.now → OnOk result (IsTried F.value F.holds (is_uncovered_live rows (live_of F.value generators.now) (pair_of F.value plus.now minus.now)) plus.now minus.now (F.value at_plus) (F.value at_minus) so_far.old so_far.new) }
+    ensures left { (rows : List (List ℚ)) → All (HasTightSet F.value rows) generators.now → HasTightSet F.value rows plus.now → HasTightSet F.value rows minus.now → IfErr result (λ fault. IsPairFault F.value F.holds (is_uncovered_live rows (live_of F.value generators.now) (pair_of F.value plus.now minus.now)) (block_of F.value plus.now minus.now (F.value at_plus) (F.value at_minus)) fault) }
+{
+    so_far.common.set_meet(&plus.tight, &minus.tight);
+    if !is_uncovered(generators, plus, minus, &so_far.common, &mut so_far.last) {
+        return Ok(());
+    }
+    if so_far.first_new as usize + so_far.pairs.len() > MOST_ITEMS {
+        return Err(DdFault::NoMemory);
+    }
+    let number = so_far.first_new + so_far.pairs.len() as u32;
+    let generator = between_two(alloc, plus, minus, at_plus, at_minus, number)?;
+    so_far.generators.push(generator)?;
+    so_far.pairs.push(Pair {
+        plus: plus.number,
+        minus: minus.number,
+    })?;
+    Ok(())
+}
+
+/// Makes the new generator of one generator, at which the row is positive, with generator `j`, if the row is negative there.
+fn try_minus<F: Field>(
+    alloc: Global,
+    generators: &[Generator<F>],
+    values: &[F],
+    plus: &Generator<F>,
+    at_plus: F,
+    j: usize,
+    so_far: &mut Made<F>,
+) -> Result<(), DdFault<F>>
+    requires plus { (n : ℕ) × (rows : List (List ℚ)) × (row : List ℚ) × IsPlus F.value n rows row generators.now values.now plus.now at_plus × (length so_far.old.common ≡ length rows) }
+    requires same { length values.now ≡ length generators.now }
+    requires inside { j < length generators.now }
+    ensures bound { length so_far.new.common ≡ length so_far.old.common }
+    ensures ok { (kept : List Numbered) (n next : ℕ) (rows : List (List ℚ)) (row : List ℚ) (left : List LivePair) → IsPlus F.value n rows row generators.now values.now plus.now at_plus → IsMadeSoFar F.value F.holds rows row (live_of F.value generators.now) kept next (with_negatives row (numbered_of F.value plus.now) (drop j (live_of F.value generators.now)) ++ left) so_far.old → OnOk result (IsMadeSoFar F.value F.holds rows row (live_of F.value generators.now) kept next (with_negatives row (numbered_of F.value plus.now) (drop (j + 1) (live_of F.value generators.now)) ++ left) so_far.new) }
+    ensures left { (kept : List Numbered) (n next : ℕ) (rows : List (List ℚ)) (row : List ℚ) (left : List LivePair) → IsPlus F.value n rows row generators.now values.now plus.now at_plus → IsMadeSoFar F.value F.holds rows row (live_of F.value generators.now) kept next (with_negatives row (numbered_of F.value plus.now) (drop j (live_of F.value generators.now)) ++ left) so_far.old → IfErr result (λ fault. IsAddFault F.value F.holds (pair_blocks rows (live_of F.value generators.now) row) fault) }
+{
+    let at_minus = values[j];
+    if !is_below(at_minus) {
+        return Ok(());
+    }
+    try_pair(
+        alloc,
+        generators,
+        plus,
+        &generators[j],
+        at_plus,
+        at_minus,
+        so_far,
+    )
+}
+
+/// Makes the new generators of one generator at which the row is positive, with each at which it is negative.
+fn meet_with<F: Field>(
+    alloc: Global,
+    generators: &[Generator<F>],
+    values: &[F],
+    plus: &Generator<F>,
+    at_plus: F,
+    so_far: &mut Made<F>,
+) -> Result<(), DdFault<F>>
+    requires plus { (n : ℕ) × (rows : List (List ℚ)) × (row : List ℚ) × IsPlus F.value n rows row generators.now values.now plus.now at_plus × (length so_far.old.common ≡ length rows) }
+    requires same { length values.now ≡ length generators.now }
+    ensures bound { length so_far.new.common ≡ length so_far.old.common }
+    ensures ok { (kept : List Numbered) (n next : ℕ) (rows : List (List ℚ)) (row : List ℚ) (left : List LivePair) → IsPlus F.value n rows row generators.now values.now plus.now at_plus → IsMadeSoFar F.value F.holds rows row (live_of F.value generators.now) kept next (with_negatives row (numbered_of F.value plus.now) (live_of F.value generators.now) ++ left) so_far.old → OnOk result (IsMadeSoFar F.value F.holds rows row (live_of F.value generators.now) kept next left so_far.new) }
+    ensures left { (kept : List Numbered) (n next : ℕ) (rows : List (List ℚ)) (row : List ℚ) (left : List LivePair) → IsPlus F.value n rows row generators.now values.now plus.now at_plus → IsMadeSoFar F.value F.holds rows row (live_of F.value generators.now) kept next (with_negatives row (numbered_of F.value plus.now) (live_of F.value generators.now) ++ left) so_far.old → IfErr result (λ fault. IsAddFault F.value F.holds (pair_blocks rows (live_of F.value generators.now) row) fault) }
+{
+    for j in 0..generators.len() {
+        try_minus(alloc, generators, values, plus, at_plus, j, so_far)?;
+    }
+    Ok(())
+}
+
+/// Makes the new generators of generator `i`, if the row is positive there.
+fn try_plus<F: Field>(
+    alloc: Global,
+    generators: &[Generator<F>],
+    values: &[F],
+    i: usize,
+    so_far: &mut Made<F>,
+) -> Result<(), DdFault<F>>
+    requires addition { (n : ℕ) × (rows : List (List ℚ)) × (row : List ℚ) × IsAddition F.value n rows row generators.now values.now × (length so_far.old.common ≡ length rows) }
+    requires same { length values.now ≡ length generators.now }
+    requires inside { i < length generators.now }
+    ensures bound { length so_far.new.common ≡ length so_far.old.common }
+    ensures ok { (kept : List Numbered) (n next : ℕ) (rows : List (List ℚ)) (row : List ℚ) → IsAddition F.value n rows row generators.now values.now → IsMadeSoFar F.value F.holds rows row (live_of F.value generators.now) kept next (candidates row (drop i (live_of F.value generators.now)) (live_of F.value generators.now)) so_far.old → OnOk result (IsMadeSoFar F.value F.holds rows row (live_of F.value generators.now) kept next (candidates row (drop (i + 1) (live_of F.value generators.now)) (live_of F.value generators.now)) so_far.new) }
+    ensures left { (kept : List Numbered) (n next : ℕ) (rows : List (List ℚ)) (row : List ℚ) → IsAddition F.value n rows row generators.now values.now → IsMadeSoFar F.value F.holds rows row (live_of F.value generators.now) kept next (candidates row (drop i (live_of F.value generators.now)) (live_of F.value generators.now)) so_far.old → IfErr result (λ fault. IsAddFault F.value F.holds (pair_blocks rows (live_of F.value generators.now) row) fault) }
+{
+    let plus = &generators[i];
+    let at_plus = values[i];
+    if !is_above(at_plus) {
+        return Ok(());
+    }
+    meet_with(alloc, generators, values, plus, at_plus, so_far)
+}
+
+/// Makes all new generators of an addition, from the values of the row at the live generators. The cost is at the worst that
+/// of the opposite pairs times the live generators times the words of a tight set; most scans stop early.
+pub fn meet_all<F: Field>(
+    alloc: Global,
+    generators: &[Generator<F>],
+    values: &[F],
+    so_far: &mut Made<F>,
+) -> Result<(), DdFault<F>>
+    requires addition { (n : ℕ) × (rows : List (List ℚ)) × (row : List ℚ) × IsAddition F.value n rows row generators.now values.now × (length so_far.old.common ≡ length rows) }
+    requires same { length values.now ≡ length generators.now }
+    ensures ok { (kept : List Numbered) (n next : ℕ) (rows : List (List ℚ)) (row : List ℚ) → IsAddition F.value n rows row generators.now values.now → IsMadeSoFar F.value F.holds rows row (live_of F.value generators.now) kept next (candidates row (live_of F.value generators.now) (live_of F.value generators.now)) so_far.old → OnOk result (IsMadeSoFar F.value F.holds rows row (live_of F.value generators.now) kept next [] so_far.new) }
+    ensures left { (kept : List Numbered) (n next : ℕ) (rows : List (List ℚ)) (row : List ℚ) → IsAddition F.value n rows row generators.now values.now → IsMadeSoFar F.value F.holds rows row (live_of F.value generators.now) kept next (candidates row (live_of F.value generators.now) (live_of F.value generators.now)) so_far.old → IfErr result (λ fault. IsAddFault F.value F.holds (pair_blocks rows (live_of F.value generators.now) row) fault) }
+{
+    for i in 0..generators.len() {
+        try_plus(alloc, generators, values, i, so_far)?;
+    }
+    Ok(())
+}

@@ -1,0 +1,59 @@
+//! Opposite pairs of generators, and the new generators between them.
+ghost use Rattle.std.specs.Prelude.{◌≡◌, ◌||◌, ℕ, List, All, not, nat_eq};
+ghost use Rattle.incid_sets.specs.Marks.{IsMeet};
+ghost use Rattle.exact_field.specs.Rational.{ℚ};
+ghost use Rattle.polyhedra.specs.DoubleDescription.{covers};
+ghost use Rattle.polyhedra.specs.LiveList.{is_uncovered_live};
+ghost use Rattle.double_descr.specs.State.{HasTightSet, live_of, pair_of};
+ghost use Rattle.double_descr.specs.Steps.{values};
+
+use crate::generator::Generator;
+use exact_field::Field;
+use incid_sets::Marks;
+
+/// Whether the generator is one of the pair.
+fn is_one_of<F: Field>(third: &Generator<F>, plus: &Generator<F>, minus: &Generator<F>) -> bool
+    ensures { result ≡ (nat_eq third.now.number plus.now.number || nat_eq third.now.number minus.now.number) }
+{
+    third.number == plus.number || third.number == minus.number
+}
+
+/// Whether the generator is a third one that covers the pair, from the rows that are tight at both.
+fn covers_pair<F: Field>(
+    third: &Generator<F>,
+    plus: &Generator<F>,
+    minus: &Generator<F>,
+    common: &Marks,
+) -> bool
+    ensures { (rows : List (List ℚ)) → HasTightSet F.value rows third.now → HasTightSet F.value rows plus.now → HasTightSet F.value rows minus.now → IsMeet common.now plus.now.tight minus.now.tight → not result ≡ (nat_eq third.now.number plus.now.number || nat_eq third.now.number minus.now.number || not (covers rows (values F.value plus.now.vector.items) (values F.value minus.now.vector.items) (values F.value third.now.vector.items))) }
+{
+    if is_one_of(third, plus, minus) {
+        return false;
+    }
+    third.tight.contains_all(common)
+}
+
+/// Whether no third generator covers the pair. The one that covered last is tried first.
+pub fn is_uncovered<F: Field>(
+    generators: &[Generator<F>],
+    plus: &Generator<F>,
+    minus: &Generator<F>,
+    common: &Marks,
+    last: &mut usize,
+) -> bool
+    ensures { (rows : List (List ℚ)) → All (HasTightSet F.value rows) generators.now → HasTightSet F.value rows plus.now → HasTightSet F.value rows minus.now → IsMeet common.now plus.now.tight minus.now.tight → result ≡ is_uncovered_live rows (live_of F.value generators.now) (pair_of F.value plus.now minus.now) }
+{
+    if *last < generators.len() {
+        let third = &generators[*last];
+        if covers_pair(third, plus, minus, common) {
+            return false;
+        }
+    }
+    for i in 0..generators.len() {
+        if covers_pair(&generators[i], plus, minus, common) {
+            *last = i;
+            return false;
+        }
+    }
+    true
+}

@@ -1,0 +1,111 @@
+//! The parts of an addition: the values of the row, and the generators that stay.
+ghost use Rattle.std.specs.Prelude.{◌≡◌, ◌+◌, ◌<◌, ◌++◌, List, All, [], ◌∷◌, IfErr, IfOk, MatchResult, OnOk, length, map};
+ghost use Rattle.exact_field.specs.Rational.{ℚ};
+ghost use Rattle.exact_field.specs.Vector.{dot};
+ghost use Rattle.polyhedra.specs.LiveList.{dropped, staying};
+ghost use Rattle.double_descr.specs.Adding.{AreHeld, IsAddFault, IsFault, value_block};
+ghost use Rattle.double_descr.specs.State.{HasTightSet, live_of, numbered_of};
+ghost use Rattle.double_descr.specs.Steps.{values};
+
+use crate::fault::DdFault;
+use crate::generator::{Generator, kept};
+use crate::signs::{is_below, is_none};
+use crate::steps::{Stop, product};
+use exact_field::Field;
+use src_sink::{Items, NoMemory};
+use std::alloc::Global;
+
+/// The value of a row at a generator.
+fn value_at<F: Field>(row: &[F], generator: &Generator<F>) -> Result<F, DdFault<F>>
+    requires same { length row.now ≡ length generator.now.vector.items }
+    requires narrow { length row.now < 4294967296 }
+    ensures { MatchResult result (λ v. AreHeld F.holds (value_block (values F.value row.now) (numbered_of F.value generator.now)) × (F.value v ≡ dot (values F.value row.now) (values F.value generator.now.vector.items))) (λ fault. IsFault F.value F.holds (value_block (values F.value row.now) (numbered_of F.value generator.now)) fault) }
+{
+    match product(row, &generator.vector) {
+        Err(Stop::NoMemory) => Err(DdFault::NoMemory),
+        Err(Stop::Step(step, left)) => Err(DdFault::Left {
+            first: generator.number,
+            second: 0,
+            step,
+            left,
+        }),
+        Ok(value) => Ok(value),
+    }
+}
+
+/// The values of a row at all generators, in their order.
+pub fn values_at<F: Field>(
+    alloc: Global,
+    row: &[F],
+    generators: &[Generator<F>],
+) -> Result<Items<F>, DdFault<F>>
+    requires same { All (λ g. length row.now ≡ length g.vector.items) generators.now }
+    requires narrow { length row.now < 4294967296 }
+    ensures value { IfOk result (λ vs. map F.value vs ≡ map (λ g. dot (values F.value row.now) g.vector) (live_of F.value generators.now)) }
+    ensures held { OnOk result (All (AreHeld F.holds) (map (value_block (values F.value row.now)) (live_of F.value generators.now))) }
+    ensures left { IfErr result (λ fault. IsAddFault F.value F.holds (map (value_block (values F.value row.now)) (live_of F.value generators.now)) fault) }
+{
+    let mut out = Items::new(alloc);
+    for i in 0..generators.len() {
+        out.push(value_at(row, &generators[i])?)?;
+    }
+    Ok(out)
+}
+
+/// Lists a generator among those that stay, with the new row, or among the dropped ones.
+fn keep_one<F: Field>(
+    alloc: Global,
+    generator: &Generator<F>,
+    at: F,
+    stays: &mut Items<Generator<F>>,
+    gone: &mut Items<u32>,
+) -> Result<(), NoMemory>
+    requires { length generator.now.tight + 1 < 4294967296 }
+    ensures stays { (row : List ℚ) → F.value at ≡ dot row (values F.value generator.now.vector.items) → OnOk result (live_of F.value stays.new ≡ live_of F.value stays.old ++ staying row (numbered_of F.value generator.now ∷ [])) }
+    ensures gone { (row : List ℚ) → F.value at ≡ dot row (values F.value generator.now.vector.items) → OnOk result (gone.new ≡ gone.old ++ dropped row (numbered_of F.value generator.now ∷ [])) }
+    ensures tight { (rows : List (List ℚ)) (row : List ℚ) → F.value at ≡ dot row (values F.value generator.now.vector.items) → HasTightSet F.value rows generator.now → All (HasTightSet F.value (rows ++ row ∷ [])) stays.old → OnOk result (All (HasTightSet F.value (rows ++ row ∷ [])) stays.new) }
+{
+    if is_below(at) {
+        gone.push(generator.number)?;
+        return Ok(());
+    }
+    let copy = kept(alloc, generator, is_none(at))?;
+    stays.push(copy)?;
+    Ok(())
+}
+
+/// Lists the generators that stay, with the new row, and the numbers of the dropped ones.
+pub fn keep_all<F: Field>(
+    alloc: Global,
+    generators: &[Generator<F>],
+    vals: &[F],
+    stays: &mut Items<Generator<F>>,
+    gone: &mut Items<u32>,
+) -> Result<(), NoMemory>
+    requires same { length vals.now ≡ length generators.now }
+    requires room { All (λ g. length g.tight + 1 < 4294967296) generators.now }
+    requires none { stays.old ≡ [] }
+    requires none_gone { gone.old ≡ [] }
+    ensures stays { (row : List ℚ) → map F.value vals.now ≡ map (λ g. dot row g.vector) (live_of F.value generators.now) → OnOk result (live_of F.value stays.new ≡ staying row (live_of F.value generators.now)) }
+    ensures gone { (row : List ℚ) → map F.value vals.now ≡ map (λ g. dot row g.vector) (live_of F.value generators.now) → OnOk result (gone.new ≡ dropped row (live_of F.value generators.now)) }
+    ensures tight { (rows : List (List ℚ)) (row : List ℚ) → map F.value vals.now ≡ map (λ g. dot row g.vector) (live_of F.value generators.now) → All (HasTightSet F.value rows) generators.now → OnOk result (All (HasTightSet F.value (rows ++ row ∷ [])) stays.new) }
+{
+    for i in 0..generators.len() {
+        keep_one(alloc, &generators[i], vals[i], stays, gone)?;
+    }
+    Ok(())
+}
+
+/// The numbers of generators.
+pub fn numbers_of<F: Drop>(
+    alloc: Global,
+    generators: &[Generator<F>],
+) -> Result<Items<u32>, NoMemory>
+    ensures { IfOk result (λ ns. ns ≡ map (λ g. g.number) generators.now) }
+{
+    let mut out = Items::new(alloc);
+    for i in 0..generators.len() {
+        out.push(generators[i].number)?;
+    }
+    Ok(out)
+}
