@@ -1,0 +1,4 @@
+pub mod Lists
+pub mod PlacesNeeded
+pub mod Short
+pub mod WordByWord

@@ -1,0 +1,121 @@
+-- The text of a problem.
+use Rattle.std.specs.Prelude.{◌≡◌, ℕ, ◌-◌, not, find, if◌then◌else◌, List, [], ◌∷◌, ◌++◌, length, map, sum_by, count_by, slice_index_or, codes, decimal, Option, None, Some}
+use Rattle.std.specs.List.{flat_map}
+use Rattle.exact_field.specs.Rational.{ℚ}
+use Rattle.exact_field.specs.Vector.{entry}
+use Rattle.frac128.specs.Sparse.{is_zero}
+use Rattle.src_sink.specs.Texts.{line_text}
+use Rattle.vlp_reader.specs.Sides.{numbers_from, is_unsaid}
+use Rattle.vlp_reader.specs.declared.problem.Bound.{Bound}
+use Rattle.vlp_reader.specs.declared.problem.Bound.TheVariants.{Unsaid, Free, Lower, Upper, Double, Fixed}
+use Rattle.vlp_reader.specs.declared.problem.Cell.{Cell}
+use Rattle.vlp_reader.specs.declared.problem.Cone.{Cone}
+use Rattle.vlp_reader.specs.declared.problem.Cone.TheVariants.{Orthant, Gens, Dual}
+use Rattle.vlp_reader.specs.declared.problem.Dir.{Dir}
+use Rattle.vlp_reader.specs.declared.problem.Dir.TheVariants.{Min, Max}
+use Rattle.vlp_reader.specs.declared.problem.Problem.{Problem}
+use Rattle.vlp_printer.specs.Decimal.{is_decimal, number_text}
+use Rattle.vlp_printer.specs.declared.fault.PrintFault.{PrintFault}
+use Rattle.vlp_printer.specs.declared.fault.PrintFault.TheVariants.{NotDecimal, NoMemory}
+
+-- ---- the numbers of a problem, in the order of printing; of the cone vectors with the zeros, which have no line
+abbrev pub bound_numbers : Bound → List ℚ
+bound_numbers Unsaid = []
+bound_numbers Free = []
+bound_numbers (Lower low) = low ∷ []
+bound_numbers (Upper high) = high ∷ []
+bound_numbers (Double low high) = low ∷ high ∷ []
+bound_numbers (Fixed value) = value ∷ []
+
+abbrev pub cone_vectors : Cone → List (List ℚ)
+cone_vectors Orthant = []
+cone_vectors (Gens vectors) = vectors
+cone_vectors (Dual vectors) = vectors
+
+abbrev pub duality_entries : Option (List ℚ) → List ℚ
+duality_entries None = []
+duality_entries (Some f) = f
+
+abbrev pub printed_numbers : Problem → List ℚ
+printed_numbers problem =
+    map (λ c. c.value) problem.a ++ (map (λ c. c.value) problem.o
+    ++ (duality_entries problem.duality ++ (flat_map (λ v. v) (cone_vectors problem.cone)
+    ++ (flat_map bound_numbers problem.row_bounds ++ flat_map bound_numbers problem.col_bounds))))
+
+-- ---- the lines
+abbrev pub direction_word : Dir → List ℕ
+direction_word Min = codes "min"
+direction_word Max = codes "max"
+
+-- how many entries of the cone vectors have a line
+abbrev pub entry_count : List (List ℚ) → ℕ
+entry_count vectors = sum_by (λ v. count_by (λ q. not (is_zero q)) v) vectors
+
+abbrev pub cone_words : Cone → List (List ℕ)
+cone_words Orthant = []
+cone_words (Gens vectors) = codes "cone" ∷ decimal (length vectors) ∷ decimal (entry_count vectors) ∷ []
+cone_words (Dual vectors) = codes "dualcone" ∷ decimal (length vectors) ∷ decimal (entry_count vectors) ∷ []
+
+abbrev pub heading_words : Problem → List (List ℕ)
+heading_words problem =
+    codes "p" ∷ codes "vlp" ∷ direction_word problem.dir ∷ decimal problem.rows ∷ decimal problem.cols ∷ decimal (length problem.a)
+    ∷ decimal problem.objs ∷ decimal (length problem.o) ∷ cone_words problem.cone
+
+-- the line of an entry of a matrix
+abbrev pub entry_line : List ℕ → ℕ → ℕ → ℚ → List ℕ
+entry_line letter i j q = line_text (letter ∷ decimal i ∷ decimal j ∷ number_text q ∷ [])
+
+abbrev pub cells_text : List ℕ → List Cell → List ℕ
+cells_text letter cells = flat_map (λ c. entry_line letter c.row c.col c.value) cells
+
+-- the lines of the duality vector, zeros too
+abbrev pub duality_text : List ℚ → List ℕ
+duality_text f = flat_map (λ i. entry_line (codes "k") i 0 (entry f i)) (numbers_from 1 (length f))
+
+-- the line of an entry of cone vector j; there is none for 0
+abbrev pub vector_entry : ℕ → ℕ → ℚ → List ℕ
+vector_entry i j q = if is_zero q then [] else entry_line (codes "k") i j q
+
+-- those of cone vector j
+abbrev pub vector_text : ℕ → List ℚ → List ℕ
+vector_text j v = flat_map (λ i. vector_entry i j (entry v i)) (numbers_from 1 (length v))
+
+abbrev pub vectors_text : List (List ℚ) → List ℕ
+vectors_text vectors = flat_map (λ j. vector_text j (slice_index_or vectors (j - 1) [])) (numbers_from 1 (length vectors))
+
+-- the type of bounds and its numbers
+abbrev pub bound_words : Bound → List (List ℕ)
+bound_words Unsaid = []
+bound_words Free = codes "f" ∷ []
+bound_words (Lower low) = codes "l" ∷ number_text low ∷ []
+bound_words (Upper high) = codes "u" ∷ number_text high ∷ []
+bound_words (Double low high) = codes "d" ∷ number_text low ∷ number_text high ∷ []
+bound_words (Fixed value) = codes "s" ∷ number_text value ∷ []
+
+-- the line of the bounds of a row or column; there is none where the file gave none
+abbrev pub bound_line : List ℕ → ℕ → Bound → List ℕ
+bound_line letter k bound = if is_unsaid bound then [] else line_text (letter ∷ decimal k ∷ bound_words bound)
+
+abbrev pub bounds_text : List ℕ → List Bound → List ℕ
+bounds_text letter bounds = flat_map (λ k. bound_line letter k (slice_index_or bounds (k - 1) Unsaid)) (numbers_from 1 (length bounds))
+
+-- words, each behind a blank
+abbrev pub behind : List (List ℕ) → List ℕ
+behind words = flat_map (λ w. 32 ∷ w) words
+
+abbrev pub problem_text : Problem → List ℕ
+problem_text problem =
+    line_text (heading_words problem)
+    ++ (cells_text (codes "a") problem.a ++ (cells_text (codes "o") problem.o
+    ++ (duality_text (duality_entries problem.duality) ++ (vectors_text (cone_vectors problem.cone)
+    ++ (bounds_text (codes "i") problem.row_bounds ++ (bounds_text (codes "j") problem.col_bounds ++ line_text (codes "e" ∷ [])))))))
+
+-- why a problem is not printed: its first number, in the order of printing, that has no decimal form; or want of memory
+abbrev pub RefusesText : Problem → PrintFault → Type 0
+RefusesText problem (NotDecimal q) = find (λ p. not (is_decimal p)) (printed_numbers problem) ≡ Some q
+RefusesText problem NoMemory = Unit {0}
+
+-- what is printed: the text of the problem, all of whose numbers have a decimal form
+pub record Prints (problem : Problem) (text : List ℕ) : Type 0 where
+  pub decimal : find (λ p. not (is_decimal p)) (printed_numbers problem) ≡ None
+  pub same : text ≡ problem_text problem

@@ -1,0 +1,12 @@
+//! Vector linear programs as texts of vlp files.
+#![tactic(auto)]
+
+mod decimal;
+mod fault;
+mod numbers;
+mod print;
+#[cfg(test)]
+mod tests;
+
+pub use fault::PrintFault;
+pub use print::print_vlp;

@@ -1,0 +1,2 @@
+//! Texts of problems.
+mod prints;
