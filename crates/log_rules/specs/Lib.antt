@@ -1,0 +1,9 @@
+pub mod Events
+pub mod Laws
+pub mod Live
+pub mod Meets
+pub mod Names
+pub mod Order
+pub mod Proves
+pub mod Right
+pub mod Runs

@@ -1,0 +1,14 @@
+pub mod Absorbing
+pub mod ConvexCones
+pub mod Coordinates
+pub mod ExactTurned
+pub mod Lines
+pub mod Preimages
+pub mod SameSolution
+pub mod Shown
+pub mod Solid
+pub mod TurnedSets
+pub mod Units
+pub mod WholeImage
+pub mod Widths
+pub mod WorkingImage
