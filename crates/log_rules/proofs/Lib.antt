@@ -3,7 +3,6 @@ pub mod Additions
 pub mod AnswerMembers
 pub mod Balanced
 pub mod ByEntries
-pub mod Computed
 pub mod ConeHeld
 pub mod Corner
 pub mod CornerHeld
@@ -11,6 +10,7 @@ pub mod CutsStay
 pub mod CutsValid
 pub mod DualityStays
 pub mod Entries
+pub mod Examples
 pub mod Failures
 pub mod HeldTests
 pub mod InCone
@@ -42,6 +42,4 @@ pub mod StartDescribes
 pub mod Through
 pub mod TightHeld
 pub mod TightTests
-pub mod Turned
 pub mod Witnesses
-pub mod WorkedSolution

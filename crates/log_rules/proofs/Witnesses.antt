@@ -6,6 +6,7 @@ use Rattle.exact_field.specs.Rational.{ℚ, zero_ℚ, neg_ℚ, ◌<ℚ◌}
 use Rattle.exact_field.specs.Vector.{dot}
 use Rattle.polyhedra.specs.Farkas.{IsDualVector}
 use Rattle.polyhedra.specs.Vectors.{zeros, combination}
+use Rattle.polyhedra.proofs.Negatives.{negated_twice}
 use Rattle.upper_image.specs.OrderingCone.{IsInOrderingCone, Fits}
 use Rattle.upper_image.specs.Shows.{ShowsRecession, ShowsAbove, ShowsCut}
 use Rattle.upper_image.specs.Spots.{dense, product, IsVector}
@@ -20,7 +21,6 @@ use Rattle.log_rules.specs.Live.{Stated}
 use Rattle.log_rules.specs.Meets.{MeetsFarkas, MeetsWhole, MeetsLine}
 use Rattle.log_rules.specs.Proves.{forth, facet_of}
 use Rattle.log_rules.specs.Right.{stated}
-use Rattle.log_rules.proofs.Turned.{negative-twice}
 use Rattle.frac128.specs.Sparse.{IsSparse}
 use Rattle.frac128.specs.declared.vectors.Spot.{Spot}
 use Rattle.vlp_reader.specs.Sides.{sides, side_bounds, IsRecession}
@@ -73,7 +73,7 @@ swapped : (dir : Dir) (P : List ℚ → List Spot → Type 0) (d : List ℚ) (ra
     P (turned dir d) ray × P (turned dir (map neg_ℚ d)) back
 swapped Min P d ray back h k =
     (subst (λ (e : List ℚ). P e ray) (sym (unturned d)) h, subst (λ (e : List ℚ). P e back) (sym (unturned (map neg_ℚ d))) k)
-swapped Max P d ray back h k = (k, subst (λ (e : List ℚ). P e back) (sym (negative-twice d)) h)
+swapped Max P d ray back h k = (k, subst (λ (e : List ℚ). P e back) (sym (negated_twice d)) h)
 
 record ShowsDirection (file : Problem) (d : List ℚ) (x : List Spot) : Type 0 where
   pub wide : length d ≡ file.objs

@@ -1,4 +1,5 @@
 pub mod Events
+pub mod Examples
 pub mod Laws
 pub mod Live
 pub mod Meets

@@ -2,6 +2,7 @@
 //! the statement.
 #![tactic(auto)]
 
+ghost use Rattle.log_rules.specs.Examples.{WorkedLogs};
 ghost use Rattle.log_rules.specs.Laws.{EventsGiveMeets, MeetsGiveEvents, RulesKeepDescription, NumbersStay, SolvedIsReached, SolvedIsSolved, ProvedIsRight, OneAnswer};
 
 mod answer;
@@ -50,4 +51,9 @@ pub fn proved_is_right()
 /// Entries prove one answer only.
 pub fn one_answer()
     ensures { OneAnswer }
+{}
+
+/// Worked logs, of each kind of answer, and with faults.
+pub fn worked_logs()
+    ensures { WorkedLogs }
 {}

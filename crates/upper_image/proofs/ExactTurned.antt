@@ -7,8 +7,8 @@ use Rattle.polyhedra.specs.Inequality.{Inequality}
 use Rattle.polyhedra.proofs.Members.{Contains-map, Contains-map_source}
 use Rattle.upper_image.specs.Laws.{ExactInFile}
 use Rattle.upper_image.specs.UpperImage.{IsInWorkingImage, IsWorkingDirection, IsInImage, IsDirection, turned, working}
-use Rattle.upper_image.proofs.Coordinates.{signed-twice, turned-twice}
-use Rattle.upper_image.proofs.TurnedSets.{turned-all_twice, turned-same, norm-turned, vertex-from, vertex-to, extreme-from, extreme-to, hull-turned}
+use Rattle.upper_image.proofs.Coordinates.{signed-twice}
+use Rattle.upper_image.proofs.TurnedSets.{AreMapped, are_turned, turned-same}
 use Rattle.vlp_reader.specs.declared.problem.Problem.{Problem}
 
 -- ---- inequalities in working coordinates
@@ -24,21 +24,22 @@ module _ (file : Problem) (c : List ℚ) (points directions : List (List ℚ)) (
       let m : (u : List ℚ) × Contains vs u × (turned file.dir u ≡ turned file.dir v) = Contains-map_source (turned file.dir) vs (turned file.dir v) h in
       subst (λ (u : List ℚ). Contains vs u) (turned-same file.dir m.0 v m.2) m.1
 
-  pub vertices_of : (y : List ℚ) → Contains points y ↔ IsVertex (IsInImage file) y
+  vertices_of : (y : List ℚ) → Contains points y ↔ IsVertex (IsInImage file) y
   vertices_of y = (
-    λ h. vertex-from file.dir (IsInWorkingImage file) y ((exact.vertices (turned file.dir y)).0 (Contains-map (turned file.dir) points y h)),
-    λ h. turned_back points y ((exact.vertices (turned file.dir y)).1 (vertex-to file.dir (IsInWorkingImage file) y h)),
+    λ h. ((are_turned file.dir (IsInWorkingImage file)).vertices y).1 ((exact.vertices (turned file.dir y)).0 (Contains-map (turned file.dir) points y h)),
+    λ h. turned_back points y ((exact.vertices (turned file.dir y)).1 (((are_turned file.dir (IsInWorkingImage file)).vertices y).0 h)),
   )
 
-  pub extreme_of : (d : List ℚ) → Contains directions d ↔ (IsExtremeDirection file.objs (IsDirection file) d × IsNormedDirection d)
-  extreme_of d = (
-    λ h. let e = (exact.extreme (turned file.dir d)).0 (Contains-map (turned file.dir) directions d h) in
-        (extreme-from file.dir (IsWorkingDirection file) file.objs d e.0, sym (norm-turned file.dir d) ∙ e.1),
-    λ h. turned_back directions d
-        ((exact.extreme (turned file.dir d)).1 (extreme-to file.dir (IsWorkingDirection file) file.objs d h.0, norm-turned file.dir d ∙ h.1)),
-  )
+  extreme_of : (d : List ℚ) → Contains directions d ↔ (IsExtremeDirection file.objs (IsDirection file) d × IsNormedDirection d)
+  extreme_of d =
+      let t : AreMapped (IsWorkingDirection file) (turned file.dir) = are_turned file.dir (IsWorkingDirection file) in
+      (
+        λ h. let e = (exact.extreme (turned file.dir d)).0 (Contains-map (turned file.dir) directions d h) in
+            ((t.extreme file.objs d).1 e.0, (t.normed d).1 e.1),
+        λ h. turned_back directions d ((exact.extreme (turned file.dir d)).1 ((t.extreme file.objs d).0 h.0, (t.normed d).0 h.1)),
+      )
 
-  pub facets_of : (e : Inequality) → Contains facets e ↔ IsFacet file.objs (IsInWorkingImage file) c (working file e)
+  facets_of : (e : Inequality) → Contains facets e ↔ IsFacet file.objs (IsInWorkingImage file) c (working file e)
   facets_of e = (
     λ h. (exact.facets_are (working file e)).0 (Contains-map (working file) facets e h),
     λ h. let m : (f : Inequality) × Contains facets f × (working file f ≡ working file e) =
@@ -46,16 +47,11 @@ module _ (file : Problem) (c : List ℚ) (points directions : List (List ℚ)) (
         subst (λ (f : Inequality). Contains facets f) (sym (working-twice file m.0) ∙ ap (working file) m.2 ∙ working-twice file e) m.1,
   )
 
-  pub hull_of : (y : List ℚ) → IsInImage file y ↔ IsInHull file.objs points directions [] y
-  hull_of y = (
-    λ h. subst (λ (v : List ℚ). IsInHull file.objs points directions [] v) (turned-twice file.dir y)
-        (subst (λ (vs : List (List ℚ)). IsInHull file.objs vs directions [] (turned file.dir (turned file.dir y))) (turned-all_twice file.dir points)
-        (subst (λ (vs : List (List ℚ)). IsInHull file.objs (map (turned file.dir) (map (turned file.dir) points)) vs [] (turned file.dir (turned file.dir y)))
-        (turned-all_twice file.dir directions)
-        (hull-turned file.dir file.objs (map (turned file.dir) points) (map (turned file.dir) directions) (turned file.dir y)
-        ((exact.hull (turned file.dir y)).0 h)))),
-    λ h. (exact.hull (turned file.dir y)).1 (hull-turned file.dir file.objs points directions y h),
-  )
+  hull_of : (y : List ℚ) → IsInImage file y ↔ IsInHull file.objs points directions [] y
+  hull_of y =
+      let t : AreMapped (IsInWorkingImage file) (turned file.dir) = are_turned file.dir (IsInWorkingImage file) in
+      (λ h. (t.hull file.objs points directions y).1 ((exact.hull (turned file.dir y)).0 h),
+      λ h. (exact.hull (turned file.dir y)).1 ((t.hull file.objs points directions y).0 h))
 
 pub exact_in_file : ExactInFile
 exact_in_file file c points directions facets exact = record {

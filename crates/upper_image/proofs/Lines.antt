@@ -9,6 +9,7 @@ use Rattle.polyhedra.specs.Inequality.{Inequality}
 use Rattle.polyhedra.specs.Vectors.{zeros, plus, scaled, values}
 use Rattle.polyhedra.proofs.Laws.{add_zero, mul_one, zero_lt_one, le_of_lt}
 use Rattle.polyhedra.proofs.Linear.{dot-plus, dot-scaled, dot-zeros, length-plus, length-scaled, length-zeros, same_wide}
+use Rattle.polyhedra.proofs.Negatives.{dot-negated}
 use Rattle.polyhedra.proofs.Order.{le_or_lt, neg_positive, not_lt_of_le, lt_of_difference}
 use Rattle.upper_image.specs.Laws.{LineStays}
 use Rattle.upper_image.specs.Spots.{dense}
@@ -17,7 +18,7 @@ use Rattle.upper_image.specs.Witnesses.{IsWithoutVertex}
 use Rattle.upper_image.proofs.ConvexCones.{ordering_cone_convex}
 use Rattle.upper_image.proofs.Coordinates.{length-turned, dot-turned, dot-turned_along, turned-twice, signed-neg}
 use Rattle.upper_image.proofs.Preimages.{direction_preimage_shows}
-use Rattle.upper_image.proofs.WorkingImage.{working_image_convex, value_wide, feasible_meets, dual_vector_bounds, dot-negative}
+use Rattle.upper_image.proofs.WorkingImage.{working_image_convex, value_wide, feasible_meets, dual_vector_bounds}
 use Rattle.vlp_reader.specs.Sides.{sides}
 use Rattle.vlp_reader.specs.declared.problem.Problem.{Problem}
 use Rattle.frac128.specs.declared.vectors.Spot.{Spot}
@@ -46,7 +47,7 @@ module _ (file : Problem) (c : List ℚ) (x : List Spot) (d : List ℚ) (ray bac
 
   back_value : (r : List ℚ) (l : ℚ) → neg_ℚ l *ℚ dot r (turned file.dir (map neg_ℚ d)) ≡ l *ℚ dot r (turned file.dir d)
   back_value r l =
-      ap (λ a. neg_ℚ l *ℚ a) (dot-turned file.dir r (map neg_ℚ d) ∙ ap (signed file.dir) (dot-negative r d) ∙ signed-neg file.dir (dot r d)
+      ap (λ a. neg_ℚ l *ℚ a) (dot-turned file.dir r (map neg_ℚ d) ∙ ap (signed file.dir) (dot-negated r d) ∙ signed-neg file.dir (dot r d)
       ∙ ap neg_ℚ (sym (dot-turned file.dir r d)))
       ∙ ring rationals (l ∷ dot r (turned file.dir d) ∷ []) (⊖ v0 ⊗ ⊖ v1) (v0 ⊗ v1) refl
 

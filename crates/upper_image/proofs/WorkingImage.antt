@@ -1,9 +1,9 @@
 -- The image in working coordinates: that it is convex, what the entries show to be in it (a twin has the same products with every
 -- vector), which cuts are valid for it, and that an interior vector of the cone is interior to its directions.
-use Rattle.std.proofs.Common.{◌≡◌, ℕ, List, [], ◌∷◌, map, length, All, refl, sym, ap, ap₂, ◌∙◌, subst, arith}
+use Rattle.std.proofs.Common.{◌≡◌, ℕ, List, [], ◌∷◌, map, length, All, refl, sym, ap, ◌∙◌, subst, arith}
 use Rattle.std.proofs.lemmas.List.{length-map}
 use Rattle.std.proofs.lemmas.List.Elements.{All-head, All-tail}
-use Rattle.exact_field.specs.Rational.{ℚ, zero_ℚ, ◌+ℚ◌, ◌*ℚ◌, neg_ℚ, ◌≤ℚ◌}
+use Rattle.exact_field.specs.Rational.{ℚ, zero_ℚ, ◌+ℚ◌, neg_ℚ, ◌≤ℚ◌}
 use Rattle.exact_field.specs.Vector.{dot}
 use Rattle.exact_field.specs.Ring.{v0, v1, ◌⊕◌, ⊖}
 use Rattle.exact_field.proofs.RingTool.{ring}
@@ -12,11 +12,12 @@ use Rattle.polyhedra.specs.Cone.{IsInterior}
 use Rattle.polyhedra.specs.Farkas.{Meets, IsDualVector}
 use Rattle.polyhedra.specs.Hull.{IsConvex, IsValidAt}
 use Rattle.polyhedra.specs.Vectors.{zeros, plus, values, combination}
-use Rattle.polyhedra.proofs.Algebra.{zero_add, neg_zero, neg_add, mul_neg}
+use Rattle.polyhedra.proofs.Algebra.{zero_add}
 use Rattle.polyhedra.proofs.Farkas.{cut_holds, no_solution}
 use Rattle.polyhedra.proofs.Image.{image_is_convex}
 use Rattle.polyhedra.proofs.Laws.{add_assoc}
 use Rattle.polyhedra.proofs.Linear.{dot-plus, dot-zeros, length-plus, same_wide}
+use Rattle.polyhedra.proofs.Negatives.{dot-negated}
 use Rattle.upper_image.specs.Laws.{InfeasibleIsEmpty}
 use Rattle.upper_image.specs.OrderingCone.{IsInOrderingCone, IsInDualCone, IsInteriorToCone}
 use Rattle.upper_image.specs.Shows.{ShowsFeasible, ShowsRecession, ShowsAbove, ShowsCut}
@@ -69,14 +70,9 @@ pub record HasTwin (Set : List ℚ → Type 0) (y : List ℚ) : Type 0 where
 pub twin_itself : (n : ℕ) (Set : List ℚ → Type 0) (y : List ℚ) → ((z : List ℚ) → Set z → length z ≡ n) → length y ≡ n → HasTwin Set y → Set y
 twin_itself n Set y wide width h = subst Set (same_wide n h.twin y (wide h.twin h.member) width h.same) h.member
 
-pub dot-negative : (r v : List ℚ) → dot r (map neg_ℚ v) ≡ neg_ℚ (dot r v)
-dot-negative [] v = sym neg_zero
-dot-negative (r ∷ rs) [] = sym neg_zero
-dot-negative (r ∷ rs) (x ∷ v) = ap₂ (λ a b. a +ℚ b) (mul_neg r x) (dot-negative rs v) ∙ sym (neg_add (r *ℚ x) (dot rs v))
-
 back_again : (r y z : List ℚ) → dot r (plus z (difference y z)) ≡ dot r y
 back_again r y z =
-    dot-plus r z (difference y z) ∙ ap (λ a. dot r z +ℚ a) (dot-plus r y (map neg_ℚ z) ∙ ap (λ a. dot r y +ℚ a) (dot-negative r z))
+    dot-plus r z (difference y z) ∙ ap (λ a. dot r z +ℚ a) (dot-plus r y (map neg_ℚ z) ∙ ap (λ a. dot r y +ℚ a) (dot-negated r z))
     ∙ ring rationals (dot r z ∷ dot r y ∷ []) (v0 ⊕ (v1 ⊕ ⊖ v0)) v1 refl
 
 pub point_twin : (file : Problem) (y x : List ℚ) → IsFeasible file x → IsInOrderingCone file (rest file y x) → HasTwin (IsInWorkingImage file) y
