@@ -1,14 +1,16 @@
 -- What is proved of cones, images and witnesses.
-use Rattle.std.specs.Prelude.{◌≡◌, ℕ, List, map, length}
-use Rattle.exact_field.specs.Rational.{ℚ}
+use Rattle.std.specs.Prelude.{◌≡◌, ◌↔◌, ◌-◌, ◌<◌, ◌++◌, ◌∷◌, [], ℕ, List, map, length}
+use Rattle.exact_field.specs.Rational.{ℚ, one_ℚ, neg_ℚ, ◌-ℚ◌}
 use Rattle.polyhedra.specs.Exactness.{IsExact}
-use Rattle.polyhedra.specs.Hull.{IsConvex, IsValidAt}
+use Rattle.polyhedra.specs.Hull.{IsConvex, IsValidAt, IsVertex, IsFacet, IsExtremeDirection, IsNormedDirection}
+use Rattle.polyhedra.specs.LowerImage.{completed, IsRecession}
+use Rattle.exact_field.specs.Vector.{dot}
 use Rattle.polyhedra.specs.Image.{IsConvexCone}
 use Rattle.polyhedra.specs.Inequality.{Inequality}
-use Rattle.polyhedra.specs.Vectors.{plus, scaled}
+use Rattle.polyhedra.specs.Vectors.{plus, scaled, zeros}
 use Rattle.upper_image.specs.OrderingCone.{IsInOrderingCone, IsInDualCone, IsInteriorToCone, IsAbsorbed, dual_of, Fits}
 use Rattle.upper_image.specs.Shows.{ShowsIn, ShowsFitting, ShowsFeasible, ShowsRecession, ShowsAbove, ShowsCut}
-use Rattle.upper_image.specs.UpperImage.{IsInWorkingImage, IsWorkingDirection, IsInImage, IsDirection, IsPreimage, IsDirectionPreimage, IsDualVectorOf, IsValidFor, IsExactFor, turned, working}
+use Rattle.upper_image.specs.UpperImage.{IsInWorkingImage, IsWorkingDirection, IsInImage, IsDirection, IsPreimage, IsDirectionPreimage, IsDualVectorOf, IsValidFor, IsExactFor, IsInLowerImageOf, front, phi, turned, signed, working}
 use Rattle.upper_image.specs.Witnesses.{IsInfeasible, IsWhole, IsWithoutVertex}
 use Rattle.frac128.specs.declared.vectors.Spot.{Spot}
 use Rattle.vlp_reader.specs.Sides.{IsFeasible}
@@ -72,6 +74,25 @@ ExactInFile = (file : Problem) (c : List ℚ) (points directions : List (List �
     IsExact file.objs (IsInWorkingImage file) (IsWorkingDirection file) c (map (turned file.dir) points) (map (turned file.dir) directions)
     (map (working file) facets) →
     IsExactFor file c points directions facets
+
+-- ---- geometric duality
+-- the vertices of the lower image are the facets: each by all entries of its normal but the last, and its bound
+abbrev pub LowerVerticesAreFacets : Type 0
+LowerVerticesAreFacets = (file : Problem) (c w : List ℚ) (bound : ℚ) → Fits file c → length w ≡ file.objs - 1 →
+    IsVertex (IsInLowerImageOf file c) (w ++ bound ∷ [])
+    ↔ IsFacet file.objs (IsInWorkingImage file) c (working file (completed (front c) w bound))
+
+-- where the image and the lower image are not empty, the lower image has one normed extreme direction, that in which the bound says
+-- less
+abbrev pub OneLowerDirection : Type 0
+OneLowerDirection = (file : Problem) (c y v : List ℚ) → Fits file c → IsInWorkingImage file y → IsInLowerImageOf file c v → (d : List ℚ) →
+    (IsExtremeDirection file.objs (IsRecession file.objs (IsInLowerImageOf file c)) d × IsNormedDirection d)
+    ↔ (d ≡ zeros (file.objs - 1) ++ signed file.dir (neg_ℚ one_ℚ) ∷ [])
+
+-- the coupling of a vector with an inequality is the product with its normal minus its bound
+abbrev pub CouplingIsSlack : Type 0
+CouplingIsSlack = (q : ℕ) (y w c : List ℚ) (bound : ℚ) → 0 < q → length y ≡ q → length w ≡ q - 1 →
+    phi q y (w ++ bound ∷ []) c ≡ dot (completed (front c) w bound).normal y -ℚ bound
 
 -- ---- witnesses
 -- no point is feasible

@@ -3,12 +3,12 @@
 use Rattle.std.specs.Prelude.{◌≡◌, ◌-◌, ℕ, List, map, length, take, Contains, ◌↔◌, []}
 use Rattle.exact_field.specs.Rational.{ℚ, one_ℚ, ◌+ℚ◌, ◌-ℚ◌, ◌*ℚ◌, neg_ℚ}
 use Rattle.exact_field.specs.Vector.{dot, entry}
-use Rattle.polyhedra.specs.Exactness.{homogenised}
 use Rattle.polyhedra.specs.Farkas.{IsDualVector}
 use Rattle.polyhedra.specs.Hull.{IsValid, IsInHull, IsVertex, IsExtremeDirection, IsNormedDirection, IsFacet}
 use Rattle.polyhedra.specs.Image.{IsImage}
 use Rattle.polyhedra.specs.Inequality.{Inequality}
-use Rattle.polyhedra.specs.LowerImage.{completed}
+use Rattle.polyhedra.specs.LowerImage.{IsInLowerImage}
+use Rattle.polyhedra.specs.Negatives.{Negatives, IsInLowerImageAbove}
 use Rattle.polyhedra.specs.Vectors.{zeros, plus, values, combination}
 use Rattle.upper_image.specs.OrderingCone.{IsInOrderingCone, IsInDualCone}
 use Rattle.vlp_reader.specs.Cells.{coefficient}
@@ -110,14 +110,16 @@ pub record IsExactFor (file : Problem) (c : List ℚ) (points directions : List 
 abbrev pub front : List ℚ → List ℚ
 front v = take (length v - 1) v
 
--- v is in the lower image for c: all entries but the last, completed to a w with w . c = 1, and the last as bound, are a valid
--- inequality
-pub record IsInLowerImageOf (file : Problem) (c v : List ℚ) : Type 0 where
-  pub weights : List ℚ
-  pub bound : ℚ
-  pub wide : length weights ≡ file.objs - 1
-  pub same : v ≡ homogenised weights bound
-  pub valid : IsValidFor file (completed (front c) weights bound)
+-- the lower image for (c, 1): the inequalities that are valid for a set, or, where the file maximises, those from above for its
+-- mirror image
+abbrev pub LowerImage : Dir → ℕ → (List ℚ → Type 0) → List ℚ → List ℚ → Type 0
+LowerImage Min n Set c v = IsInLowerImage n Set c v
+LowerImage Max n Set c v = IsInLowerImageAbove n (Negatives Set) c v
+
+-- v is in the lower image of the file for c: all entries but the last, completed to a w with w . c = 1, and the last as bound, are
+-- a valid inequality
+abbrev pub IsInLowerImageOf : Problem → List ℚ → List ℚ → Type 0
+IsInLowerImageOf file c v = LowerImage file.dir (file.objs - 1) (IsInWorkingImage file) (front c) v
 
 -- the coupling of a point y of the image with a point of the lower image: w . y minus the bound
 abbrev pub phi : ℕ → List ℚ → List ℚ → List ℚ → ℚ

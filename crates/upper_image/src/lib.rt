@@ -2,7 +2,7 @@
 // law: it does nothing, and its contract is the statement.
 #![tactic(auto)]
 
-ghost use Rattle.upper_image.specs.Laws.{OrderingConeIsConvex, ConeShown, DualConeShown, DualityFits, InteriorAbsorbs, UpperImageIsConvex, PreimageShows, DirectionPreimageShows, DualVectorShows, PointShown, RayShown, CutShown, ExactInFile, InfeasibleIsEmpty, WholeIsAll, LineStays};
+ghost use Rattle.upper_image.specs.Laws.{OrderingConeIsConvex, ConeShown, DualConeShown, DualityFits, InteriorAbsorbs, UpperImageIsConvex, PreimageShows, DirectionPreimageShows, DualVectorShows, PointShown, RayShown, CutShown, ExactInFile, LowerVerticesAreFacets, OneLowerDirection, CouplingIsSlack, InfeasibleIsEmpty, WholeIsAll, LineStays};
 
 /// The ordering cone is a convex cone.
 pub fn ordering_cone_is_convex()
@@ -67,6 +67,21 @@ pub fn cut_shown()
 /// What is exact in working coordinates is exact in the coordinates of the file.
 pub fn exact_in_file()
     ensures { ExactInFile }
+{}
+
+/// The vertices of the lower image are the facets.
+pub fn lower_vertices_are_facets()
+    ensures { LowerVerticesAreFacets }
+{}
+
+/// The lower image has one extreme direction.
+pub fn one_lower_direction()
+    ensures { OneLowerDirection }
+{}
+
+/// The coupling of a point with an inequality.
+pub fn coupling_is_slack()
+    ensures { CouplingIsSlack }
 {}
 
 /// An infeasible file has no feasible point.
