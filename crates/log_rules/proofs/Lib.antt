@@ -35,6 +35,8 @@ pub mod RequiredPairs
 pub mod Rising
 pub mod SolutionIsRight
 pub mod SolvedIsSolved
+pub mod SolutionsAgree
+pub mod LowerVertices
 pub mod Sound
 pub mod SparseEntries
 pub mod SparseSteps

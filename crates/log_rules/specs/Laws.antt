@@ -1,17 +1,18 @@
 -- What is to be proved of these definitions.
-use Rattle.std.specs.Prelude.{◌≡◌, ◌⊎◌, ◌++◌, suc, ◌≤◌, ◌<◌, true, List, [], map, filter, All, AllPairs, Contains, IsTrue, Bool, None}
+use Rattle.polyhedra.specs.LowerImage.{completed}
+use Rattle.std.specs.Prelude.{◌≡◌, ◌⊎◌, ◌++◌, suc, ◌≤◌, ◌<◌, true, List, [], map, filter, All, AllPairs, Contains, IsTrue, Bool, None, ◌↔◌, ◌-◌, ◌∷◌, length}
 use Rattle.exact_field.specs.Rational.{ℚ, zero_ℚ, one_ℚ}
 use Rattle.exact_field.specs.Order.{same_ℚ}
 use Rattle.polyhedra.specs.DoubleDescription.{IsNormed}
 use Rattle.polyhedra.specs.Exactness.{IsSolved}
-use Rattle.polyhedra.specs.Hull.{IsInHull, IsValidAt}
+use Rattle.polyhedra.specs.Hull.{IsInHull, IsValidAt, IsVertex}
 use Rattle.polyhedra.specs.Inequality.{Inequality}
 use Rattle.polyhedra.specs.TightSets.{IsDoubleDescriptionPair}
-use Rattle.upper_image.specs.UpperImage.{IsInWorkingImage, IsWorkingDirection, IsInImage, IsDirection, IsValidFor}
+use Rattle.upper_image.specs.UpperImage.{IsInWorkingImage, IsWorkingDirection, IsInImage, IsDirection, IsValidFor, front, IsInLowerImageOf}
 use Rattle.log_rules.specs.Events.{log_failure}
 use Rattle.log_rules.specs.Live.{Member, State, state, cut_at, inequality, in_use, rows_in_use, vectors, named}
 use Rattle.log_rules.specs.Proves.{AllMeet, Proves}
-use Rattle.log_rules.specs.Right.{IsRight, stated}
+use Rattle.log_rules.specs.Right.{IsRight, stated, IsSolution}
 use Rattle.vlp_reader.specs.declared.problem.Problem.{Problem}
 use Rattle.log_rules.specs.declared.answer.Answer.{Answer}
 use Rattle.log_rules.specs.declared.answer.Answer.TheVariants.{Solved}
@@ -86,3 +87,17 @@ ProvedIsRight = (file : Problem) (entries : List Entry) (answer : Answer) → Pr
 abbrev pub OneAnswer : Type 0
 OneAnswer = (file : Problem) (entries : List Entry) (answer answer' : Answer) →
     Proves file entries answer → Proves file entries answer' → answer ≡ answer'
+
+-- two right solutions for one file and one c agree in all but pre-images and dual vectors: in the points, the directions and the
+-- facets, in their order, and in the numbers of tight points and directions
+abbrev pub RightSolutionsAgree : Type 0
+RightSolutionsAgree = (file : Problem) (c : List ℚ) (points points' directions directions' : List Gen) (facets facets' : List Facet) →
+    IsSolution file c points directions facets → IsSolution file c points' directions' facets' →
+    (map (λ g. g.y) points ≡ map (λ g. g.y) points') × (map (λ g. g.y) directions ≡ map (λ g. g.y) directions')
+    × (map stated facets ≡ map stated facets') × (map (λ f. f.tight) facets ≡ map (λ f. f.tight) facets')
+
+-- the facets of a right solution, each by all entries of its normal but the last and its bound, are the vertices of the lower image
+abbrev pub FacetsAreLowerVertices : Type 0
+FacetsAreLowerVertices = (file : Problem) (c : List ℚ) (points directions : List Gen) (facets : List Facet) →
+    IsSolution file c points directions facets → (w : List ℚ) (bound : ℚ) → length w ≡ file.objs - 1 →
+    Contains (map stated facets) (completed (front c) w bound) ↔ IsVertex (IsInLowerImageOf file c) (w ++ bound ∷ [])

@@ -3,7 +3,7 @@
 #![tactic(auto)]
 
 ghost use Rattle.log_rules.specs.Examples.{WorkedLogs};
-ghost use Rattle.log_rules.specs.Laws.{EventsGiveMeets, MeetsGiveEvents, RulesKeepDescription, NumbersStay, SolvedIsReached, SolvedIsSolved, ProvedIsRight, OneAnswer};
+ghost use Rattle.log_rules.specs.Laws.{EventsGiveMeets, MeetsGiveEvents, RulesKeepDescription, NumbersStay, SolvedIsReached, SolvedIsSolved, ProvedIsRight, RightSolutionsAgree, FacetsAreLowerVertices, OneAnswer};
 
 mod answer;
 mod rule;
@@ -51,6 +51,16 @@ pub fn proved_is_right()
 /// Entries prove one answer only.
 pub fn one_answer()
     ensures { OneAnswer }
+{}
+
+/// Two right solutions agree in all but pre-images and dual vectors.
+pub fn right_solutions_agree()
+    ensures { RightSolutionsAgree }
+{}
+
+/// The facets of a right solution are the vertices of the lower image.
+pub fn facets_are_lower_vertices()
+    ensures { FacetsAreLowerVertices }
 {}
 
 /// Worked logs, of each kind of answer, and with faults.
