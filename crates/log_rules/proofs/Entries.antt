@@ -8,7 +8,7 @@ use Rattle.deriv_log.specs.declared.entry.EndKind.{EndKind}
 use Rattle.deriv_log.specs.declared.entry.Entry.{Entry}
 use Rattle.deriv_log.specs.declared.entry.Entry.TheVariants.{End}
 use Rattle.polyhedra.proofs.Lists.{Contains-cases, Contains-nil}
-use Rattle.polyhedra.proofs.Tests.{both_true}
+use Rattle.polyhedra.proofs.Tests.{both_true, either_true, or_left, or_right}
 use Rattle.log_rules.specs.Live.{state, after, nothing}
 use Rattle.log_rules.specs.Meets.{Meets}
 use Rattle.log_rules.specs.Order.{Kind, place, kind, has, begins_well, stands_once, needs_duality, needs_start, needs_cut, ends_at_facet, implies, in_order}
@@ -19,18 +19,6 @@ pub state-push : (q : ℕ) (before : List Entry) (e : Entry) → state q (before
 state-push q before e = fold-append (after q) nothing before (e ∷ [])
 
 -- ---- entries of a kind
-pub either_true : (a b : Bool) → (a || b) ≡ true → (a ≡ true) ⊎ (b ≡ true)
-either_true true b h = inl refl
-either_true false b h = inr h
-
-pub or_left : (a b : Bool) → a ≡ true → (a || b) ≡ true
-or_left true b h = refl
-or_left false b h = absurd (true≢false (sym h))
-
-pub or_right : (a b : Bool) → b ≡ true → (a || b) ≡ true
-or_right true b h = refl
-or_right false b h = h
-
 pub has_more : (k : Kind) (before more : List Entry) → IsTrue (has k before) → IsTrue (has k (before ++ more))
 has_more k before more h = list_any-append (λ e. place (kind e) == place k) before more ∙ or_left (has k before) (has k more) h
 
@@ -62,10 +50,6 @@ order_of before k h =
     let d = both_true _ (implies (needs_duality k) (has Kind.duality before)) c.0 in
     let e = both_true (begins_well before k) (implies (stands_once k) (not (has k before))) d.0 in
     record { once = e.1; duality = d.1; start = c.1; facet = a.1 }
-
-pub not_true : (b : Bool) → not b ≡ true → b ≡ true → ⊥
-not_true true h k = true≢false (sym h)
-not_true false h k = true≢false (sym k)
 
 -- ---- inductions
 module _ (file : Problem) (P : List Entry → Type 0) (step : (before : List Entry) (e : Entry) → Meets file before e → P before → P (before ++ e ∷ [])) where

@@ -6,10 +6,11 @@ use Rattle.std.proofs.lemmas.List.Elements.{All-nil, All-cons, All-weaker, All-a
 use Rattle.exact_field.specs.Rational.{ℚ, zero_ℚ, one_ℚ, le_ℚ}
 use Rattle.polyhedra.specs.Exactness.{homogenised}
 use Rattle.polyhedra.proofs.Lists.{Contains-cases, Contains-nil}
-use Rattle.polyhedra.proofs.Members.{member_of, pairs-nil, pairs-cons, pairs-head, pairs-tail, pairs-append, pairs-filter}
+use Rattle.polyhedra.proofs.Members.{member_of, pairs-nil, pairs-head, pairs-tail, pairs-append, pairs-filter}
 use Rattle.upper_image.specs.Spots.{pieces}
 use Rattle.upper_image.proofs.Widths.{length-pieces}
 use Rattle.log_rules.specs.Live.{Member, State, numbered, member, value, find, made_of, cut_row, after, nothing, state}
+use Rattle.log_rules.proofs.LiveNumbers.{IsWithin, numbered-within, numbered-rising}
 use Rattle.deriv_log.specs.declared.entry.Entry.{Entry}
 use Rattle.deriv_log.specs.declared.entry.Entry.TheVariants.{Cut, Start, Add}
 
@@ -22,24 +23,14 @@ pub record AreKept (q : ℕ) (s : State) : Type 0 where
   pub wide : All (λ g. length g.y ≤ q) s.live
 
 -- ---- numbered vectors
-numbered-low : (q k : ℕ) (zs : List (List ℚ)) → All (λ g. k ≤ g.number) (numbered q k zs)
-numbered-low q k [] = All-nil (λ g. k ≤ g.number)
-numbered-low q k (z ∷ zs) =
-    All-cons (λ g. k ≤ g.number) (member q k z) (numbered q (suc k) zs) (omega arith)
-    (All-weaker (λ g. suc k ≤ g.number) (λ g. k ≤ g.number) (λ g h. omega (arith, h)) (numbered q (suc k) zs) (numbered-low q (suc k) zs))
-
 numbered-high : (q k : ℕ) (zs : List (List ℚ)) → All (λ g. g.number < k + length zs) (numbered q k zs)
-numbered-high q k [] = All-nil (λ g. g.number < k + 0)
-numbered-high q k (z ∷ zs) =
-    All-cons (λ g. g.number < k + suc (length zs)) (member q k z) (numbered q (suc k) zs) (omega arith)
-    (All-weaker (λ g. g.number < suc k + length zs) (λ g. g.number < k + suc (length zs)) (λ g h. omega (arith, h)) (numbered q (suc k) zs) (numbered-high q (suc k) zs))
+numbered-high q k zs =
+    All-weaker (IsWithin k (k + length zs)) (λ g. g.number < k + length zs) (λ g w. w.below) (numbered q k zs)
+    (numbered-within q k (k + length zs) zs (omega arith))
 
-numbered-rising : (q k : ℕ) (zs : List (List ℚ)) → AllPairs Earlier (numbered q k zs)
-numbered-rising q k [] = pairs-nil Earlier
-numbered-rising q k (z ∷ zs) =
-    pairs-cons Earlier (member q k z) (numbered q (suc k) zs)
-    (All-weaker (λ g. suc k ≤ g.number) (Earlier (member q k z)) (λ g h. omega (arith, h)) (numbered q (suc k) zs) (numbered-low q (suc k) zs))
-    (numbered-rising q (suc k) zs)
+numbered-low : (q k : ℕ) (zs : List (List ℚ)) → All (λ g. k ≤ g.number) (numbered q k zs)
+numbered-low q k zs =
+    All-weaker (IsWithin k (k + length zs)) (λ g. k ≤ g.number) (λ g w. w.from) (numbered q k zs) (numbered-within q k (k + length zs) zs (omega arith))
 
 length-first : (q : ℕ) (z : List ℚ) → length (take q z) ≤ q
 length-first q z = let h = length-take q z in omega (arith, h)

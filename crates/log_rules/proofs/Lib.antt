@@ -21,6 +21,7 @@ pub mod Kept
 pub mod LiveNumbers
 pub mod LogHeld
 pub mod LogMeets
+pub mod LowerVertices
 pub mod NamedCuts
 pub mod NormedMembers
 pub mod NumbersStay
@@ -34,9 +35,8 @@ pub mod ReachedHeld
 pub mod RequiredPairs
 pub mod Rising
 pub mod SolutionIsRight
-pub mod SolvedIsSolved
 pub mod SolutionsAgree
-pub mod LowerVertices
+pub mod SolvedIsSolved
 pub mod Sound
 pub mod SparseEntries
 pub mod SparseSteps

@@ -1,15 +1,14 @@
 -- Numbers tell the live generators apart.
-use Rattle.std.proofs.Common.{◌≡◌, ℕ, suc, ◌+◌, ◌<◌, ◌≤◌, List, [], ◌∷◌, refl, sym, ap, ◌∙◌, subst, arith, Bool, true, false, ◌&&◌, nat_eq, Option, Some, None, ◌⊎◌, inl, inr, map, length, All, AllPairs, Contains}
+use Rattle.std.proofs.Common.{◌≡◌, ℕ, suc, ◌+◌, ◌<◌, ◌≤◌, List, [], ◌∷◌, refl, sym, ap, ◌∙◌, subst, arith, Bool, true, false, nat_eq, Option, Some, None, ◌⊎◌, inl, inr, map, length, All, AllPairs, Contains}
 use Rattle.std.specs.List.{AllByRecursion}
 use Rattle.std.proofs.lemmas.Bool.Decides.{eqb_tells}
 use Rattle.std.proofs.lemmas.List.Elements.{All-nil, All-cons, recursion_from_All}
-use Rattle.exact_field.specs.Rational.{ℚ, le_ℚ}
+use Rattle.exact_field.specs.Rational.{ℚ}
 use Rattle.polyhedra.specs.DoubleDescription.{same_vector}
 use Rattle.polyhedra.specs.TightSets.{IsTight, LiesIn, AreApart}
-use Rattle.polyhedra.proofs.Laws.{le_refl}
 use Rattle.polyhedra.proofs.Lists.{all_from_map, Contains-cases, Contains-nil, Contains-here}
 use Rattle.polyhedra.proofs.Members.{all_of_members, member_of, pairs-nil, pairs-cons, pairs-head, pairs-tail, pairs_of_members}
-use Rattle.polyhedra.proofs.Tests.{both_hold, same_vector_is}
+use Rattle.polyhedra.proofs.Tests.{same_vector_is, same_vector-self}
 use Rattle.log_rules.specs.Live.{Member, vector, vector_of, find, member, numbered}
 use Rattle.log_rules.proofs.RequiredPairs.{IsNumbered}
 
@@ -76,10 +75,6 @@ vector_of_member (x ∷ live) r p h =
     go (inl a) again = ap (λ (b : Bool). elim (elim b as (λ _. Option Member) [ true ↦ Some x | false ↦ find live p.number ]) as (λ _. List ℚ) [ Some g ↦ vector g | None ↦ [] ]) a.0
         ∙ ap vector (same_number (x ∷ live) r x p (Contains-here x live x refl) h a.1)
     go (inr a) again = ap (λ (b : Bool). elim (elim b as (λ _. Option Member) [ true ↦ Some x | false ↦ find live p.number ]) as (λ _. List ℚ) [ Some g ↦ vector g | None ↦ [] ]) a.0 ∙ again (other (Contains-cases x live p h) a.1)
-
-same_vector-self : (u : List ℚ) → same_vector u u ≡ true
-same_vector-self [] = refl
-same_vector-self (x ∷ u) = both_hold (le_ℚ x x && le_ℚ x x) (same_vector u u) (both_hold (le_ℚ x x) (le_ℚ x x) (le_refl x) (le_refl x)) (same_vector-self u)
 
 test_of_same : (u v : List ℚ) → u ≡ v → same_vector u v ≡ true
 test_of_same u v e = subst (λ (w : List ℚ). same_vector u w ≡ true) e (same_vector-self u)

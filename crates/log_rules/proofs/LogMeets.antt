@@ -1,24 +1,24 @@
 -- A log on which no event fails meets every rule of every kind.
-use Rattle.std.proofs.Common.{◌≡◌, ℕ, suc, ◌≤◌, List, [], ◌∷◌, ◌++◌, refl, sym, ap, ◌∙◌, subst, arith, Bool, length, All, Option, Some, None, append_assoc}
-use Rattle.std.proofs.lemmas.Bool.{eqb-true}
-use Rattle.std.proofs.lemmas.List.{append-nil}
-use Rattle.std.proofs.lemmas.List.Elements.{All-nil, All-cons, All-append}
-use Rattle.std.proofs.lemmas.List.Sums.{fold-append}
-use Rattle.exact_field.specs.Rational.{ℚ}
-use Rattle.vlp_reader.specs.declared.problem.Problem.{Problem}
-use Rattle.deriv_log.specs.declared.entry.Entry.{Entry}
-use Rattle.deriv_log.specs.declared.entry.Entry.TheVariants.{Version, Duality, Cut, Start, Add, Point, Ray, Farkas, Whole, Line, Facet, End}
 use Rattle.log_rules.specs.Events.{first_failure, first_failing, kind_events, events}
 use Rattle.log_rules.specs.Laws.{EventsGiveMeets}
-use Rattle.log_rules.specs.Live.{Stated, State, state, after, nothing, duality_vector}
+use Rattle.log_rules.specs.Live.{Stated, State, state, after, duality_vector}
 use Rattle.log_rules.specs.Meets.{MeetsKind, Meets}
 use Rattle.log_rules.proofs.Balanced.{farkas-meets, cut-meets}
 use Rattle.log_rules.proofs.Corner.{start-meets}
+use Rattle.log_rules.proofs.Entries.{state-push}
 use Rattle.log_rules.proofs.Interior.{duality-meets}
 use Rattle.log_rules.proofs.Kept.{state-kept}
 use Rattle.log_rules.proofs.PassedTests.{Passed, passed_of}
 use Rattle.log_rules.proofs.Reached.{point-meets, ray-meets, whole-meets, line-meets}
 use Rattle.log_rules.proofs.TightTests.{add-meets, facet-meets, end-meets}
+use Rattle.std.proofs.Common.{◌≡◌, ℕ, suc, ◌≤◌, List, [], ◌∷◌, ◌++◌, refl, sym, ap, ◌∙◌, subst, arith, Bool, length, All, Option, Some, None, append_assoc}
+use Rattle.std.proofs.lemmas.Bool.{eqb-true}
+use Rattle.std.proofs.lemmas.List.{append-nil}
+use Rattle.std.proofs.lemmas.List.Elements.{All-nil, All-cons, All-append}
+use Rattle.exact_field.specs.Rational.{ℚ}
+use Rattle.vlp_reader.specs.declared.problem.Problem.{Problem}
+use Rattle.deriv_log.specs.declared.entry.Entry.{Entry}
+use Rattle.deriv_log.specs.declared.entry.Entry.TheVariants.{Version, Duality, Cut, Start, Add, Point, Ray, Farkas, Whole, Line, Facet, End}
 
 -- ---- one entry
 -- the widths of c and of the cuts of the entries before
@@ -65,13 +65,10 @@ next_cuts file before s (Cut w gamma u v) h k =
     All-append Wide s.cuts (cut ∷ []) k (All-cons Wide cut [] h.lengths (All-nil Wide))
 next_cuts file before s e h k = k
 
-pub state-next : (q : ℕ) (before : List Entry) (e : Entry) → state q (before ++ e ∷ []) ≡ after q (state q before) e
-state-next q before e = fold-append (after q) nothing before (e ∷ [])
-
 pub next_wide : (file : Problem) (before : List Entry) (e : Entry) → IsWide file before → Meets file before e → IsWide file (before ++ e ∷ [])
 next_wide file before e w m = record {
   c_wide = next_c file.objs before e w.c_wide (own_c file before (state file.objs before) e m.rules);
-  cuts_wide = subst (λ (s : State). All (λ cut. length cut.w ≡ file.objs) s.cuts) (sym (state-next file.objs before e))
+  cuts_wide = subst (λ (s : State). All (λ cut. length cut.w ≡ file.objs) s.cuts) (sym (state-push file.objs before e))
       (next_cuts file before (state file.objs before) e m.rules w.cuts_wide);
 }
 

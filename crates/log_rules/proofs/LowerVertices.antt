@@ -1,6 +1,6 @@
 -- The facets of a right solution are the vertices of the lower image.
-use Rattle.upper_image.specs.UpperImage.{front, working}
 use Rattle.polyhedra.specs.LowerImage.{completed}
+use Rattle.upper_image.specs.UpperImage.{front}
 use Rattle.upper_image.proofs.LowerImages.{lower_vertices_are_facets}
 use Rattle.log_rules.specs.Laws.{FacetsAreLowerVertices}
 

@@ -5,12 +5,13 @@ use Rattle.std.proofs.lemmas.List.Elements.{All-nil, All-cons, All-append, All-w
 use Rattle.polyhedra.specs.Exactness.{IsNamed}
 use Rattle.polyhedra.specs.Inequality.{Inequality}
 use Rattle.polyhedra.proofs.Members.{member_of}
+use Rattle.polyhedra.proofs.Tests.{not_true}
 use Rattle.log_rules.specs.Live.{Stated, State, state, after, inequality, cut_at, in_use, vectors, named, named_in}
 use Rattle.log_rules.specs.Meets.{Meets}
 use Rattle.log_rules.specs.Order.{has}
 use Rattle.log_rules.specs.Proves.{AllMeet}
 use Rattle.log_rules.proofs.CutsStay.{Exists, exists_stays, stated, stated_stay}
-use Rattle.log_rules.proofs.Entries.{state-push, has_more, has_before, order_of, not_true, along_met}
+use Rattle.log_rules.proofs.Entries.{state-push, has_more, has_before, order_of, along_met}
 use Rattle.log_rules.proofs.KeepsDescription.{kept}
 use Rattle.log_rules.proofs.RequiredPairs.{map-append}
 use Rattle.vlp_reader.specs.declared.problem.Problem.{Problem}

@@ -1,50 +1,21 @@
 -- Normed generators in a described cone are points and normed directions.
-use Rattle.std.proofs.Common.{◌≡◌, ℕ, suc, ◌-◌, List, [], ◌∷◌, refl, sym, ap, ◌∙◌, subst, arith, cond, ◌⊎◌, inl, inr, map, length, length-append, slice_index_or, All, Contains}
-use Rattle.exact_field.specs.Rational.{ℚ, zero_ℚ, one_ℚ, neg_ℚ}
-use Rattle.exact_field.specs.Vector.{entry}
+use Rattle.std.proofs.Common.{◌≡◌, ℕ, suc, List, refl, sym, ap, ◌∙◌, subst, ◌⊎◌, inl, inr, map, length, All, Contains}
+use Rattle.exact_field.specs.Rational.{ℚ, zero_ℚ, one_ℚ}
 use Rattle.exact_field.proofs.Inequalities.{zero-lt-one}
 use Rattle.polyhedra.specs.Cone.{IsInCone}
-use Rattle.polyhedra.specs.DoubleDescription.{is_zero, magnitude, leading, norming, IsNormed}
+use Rattle.polyhedra.specs.DoubleDescription.{IsNormed}
 use Rattle.polyhedra.specs.Exactness.{homogenised, level, row_of, rows_of}
 use Rattle.polyhedra.specs.Hull.{IsNormedDirection}
 use Rattle.polyhedra.specs.Inequality.{Inequality}
 use Rattle.polyhedra.specs.TightSets.{IsDoubleDescriptionPair}
 use Rattle.polyhedra.proofs.Homogenised.{homogenised-same, points_or_directions}
-use Rattle.polyhedra.proofs.Laws.{le_of_lt}
 use Rattle.polyhedra.proofs.Lists.{HoldsAt, HasWidth, Contains-here}
 use Rattle.polyhedra.proofs.Members.{all_of_members, member_of, Contains-map}
 use Rattle.polyhedra.proofs.Order.{not_zero_of_positive}
-use Rattle.polyhedra.proofs.Tests.{test_of_zero, test_of_other}
 use Rattle.log_rules.specs.Live.{Member, vector}
-
--- ---- the entry that norms a homogenised vector
-last-homogenised : (y : List ℚ) (t : ℚ) → entry (homogenised y t) (length (homogenised y t)) ≡ t
-last-homogenised y t = ap (λ n. slice_index_or (homogenised y t) n zero_ℚ) (count y) ∙ at_end y
-  where
-    count : (v : List ℚ) → length (homogenised v t) - 1 ≡ length v
-    count v = omega (arith, length-append v (t ∷ []))
-
-    at_end : (v : List ℚ) → slice_index_or (homogenised v t) (length v) zero_ℚ ≡ t
-    at_end [] = refl
-    at_end (x ∷ v) = at_end v
-
-norming-homogenised : (y : List ℚ) (t : ℚ) → norming (homogenised y t) ≡ cond (is_zero t) (leading (homogenised y t)) t
-norming-homogenised y t = ap (λ a. cond (is_zero a) (leading (homogenised y t)) a) (last-homogenised y t)
-
-leading-homogenised : (y : List ℚ) → leading (homogenised y zero_ℚ) ≡ leading y
-leading-homogenised [] = ap (λ b. cond b zero_ℚ zero_ℚ) (test_of_zero zero_ℚ refl)
-leading-homogenised (x ∷ y) = ap (λ a. cond (is_zero x) a x) (leading-homogenised y)
 
 pub one_not_zero : one_ℚ ≡ zero_ℚ → ⊥
 one_not_zero e = not_zero_of_positive one_ℚ zero-lt-one e
-
-pub point_normed : (y : List ℚ) → IsNormed (homogenised y one_ℚ)
-point_normed y = ap magnitude (norming-homogenised y one_ℚ ∙ ap (λ b. cond b (leading (homogenised y one_ℚ)) one_ℚ) (test_of_other one_ℚ one_not_zero))
-    ∙ ap (λ b. cond b one_ℚ (neg_ℚ one_ℚ)) (le_of_lt zero_ℚ one_ℚ zero-lt-one)
-
-pub direction_normed : (d : List ℚ) → IsNormedDirection d → IsNormed (homogenised d zero_ℚ)
-direction_normed d h =
-    ap magnitude (norming-homogenised d zero_ℚ ∙ ap (λ b. cond b (leading (homogenised d zero_ℚ)) zero_ℚ) (test_of_zero zero_ℚ refl) ∙ leading-homogenised d) ∙ h
 
 -- ---- members whose vectors are normed and describe a cone
 module _ (q : ℕ) (cuts : List Inequality) (live : List Member) (described : IsDoubleDescriptionPair (suc q) (rows_of q cuts) (map vector live)) (normed : All IsNormed (map vector live)) where

@@ -4,12 +4,13 @@ use Rattle.std.proofs.lemmas.List.Elements.{Contains-append_cases}
 use Rattle.std.proofs.lemmas.List.Sums.{fold-append}
 use Rattle.exact_field.specs.Rational.{ℚ, zero_ℚ, le_ℚ}
 use Rattle.polyhedra.proofs.Members.{member_of, Contains-filter_source}
+use Rattle.polyhedra.proofs.Tests.{not_true}
 use Rattle.log_rules.specs.Laws.{NumbersStay}
 use Rattle.log_rules.specs.Live.{Stated, Member, State, state, after, nothing, numbered, made_of, value, cut_row}
 use Rattle.log_rules.specs.Meets.{Meets}
 use Rattle.log_rules.specs.Order.{has}
 use Rattle.log_rules.specs.Proves.{AllMeet}
-use Rattle.log_rules.proofs.Entries.{state-push, has_more, order_of, not_true, further}
+use Rattle.log_rules.proofs.Entries.{state-push, has_more, order_of, further}
 use Rattle.log_rules.proofs.LiveNumbers.{IsWithin, numbered-within}
 use Rattle.vlp_reader.specs.declared.problem.Problem.{Problem}
 use Rattle.deriv_log.specs.declared.entry.LogPair.{LogPair}

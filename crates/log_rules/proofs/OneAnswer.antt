@@ -4,12 +4,13 @@ use Rattle.std.proofs.lemmas.List.{same_from_push}
 use Rattle.std.proofs.lemmas.List.Elements.{Contains-push_cases}
 use Rattle.exact_field.specs.Rational.{zero_ℚ, one_ℚ}
 use Rattle.polyhedra.proofs.Lists.{Contains-cases, Contains-nil}
+use Rattle.polyhedra.proofs.Tests.{or_left, or_right, not_true}
 use Rattle.log_rules.specs.Laws.{OneAnswer}
 use Rattle.log_rules.specs.Meets.{Meets}
 use Rattle.log_rules.specs.Order.{Kind, kind, place, has, implies, stands_once}
 use Rattle.log_rules.specs.Proves.{Proves, AllMeet, Gives, IsSorting, facet_of, forth, live_at, named_facets}
 use Rattle.log_rules.specs.Right.{key, stated}
-use Rattle.log_rules.proofs.Entries.{or_left, or_right, order_of, not_true, along, StandsAt, stands_at, end_last}
+use Rattle.log_rules.proofs.Entries.{order_of, along, StandsAt, stands_at, end_last}
 use Rattle.log_rules.proofs.Rising.{sorted_same}
 use Rattle.frac128.specs.declared.vectors.Spot.{Spot}
 use Rattle.vlp_reader.specs.declared.problem.Dir.{Dir}

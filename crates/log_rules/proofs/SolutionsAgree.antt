@@ -9,10 +9,10 @@ use Rattle.polyhedra.proofs.SolvedAreExact.{rising_lists_are_equal}
 use Rattle.upper_image.proofs.Widths.{map-map}
 use Rattle.log_rules.specs.Laws.{RightSolutionsAgree}
 use Rattle.log_rules.specs.Right.{Rise, is_before, key, stated, tight_numbers}
-use Rattle.log_rules.specs.declared.answer.Gen.{Gen}
-use Rattle.log_rules.specs.declared.answer.Facet.{Facet}
 use Rattle.log_rules.proofs.LiveNumbers.{pairs_from_map}
 use Rattle.log_rules.proofs.Rising.{never_before, before_through}
+use Rattle.log_rules.specs.declared.answer.Gen.{Gen}
+use Rattle.log_rules.specs.declared.answer.Facet.{Facet}
 
 same_members : {X : Type 0} (P : X → Type 0) (xs ys : List X) → ((x : X) → Contains xs x ↔ P x) → ((x : X) → Contains ys x ↔ P x) → SameMembers xs ys
 same_members P xs ys h k x = (λ c. (k x).1 ((h x).0 c), λ c. (h x).1 ((k x).0 c))

@@ -8,6 +8,7 @@ use Rattle.polyhedra.specs.Exactness.{homogenised, rows_of}
 use Rattle.polyhedra.specs.Hull.{IsNormedDirection}
 use Rattle.polyhedra.specs.TightSets.{IsDoubleDescriptionPair}
 use Rattle.polyhedra.proofs.CornerStarts.{corner_starts}
+use Rattle.polyhedra.proofs.Homogenised.{point_normed, direction_normed}
 use Rattle.polyhedra.proofs.Lists.{HasWidth}
 use Rattle.upper_image.specs.Spots.{pieces}
 use Rattle.log_rules.specs.Laws.{Stands}
@@ -16,7 +17,7 @@ use Rattle.log_rules.specs.Meets.{MeetsStart}
 use Rattle.log_rules.proofs.Additions.{vectors-numbered}
 use Rattle.log_rules.proofs.CutsStay.{stated}
 use Rattle.log_rules.proofs.LiveNumbers.{IsWithin, numbered-within, numbered-rising}
-use Rattle.log_rules.proofs.NormedMembers.{point_normed, direction_normed, kinds_of}
+use Rattle.log_rules.proofs.NormedMembers.{kinds_of}
 use Rattle.vlp_reader.specs.declared.problem.Problem.{Problem}
 use Rattle.deriv_log.specs.declared.entry.Entry.TheVariants.{Start}
 

@@ -9,12 +9,12 @@ use Rattle.exact_field.specs.declared.op.Op.TheVariants as op
 use Rattle.polyhedra.specs.Exactness.{level, row_of, TightLiesIn, IsAccounted}
 use Rattle.polyhedra.proofs.Lists.{all_from_map}
 use Rattle.polyhedra.proofs.Members.{Contains-map_source}
-use Rattle.polyhedra.proofs.Tests.{both_true, both_hold}
+use Rattle.polyhedra.proofs.Tests.{both_true, both_hold, or_left, or_right}
 use Rattle.log_rules.specs.Events.{Event, dot_steps, value_steps, same_pairs, meeting_steps, meeting_point, divisor, pair_steps, pair_of, add_events, lies_in, is_largest, is_taken, facet_events, is_accounted, end_events}
 use Rattle.log_rules.specs.Live.{Stated, Member, State, state, vector, vectors, value, find, inequality, cut_at, cut_row, rows_in_use, required_pairs, preimages, named, contains}
 use Rattle.log_rules.specs.Meets.{MeetsAdd, MeetsFacet, MeetsSolved, MeetsEnd}
 use Rattle.log_rules.proofs.HeldTests.{pass_both, pass_steps, pass_sum, not_passes, within_passes, all_pass, contains_passes, not_contains_passes}
-use Rattle.log_rules.proofs.PassedTests.{Passed, some_passes, passes_some, empty_list, or_left, or_right}
+use Rattle.log_rules.proofs.PassedTests.{Passed, some_passes, passes_some, empty_list}
 use Rattle.log_rules.proofs.TightTests.{lies_in-says, lies_in-passes, implies_by}
 use Rattle.frac128.specs.Sparse.{is_zero}
 use Rattle.vlp_reader.specs.declared.problem.Problem.{Problem}

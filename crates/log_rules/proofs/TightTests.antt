@@ -9,11 +9,11 @@ use Rattle.polyhedra.specs.Exactness.{level, TightLiesIn, IsAccounted}
 use Rattle.polyhedra.specs.TightSets.{IsTight}
 use Rattle.polyhedra.proofs.Lists.{all_from_map}
 use Rattle.polyhedra.proofs.Members.{Contains-map}
-use Rattle.polyhedra.proofs.Tests.{both_true, both_hold}
+use Rattle.polyhedra.proofs.Tests.{both_true, both_hold, implied, not_true}
 use Rattle.log_rules.specs.Events.{Event, value_steps, same_pairs, pair_of, add_events, lies_in, is_largest, is_taken, facet_events, is_accounted, end_events}
 use Rattle.log_rules.specs.Live.{Member, State, state, vector, vectors, value, inequality, cut_at, cut_row, rows_in_use, required_pairs, preimages, named, contains}
 use Rattle.log_rules.specs.Meets.{MeetsAdd, MeetsFacet, MeetsSolved, MeetsEnd}
-use Rattle.log_rules.proofs.PassedTests.{Passed, both_pass, zero_number, zero_passes, not_true, is_within, some_passes, passes_some, contained, not_contained}
+use Rattle.log_rules.proofs.PassedTests.{Passed, both_pass, zero_number, zero_passes, is_within, some_passes, passes_some, contained, not_contained}
 use Rattle.frac128.specs.Sparse.{is_zero}
 use Rattle.vlp_reader.specs.declared.problem.Problem.{Problem}
 use Rattle.deriv_log.specs.declared.entry.LogPair.{LogPair}
@@ -49,10 +49,6 @@ add-meets file s cut pairs h =
     }
 
 -- ---- tight sets
-pub implied : (a b : Bool) → (not a || b) ≡ true → a ≡ true → b ≡ true
-implied true b h k = h
-implied false b h k = absurd (true≢false (sym k))
-
 pub implies_by : (a b : Bool) → (a ≡ true → b ≡ true) → (not a || b) ≡ true
 implies_by true b h = h refl
 implies_by false b h = refl

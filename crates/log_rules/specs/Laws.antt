@@ -1,18 +1,18 @@
 -- What is to be proved of these definitions.
-use Rattle.polyhedra.specs.LowerImage.{completed}
-use Rattle.std.specs.Prelude.{◌≡◌, ◌⊎◌, ◌++◌, suc, ◌≤◌, ◌<◌, true, List, [], map, filter, All, AllPairs, Contains, IsTrue, Bool, None, ◌↔◌, ◌-◌, ◌∷◌, length}
-use Rattle.exact_field.specs.Rational.{ℚ, zero_ℚ, one_ℚ}
-use Rattle.exact_field.specs.Order.{same_ℚ}
 use Rattle.polyhedra.specs.DoubleDescription.{IsNormed}
 use Rattle.polyhedra.specs.Exactness.{IsSolved}
 use Rattle.polyhedra.specs.Hull.{IsInHull, IsValidAt, IsVertex}
 use Rattle.polyhedra.specs.Inequality.{Inequality}
+use Rattle.polyhedra.specs.LowerImage.{completed}
 use Rattle.polyhedra.specs.TightSets.{IsDoubleDescriptionPair}
 use Rattle.upper_image.specs.UpperImage.{IsInWorkingImage, IsWorkingDirection, IsInImage, IsDirection, IsValidFor, front, IsInLowerImageOf}
 use Rattle.log_rules.specs.Events.{log_failure}
 use Rattle.log_rules.specs.Live.{Member, State, state, cut_at, inequality, in_use, rows_in_use, vectors, named}
 use Rattle.log_rules.specs.Proves.{AllMeet, Proves}
 use Rattle.log_rules.specs.Right.{IsRight, stated, IsSolution}
+use Rattle.std.specs.Prelude.{◌≡◌, ◌⊎◌, ◌++◌, suc, ◌≤◌, ◌<◌, true, List, [], map, filter, All, AllPairs, Contains, IsTrue, Bool, None, ◌↔◌, ◌-◌, ◌∷◌, length}
+use Rattle.exact_field.specs.Rational.{ℚ, zero_ℚ, one_ℚ}
+use Rattle.exact_field.specs.Order.{same_ℚ}
 use Rattle.vlp_reader.specs.declared.problem.Problem.{Problem}
 use Rattle.log_rules.specs.declared.answer.Answer.{Answer}
 use Rattle.log_rules.specs.declared.answer.Answer.TheVariants.{Solved}

@@ -6,25 +6,25 @@ use Rattle.exact_field.specs.Ring.{v0, v1, v2, ◌⊕◌, ◌⊗◌, ◌⊝◌, 
 use Rattle.exact_field.specs.Vector.{dot, entry}
 use Rattle.exact_field.proofs.RingTool.{ring}
 use Rattle.exact_field.proofs.Rationals.{rationals}
-use Rattle.polyhedra.specs.Vectors.{zeros}
 use Rattle.polyhedra.specs.Cone.{IsInterior}
 use Rattle.polyhedra.specs.DoubleDescription.{is_zero, magnitude, leading}
 use Rattle.polyhedra.specs.Exactness.{homogenised}
 use Rattle.polyhedra.specs.Hull.{IsConvex, IsVertex, IsExtremeDirection, IsNormedDirection, IsFacet}
 use Rattle.polyhedra.specs.Inequality.{Inequality}
 use Rattle.polyhedra.specs.LowerImage.{completed, IsInLowerImage, IsRecession}
+use Rattle.polyhedra.specs.Vectors.{zeros}
 use Rattle.polyhedra.proofs.Algebra.{neg_neg}
 use Rattle.polyhedra.proofs.Homogenised.{IsHomogenised, unhomogenised, dot-homogenised, homogenised-same}
 use Rattle.polyhedra.proofs.Linear.{dot_comm}
 use Rattle.polyhedra.proofs.LowerDirection.{one_lower_direction}
 use Rattle.polyhedra.proofs.LowerImage.{vertices_are_facets}
 use Rattle.polyhedra.proofs.Negatives.{lower_of_negatives, norm-negated}
-use Rattle.vlp_reader.specs.declared.problem.Dir.{Dir}
-use Rattle.vlp_reader.specs.declared.problem.Dir.TheVariants.{Min, Max}
 use Rattle.upper_image.specs.Laws.{LowerVerticesAreFacets, OneLowerDirection, CouplingIsSlack}
 use Rattle.upper_image.specs.UpperImage.{IsInWorkingImage, IsWorkingDirection, LowerImage, IsInLowerImageOf, front, phi, signed, working}
 use Rattle.upper_image.proofs.ConvexCones.{ordering_cone_convex}
 use Rattle.upper_image.proofs.WorkingImage.{working_image_convex, interior_of_directions}
+use Rattle.vlp_reader.specs.declared.problem.Dir.{Dir}
+use Rattle.vlp_reader.specs.declared.problem.Dir.TheVariants.{Min, Max}
 
 -- ---- the last entry
 front-homogenised : (u : List ℚ) (t : ℚ) → front (homogenised u t) ≡ u

@@ -3,15 +3,15 @@ use Rattle.std.specs.Prelude.{◌≡◌, ◌↔◌, ◌-◌, ◌<◌, ◌++◌, 
 use Rattle.exact_field.specs.Rational.{ℚ, one_ℚ, neg_ℚ, ◌-ℚ◌}
 use Rattle.polyhedra.specs.Exactness.{IsExact}
 use Rattle.polyhedra.specs.Hull.{IsConvex, IsValidAt, IsVertex, IsFacet, IsExtremeDirection, IsNormedDirection}
-use Rattle.polyhedra.specs.LowerImage.{completed, IsRecession}
-use Rattle.exact_field.specs.Vector.{dot}
 use Rattle.polyhedra.specs.Image.{IsConvexCone}
 use Rattle.polyhedra.specs.Inequality.{Inequality}
+use Rattle.polyhedra.specs.LowerImage.{completed, IsRecession}
 use Rattle.polyhedra.specs.Vectors.{plus, scaled, zeros}
 use Rattle.upper_image.specs.OrderingCone.{IsInOrderingCone, IsInDualCone, IsInteriorToCone, IsAbsorbed, dual_of, Fits}
 use Rattle.upper_image.specs.Shows.{ShowsIn, ShowsFitting, ShowsFeasible, ShowsRecession, ShowsAbove, ShowsCut}
 use Rattle.upper_image.specs.UpperImage.{IsInWorkingImage, IsWorkingDirection, IsInImage, IsDirection, IsPreimage, IsDirectionPreimage, IsDualVectorOf, IsValidFor, IsExactFor, IsInLowerImageOf, front, phi, turned, signed, working}
 use Rattle.upper_image.specs.Witnesses.{IsInfeasible, IsWhole, IsWithoutVertex}
+use Rattle.exact_field.specs.Vector.{dot}
 use Rattle.frac128.specs.declared.vectors.Spot.{Spot}
 use Rattle.vlp_reader.specs.Sides.{IsFeasible}
 use Rattle.vlp_reader.specs.declared.problem.Problem.{Problem}
