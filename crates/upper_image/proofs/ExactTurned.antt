@@ -32,8 +32,7 @@ module _ (file : Problem) (c : List ℚ) (points directions : List (List ℚ)) (
 
   extreme_of : (d : List ℚ) → Contains directions d ↔ (IsExtremeDirection file.objs (IsDirection file) d × IsNormedDirection d)
   extreme_of d =
-      let t : AreMapped (IsWorkingDirection file) (turned file.dir) = are_turned file.dir (IsWorkingDirection file) in
-      (
+      let t : AreMapped (IsWorkingDirection file) (turned file.dir) = are_turned file.dir (IsWorkingDirection file) in (
         λ h. let e = (exact.extreme (turned file.dir d)).0 (Contains-map (turned file.dir) directions d h) in
             ((t.extreme file.objs d).1 e.0, (t.normed d).1 e.1),
         λ h. turned_back directions d ((exact.extreme (turned file.dir d)).1 ((t.extreme file.objs d).0 h.0, (t.normed d).0 h.1)),
@@ -49,9 +48,10 @@ module _ (file : Problem) (c : List ℚ) (points directions : List (List ℚ)) (
 
   hull_of : (y : List ℚ) → IsInImage file y ↔ IsInHull file.objs points directions [] y
   hull_of y =
-      let t : AreMapped (IsInWorkingImage file) (turned file.dir) = are_turned file.dir (IsInWorkingImage file) in
-      (λ h. (t.hull file.objs points directions y).1 ((exact.hull (turned file.dir y)).0 h),
-      λ h. (exact.hull (turned file.dir y)).1 ((t.hull file.objs points directions y).0 h))
+      let t : AreMapped (IsInWorkingImage file) (turned file.dir) = are_turned file.dir (IsInWorkingImage file) in (
+        λ h. (t.hull file.objs points directions y).1 ((exact.hull (turned file.dir y)).0 h),
+        λ h. (exact.hull (turned file.dir y)).1 ((t.hull file.objs points directions y).0 h),
+      )
 
 pub exact_in_file : ExactInFile
 exact_in_file file c points directions facets exact = record {

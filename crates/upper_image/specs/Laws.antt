@@ -37,7 +37,7 @@ abbrev pub InteriorAbsorbs : Type 0
 InteriorAbsorbs = (file : Problem) (c v : List ℚ) → IsInteriorToCone file c → length v ≡ file.objs → IsAbsorbed (IsInOrderingCone file) c v
 
 -- ---- the image
--- the image is convex, and its recession cone are its directions
+-- the image is convex, with the image for bounds 0 as its directions
 abbrev pub UpperImageIsConvex : Type 0
 UpperImageIsConvex = (file : Problem) → IsConvex file.objs (IsInWorkingImage file) (IsWorkingDirection file)
 

@@ -121,6 +121,6 @@ LowerImage Max n Set c v = IsInLowerImageAbove n (Negatives Set) c v
 abbrev pub IsInLowerImageOf : Problem → List ℚ → List ℚ → Type 0
 IsInLowerImageOf file c v = LowerImage file.dir (file.objs - 1) (IsInWorkingImage file) (front c) v
 
--- the coupling of a point y of the image with a point of the lower image: w . y minus the bound
+-- the coupling of a point y of the image with a point of the lower image: the product of y with the completed normal, minus the bound
 abbrev pub phi : ℕ → List ℚ → List ℚ → List ℚ → ℚ
 phi q y star c = dot (front y) (front star) +ℚ entry y q *ℚ (one_ℚ -ℚ dot (front c) (front star)) -ℚ entry star q
