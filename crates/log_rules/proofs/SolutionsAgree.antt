@@ -43,11 +43,14 @@ right_solutions_agree file c points points' directions directions' facets facets
     vectors_agree (map y directions) (map y directions') h.directions_rise h'.directions_rise
     (same_members _ (map y directions) (map y directions') h.extreme h'.extreme) in
     let f : map stated facets ≡ map stated facets' =
-    facets_agree facets facets' h.facets_rise h'.facets_rise (same_members _ (map stated facets) (map stated facets') h.facets_are h'.facets_are) in
-    (p, d, f,
-    map_all (λ (e : Facet). e.tight) (λ (e : Facet). tight_numbers (map y points) (map y directions) (stated e)) facets h.tight
-    ∙ sym (map-map (tight_numbers (map y points) (map y directions)) stated facets)
-    ∙ ap (λ es. map (tight_numbers (map y points) (map y directions)) es) f
-    ∙ map-map (tight_numbers (map y points) (map y directions)) stated facets'
-    ∙ ap₂ (λ ps ds. map (λ (e : Facet). tight_numbers ps ds (stated e)) facets') p d
-    ∙ sym (map_all (λ (e : Facet). e.tight) (λ (e : Facet). tight_numbers (map y points') (map y directions') (stated e)) facets' h'.tight))
+    facets_agree facets facets' h.facets_rise h'.facets_rise (same_members _ (map stated facets) (map stated facets') h.facets_are h'.facets_are) in (
+      p,
+      d,
+      f,
+      map_all (λ (e : Facet). e.tight) (λ (e : Facet). tight_numbers (map y points) (map y directions) (stated e)) facets h.tight
+          ∙ sym (map-map (tight_numbers (map y points) (map y directions)) stated facets)
+          ∙ ap (λ es. map (tight_numbers (map y points) (map y directions)) es) f
+          ∙ map-map (tight_numbers (map y points) (map y directions)) stated facets'
+          ∙ ap₂ (λ ps ds. map (λ (e : Facet). tight_numbers ps ds (stated e)) facets') p d
+          ∙ sym (map_all (λ (e : Facet). e.tight) (λ (e : Facet). tight_numbers (map y points') (map y directions') (stated e)) facets' h'.tight),
+    )
