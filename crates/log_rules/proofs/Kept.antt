@@ -9,7 +9,7 @@ use Rattle.polyhedra.proofs.Lists.{Contains-cases, Contains-nil}
 use Rattle.polyhedra.proofs.Members.{member_of, pairs-nil, pairs-head, pairs-tail, pairs-append, pairs-filter}
 use Rattle.upper_image.specs.Spots.{pieces}
 use Rattle.upper_image.proofs.Widths.{length-pieces}
-use Rattle.log_rules.specs.Live.{Member, State, numbered, member, value, find, made_of, cut_row, after, nothing, state}
+use Rattle.log_rules.specs.Live.{Member, State, numbered, member, value, find, made_vectors, cut_row, after, nothing, state}
 use Rattle.log_rules.proofs.LiveNumbers.{IsWithin, numbered-within, numbered-rising}
 use Rattle.deriv_log.specs.declared.entry.Entry.{Entry}
 use Rattle.deriv_log.specs.declared.entry.Entry.TheVariants.{Cut, Start, Add}
@@ -54,9 +54,8 @@ after-kept q s (Start cuts point directions) h =
     }
 after-kept q s (Add cut pairs) h =
     let stay : Member → Bool = λ g. le_ℚ zero_ℚ (value (cut_row s cut) g) in
-    let zs : List (List ℚ) = map (made_of s.live (cut_row s cut)) pairs in
-    let many = length-map pairs (made_of s.live (cut_row s cut)) in
-    let more : ℕ = s.made + length pairs in
+    let zs : List (List ℚ) = made_vectors q s (cut_row s cut) in
+    let more : ℕ = s.made + length zs in
     record {
       rising = pairs-append Earlier (filter stay s.live) (numbered q (suc s.made) zs) (pairs-filter Earlier stay s.live h.rising) (numbered-rising q (suc s.made) zs)
           (λ g g' c c'.
@@ -65,7 +64,7 @@ after-kept q s (Add cut pairs) h =
           omega (arith, low, high));
       made = All-append (λ g. g.number ≤ more) (filter stay s.live) (numbered q (suc s.made) zs)
           (All-filter stay (λ g. g.number ≤ more) s.live (All-weaker (λ g. g.number ≤ s.made) (λ g. g.number ≤ more) (λ g l. omega (arith, l)) s.live h.made))
-          (All-weaker (λ g. g.number < suc s.made + length zs) (λ g. g.number ≤ more) (λ g l. omega (arith, l, many)) (numbered q (suc s.made) zs)
+          (All-weaker (λ g. g.number < suc s.made + length zs) (λ g. g.number ≤ more) (λ g l. omega (arith, l)) (numbered q (suc s.made) zs)
           (numbered-high q (suc s.made) zs));
       wide = All-append (λ g. length g.y ≤ q) (filter stay s.live) (numbered q (suc s.made) zs)
           (All-filter stay (λ g. length g.y ≤ q) s.live h.wide) (numbered-wide q (suc s.made) zs);

@@ -32,7 +32,6 @@ pub mod ProvedAnswers
 pub mod ProvedIsRight
 pub mod Reached
 pub mod ReachedHeld
-pub mod RequiredPairs
 pub mod Rising
 pub mod SolutionIsRight
 pub mod SolutionsAgree

@@ -1,16 +1,10 @@
 -- Numbers tell the live generators apart.
-use Rattle.std.proofs.Common.{◌≡◌, ℕ, suc, ◌+◌, ◌<◌, ◌≤◌, List, [], ◌∷◌, refl, sym, ap, ◌∙◌, subst, arith, Bool, true, false, nat_eq, Option, Some, None, ◌⊎◌, inl, inr, map, length, All, AllPairs, Contains}
-use Rattle.std.specs.List.{AllByRecursion}
-use Rattle.std.proofs.lemmas.Bool.Decides.{eqb_tells}
-use Rattle.std.proofs.lemmas.List.Elements.{All-nil, All-cons, recursion_from_All}
+use Rattle.std.proofs.Common.{◌≡◌, ℕ, suc, ◌+◌, ◌<◌, ◌≤◌, List, [], ◌∷◌, sym, ap, ◌∙◌, arith, ◌⊎◌, inl, inr, map, length, All, AllPairs, Contains}
+use Rattle.std.proofs.lemmas.List.Elements.{All-nil, All-cons}
 use Rattle.exact_field.specs.Rational.{ℚ}
-use Rattle.polyhedra.specs.DoubleDescription.{same_vector}
-use Rattle.polyhedra.specs.TightSets.{IsTight, LiesIn, AreApart}
-use Rattle.polyhedra.proofs.Lists.{all_from_map, Contains-cases, Contains-nil, Contains-here}
-use Rattle.polyhedra.proofs.Members.{all_of_members, member_of, pairs-nil, pairs-cons, pairs-head, pairs-tail, pairs_of_members}
-use Rattle.polyhedra.proofs.Tests.{same_vector_is, same_vector-self}
-use Rattle.log_rules.specs.Live.{Member, vector, vector_of, find, member, numbered}
-use Rattle.log_rules.proofs.RequiredPairs.{IsNumbered}
+use Rattle.polyhedra.proofs.Lists.{all_from_map, Contains-cases, Contains-nil}
+use Rattle.polyhedra.proofs.Members.{all_of_members, member_of, pairs-nil, pairs-cons, pairs-head, pairs-tail}
+use Rattle.log_rules.specs.Live.{Member, member, numbered}
 
 -- the numbers rise
 abbrev pub Rising : List Member → Type 0
@@ -59,54 +53,3 @@ pairs_from_map R f [] h = pairs-nil (λ x y. R (f x) (f y))
 pairs_from_map R f (x ∷ xs) h =
     pairs-cons (λ a b. R (f a) (f b)) x xs (all_from_map (R (f x)) f xs (pairs-head R (f x) (map f xs) h))
     (pairs_from_map R f xs (pairs-tail R (f x) (map f xs) h))
-
--- what find gives
-vector_of_member : (live : List Member) → Rising live → (p : Member) → Contains live p → vector_of live p.number ≡ vector p
-vector_of_member [] r p h = absurd (Contains-nil p h)
-vector_of_member (x ∷ live) r p h =
-    go (eqb_tells x.number p.number) (λ c. vector_of_member live (pairs-tail (λ (u : Member) (v : Member). u.number < v.number) x live r) p c)
-  where
-    other : (x ≡ p) ⊎ Contains live p → (x.number ≡ p.number → ⊥) → Contains live p
-    other (inl a) k = absurd (k (ap (λ (z : Member). z.number) a))
-    other (inr a) k = a
-
-    go : ((nat_eq x.number p.number ≡ true) × (x.number ≡ p.number)) ⊎ ((nat_eq x.number p.number ≡ false) × (x.number ≡ p.number → ⊥)) →
-        (Contains live p → vector_of live p.number ≡ vector p) → vector_of (x ∷ live) p.number ≡ vector p
-    go (inl a) again = ap (λ (b : Bool). elim (elim b as (λ _. Option Member) [ true ↦ Some x | false ↦ find live p.number ]) as (λ _. List ℚ) [ Some g ↦ vector g | None ↦ [] ]) a.0
-        ∙ ap vector (same_number (x ∷ live) r x p (Contains-here x live x refl) h a.1)
-    go (inr a) again = ap (λ (b : Bool). elim (elim b as (λ _. Option Member) [ true ↦ Some x | false ↦ find live p.number ]) as (λ _. List ℚ) [ Some g ↦ vector g | None ↦ [] ]) a.0 ∙ again (other (Contains-cases x live p h) a.1)
-
-test_of_same : (u v : List ℚ) → u ≡ v → same_vector u v ≡ true
-test_of_same u v e = subst (λ (w : List ℚ). same_vector u w ≡ true) e (same_vector-self u)
-
-module _ (rows : List (List ℚ)) (live : List Member) (r : Rising live) (apart : AllPairs (AreApart rows) (map vector live)) where
-  distinct : (g p : Member) → Contains live g → Contains live p → (g.number ≡ p.number → ⊥) → vector g ≡ vector p → ⊥
-  distinct g p h k e f = other.first (subst (λ (v : List ℚ). LiesIn rows (vector g) v) f
-      (all_of_members (λ row. IsTight row (vector g) → IsTight row (vector g)) rows (λ row c t. t)))
-    where
-      flip : (x y : Member) → AreApart rows (vector x) (vector y) → AreApart rows (vector y) (vector x)
-      flip x y a = record { first = a.second; second = a.first }
-
-      other : AreApart rows (vector g) (vector p)
-      other = pairs_of_members (λ (x : Member) (y : Member). AreApart rows (vector x) (vector y)) flip live g p
-          (pairs_from_map (AreApart rows) vector live apart) h k (λ a. e (ap (λ (z : Member). z.number) a))
-
-  tells : (g p : Member) → Contains live g → Contains live p → same_vector (vector g) (vector p) ≡ nat_eq g.number p.number
-  tells g p h k = go (eqb_tells g.number p.number)
-    where
-      go : ((nat_eq g.number p.number ≡ true) × (g.number ≡ p.number)) ⊎ ((nat_eq g.number p.number ≡ false) × (g.number ≡ p.number → ⊥)) →
-          same_vector (vector g) (vector p) ≡ nat_eq g.number p.number
-      go (inl a) = test_of_same (vector g) (vector p) (ap vector (same_number live r g p h k a.1)) ∙ sym a.0
-      go (inr a) = by (same_vector (vector g) (vector p)) refl ∙ sym a.0
-        where
-          by : (b : Bool) → same_vector (vector g) (vector p) ≡ b → same_vector (vector g) (vector p) ≡ false
-          by true s = absurd (distinct g p h k a.1 (same_vector_is (vector g) (vector p) s))
-          by false s = s
-
-  pub is_numbered : IsNumbered live
-  is_numbered = record {
-    apart = recursion_from_All (λ (p : Member). AllByRecursion (λ (g : Member). same_vector (vector g) (vector p) ≡ nat_eq g.number p.number) live) live
-        (all_of_members _ live (λ p c. recursion_from_All (λ (g : Member). same_vector (vector g) (vector p) ≡ nat_eq g.number p.number) live
-        (all_of_members _ live (λ g d. tells g p d c))));
-    found = recursion_from_All (λ (p : Member). vector_of live p.number ≡ vector p) live (all_of_members _ live (λ p c. vector_of_member live r p c));
-  }

@@ -10,10 +10,10 @@ use Rattle.log_rules.specs.Live.{Stated, State, state, after, inequality, cut_at
 use Rattle.log_rules.specs.Meets.{Meets}
 use Rattle.log_rules.specs.Order.{has}
 use Rattle.log_rules.specs.Proves.{AllMeet}
+use Rattle.log_rules.proofs.Additions.{map-append}
 use Rattle.log_rules.proofs.CutsStay.{Exists, exists_stays, stated, stated_stay}
 use Rattle.log_rules.proofs.Entries.{state-push, has_more, has_before, order_of, along_met}
 use Rattle.log_rules.proofs.KeepsDescription.{kept}
-use Rattle.log_rules.proofs.RequiredPairs.{map-append}
 use Rattle.vlp_reader.specs.declared.problem.Problem.{Problem}
 use Rattle.deriv_log.specs.declared.entry.Entry.{Entry}
 use Rattle.deriv_log.specs.declared.entry.Entry.TheVariants.{Cut, Start, Add, Facet}

@@ -1,12 +1,12 @@
 -- Numbers of generators and of cuts stay with what they name.
-use Rattle.std.proofs.Common.{◌≡◌, ℕ, suc, ◌+◌, ◌≤◌, List, [], ◌∷◌, ◌++◌, refl, sym, ap, ◌∙◌, subst, arith, append_assoc, append-nil, IsTrue, ◌⊎◌, inl, inr, map, length, filter, Contains, fold}
+use Rattle.std.proofs.Common.{◌≡◌, ℕ, suc, ◌+◌, ◌≤◌, List, [], ◌∷◌, ◌++◌, refl, sym, ap, ◌∙◌, subst, arith, append_assoc, append-nil, IsTrue, ◌⊎◌, inl, inr, length, filter, Contains, fold}
 use Rattle.std.proofs.lemmas.List.Elements.{Contains-append_cases}
 use Rattle.std.proofs.lemmas.List.Sums.{fold-append}
 use Rattle.exact_field.specs.Rational.{ℚ, zero_ℚ, le_ℚ}
 use Rattle.polyhedra.proofs.Members.{member_of, Contains-filter_source}
 use Rattle.polyhedra.proofs.Tests.{not_true}
 use Rattle.log_rules.specs.Laws.{NumbersStay}
-use Rattle.log_rules.specs.Live.{Stated, Member, State, state, after, nothing, numbered, made_of, value, cut_row}
+use Rattle.log_rules.specs.Live.{Stated, Member, State, state, after, nothing, numbered, made_vectors, value, cut_row}
 use Rattle.log_rules.specs.Meets.{Meets}
 use Rattle.log_rules.specs.Order.{has}
 use Rattle.log_rules.specs.Proves.{AllMeet}
@@ -56,12 +56,12 @@ stay-add q s t cut pairs h = record {
     row = cut_row t cut
 
     new : List Member
-    new = numbered q (suc t.made) (map (made_of t.live row) pairs)
+    new = numbered q (suc t.made) (made_vectors q t row)
 
     go : (g : Member) → g.number ≤ s.made → Contains (filter (λ g'. le_ℚ zero_ℚ (value row g')) t.live) g ⊎ Contains new g → Contains s.live g
     go g l (inl c) = h.live g (Contains-filter_source (λ g'. le_ℚ zero_ℚ (value row g')) t.live g c).0 l
     go g l (inr c) =
-        let points = map (made_of t.live row) pairs in
+        let points = made_vectors q t row in
         let w = member_of (IsWithin (suc t.made) (suc t.made + length points)) new g
         (numbered-within q (suc t.made) (suc t.made + length points) points (omega arith)) c in
         let from = w.from in

@@ -1,12 +1,12 @@
 -- What stands after some entries: the cuts, those in use, and the live generators.
-use Rattle.polyhedra.specs.DoubleDescription.{normed, meeting, covers}
 use Rattle.polyhedra.specs.Exactness.{homogenised, row_of, rows_of}
 use Rattle.polyhedra.specs.Inequality.{Inequality}
+use Rattle.polyhedra.specs.LiveList.{Numbered, LiveList, pairs, new_vectors}
 use Rattle.upper_image.specs.Spots.{pieces}
-use Rattle.std.specs.Prelude.{ℕ, suc, ◌+◌, ◌-◌, ◌==◌, Bool, true, false, not, ◌&&◌, ◌||◌, List, [], ◌∷◌, ◌++◌, map, length, take, filter, flat_map, fold, slice_index_or}
-use Rattle.std.specs.List.{list_all, list_any, filter_map}
+use Rattle.std.specs.Prelude.{ℕ, suc, ◌+◌, ◌-◌, ◌==◌, Bool, true, false, List, [], ◌∷◌, ◌++◌, map, length, take, filter, fold, slice_index_or}
+use Rattle.std.specs.List.{list_any, filter_map}
 use Rattle.std.specs.Prelude.{Option, None, Some}
-use Rattle.exact_field.specs.Rational.{ℚ, zero_ℚ, one_ℚ, le_ℚ, lt_ℚ}
+use Rattle.exact_field.specs.Rational.{ℚ, zero_ℚ, one_ℚ, le_ℚ}
 use Rattle.exact_field.specs.Vector.{dot, entry}
 use Rattle.frac128.specs.declared.vectors.Spot.{Spot}
 use Rattle.deriv_log.specs.declared.entry.LogPair.{LogPair}
@@ -86,37 +86,44 @@ cut_row s k = row_of (inequality (cut_at s.cuts k))
 abbrev pub vectors : State → List (List ℚ)
 vectors s = map vector s.live
 
--- ---- the pairs between which a new row makes generators
--- no third live generator is tight wherever both are
-abbrev pub is_uncovered : List (List ℚ) → List Member → Member → Member → Bool
-is_uncovered rows live plus minus =
-    list_all (λ g. g.number == plus.number || g.number == minus.number || not (covers rows (vector plus) (vector minus) (vector g))) live
+-- ---- a new row
+-- the live generators as a numbered live list
+abbrev pub numbered_vector : Member → Numbered
+numbered_vector g = record { number = g.number; vector = vector g }
+
+abbrev pub live_list : State → LiveList
+live_list s = record { live = map numbered_vector s.live; next = suc s.made }
+
+-- two numbers as a pair of the log
+abbrev pub log_pair : ℕ × ℕ → LogPair
+log_pair pair = record { plus = pair.0; minus = pair.1 }
 
 -- the pairs of a live generator with a positive and one with a negative value that no third one covers, by rising plus and then by
 -- rising minus
 abbrev pub required_pairs : List (List ℚ) → List Member → List ℚ → List LogPair
-required_pairs rows live row =
-    flat_map (λ plus. map (λ minus. record { plus = plus.number; minus = minus.number })
-    (filter (λ minus. lt_ℚ (value row minus) zero_ℚ && is_uncovered rows live plus minus) live))
-    (filter (λ plus. lt_ℚ zero_ℚ (value row plus)) live)
+required_pairs rows live row = map log_pair (pairs rows (map numbered_vector live) row)
 
--- the vector that a pair makes: where the row is 0 between the two, normed
-abbrev pub made_of : List Member → List ℚ → LogPair → List ℚ
-made_of live row pair = normed (meeting row (vector_of live pair.plus) (vector_of live pair.minus))
+-- the vectors that these pairs make: where the row is 0 between the two, normed
+abbrev pub made_vectors : ℕ → State → List ℚ → List (List ℚ)
+made_vectors q s row = new_vectors (rows_in_use q s) (map numbered_vector s.live) row
 
 -- the first generators: the point, then the directions
 abbrev pub first_live : ℕ → List ℚ → List ℚ → List Member
 first_live q point directions = numbered q 1 (homogenised point one_ℚ ∷ map (λ d. homogenised d zero_ℚ) (pieces q q directions))
 
--- the next live generators: those whose value is at least 0, and one for each pair
-abbrev pub next_live : ℕ → State → List ℚ → List LogPair → List Member
-next_live q s row pairs = filter (λ g. le_ℚ zero_ℚ (value row g)) s.live ++ numbered q (suc s.made) (map (made_of s.live row) pairs)
+-- the next live generators: those whose value is at least 0, and one for each pair that is required
+abbrev pub next_live : ℕ → State → List ℚ → List Member
+next_live q s row = filter (λ g. le_ℚ zero_ℚ (value row g)) s.live ++ numbered q (suc s.made) (made_vectors q s row)
 
 -- what stands after one more entry, where there are q objectives
 abbrev pub after : ℕ → State → Entry → State
 after q s (Cut w gamma u _) = record s { cuts = s.cuts ++ record { w = w; gamma = gamma; u = u } ∷ [] }
 after q s (Start cuts point directions) = record s { used = cuts; live = first_live q point directions; made = suc q }
-after q s (Add cut pairs) = record s { used = s.used ++ cut ∷ []; live = next_live q s (cut_row s cut) pairs; made = s.made + length pairs }
+after q s (Add cut _) = record s {
+  used = s.used ++ cut ∷ [];
+  live = next_live q s (cut_row s cut);
+  made = s.made + length (made_vectors q s (cut_row s cut));
+}
 after q s _ = s
 
 -- nothing
