@@ -1,10 +1,13 @@
 -- Where the outside is honest, a run ends with an answer, unless memory is wanting.
-use Rattle.std.proofs.Common.{◌≡◌, ℕ, ◌≤◌, ◌<◌, List, length, Option, Some, true, false, ◌⊎◌, inl, inr, refl, subst, sym, arith}
+use Rattle.std.proofs.Common.{◌≡◌, ℕ, ◌≤◌, ◌<◌, List, length, Option, Some, None, [], ap, ◌∙◌, true, false, ◌⊎◌, inl, inr, refl, subst, sym, arith}
 use Rattle.src_sink.specs.Ends.{TakesCount}
 use Rattle.src_sink.proofs.Known.{Consumes-to_end, TakesCount-known}
 use Rattle.vlp_reader.specs.FirstFault.{Reads}
 use Rattle.vlp_reader.proofs.Faults.{never_both}
-use Rattle.bensolve_main.specs.Outcome.{Sources, Output, ReadWhole, LogText, Checked, Outcome, Honest}
+use Rattle.deriv_log.specs.Laws.{IsTextOf}
+use Rattle.deriv_log.proofs.Laws.{one_reading}
+use Rattle.cert_check.specs.Rules.{first_wrong}
+use Rattle.bensolve_main.specs.Outcome.{Sources, Output, ReadWhole, Checked, Outcome, Honest}
 use Rattle.bensolve_main.specs.declared.status.LogRefusal.{LogRefusal}
 use Rattle.bensolve_main.specs.declared.status.LogRefusal.TheVariants.{Text, Wrong}
 use Rattle.bensolve_main.specs.declared.status.Status.{Status}
@@ -17,11 +20,12 @@ same_bytes old new limit told bytes is read = (Consumes-to_end old new told byte
 -- an honest log is not refused
 not_refused : (why : LogRefusal) (text : List ℕ) (v w : Sources) (a b : Output) → Honest v w a b → Checked (Refused why) text v w → ⊥
 not_refused (Text f) text v w a b honest checked =
-    checked.verdict.not_plain honest.entries (subst (λ (l : List ℕ). LogText honest.entries l) (sym (same_bytes _ _ _ _ _ honest.log checked.read)) honest.plain_log)
+    one_reading.apart checked.bytes honest.entries f (subst (λ (l : List ℕ). IsTextOf l honest.entries) (sym (same_bytes _ _ _ _ _ honest.log checked.read)) honest.is_log) checked.verdict.fault
 not_refused (Wrong entry rule) text v w a b honest checked =
-    let none = honest.passes checked.file checked.verdict.entries
-    (subst (λ (l : List ℕ). Reads l checked.file) (same_bytes _ _ _ _ _ honest.problem checked.good.read) checked.good.reads)
-    (subst (λ (l : List ℕ). LogText checked.verdict.entries l) (same_bytes _ _ _ _ _ honest.log checked.read) checked.verdict.log) in
+    let entries = one_reading.one_log honest.log_bytes checked.verdict.entries honest.entries
+    (subst (λ (l : List ℕ). IsTextOf l checked.verdict.entries) (same_bytes _ _ _ _ _ honest.log checked.read) checked.verdict.log) honest.is_log in
+    let none : first_wrong checked.file [] checked.verdict.entries ≡ None = ap (first_wrong checked.file []) entries ∙ honest.passes checked.file
+    (subst (λ (l : List ℕ). Reads l checked.file) (same_bytes _ _ _ _ _ honest.problem checked.good.read) checked.good.reads) in
     let wrong = checked.verdict.wrong in
     cc (none, wrong)
 

@@ -5,7 +5,7 @@ use Rattle.frac128.specs.Text.{frac_text}
 use Rattle.frac128.specs.declared.vectors.Spot.{Spot}
 use Rattle.vlp_reader.specs.Sides.{is_unsaid}
 use Rattle.vlp_reader.specs.declared.problem.Problem.{Problem}
-use Rattle.cert_check.specs.LogText.{sparse_words}
+use Rattle.deriv_log.specs.LogText.{sparse_words}
 use Rattle.cert_check.specs.declared.answer.Answer.TheVariants.{Infeasible}
 use Rattle.bensolve_main.specs.Text.{spot_text, report_text}
 

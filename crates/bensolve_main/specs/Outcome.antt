@@ -5,14 +5,14 @@ use Rattle.src_sink.specs.Outside.{Consumes, Appends, IsAtEnd, Rose}
 use Rattle.src_sink.specs.Ends.{TakesCount}
 use Rattle.vlp_reader.specs.FirstFault.{FirstFault, Reads}
 use Rattle.vlp_reader.specs.declared.problem.Problem.{Problem}
-use Rattle.cert_check.specs.LogText.{log_text}
-use Rattle.cert_check.specs.PlainLog.{IsPlainLog, not_built as log_not_built}
+use Rattle.deriv_log.specs.FirstFault.{FirstFault as FirstLogFault}
+use Rattle.deriv_log.specs.Laws.{IsTextOf}
 use Rattle.cert_check.specs.Proves.{Proves}
 use Rattle.cert_check.specs.Right.{Right}
 use Rattle.cert_check.specs.Rules.{first_wrong}
 use Rattle.cert_check.specs.declared.answer.Answer.{Answer}
-use Rattle.cert_check.specs.declared.entry.Entry.{Entry}
-use Rattle.cert_check.specs.declared.fault.LogFault.{LogFault as ALogFault}
+use Rattle.deriv_log.specs.declared.entry.Entry.{Entry}
+use Rattle.deriv_log.specs.declared.fault.LogFault.{LogFault as ALogFault}
 use Rattle.cert_check.specs.declared.fault.Rule.{Rule}
 use Rattle.vlp_reader.specs.declared.fault.FileFault.{FileFault as AFileFault}
 use Rattle.bensolve_main.specs.Text.{report_text, fault_text}
@@ -62,30 +62,24 @@ pub record GoodFile (file : Problem) (v w : Sources) : Type 0 where
   pub read : ReadWhole v.problem w.problem problem_limit bytes
   pub reads : Reads bytes file
 
--- the bytes of a log are the text of these entries, all of them
-pub record LogText (entries : List Entry) (bytes : List ℕ) : Type 0 where
-  pub plain : IsPlainLog entries
-  pub text : bytes ≡ log_text entries
-
 -- the entries of a log prove an answer for the file, that answer is right, and this is its report
 pub record Proved (file : Problem) (bytes text : List ℕ) : Type 0 where
   pub entries : List Entry
-  pub log : LogText entries bytes
+  pub log : IsTextOf bytes entries
   pub answer : Answer
   pub proves : Proves file entries answer
   pub right : Right file answer
   pub report : text ≡ report_text file answer
 
--- the bytes are the text of no plain log
+-- the bytes are the text of no log, and this is their first fault
 pub record NoLog (f : ALogFault) (bytes text : List ℕ) : Type 0 where
-  pub fault : f ≡ log_not_built
-  pub not_plain : (entries : List Entry) → LogText entries bytes → ⊥
+  pub fault : FirstLogFault bytes f
   pub line : text ≡ fault_text (Refused (Text f))
 
 -- the first test of a log's entries that fails is of this entry and rule
 pub record FailsAt (entry : ℕ) (rule : Rule) (file : Problem) (bytes text : List ℕ) : Type 0 where
   pub entries : List Entry
-  pub log : LogText entries bytes
+  pub log : IsTextOf bytes entries
   pub wrong : first_wrong file [] entries ≡ Some (entry, rule)
   pub line : text ≡ fault_text (Refused (Wrong entry rule))
 
@@ -212,7 +206,7 @@ Outcome (WriteFault true sent) v w a b = ⊥
 Outcome (Refused why) v w a b = ToldWhole (Refused why) v w a b
 Outcome (TooLong log read) v w a b = ToldWhole (TooLong log read) v w a b
 
--- the outside did not fail in this call, both texts were told, are plain and lie within their limits, and no
+-- the outside did not fail in this call, both texts were told, are a file's and a log's and lie within their limits, and no
 -- test of the log's entries fails
 pub record Honest (v w : Sources) (a b : Output) : Type 0 where
   pub bytes : List ℕ
@@ -226,6 +220,6 @@ pub record Honest (v w : Sources) (a b : Output) : Type 0 where
   pub log_steady : ¬ (Rose v.log_faults w.log_faults)
   pub log_within : length log_bytes ≤ log_limit
   pub entries : List Entry
-  pub plain_log : LogText entries log_bytes
-  pub passes : (file : Problem) (es : List Entry) → Reads bytes file → LogText es log_bytes → first_wrong file [] es ≡ None
+  pub is_log : IsTextOf log_bytes entries
+  pub passes : (file : Problem) → Reads bytes file → first_wrong file [] entries ≡ None
   pub out_steady : ¬ (Rose a.faults b.faults)

@@ -1,14 +1,15 @@
 -- The texts that a run writes: lines of words that are separated by one blank.
 use Rattle.std.specs.Prelude.{ℕ, Bool, true, false, List, [], ◌∷◌, ◌++◌, count_by, codes, decimal}
 use Rattle.std.specs.List.{flat_map}
+use Rattle.src_sink.specs.Texts.{line_text}
 use Rattle.frac128.specs.Text.{frac_text}
 use Rattle.frac128.specs.declared.vectors.Spot.{Spot}
 use Rattle.vlp_reader.specs.Faults.{kind_number, kind_name}
-use Rattle.vlp_reader.specs.Lines.{line_text}
 use Rattle.vlp_reader.specs.Sides.{is_unsaid}
 use Rattle.vlp_reader.specs.declared.problem.Problem.{Problem}
-use Rattle.cert_check.specs.LogText.{sparse_words}
-use Rattle.cert_check.specs.Names.{rule_number, rule_name, kind_number as log_kind_number, kind_name as log_kind_name}
+use Rattle.deriv_log.specs.LogText.{sparse_words}
+use Rattle.deriv_log.specs.Names.{kind_number as log_kind_number, kind_name as log_kind_name}
+use Rattle.cert_check.specs.Names.{rule_number, rule_name}
 use Rattle.cert_check.specs.declared.answer.Answer.{Answer}
 use Rattle.cert_check.specs.declared.answer.Answer.TheVariants.{Infeasible, Whole, NoVertex, Solved}
 use Rattle.bensolve_main.specs.declared.status.LogRefusal.{LogRefusal}

@@ -4,7 +4,8 @@ ghost use Rattle.bensolve_main.specs.Outcome.{LogVerdict, Told, Silent, sources}
 
 use crate::status::{LogRefusal, Status};
 use crate::text;
-use cert_check::{LogEnd, Refusal, check, read_log};
+use cert_check::{Refusal, check};
+use deriv_log::{LogEnd, read_log};
 use src_sink::{Bytes, MOST_ITEMS, ReadEnd, Source, read_all};
 use std::alloc::Global;
 use vlp_reader::{Problem, VlpEnd, read_vlp};

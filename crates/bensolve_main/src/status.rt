@@ -1,5 +1,6 @@
 //! How a run ends.
-use cert_check::{LogFault, Rule};
+use cert_check::Rule;
+use deriv_log::LogFault;
 use src_sink::NoMemory;
 use vlp_reader::FileFault;
 

@@ -159,7 +159,25 @@ fn tells_each_refusal_by_its_line(rt: HostRuntime) -> Result<(), Fail> {
             3,
             "fault 3 line 2 kind 4 NumberWide\n",
         ),
-        (FILE, "", 9, "fault 9 line 0 kind 6 NotBuilt\n"),
+        (FILE, "", 9, "fault 9 line 1 kind 5 NoEnd\n"),
+        (
+            FILE,
+            "version 1\nduality 2 1 1 0 0 0\ncut 2 1/2",
+            9,
+            "fault 9 line 3 kind 1 BadLine\n",
+        ),
+        (
+            FILE,
+            "version 1\nfarkas 2 1 1/2 2 1/2\nend infeasible\n",
+            9,
+            "fault 9 entry 2 rule 16 NotBuilt\n",
+        ),
+        (
+            FILE,
+            "version 1\nduality 1 1 0 0 0\nend solved\n",
+            9,
+            "fault 9 entry 2 rule 16 NotBuilt\n",
+        ),
     ];
     for (file, log, code, text) in table {
         let (status, out) = check(rt.alloc(), file.as_bytes(), log.as_bytes(), 10, NO_FAULTS)?;

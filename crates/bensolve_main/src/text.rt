@@ -7,7 +7,8 @@ ghost use Rattle.cert_check.specs.declared.answer.Answer.TheVariants.{Infeasible
 ghost use Rattle.bensolve_main.specs.Text.{report_text, fault_text, spot_text};
 
 use crate::status::{LogRefusal, Status};
-use cert_check::{Answer, LogFault, Rule};
+use cert_check::{Answer, Rule};
+use deriv_log::LogFault;
 use frac128::{Spot, put_frac};
 use itoa::Buffer;
 use src_sink::{Bytes, NoMemory};

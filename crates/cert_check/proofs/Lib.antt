@@ -6,12 +6,6 @@ pub mod PlaceSums
 pub mod Signs
 pub mod Balance
 pub mod FarkasTests
+pub mod SmallMultipliers
 pub mod Soundness
 pub mod Duality
-pub mod SmallLogs
-pub mod Pieces
-pub mod Numbers
-pub mod Spots
-pub mod Entries
-pub mod Logs
-pub mod Numerals

@@ -17,7 +17,7 @@ use Rattle.frac128.specs.declared.vectors.Spot.{Spot}
 use Rattle.cert_check.specs.SmallProblem.{IsSmall, is_small}
 use Rattle.vlp_reader.specs.Sides.{Side, sides, at_most, at_least}
 use Rattle.vlp_reader.specs.declared.problem.Problem.{Problem}
-use Rattle.cert_check.specs.PlainLog.{is_small_spot, is_small_sparse}
+use Rattle.cert_check.specs.SmallProblem.{is_small_spot, is_small_sparse}
 use Rattle.cert_check.specs.Table.{IsTableOf, side_of, vector_of}
 use Rattle.cert_check.specs.declared.sides.BoundSide.{BoundSide}
 use Rattle.cert_check.proofs.Small.{kept, small_is_whole, small_below, small_sides, small_negated}

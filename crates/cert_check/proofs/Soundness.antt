@@ -13,18 +13,19 @@ use Rattle.frac128.specs.Sparse.{is_zero, sparse_dot, rises_above}
 use Rattle.frac128.specs.declared.vectors.Spot.{Spot}
 use Rattle.vlp_reader.specs.Sides.{sides, side_column}
 use Rattle.vlp_reader.specs.declared.problem.Problem.{Problem}
-use Rattle.cert_check.specs.PlainLog.{ends_once, is_end, is_small_spot, is_small_sparse}
+use Rattle.deriv_log.specs.Formed.{is_formed, is_formed_part, ends_once, is_end}
 use Rattle.cert_check.specs.Proves.{MeetsFarkas, MeetsEnd, Meets, AllMeet}
 use Rattle.cert_check.specs.Right.{IsFarkas}
 use Rattle.cert_check.specs.Rules.{tests, begins, is_farkas, failing, farkas_tests, multiplier_tests, end_tests, entry_tests, wrong_at, first_wrong}
-use Rattle.cert_check.specs.SmallProblem.{is_small_problem}
-use Rattle.cert_check.specs.SmallLog.{has_small_multipliers}
+use Rattle.cert_check.specs.SmallProblem.{is_small_problem, are_small_values}
+use Rattle.cert_check.proofs.SmallMultipliers.{formed_rises}
+use Rattle.deriv_log.specs.LogText.{sparse}
 use Rattle.cert_check.specs.Verdict.{Accepts}
 use Rattle.cert_check.specs.declared.answer.Answer.TheVariants as answer
-use Rattle.cert_check.specs.declared.entry.EndKind.{EndKind}
-use Rattle.cert_check.specs.declared.entry.EndKind.TheVariants as kind
-use Rattle.cert_check.specs.declared.entry.Entry.{Entry}
-use Rattle.cert_check.specs.declared.entry.Entry.TheVariants as entry
+use Rattle.deriv_log.specs.declared.entry.EndKind.{EndKind}
+use Rattle.deriv_log.specs.declared.entry.EndKind.TheVariants as kind
+use Rattle.deriv_log.specs.declared.entry.Entry.{Entry}
+use Rattle.deriv_log.specs.declared.entry.Entry.TheVariants as entry
 use Rattle.cert_check.specs.declared.fault.Rule.{Rule}
 use Rattle.cert_check.specs.declared.fault.Rule.TheVariants as rule
 use Rattle.cert_check.proofs.Balance.{pass-at}
@@ -65,16 +66,16 @@ meets_version before n h =
     let version = passes (n == 1) None rule.Version order.1 in
     (empty_from_test before order.0, same_from_test n 1 version.0)
 
-meets_farkas : (file : Problem) (before : List Entry) (u : List Spot) → IsTrue (is_small_sparse u) → failing (tests rule.Order (begins before && not (list_any is_farkas before)) ∷ multiplier_tests file u) ≡ None → MeetsFarkas file before u
+meets_farkas : (file : Problem) (before : List Entry) (u : List Spot) → IsTrue (is_formed (entry.Farkas u)) → failing (tests rule.Order (begins before && not (list_any is_farkas before)) ∷ multiplier_tests file u) ≡ None → MeetsFarkas file before u
 meets_farkas file before u small h =
     let order = passes (begins before && not (list_any is_farkas before)) (failing (multiplier_tests file u)) rule.Order h in
-    let built = passes (is_small_problem file) (failing (farkas_tests file u)) rule.NotBuilt order.1 in
+    let built = passes (is_small_problem file && are_small_values u) (failing (farkas_tests file u)) rule.NotBuilt order.1 in
     let ordered = both (begins before) (not (list_any is_farkas before)) order.0 in
     let all = all_pass file u built.1 in
     record {
       version_first = ordered.0;
       only = false_from_not (list_any is_farkas before) ordered.1;
-      sparse = (both (rises_above 0 u) (list_all is_small_spot u) small).0;
+      sparse = formed_rises u small;
       index = All-weaker (λ (s : Spot). nat_le s.at (length (sides file)) ≡ true) (λ (s : Spot). s.at ≤ length (sides file)) (λ s t. at_most_from_test s.at (length (sides file)) t) u
           (AllPass-from_list_all (λ s. nat_le s.at (length (sides file))) u all.0);
       sign = AllPass-from_list_all (λ s. lt_ℚ zero_ℚ s.value) u all.1;
@@ -90,7 +91,7 @@ meets_end before kind.Whole h = cc
 meets_end before kind.NoVertex h = cc
 meets_end before kind.Solved h = cc
 
-meets : (file : Problem) (before : List Entry) (e : Entry) → IsTrue (has_small_multipliers e) → failing (entry_tests file before e) ≡ None → Meets file before e
+meets : (file : Problem) (before : List Entry) (e : Entry) → IsTrue (is_formed e) → failing (entry_tests file before e) ≡ None → Meets file before e
 meets file before (entry.Version n) small h = meets_version before n h
 meets file before (entry.Duality c weights picks inverse) small h = cc
 meets file before (entry.Cut w gamma u v) small h = cc
@@ -106,10 +107,10 @@ meets file before (entry.End k) small h = meets_end before k h
 
 -- ---- all entries
 
-all_meet : (file : Problem) (before entries : List Entry) → IsTrue (list_all has_small_multipliers entries) → first_wrong file before entries ≡ None → AllMeet file before entries
+all_meet : (file : Problem) (before entries : List Entry) → IsTrue (list_all is_formed entries) → first_wrong file before entries ≡ None → AllMeet file before entries
 all_meet file before [] small h = tt
 all_meet file before (e ∷ entries) small h =
-    let parts = both (has_small_multipliers e) (list_all has_small_multipliers entries) small in
+    let parts = both (is_formed e) (list_all is_formed entries) small in
     let here = none_wrong (length before + 1) (failing (entry_tests file before e)) (first_wrong file (before ++ e ∷ []) entries) h in
     (meets file before e parts.0 here.0, all_meet file (before ++ e ∷ []) entries parts.1 here.1)
 
@@ -165,10 +166,10 @@ right_from_met file before u h =
 
 -- ---- the answer
 
-pub has_farkas : (file : Problem) (entries : List Entry) → IsTrue (ends_once entries) → IsTrue (list_all has_small_multipliers entries) → first_wrong file [] entries ≡ None → IsTrue (list_any is_farkas entries)
+pub has_farkas : (file : Problem) (entries : List Entry) → IsTrue (ends_once entries) → IsTrue (list_all is_formed entries) → first_wrong file [] entries ≡ None → IsTrue (list_any is_farkas entries)
 has_farkas file entries ends small h = (ends_infeasible file [] entries ends (all_meet file [] entries small h)).1
 
-pub accepted : (file : Problem) (entries : List Entry) (u : List Spot) → IsTrue (ends_once entries) → IsTrue (list_all has_small_multipliers entries) → first_wrong file [] entries ≡ None → Contains entries (entry.Farkas u)
+pub accepted : (file : Problem) (entries : List Entry) (u : List Spot) → IsTrue (ends_once entries) → IsTrue (list_all is_formed entries) → first_wrong file [] entries ≡ None → Contains entries (entry.Farkas u)
     → Accepts file entries (answer.Infeasible u)
 accepted file entries u ends small h found =
     let met = all_meet file [] entries small h in

@@ -3,7 +3,7 @@ use Rattle.std.specs.Prelude.{◌≡◌, List, length}
 use Rattle.std.specs.List.{list_any}
 use Rattle.cert_check.specs.Rules.{begins, is_farkas}
 use Rattle.cert_check.specs.declared.earlier.Earlier.{Earlier}
-use Rattle.cert_check.specs.declared.entry.Entry.{Entry}
+use Rattle.deriv_log.specs.declared.entry.Entry.{Entry}
 
 -- a summary says how many these entries are, whether the first is a `version`, and whether one is a `farkas`
 pub record IsEarlier (before : List Entry) (summary : Earlier) : Type 0 where

@@ -1,11 +1,8 @@
 pub mod Earlier
-pub mod LogText
 pub mod Names
-pub mod PlainLog
 pub mod Proves
 pub mod Right
 pub mod Rules
-pub mod SmallLog
 pub mod SmallProblem
 pub mod Table
 pub mod Verdict

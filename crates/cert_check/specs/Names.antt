@@ -1,27 +1,7 @@
--- How fault lines show the rules and the faults of a log's text.
+-- How fault lines show the rules.
 use Rattle.std.specs.Prelude.{ℕ, List, codes}
-use Rattle.cert_check.specs.declared.fault.LogKind.{LogKind}
-use Rattle.cert_check.specs.declared.fault.LogKind.TheVariants as kind
 use Rattle.cert_check.specs.declared.fault.Rule.{Rule}
 use Rattle.cert_check.specs.declared.fault.Rule.TheVariants as rule
-
--- the number of a fault of the text
-abbrev pub kind_number : LogKind → ℕ
-kind_number kind.BadLine = 1
-kind_number kind.BadNumber = 2
-kind_number kind.NumberWide = 3
-kind_number kind.OutOfRange = 4
-kind_number kind.NoEnd = 5
-kind_number kind.NotBuilt = 6
-
--- the bytes of its name
-abbrev pub kind_name : LogKind → List ℕ
-kind_name kind.BadLine = codes "BadLine"
-kind_name kind.BadNumber = codes "BadNumber"
-kind_name kind.NumberWide = codes "NumberWide"
-kind_name kind.OutOfRange = codes "OutOfRange"
-kind_name kind.NoEnd = codes "NoEnd"
-kind_name kind.NotBuilt = codes "NotBuilt"
 
 -- the number of a rule
 abbrev pub rule_number : Rule → ℕ

@@ -6,14 +6,14 @@ use Rattle.frac128.specs.Sparse.{IsSparse, sparse_dot}
 use Rattle.frac128.specs.declared.vectors.Spot.{Spot}
 use Rattle.vlp_reader.specs.Sides.{sides, side_column, side_bounds}
 use Rattle.vlp_reader.specs.declared.problem.Problem.{Problem}
-use Rattle.cert_check.specs.PlainLog.{ends_once}
+use Rattle.deriv_log.specs.Formed.{ends_once}
 use Rattle.cert_check.specs.Rules.{begins, is_farkas}
 use Rattle.cert_check.specs.declared.answer.Answer.{Answer}
 use Rattle.cert_check.specs.declared.answer.Answer.TheVariants.{Infeasible, Whole, NoVertex, Solved}
-use Rattle.cert_check.specs.declared.entry.EndKind.{EndKind}
-use Rattle.cert_check.specs.declared.entry.EndKind.TheVariants as kind
-use Rattle.cert_check.specs.declared.entry.Entry.{Entry}
-use Rattle.cert_check.specs.declared.entry.Entry.TheVariants as entry
+use Rattle.deriv_log.specs.declared.entry.EndKind.{EndKind}
+use Rattle.deriv_log.specs.declared.entry.EndKind.TheVariants as kind
+use Rattle.deriv_log.specs.declared.entry.Entry.{Entry}
+use Rattle.deriv_log.specs.declared.entry.Entry.TheVariants as entry
 
 -- what a `farkas` entry must meet, rule by rule, over exact numbers
 pub record MeetsFarkas (file : Problem) (before : List Entry) (u : List Spot) : Type 0 where

@@ -6,11 +6,11 @@ use Rattle.frac128.specs.Sparse.{is_zero, sparse_dot}
 use Rattle.frac128.specs.declared.vectors.Spot.{Spot}
 use Rattle.vlp_reader.specs.Sides.{sides, side_column, side_bounds, numbers_from}
 use Rattle.vlp_reader.specs.declared.problem.Problem.{Problem}
-use Rattle.cert_check.specs.SmallProblem.{is_small_problem}
-use Rattle.cert_check.specs.declared.entry.EndKind.{EndKind}
-use Rattle.cert_check.specs.declared.entry.EndKind.TheVariants.{Infeasible, Whole as WholeEnd, NoVertex, Solved}
-use Rattle.cert_check.specs.declared.entry.Entry.{Entry}
-use Rattle.cert_check.specs.declared.entry.Entry.TheVariants.{Version, Duality, Cut, Start, Add, Point, Ray, Farkas, Whole, Line, Facet, End}
+use Rattle.cert_check.specs.SmallProblem.{is_small_problem, are_small_values}
+use Rattle.deriv_log.specs.declared.entry.EndKind.{EndKind}
+use Rattle.deriv_log.specs.declared.entry.EndKind.TheVariants.{Infeasible, Whole as WholeEnd, NoVertex, Solved}
+use Rattle.deriv_log.specs.declared.entry.Entry.{Entry}
+use Rattle.deriv_log.specs.declared.entry.Entry.TheVariants.{Version, Duality, Cut, Start, Add, Point, Ray, Farkas, Whole, Line, Facet, End}
 use Rattle.cert_check.specs.declared.fault.Rule.{Rule}
 use Rattle.cert_check.specs.declared.fault.Rule.TheVariants as rule
 
@@ -66,9 +66,9 @@ farkas_tests file u =
     ∷ tests rule.Sign (list_all (λ s. lt_ℚ zero_ℚ s.value) u)
     ∷ (balance_tests file u ++ tests rule.Bound (lt_ℚ zero_ℚ (sparse_dot (side_bounds file) u)) ∷ [])
 
--- the sums of multipliers are built for problems of short whole numbers
+-- the sums of multipliers are built for short whole numbers
 abbrev pub multiplier_tests : Problem → List Spot → List Test
-multiplier_tests file u = tests rule.NotBuilt (is_small_problem file) ∷ farkas_tests file u
+multiplier_tests file u = tests rule.NotBuilt (is_small_problem file && are_small_values u) ∷ farkas_tests file u
 
 -- an end of this kind has what it needs among the entries before it
 abbrev pub end_tests : List Entry → EndKind → List Test

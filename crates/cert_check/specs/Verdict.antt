@@ -7,7 +7,7 @@ use Rattle.cert_check.specs.Rules.{first_wrong}
 use Rattle.cert_check.specs.declared.answer.Answer.{Answer}
 use Rattle.cert_check.specs.declared.answer.Refusal.{Refusal}
 use Rattle.cert_check.specs.declared.answer.Refusal.TheVariants.{Wrong, NoMemory}
-use Rattle.cert_check.specs.declared.entry.Entry.{Entry}
+use Rattle.deriv_log.specs.declared.entry.Entry.{Entry}
 
 -- an answer comes where no test fails; it is proved, and it is right
 pub record Accepts (file : Problem) (entries : List Entry) (answer : Answer) : Type 0 where

@@ -2,18 +2,17 @@
 //! proves.
 ghost use Rattle.std.specs.Prelude.{◌≡◌, [], IfOk, IfErr, IsTrue, Contains};
 ghost use Rattle.std.specs.List.{list_all, list_any};
-ghost use Rattle.cert_check.specs.PlainLog.{ends_once};
+ghost use Rattle.deriv_log.specs.Formed.{IsLog, is_formed};
 ghost use Rattle.cert_check.specs.Rules.{is_farkas, first_wrong};
-ghost use Rattle.cert_check.specs.SmallLog.{has_small_multipliers};
 ghost use Rattle.cert_check.specs.Table.{IsTableOf};
 ghost use Rattle.cert_check.specs.Verdict.{Accepts, Refuses};
 
 use crate::answer::{Answer, Refusal};
 use crate::earlier::Earlier;
-use crate::entry::{Entries, Entry};
 use crate::fault::Rule;
 use crate::rules::entry_failure;
 use crate::sides::{BoundSide, side_table};
+use deriv_log::{Entries, Entry};
 use frac128::Sparse;
 use src_sink::{Items, NoMemory};
 use std::alloc::Global;
@@ -26,7 +25,7 @@ fn first_failure(
     entries: &Entries,
 ) -> Option<(u32, Rule)>
     requires sides { IsTableOf problem.now table.now }
-    requires multipliers { IsTrue (list_all has_small_multipliers entries.now) }
+    requires formed { IsTrue (list_all is_formed entries.now) }
     ensures { result ≡ first_wrong problem.now [] entries.now }
 {
     let mut earlier = Earlier::none();
@@ -57,8 +56,7 @@ fn multipliers(alloc: Global, entries: &Entries) -> Result<Sparse, NoMemory>
 /// Tests each entry in its order, and gives the answer that the log proves, or the first rule that
 /// fails and its entry.
 pub fn check(alloc: Global, problem: &Problem, entries: &Entries) -> Result<Answer, Refusal>
-    requires ends { IsTrue (ends_once entries.now) }
-    requires small_log { IsTrue (list_all has_small_multipliers entries.now) }
+    requires { IsLog entries.now }
     ensures ok { IfOk result (Accepts problem.now entries.now) }
     ensures refused { IfErr result (Refuses problem.now entries.now) }
 {

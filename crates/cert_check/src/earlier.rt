@@ -2,7 +2,7 @@
 ghost use Rattle.std.specs.Prelude.{◌≡◌};
 ghost use Rattle.cert_check.specs.Rules.{is_version, is_farkas};
 
-use crate::entry::Entry;
+use deriv_log::Entry;
 
 /// What is known of the entries before one: how many they are, whether the first is a `version`, and
 /// whether there is a `farkas`.
@@ -28,7 +28,7 @@ fn is_farkas(entry: &Entry) -> bool
 impl Earlier {
     ghost use Rattle.std.specs.Prelude.{◌<◌, [], ◌∷◌, ◌++◌, List};
     ghost use Rattle.cert_check.specs.Earlier.{IsEarlier};
-    ghost use Rattle.cert_check.specs.declared.entry.Entry.{Entry};
+    ghost use Rattle.deriv_log.specs.declared.entry.Entry.{Entry};
 
     /// Where there is no entry.
     pub fn none() -> Earlier

@@ -1,10 +1,10 @@
-//! Whether the constraints of a problem are short whole numbers.
+//! Whether the constraints of a problem and multipliers are short whole numbers.
 ghost use Rattle.std.specs.Prelude.{◌≡◌};
 ghost use Rattle.std.specs.List.{list_all};
-ghost use Rattle.cert_check.specs.SmallProblem.{is_small as has_few_digits, is_small_bound as has_few_digits_each, is_small_problem as has_few_digits_all};
+ghost use Rattle.cert_check.specs.SmallProblem.{is_small as has_few_digits, is_small_bound as has_few_digits_each, is_small_problem as has_few_digits_all, are_small_values as have_few_digits};
 
 use exact_field::Field;
-use frac128::Frac;
+use frac128::{Frac, Spot};
 use vlp_reader::{Bound, Cell, Problem};
 
 /// Whether a number is whole with at most 9 digits.
@@ -46,4 +46,11 @@ pub fn is_small_problem(problem: &Problem) -> bool
     are_small_cells(problem.a.as_slice())
         && are_small_bounds(problem.row_bounds.as_slice())
         && are_small_bounds(problem.col_bounds.as_slice())
+}
+
+/// Whether the values of multipliers are.
+pub fn are_small_values(u: &[Spot]) -> bool
+    ensures { result ≡ have_few_digits u.now }
+{
+    u.iter().all(|s| is_small(s.value))
 }

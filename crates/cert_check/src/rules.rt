@@ -5,20 +5,21 @@ ghost use Rattle.exact_field.specs.Rational.{zero_ℚ, lt_ℚ};
 ghost use Rattle.frac128.specs.Sparse.{is_zero, sparse_dot};
 ghost use Rattle.cert_check.specs.SmallProblem.{IsSmall};
 ghost use Rattle.vlp_reader.specs.Sides.{side_column, side_bounds, numbers_from};
-ghost use Rattle.cert_check.specs.PlainLog.{is_small_sparse};
+ghost use Rattle.cert_check.specs.SmallProblem.{is_small_sparse};
+ghost use Rattle.deriv_log.specs.Formed.{is_formed, is_formed_part};
+ghost use Rattle.deriv_log.specs.LogText.{sparse};
 ghost use Rattle.cert_check.specs.Rules.{tests, failing, farkas_tests, multiplier_tests, end_tests, entry_tests};
 ghost use Rattle.cert_check.specs.declared.fault.Rule.TheVariants as rule;
-ghost use Rattle.cert_check.specs.SmallLog.{has_small_multipliers};
 ghost use Rattle.cert_check.specs.Table.{IsTableOf};
 ghost use Rattle.cert_check.specs.Earlier.{IsEarlier};
-ghost use Rattle.cert_check.specs.declared.entry.Entry.{Entry};
+ghost use Rattle.deriv_log.specs.declared.entry.Entry.{Entry};
 
 use crate::earlier::Earlier;
-use crate::entry::{EndKind, Entry};
 use crate::fault::Rule;
-use crate::magnitude::is_small_problem;
+use crate::magnitude::{are_small_values, is_small_problem};
 use crate::sides::BoundSide;
 use crate::sums::{bound_sum, column_sum};
+use deriv_log::{EndKind, Entry};
 use exact_field::Field;
 use frac128::{Frac, Sparse};
 use src_sink::Items;
@@ -106,16 +107,17 @@ fn farkas_failure(problem: &Problem, table: &Items<BoundSide>, u: &Sparse) -> Op
     }
 }
 
-/// The same, behind the test that the sums are built for such a problem.
+/// The same, behind the test that the sums are built for such a problem and such multipliers.
 fn multiplier_failure(problem: &Problem, table: &Items<BoundSide>, u: &Sparse) -> Option<Rule>
     requires sides { IsTableOf problem.now table.now }
-    requires multipliers { IsTrue (is_small_sparse u.now) }
+    requires formed { IsTrue (is_formed_part (sparse u.now)) }
     ensures { result ≡ failing (multiplier_tests problem.now u.now) }
 {
-    if !is_small_problem(problem) {
-        return Some(Rule::NotBuilt);
+    if is_small_problem(problem) && are_small_values(u.as_slice()) {
+        farkas_failure(problem, table, u)
+    } else {
+        Some(Rule::NotBuilt)
     }
-    farkas_failure(problem, table, u)
 }
 
 /// The first test of a `version` that is not passed.
@@ -151,7 +153,7 @@ pub fn entry_failure(
     entry: &Entry,
 ) -> Option<Rule>
     requires sides { IsTableOf problem.now table.now }
-    requires multipliers { IsTrue (has_small_multipliers entry.now) }
+    requires formed { IsTrue (is_formed entry.now) }
     ensures { (before : List Entry) → IsEarlier before earlier
         → result ≡ failing (entry_tests problem.now before entry.now) }
 {

@@ -6,7 +6,7 @@ ghost use Rattle.frac128.specs.Sparse.{sparse_dot};
 ghost use Rattle.cert_check.specs.SmallProblem.{IsSmall, is_small};
 ghost use Rattle.vlp_reader.specs.Sides.{side_column, side_bounds};
 ghost use Rattle.vlp_reader.specs.declared.problem.Problem.{Problem};
-ghost use Rattle.cert_check.specs.PlainLog.{is_small_sparse};
+ghost use Rattle.cert_check.specs.SmallProblem.{is_small_sparse};
 ghost use Rattle.cert_check.specs.Table.{IsTableOf, side_of, vector_of};
 
 use crate::sides::BoundSide;

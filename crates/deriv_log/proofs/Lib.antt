@@ -1,14 +1,14 @@
-mod Cutting
-mod Numerals
-mod Fractions
-mod Forms
-mod Entries
-mod Written
-mod OneEntry
-mod Lines
-mod Laws
-mod Reading
-mod Taken
-mod Fronts
-mod LineByLine
-mod Printed
+pub mod Cutting
+pub mod Numerals
+pub mod Fractions
+pub mod Forms
+pub mod Entries
+pub mod Written
+pub mod OneEntry
+pub mod Lines
+pub mod Laws
+pub mod Reading
+pub mod Taken
+pub mod Fronts
+pub mod LineByLine
+pub mod Printed

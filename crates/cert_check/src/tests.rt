@@ -1,4 +1,0 @@
-//! Logs and what the checker says of them.
-mod logs;
-mod problems;
-mod verdicts;

@@ -1,0 +1,14 @@
+pub mod Building
+pub mod CellLists
+pub mod Eliminating
+pub mod EliminationEnds
+pub mod Errors
+pub mod Lists
+pub mod ManyLines
+pub mod Merging
+pub mod PivotRows
+pub mod Pivoted
+pub mod Places
+pub mod Signs
+pub mod Summing
+pub mod Wide

@@ -1,0 +1,2 @@
+//! One table a subject.
+mod rows;
