@@ -1,4 +1,4 @@
--- What is to be proved of these definitions.
+-- What is proved of the rules: against events, of what stands, and of answers.
 use Rattle.polyhedra.specs.DoubleDescription.{IsNormed}
 use Rattle.polyhedra.specs.Exactness.{IsSolved}
 use Rattle.polyhedra.specs.Hull.{IsInHull, IsValidAt, IsVertex}

@@ -111,7 +111,7 @@ made_vectors q s row = new_vectors (rows_in_use q s) (map numbered_vector s.live
 abbrev pub first_live : ℕ → List ℚ → List ℚ → List Member
 first_live q point directions = numbered q 1 (homogenised point one_ℚ ∷ map (λ d. homogenised d zero_ℚ) (pieces q q directions))
 
--- the next live generators: those whose value is at least 0, and one for each pair that is required
+-- the next live generators: those whose value is at least 0, and one for each pair that is required, whatever pairs the log names
 abbrev pub next_live : ℕ → State → List ℚ → List Member
 next_live q s row = filter (λ g. le_ℚ zero_ℚ (value row g)) s.live ++ numbered q (suc s.made) (made_vectors q s row)
 
