@@ -16,7 +16,7 @@ use Rattle.deriv_log.specs.declared.entry.Entry.TheVariants as entry
 use Rattle.polyhedra.proofs.Members.{pairs-nil, pairs-cons}
 use Rattle.polyhedra.proofs.Tests.{both_true}
 use Rattle.log_rules.specs.Events.{log_failure}
-use Rattle.log_rules.specs.Examples.{n, wide, Parts, Says, Fails, small, small_cuts, small_front, last_ray, solved_end, large, large_log, plain, line_log, wide_cone, cone_log, dual_cone, dual_log, one, whole_log, bounded_log, empty, farkas_log, largest, largest_front, largest_log, LargestLog, WorkedLogs, pair}
+use Rattle.log_rules.specs.Examples.{n, wide, Parts, Says, Fails, small, small_cuts, small_front, last_ray, solved_end, large, large_log, plain, the_line, line_log, wide_cone, cone_log, dual_cone, dual_log, one, whole_log, bounded_log, empty, farkas_log, largest, largest_front, largest_log, LargestLog, WorkedLogs, pair}
 use Rattle.log_rules.specs.Live.{duality_vector}
 use Rattle.log_rules.specs.Proves.{Proves, live_at, named_facets}
 use Rattle.log_rules.specs.Right.{Rise, is_before, key, stated}
@@ -236,6 +236,15 @@ has_line : Fails (plain Orthant None (Free ∷ Lower (n 0) ∷ [])) (line_log) (
 unfolding line_kept whole fraction ◌+ℚ◌ ◌*ℚ◌ neg_ℚ inverse_ℚ le_ℚ gcd
 has_line = record { file = file_of (plain Orthant None (Free ∷ Lower (n 0) ∷ [])) line_kept; says = file_says (plain Orthant None (Free ∷ Lower (n 0) ∷ [])) line_kept; first = refl }
 
+line_alone : Fails (plain Orthant None (Free ∷ Lower (n 0) ∷ []))
+    (entry.Version 1 ∷ entry.Duality (n 1 ∷ n 1 ∷ []) [] [] [] ∷ the_line ∷ entry.End kind.NoVertex ∷ []) (3 ∷ 0 ∷ 2 ∷ [])
+unfolding line_kept whole fraction ◌+ℚ◌ ◌*ℚ◌ neg_ℚ inverse_ℚ le_ℚ gcd
+line_alone = record {
+  file = file_of (plain Orthant None (Free ∷ Lower (n 0) ∷ [])) line_kept;
+  says = file_says (plain Orthant None (Free ∷ Lower (n 0) ∷ [])) line_kept;
+  first = refl;
+}
+
 by_generators : Fails (plain wide_cone (Some (n 2 ∷ n 2 ∷ [])) (Lower (n 0) ∷ Lower (n 0) ∷ [])) (cone_log) (7 ∷ 0 ∷ 9 ∷ [])
 unfolding cone_kept whole fraction ◌+ℚ◌ ◌*ℚ◌ neg_ℚ inverse_ℚ le_ℚ gcd
 by_generators = record { file = file_of (plain wide_cone (Some (n 2 ∷ n 2 ∷ [])) (Lower (n 0) ∷ Lower (n 0) ∷ [])) cone_kept; says = file_says (plain wide_cone (Some (n 2 ∷ n 2 ∷ [])) (Lower (n 0) ∷ Lower (n 0) ∷ [])) cone_kept; first = refl }
@@ -356,6 +365,7 @@ worked_logs = record {
   other = record {
     overflow = overflow;
     has_line = has_line;
+    line_alone = line_alone;
     by_generators = by_generators;
     by_rows = by_rows;
     everything = everything;

@@ -170,12 +170,14 @@ plain cone duality bounds = record {
 }
 
 -- the first variable free: the image has a line
+abbrev pub the_line : Entry
+the_line = entry.Line (n 1 ∷ n 0 ∷ []) [] (at 1 (n 1) ∷ []) [] (at 1 minus_one ∷ []) []
+
 abbrev pub line_log : List Entry
 line_log =
     entry.Version 1 ∷ entry.Duality (n 1 ∷ n 1 ∷ []) [] [] []
     ∷ entry.Cut (n 0 ∷ n 1 ∷ []) (n 0) (at 1 (n 1) ∷ []) []
-    ∷ entry.Line (n 1 ∷ n 0 ∷ []) [] (at 1 (n 1) ∷ []) [] (at 1 minus_one ∷ []) []
-    ∷ entry.End kind.NoVertex ∷ []
+    ∷ the_line ∷ entry.End kind.NoVertex ∷ []
 
 -- the cone of (1, 2) and (2, 1), with c = (1, 1) = 1/3 (1, 2) + 1/3 (2, 1), and the inverse of the two; (0, 1) is no multiple of (1, 2)
 abbrev pub wide_cone : Cone
@@ -246,11 +248,13 @@ empty = record {
 abbrev pub farkas_log : ℚ → List Entry
 farkas_log u = entry.Version 1 ∷ entry.Farkas (at 1 (n 1) ∷ at 2 u ∷ []) ∷ entry.End kind.Infeasible ∷ []
 
--- an operation that is not held; a line; cones by generators and by rows; everything; one objective; no solution; a cut before the
+-- an operation that is not held; a line, and one without a cut before it; cones by generators and by rows; everything; one objective; no solution; a cut before the
 -- duality vector, a second version and none
 pub record OtherLogs : Type 0 where
   pub overflow : Fails large large_log (3 ∷ 1 ∷ 11 ∷ wide ∷ wide ∷ [])
   pub has_line : Passes (plain Orthant None (Free ∷ Lower (n 0) ∷ [])) line_log
+  pub line_alone : Fails (plain Orthant None (Free ∷ Lower (n 0) ∷ []))
+      (entry.Version 1 ∷ entry.Duality (n 1 ∷ n 1 ∷ []) [] [] [] ∷ the_line ∷ entry.End kind.NoVertex ∷ []) (3 ∷ 0 ∷ 2 ∷ [])
   pub by_generators : Fails (plain wide_cone (Some (n 2 ∷ n 2 ∷ [])) (Lower (n 0) ∷ Lower (n 0) ∷ [])) cone_log (7 ∷ 0 ∷ 9 ∷ [])
   pub by_rows : Passes (plain dual_cone None (Lower (n 0) ∷ Lower (n 0) ∷ [])) dual_log
   pub everything : Passes (one Unsaid) whole_log
