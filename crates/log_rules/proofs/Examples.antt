@@ -1,0 +1,380 @@
+-- The worked logs, computed.
+use Rattle.std.proofs.Common.{◌≡◌, List, [], ◌∷◌, ◌++◌, refl, arith, pos, true, None, Some, map, IsTrue, ◌&&◌, Bool, All, length, ◌≤◌, ◌<◌}
+use Rattle.std.specs.List.{list_all}
+use Rattle.std.proofs.lemmas.List.Elements.{All-nil, All-cons, Contains-push}
+use Rattle.exact_field.specs.Gcd.{gcd}
+use Rattle.exact_field.specs.Rational.{ℚ, zero_ℚ, one_ℚ, whole, fraction, ◌+ℚ◌, ◌*ℚ◌, neg_ℚ, inverse_ℚ, le_ℚ}
+use Rattle.frac128.specs.Held.{is_held}
+use Rattle.vlp_reader.specs.declared.problem.Problem.{Problem}
+use Rattle.vlp_reader.specs.declared.problem.Bound.TheVariants.{Unsaid, Free, Lower}
+use Rattle.vlp_reader.specs.declared.problem.Cone.TheVariants.{Orthant}
+use Rattle.vlp_reader.specs.Cells.{are_cells}
+use Rattle.vlp_reader.specs.Cones.{cone_fits, duality_fits}
+use Rattle.deriv_log.specs.Formed.{is_formed}
+use Rattle.deriv_log.specs.declared.entry.EndKind.TheVariants as kind
+use Rattle.deriv_log.specs.declared.entry.Entry.TheVariants as entry
+use Rattle.polyhedra.proofs.Members.{pairs-nil, pairs-cons}
+use Rattle.polyhedra.proofs.Tests.{both_true}
+use Rattle.log_rules.specs.Events.{log_failure}
+use Rattle.log_rules.specs.Examples.{n, wide, Parts, Says, Fails, small, small_cuts, small_front, last_ray, solved_end, large, large_log, plain, the_line, line_log, wide_cone, cone_log, dual_cone, dual_log, one, whole_log, bounded_log, empty, farkas_log, largest, largest_front, largest_log, LargestLog, WorkedLogs, pair}
+use Rattle.log_rules.specs.Live.{duality_vector}
+use Rattle.log_rules.specs.Proves.{Proves, live_at, named_facets}
+use Rattle.log_rules.specs.Right.{Rise, is_before, key, stated}
+use Rattle.log_rules.proofs.LogMeets.{events_give_meets}
+use Rattle.log_rules.specs.declared.answer.Answer.TheVariants.{Solved}
+use Rattle.log_rules.specs.declared.answer.Gen.{Gen}
+use Rattle.log_rules.specs.declared.answer.Facet.{Facet}
+
+-- ---- the files
+-- a file of these parts, from what a problem keeps
+record IsProblem (p : Parts) : Type 0 where
+  pub rows_bounded : length p.row_bounds ≤ 100000
+  pub some_column : 0 < length p.col_bounds
+  pub cols_bounded : length p.col_bounds ≤ 100000
+  pub some_objective : 0 < p.objs
+  pub objs_bounded : p.objs ≤ 100000
+  pub a_cells : IsTrue (are_cells (length p.row_bounds) (length p.col_bounds) p.a)
+  pub o_cells : IsTrue (are_cells p.objs (length p.col_bounds) p.o)
+  pub cone_vectors : IsTrue (cone_fits p.objs p.cone)
+  pub duality_entries : IsTrue (duality_fits p.objs p.duality)
+
+abbrev file_of : (p : Parts) → IsProblem p → Problem
+file_of p h = record {
+  dir = p.dir;
+  rows = length p.row_bounds;
+  cols = length p.col_bounds;
+  objs = p.objs;
+  a = p.a;
+  o = p.o;
+  row_bounds = p.row_bounds;
+  col_bounds = p.col_bounds;
+  cone = p.cone;
+  duality = p.duality;
+  rows_bounded = h.rows_bounded;
+  some_column = h.some_column;
+  cols_bounded = h.cols_bounded;
+  some_objective = h.some_objective;
+  objs_bounded = h.objs_bounded;
+  a_cells = h.a_cells;
+  o_cells = h.o_cells;
+  row_count = refl;
+  col_count = refl;
+  cone_vectors = h.cone_vectors;
+  duality_entries = h.duality_entries;
+}
+
+file_says : (p : Parts) (h : IsProblem p) → Says (file_of p h) p
+file_says p h = record {
+  dir = refl;
+  rows = refl;
+  cols = refl;
+  objs = refl;
+  a = refl;
+  o = refl;
+  row_bounds = refl;
+  col_bounds = refl;
+  cone = refl;
+  duality = refl;
+}
+
+small_kept : IsProblem small
+unfolding whole fraction gcd
+small_kept = record {
+  rows_bounded = omega arith;
+  some_column = omega arith;
+  cols_bounded = omega arith;
+  some_objective = omega arith;
+  objs_bounded = omega arith;
+  a_cells = refl;
+  o_cells = refl;
+  cone_vectors = refl;
+  duality_entries = refl;
+}
+
+large_kept : IsProblem large
+unfolding whole fraction gcd
+large_kept = record {
+  rows_bounded = omega arith;
+  some_column = omega arith;
+  cols_bounded = omega arith;
+  some_objective = omega arith;
+  objs_bounded = omega arith;
+  a_cells = refl;
+  o_cells = refl;
+  cone_vectors = refl;
+  duality_entries = refl;
+}
+
+line_kept : IsProblem (plain Orthant None (Free ∷ Lower (n 0) ∷ []))
+unfolding whole fraction gcd
+line_kept = record {
+  rows_bounded = omega arith;
+  some_column = omega arith;
+  cols_bounded = omega arith;
+  some_objective = omega arith;
+  objs_bounded = omega arith;
+  a_cells = refl;
+  o_cells = refl;
+  cone_vectors = refl;
+  duality_entries = refl;
+}
+
+cone_kept : IsProblem (plain wide_cone (Some (n 2 ∷ n 2 ∷ [])) (Lower (n 0) ∷ Lower (n 0) ∷ []))
+unfolding whole fraction gcd
+cone_kept = record {
+  rows_bounded = omega arith;
+  some_column = omega arith;
+  cols_bounded = omega arith;
+  some_objective = omega arith;
+  objs_bounded = omega arith;
+  a_cells = refl;
+  o_cells = refl;
+  cone_vectors = refl;
+  duality_entries = refl;
+}
+
+dual_kept : IsProblem (plain dual_cone None (Lower (n 0) ∷ Lower (n 0) ∷ []))
+unfolding whole fraction gcd
+dual_kept = record {
+  rows_bounded = omega arith;
+  some_column = omega arith;
+  cols_bounded = omega arith;
+  some_objective = omega arith;
+  objs_bounded = omega arith;
+  a_cells = refl;
+  o_cells = refl;
+  cone_vectors = refl;
+  duality_entries = refl;
+}
+
+free_kept : IsProblem (one Unsaid)
+unfolding whole fraction gcd
+free_kept = record {
+  rows_bounded = omega arith;
+  some_column = omega arith;
+  cols_bounded = omega arith;
+  some_objective = omega arith;
+  objs_bounded = omega arith;
+  a_cells = refl;
+  o_cells = refl;
+  cone_vectors = refl;
+  duality_entries = refl;
+}
+
+bounded_kept : IsProblem (one (Lower (fraction (pos 3) 2)))
+unfolding whole fraction gcd
+bounded_kept = record {
+  rows_bounded = omega arith;
+  some_column = omega arith;
+  cols_bounded = omega arith;
+  some_objective = omega arith;
+  objs_bounded = omega arith;
+  a_cells = refl;
+  o_cells = refl;
+  cone_vectors = refl;
+  duality_entries = refl;
+}
+
+empty_kept : IsProblem empty
+unfolding whole fraction gcd
+empty_kept = record {
+  rows_bounded = omega arith;
+  some_column = omega arith;
+  cols_bounded = omega arith;
+  some_objective = omega arith;
+  objs_bounded = omega arith;
+  a_cells = refl;
+  o_cells = refl;
+  cone_vectors = refl;
+  duality_entries = refl;
+}
+
+largest_kept : IsProblem largest
+unfolding whole fraction gcd
+largest_kept = record {
+  rows_bounded = omega arith;
+  some_column = omega arith;
+  cols_bounded = omega arith;
+  some_objective = omega arith;
+  objs_bounded = omega arith;
+  a_cells = refl;
+  o_cells = refl;
+  cone_vectors = refl;
+  duality_entries = refl;
+}
+
+-- ---- the logs
+small_solved : Fails small (small_front ++ last_ray ∷ entry.Facet 1 ∷ entry.Facet 2 ∷ entry.Facet 3 ∷ solved_end) ([])
+unfolding small_kept whole fraction ◌+ℚ◌ ◌*ℚ◌ neg_ℚ inverse_ℚ le_ℚ gcd
+small_solved = record { file = file_of small small_kept; says = file_says small small_kept; first = refl }
+
+small_bound : Fails small (small_cuts (n 4) ++ solved_end) (6 ∷ 0 ∷ 10 ∷ [])
+unfolding small_kept whole fraction ◌+ℚ◌ ◌*ℚ◌ neg_ℚ inverse_ℚ le_ℚ gcd
+small_bound = record { file = file_of small small_kept; says = file_says small small_kept; first = refl }
+
+small_left_out : Fails small (small_cuts (n 3) ++ entry.Add 3 (pair 2 1 ∷ []) ∷ solved_end) (7 ∷ 0 ∷ 13 ∷ [])
+unfolding small_kept whole fraction ◌+ℚ◌ ◌*ℚ◌ neg_ℚ inverse_ℚ le_ℚ gcd
+small_left_out = record { file = file_of small small_kept; says = file_says small small_kept; first = refl }
+
+small_no_ray : Fails small (small_front ++ entry.Facet 1 ∷ entry.Facet 2 ∷ entry.Facet 3 ∷ solved_end) (14 ∷ 0 ∷ 15 ∷ [])
+unfolding small_kept whole fraction ◌+ℚ◌ ◌*ℚ◌ neg_ℚ inverse_ℚ le_ℚ gcd
+small_no_ray = record { file = file_of small small_kept; says = file_says small small_kept; first = refl }
+
+small_no_facet : Fails small (small_front ++ last_ray ∷ entry.Facet 1 ∷ entry.Facet 2 ∷ solved_end) (14 ∷ 0 ∷ 15 ∷ [])
+unfolding small_kept whole fraction ◌+ℚ◌ ◌*ℚ◌ neg_ℚ inverse_ℚ le_ℚ gcd
+small_no_facet = record { file = file_of small small_kept; says = file_says small small_kept; first = refl }
+
+small_add_last : Fails small (small_front ++ entry.Facet 1 ∷ entry.Add 1 [] ∷ solved_end) (12 ∷ 0 ∷ 2 ∷ [])
+unfolding small_kept whole fraction ◌+ℚ◌ ◌*ℚ◌ neg_ℚ inverse_ℚ le_ℚ gcd
+small_add_last = record { file = file_of small small_kept; says = file_says small small_kept; first = refl }
+
+overflow : Fails large (large_log) (3 ∷ 1 ∷ 11 ∷ wide ∷ wide ∷ [])
+unfolding large_kept whole fraction ◌+ℚ◌ ◌*ℚ◌ neg_ℚ inverse_ℚ le_ℚ gcd
+overflow = record { file = file_of large large_kept; says = file_says large large_kept; first = refl }
+
+has_line : Fails (plain Orthant None (Free ∷ Lower (n 0) ∷ [])) (line_log) ([])
+unfolding line_kept whole fraction ◌+ℚ◌ ◌*ℚ◌ neg_ℚ inverse_ℚ le_ℚ gcd
+has_line = record { file = file_of (plain Orthant None (Free ∷ Lower (n 0) ∷ [])) line_kept; says = file_says (plain Orthant None (Free ∷ Lower (n 0) ∷ [])) line_kept; first = refl }
+
+line_alone : Fails (plain Orthant None (Free ∷ Lower (n 0) ∷ []))
+    (entry.Version 1 ∷ entry.Duality (n 1 ∷ n 1 ∷ []) [] [] [] ∷ the_line ∷ entry.End kind.NoVertex ∷ []) (3 ∷ 0 ∷ 2 ∷ [])
+unfolding line_kept whole fraction ◌+ℚ◌ ◌*ℚ◌ neg_ℚ inverse_ℚ le_ℚ gcd
+line_alone = record {
+  file = file_of (plain Orthant None (Free ∷ Lower (n 0) ∷ [])) line_kept;
+  says = file_says (plain Orthant None (Free ∷ Lower (n 0) ∷ [])) line_kept;
+  first = refl;
+}
+
+by_generators : Fails (plain wide_cone (Some (n 2 ∷ n 2 ∷ [])) (Lower (n 0) ∷ Lower (n 0) ∷ [])) (cone_log) (7 ∷ 0 ∷ 9 ∷ [])
+unfolding cone_kept whole fraction ◌+ℚ◌ ◌*ℚ◌ neg_ℚ inverse_ℚ le_ℚ gcd
+by_generators = record { file = file_of (plain wide_cone (Some (n 2 ∷ n 2 ∷ [])) (Lower (n 0) ∷ Lower (n 0) ∷ [])) cone_kept; says = file_says (plain wide_cone (Some (n 2 ∷ n 2 ∷ [])) (Lower (n 0) ∷ Lower (n 0) ∷ [])) cone_kept; first = refl }
+
+by_rows : Fails (plain dual_cone None (Lower (n 0) ∷ Lower (n 0) ∷ [])) (dual_log) ([])
+unfolding dual_kept whole fraction ◌+ℚ◌ ◌*ℚ◌ neg_ℚ inverse_ℚ le_ℚ gcd
+by_rows = record { file = file_of (plain dual_cone None (Lower (n 0) ∷ Lower (n 0) ∷ [])) dual_kept; says = file_says (plain dual_cone None (Lower (n 0) ∷ Lower (n 0) ∷ [])) dual_kept; first = refl }
+
+everything : Fails (one Unsaid) (whole_log) ([])
+unfolding free_kept whole fraction ◌+ℚ◌ ◌*ℚ◌ neg_ℚ inverse_ℚ le_ℚ gcd
+everything = record { file = file_of (one Unsaid) free_kept; says = file_says (one Unsaid) free_kept; first = refl }
+
+bounded : Fails (one (Lower (fraction (pos 3) 2))) (bounded_log (fraction (pos 3) 2)) ([])
+unfolding bounded_kept whole fraction ◌+ℚ◌ ◌*ℚ◌ neg_ℚ inverse_ℚ le_ℚ gcd
+bounded = record { file = file_of (one (Lower (fraction (pos 3) 2))) bounded_kept; says = file_says (one (Lower (fraction (pos 3) 2))) bounded_kept; first = refl }
+
+no_solution : Fails empty (farkas_log (n 1)) ([])
+unfolding empty_kept whole fraction ◌+ℚ◌ ◌*ℚ◌ neg_ℚ inverse_ℚ le_ℚ gcd
+no_solution = record { file = file_of empty empty_kept; says = file_says empty empty_kept; first = refl }
+
+unbalanced : Fails empty (farkas_log (n 2)) (2 ∷ 0 ∷ 8 ∷ [])
+unfolding empty_kept whole fraction ◌+ℚ◌ ◌*ℚ◌ neg_ℚ inverse_ℚ le_ℚ gcd
+unbalanced = record { file = file_of empty empty_kept; says = file_says empty empty_kept; first = refl }
+
+cut_first : Fails (one Unsaid) (entry.Version 1 ∷ entry.Cut [] (n 0) [] [] ∷ entry.End kind.Whole ∷ []) (2 ∷ 0 ∷ 2 ∷ [])
+unfolding free_kept whole fraction ◌+ℚ◌ ◌*ℚ◌ neg_ℚ inverse_ℚ le_ℚ gcd
+cut_first = record { file = file_of (one Unsaid) free_kept; says = file_says (one Unsaid) free_kept; first = refl }
+
+second_version : Fails (one Unsaid) (entry.Version 1 ∷ entry.Version 1 ∷ []) (2 ∷ 0 ∷ 2 ∷ [])
+unfolding free_kept whole fraction ◌+ℚ◌ ◌*ℚ◌ neg_ℚ inverse_ℚ le_ℚ gcd
+second_version = record { file = file_of (one Unsaid) free_kept; says = file_says (one Unsaid) free_kept; first = refl }
+
+end_first : Fails (one Unsaid) (entry.End kind.Whole ∷ []) (1 ∷ 0 ∷ 2 ∷ [])
+unfolding free_kept whole fraction ◌+ℚ◌ ◌*ℚ◌ neg_ℚ inverse_ℚ le_ℚ gcd
+end_first = record { file = file_of (one Unsaid) free_kept; says = file_says (one Unsaid) free_kept; first = refl }
+
+-- ---- the log that maximises
+abbrev largest_file : Problem
+largest_file = file_of largest largest_kept
+
+all_by_test : {X : Type 0} (P : X → Type 0) (test : X → Bool) → ((x : X) → test x ≡ true → P x) → (xs : List X) → list_all test xs ≡ true → All P xs
+all_by_test P test says [] h = All-nil P
+all_by_test P test says (x ∷ xs) h =
+    let b = both_true (test x) (list_all test xs) h in
+    All-cons P x xs (says x b.0) (all_by_test P test says xs b.1)
+
+rising : List (List ℚ) → Bool
+rising [] = true
+rising (v ∷ vs) = list_all (is_before v) vs && rising vs
+
+rise_by_test : (vs : List (List ℚ)) → rising vs ≡ true → Rise vs
+unfolding rising
+rise_by_test [] h = pairs-nil (λ u v. IsTrue (is_before u v))
+rise_by_test (v ∷ vs) h =
+    let b = both_true (list_all (is_before v) vs) (rising vs) h in
+    pairs-cons (λ u w. IsTrue (is_before u w)) v vs (all_by_test (λ w. IsTrue (is_before v w)) (is_before v) (λ w t. t) vs b.0) (rise_by_test vs b.1)
+
+points : List Gen
+points = live_at largest_file largest_log one_ℚ
+
+directions : List Gen
+directions = live_at largest_file largest_log zero_ℚ
+
+facets : List Facet
+facets = named_facets largest_file largest_log (map (λ g. g.y) points) (map (λ g. g.y) directions)
+
+accepted : log_failure is_held largest_file largest_log ≡ None
+unfolding largest_kept whole fraction ◌+ℚ◌ ◌*ℚ◌ neg_ℚ inverse_ℚ le_ℚ gcd
+accepted = refl
+
+formed : list_all is_formed largest_log ≡ true
+unfolding whole fraction ◌+ℚ◌ ◌*ℚ◌ neg_ℚ inverse_ℚ le_ℚ gcd
+formed = refl
+
+points_rise : rising (map (λ g. g.y) points) ≡ true
+unfolding rising points whole fraction ◌+ℚ◌ ◌*ℚ◌ neg_ℚ inverse_ℚ le_ℚ gcd
+points_rise = refl
+
+directions_rise : rising (map (λ g. g.y) directions) ≡ true
+unfolding rising directions whole fraction ◌+ℚ◌ ◌*ℚ◌ neg_ℚ inverse_ℚ le_ℚ gcd
+directions_rise = refl
+
+facets_rise : rising (map (λ f. key (stated f)) facets) ≡ true
+unfolding rising facets points directions whole fraction ◌+ℚ◌ ◌*ℚ◌ neg_ℚ inverse_ℚ le_ℚ gcd
+facets_rise = refl
+
+proves : Proves largest_file largest_log (Solved (duality_vector largest_log) points directions facets)
+unfolding points directions facets
+proves = record {
+  log = record { formed = formed; ends = refl };
+  meet = events_give_meets is_held largest_file largest_log accepted;
+  gives = (
+    Contains-push largest_front (entry.End kind.Solved),
+    record {
+      c_given = refl;
+      points_are = record { same = λ x. (λ h. h, λ h. h); rise = rise_by_test (map (λ g. g.y) points) points_rise };
+      directions_are = record { same = λ x. (λ h. h, λ h. h); rise = rise_by_test (map (λ g. g.y) directions) directions_rise };
+      facets_are = record { same = λ x. (λ h. h, λ h. h); rise = rise_by_test (map (λ f. key (stated f)) facets) facets_rise };
+    },
+  );
+}
+
+found : LargestLog
+unfolding points directions facets largest_kept whole fraction ◌+ℚ◌ ◌*ℚ◌ neg_ℚ inverse_ℚ le_ℚ gcd
+found = record {
+  file = largest_file;
+  says = file_says largest largest_kept;
+  points = refl;
+  directions = refl;
+  tight = refl;
+  bounds = refl;
+  proves = proves;
+}
+
+pub worked_logs : WorkedLogs
+worked_logs = record {
+  small = record { solved = small_solved; bound = small_bound; left_out = small_left_out; no_ray = small_no_ray; no_facet = small_no_facet; add_last = small_add_last };
+  other = record {
+    overflow = overflow;
+    has_line = has_line;
+    line_alone = line_alone;
+    by_generators = by_generators;
+    by_rows = by_rows;
+    everything = everything;
+    bounded = bounded;
+    no_solution = no_solution;
+    unbalanced = unbalanced;
+    cut_first = cut_first;
+    second_version = second_version;
+    end_first = end_first;
+  };
+  largest = found;
+}

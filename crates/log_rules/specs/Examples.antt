@@ -1,0 +1,319 @@
+-- Worked logs, each of which would fail if a definition were wrong.
+use Rattle.std.specs.Prelude.{◌≡◌, ℕ, pos, negsuc, ℤ, unsigned_abs, List, [], ◌∷◌, ◌++◌, map, length, Option, None, Some}
+use Rattle.exact_field.specs.Rational.{ℚ, zero_ℚ, one_ℚ, whole, fraction}
+use Rattle.frac128.specs.Held.{is_held}
+use Rattle.frac128.specs.declared.vectors.Spot.{Spot}
+use Rattle.vlp_reader.specs.declared.problem.Problem.{Problem}
+use Rattle.vlp_reader.specs.declared.problem.Cell.{Cell}
+use Rattle.vlp_reader.specs.declared.problem.Dir.{Dir}
+use Rattle.vlp_reader.specs.declared.problem.Dir.TheVariants.{Min, Max}
+use Rattle.vlp_reader.specs.declared.problem.Bound.{Bound}
+use Rattle.vlp_reader.specs.declared.problem.Bound.TheVariants.{Unsaid, Free, Lower, Upper}
+use Rattle.vlp_reader.specs.declared.problem.Cone.{Cone}
+use Rattle.vlp_reader.specs.declared.problem.Cone.TheVariants.{Orthant, Gens, Dual}
+use Rattle.deriv_log.specs.declared.entry.LogPair.{LogPair}
+use Rattle.deriv_log.specs.declared.entry.EndKind.TheVariants as kind
+use Rattle.deriv_log.specs.declared.entry.Entry.{Entry}
+use Rattle.deriv_log.specs.declared.entry.Entry.TheVariants as entry
+use Rattle.log_rules.specs.Events.{Failing, log_failure}
+use Rattle.log_rules.specs.Live.{duality_vector}
+use Rattle.log_rules.specs.Names.{rule_number}
+use Rattle.log_rules.specs.Proves.{Proves, live_at, named_facets}
+use Rattle.log_rules.specs.Events.Failure.{wrong, left}
+use Rattle.log_rules.specs.declared.answer.Answer.TheVariants.{Solved}
+
+-- ---- files and logs in short
+abbrev pub n : ℕ → ℚ
+n k = whole (pos k)
+
+abbrev pub minus_one : ℚ
+minus_one = whole (negsuc 0)
+
+abbrev pub half : ℚ
+half = fraction (pos 1) 2
+
+abbrev pub third : ℚ
+third = fraction (pos 1) 3
+
+-- 10^20
+abbrev pub wide : ℕ
+wide = 100000000000000000000
+
+abbrev pub cell : ℕ → ℕ → ℚ → Cell
+cell i j v = record { row = i; col = j; value = v }
+
+abbrev pub at : ℕ → ℚ → Spot
+at k v = record { at = k; value = v }
+
+abbrev pub pair : ℕ → ℕ → LogPair
+pair p m = record { plus = p; minus = m }
+
+-- what a file says
+pub record Parts : Type 0 where
+  pub dir : Dir
+  pub objs : ℕ
+  pub a : List Cell
+  pub o : List Cell
+  pub row_bounds : List Bound
+  pub col_bounds : List Bound
+  pub cone : Cone
+  pub duality : Option (List ℚ)
+
+-- the file says this
+pub record Says (file : Problem) (parts : Parts) : Type 0 where
+  pub dir : file.dir ≡ parts.dir
+  pub rows : file.rows ≡ length parts.row_bounds
+  pub cols : file.cols ≡ length parts.col_bounds
+  pub objs : file.objs ≡ parts.objs
+  pub a : file.a ≡ parts.a
+  pub o : file.o ≡ parts.o
+  pub row_bounds : file.row_bounds ≡ parts.row_bounds
+  pub col_bounds : file.col_bounds ≡ parts.col_bounds
+  pub cone : file.cone ≡ parts.cone
+  pub duality : file.duality ≡ parts.duality
+
+-- a failure in numbers: its entry, and 0 with the rule, or 1 with the step and the numerators of its operands without their signs
+abbrev pub in_numbers : Option Failing → List ℕ
+in_numbers None = []
+in_numbers (Some f) = f.entry ∷ elim (f.failure) [ wrong r ↦ 0 ∷ rule_number r ∷ [] | left k op a b ↦ 1 ∷ k ∷ unsigned_abs a.num ∷ unsigned_abs b.num ∷ [] ]
+
+-- a file that says this, of whose log the first failure is this one
+pub record Fails (parts : Parts) (log : List Entry) (failure : List ℕ) : Type 0 where
+  pub file : Problem
+  pub says : Says file parts
+  pub first : in_numbers (log_failure is_held file log) ≡ failure
+
+-- none fails
+abbrev pub Passes : Parts → List Entry → Type 0
+Passes parts log = Fails parts log []
+
+-- ---- two rows, two objectives: three cuts, and so two vertices, two directions and three facets
+abbrev pub small : Parts
+small = record {
+  dir = Min;
+  objs = 2;
+  a = cell 1 1 (n 2) ∷ cell 1 2 (n 1) ∷ cell 2 1 (n 1) ∷ cell 2 2 (n 2) ∷ [];
+  o = cell 1 1 (n 1) ∷ cell 1 2 minus_one ∷ cell 2 1 (n 1) ∷ cell 2 2 (n 1) ∷ [];
+  row_bounds = Lower (n 6) ∷ Lower (n 6) ∷ [];
+  col_bounds = Lower (n 0) ∷ Lower (n 0) ∷ [];
+  cone = Orthant;
+  duality = None;
+}
+
+-- the entries up to the third cut, with its bound
+abbrev pub small_cuts : ℚ → List Entry
+small_cuts bound =
+    entry.Version 1
+    ∷ entry.Duality (n 1 ∷ n 1 ∷ []) [] [] []
+    ∷ entry.Cut (half ∷ half ∷ []) (n 0) (at 3 (n 1) ∷ []) []
+    ∷ entry.Cut (n 0 ∷ n 1 ∷ []) (n 4) (at 1 third ∷ at 2 third ∷ []) []
+    ∷ entry.Start (1 ∷ 2 ∷ []) (whole (negsuc 3) ∷ n 4 ∷ []) (n 1 ∷ n 0 ∷ minus_one ∷ n 1 ∷ [])
+    ∷ entry.Cut (fraction (pos 1) 4 ∷ fraction (pos 3) 4 ∷ []) bound (at 1 half ∷ []) []
+    ∷ []
+
+-- up to the pre-image of the first direction
+abbrev pub small_front : List Entry
+small_front =
+    small_cuts (n 3)
+    ++ entry.Add 3 (pair 2 1 ∷ pair 3 1 ∷ [])
+    ∷ entry.Point 4 (at 1 (n 2) ∷ at 2 (n 2) ∷ []) []
+    ∷ entry.Point 5 (at 2 (n 6) ∷ []) []
+    ∷ entry.Ray 2 [] []
+    ∷ []
+
+abbrev pub last_ray : Entry
+last_ray = entry.Ray 3 (at 2 (n 1) ∷ []) []
+
+abbrev pub solved_end : List Entry
+solved_end = entry.End kind.Solved ∷ []
+
+-- the log as it should be; the bound of a cut changed; a pair left out; no pre-image of a direction; a facet not named; an `add`
+-- behind a facet
+pub record SmallLogs : Type 0 where
+  pub solved : Passes small (small_front ++ last_ray ∷ entry.Facet 1 ∷ entry.Facet 2 ∷ entry.Facet 3 ∷ solved_end)
+  pub bound : Fails small (small_cuts (n 4) ++ solved_end) (6 ∷ 0 ∷ 10 ∷ [])
+  pub left_out : Fails small (small_cuts (n 3) ++ entry.Add 3 (pair 2 1 ∷ []) ∷ solved_end) (7 ∷ 0 ∷ 13 ∷ [])
+  pub no_ray : Fails small (small_front ++ entry.Facet 1 ∷ entry.Facet 2 ∷ entry.Facet 3 ∷ solved_end) (14 ∷ 0 ∷ 15 ∷ [])
+  pub no_facet : Fails small (small_front ++ last_ray ∷ entry.Facet 1 ∷ entry.Facet 2 ∷ solved_end) (14 ∷ 0 ∷ 15 ∷ [])
+  pub add_last : Fails small (small_front ++ entry.Facet 1 ∷ entry.Add 1 [] ∷ solved_end) (12 ∷ 0 ∷ 2 ∷ [])
+
+-- ---- x2 ≥ 10^20 x1 and x1 ≥ 10^20: the sum of the bounds is not held, at step 11
+abbrev pub large : Parts
+large = record {
+  dir = Min;
+  objs = 1;
+  a = cell 1 1 (whole (negsuc 99999999999999999999)) ∷ cell 1 2 (n 1) ∷ [];
+  o = cell 1 2 (n 1) ∷ [];
+  row_bounds = Lower (n 0) ∷ [];
+  col_bounds = Lower (n wide) ∷ Unsaid ∷ [];
+  cone = Orthant;
+  duality = None;
+}
+
+abbrev pub one_duality : List Entry
+one_duality = entry.Version 1 ∷ entry.Duality (n 1 ∷ []) [] [] [] ∷ []
+
+abbrev pub large_log : List Entry
+large_log = one_duality ++ entry.Cut (n 1 ∷ []) (n 0) (at 1 (n 1) ∷ at 2 (n wide) ∷ []) [] ∷ solved_end
+
+-- ---- no rows, and the variables as objectives
+abbrev pub plain : Cone → Option (List ℚ) → List Bound → Parts
+plain cone duality bounds = record {
+  dir = Min;
+  objs = 2;
+  a = [];
+  o = cell 1 1 (n 1) ∷ cell 2 2 (n 1) ∷ [];
+  row_bounds = [];
+  col_bounds = bounds;
+  cone = cone;
+  duality = duality;
+}
+
+-- the first variable free: the image has a line
+abbrev pub the_line : Entry
+the_line = entry.Line (n 1 ∷ n 0 ∷ []) [] (at 1 (n 1) ∷ []) [] (at 1 minus_one ∷ []) []
+
+abbrev pub line_log : List Entry
+line_log =
+    entry.Version 1 ∷ entry.Duality (n 1 ∷ n 1 ∷ []) [] [] []
+    ∷ entry.Cut (n 0 ∷ n 1 ∷ []) (n 0) (at 1 (n 1) ∷ []) []
+    ∷ the_line ∷ entry.End kind.NoVertex ∷ []
+
+-- the cone of (1, 2) and (2, 1), with c = (1, 1) = 1/3 (1, 2) + 1/3 (2, 1), and the inverse of the two; (0, 1) is no multiple of (1, 2)
+abbrev pub wide_cone : Cone
+wide_cone = Gens ((n 1 ∷ n 2 ∷ []) ∷ (n 2 ∷ n 1 ∷ []) ∷ [])
+
+abbrev pub cone_log : List Entry
+cone_log =
+    entry.Version 1
+    ∷ entry.Duality (n 1 ∷ n 1 ∷ []) (third ∷ third ∷ []) (1 ∷ 2 ∷ [])
+    (fraction (negsuc 0) 3 ∷ fraction (pos 2) 3 ∷ fraction (pos 2) 3 ∷ fraction (negsuc 0) 3 ∷ [])
+    ∷ entry.Cut (n 0 ∷ n 1 ∷ []) (n 0) (at 2 (n 1) ∷ []) []
+    ∷ entry.Cut (n 1 ∷ n 0 ∷ []) (n 0) (at 1 (n 1) ∷ []) []
+    ∷ entry.Start (1 ∷ 2 ∷ []) (n 0 ∷ n 0 ∷ []) (n 0 ∷ n 1 ∷ n 1 ∷ n 0 ∷ [])
+    ∷ entry.Point 1 [] []
+    ∷ entry.Ray 2 [] (at 1 (n 1) ∷ [])
+    ∷ solved_end
+
+-- the orthant by rows, in dual form
+abbrev pub dual_cone : Cone
+dual_cone = Dual ((n 1 ∷ n 0 ∷ []) ∷ (n 0 ∷ n 1 ∷ []) ∷ [])
+
+abbrev pub dual_log : List Entry
+dual_log =
+    entry.Version 1
+    ∷ entry.Duality (n 1 ∷ n 1 ∷ []) [] [] []
+    ∷ entry.Cut (n 0 ∷ n 1 ∷ []) (n 0) (at 2 (n 1) ∷ []) (at 2 (n 1) ∷ [])
+    ∷ entry.Cut (n 1 ∷ n 0 ∷ []) (n 0) (at 1 (n 1) ∷ []) (at 1 (n 1) ∷ [])
+    ∷ entry.Start (1 ∷ 2 ∷ []) (n 0 ∷ n 0 ∷ []) (n 0 ∷ n 1 ∷ n 1 ∷ n 0 ∷ [])
+    ∷ entry.Point 1 [] []
+    ∷ entry.Ray 2 [] []
+    ∷ entry.Ray 3 [] []
+    ∷ entry.Facet 1 ∷ entry.Facet 2 ∷ solved_end
+
+-- one variable and one objective
+abbrev pub one : Bound → Parts
+one bound = record {
+  dir = Min;
+  objs = 1;
+  a = [];
+  o = cell 1 1 (n 1) ∷ [];
+  row_bounds = [];
+  col_bounds = bound ∷ [];
+  cone = Orthant;
+  duality = None;
+}
+
+abbrev pub whole_log : List Entry
+whole_log = one_duality ++ entry.Whole [] (at 1 minus_one ∷ []) [] ∷ entry.End kind.Whole ∷ []
+
+abbrev pub bounded_log : ℚ → List Entry
+bounded_log bound =
+    one_duality ++ entry.Cut (n 1 ∷ []) bound (at 1 (n 1) ∷ []) [] ∷ entry.Start (1 ∷ []) (bound ∷ []) (n 1 ∷ [])
+    ∷ entry.Point 1 (at 1 bound ∷ []) [] ∷ entry.Ray 2 [] [] ∷ entry.Facet 1 ∷ solved_end
+
+-- x ≥ 1 and -x ≥ 0 contradict each other
+abbrev pub empty : Parts
+empty = record {
+  dir = Min;
+  objs = 1;
+  a = cell 1 1 (n 1) ∷ [];
+  o = cell 1 1 (n 1) ∷ [];
+  row_bounds = Lower (n 1) ∷ [];
+  col_bounds = Upper (n 0) ∷ [];
+  cone = Orthant;
+  duality = None;
+}
+
+abbrev pub farkas_log : ℚ → List Entry
+farkas_log u = entry.Version 1 ∷ entry.Farkas (at 1 (n 1) ∷ at 2 u ∷ []) ∷ entry.End kind.Infeasible ∷ []
+
+-- an operation that is not held; a line, and one without a cut before it; cones by generators and by rows; everything; one objective; no solution; a cut before the
+-- duality vector, a second version and none
+pub record OtherLogs : Type 0 where
+  pub overflow : Fails large large_log (3 ∷ 1 ∷ 11 ∷ wide ∷ wide ∷ [])
+  pub has_line : Passes (plain Orthant None (Free ∷ Lower (n 0) ∷ [])) line_log
+  pub line_alone : Fails (plain Orthant None (Free ∷ Lower (n 0) ∷ []))
+      (entry.Version 1 ∷ entry.Duality (n 1 ∷ n 1 ∷ []) [] [] [] ∷ the_line ∷ entry.End kind.NoVertex ∷ []) (3 ∷ 0 ∷ 2 ∷ [])
+  pub by_generators : Fails (plain wide_cone (Some (n 2 ∷ n 2 ∷ [])) (Lower (n 0) ∷ Lower (n 0) ∷ [])) cone_log (7 ∷ 0 ∷ 9 ∷ [])
+  pub by_rows : Passes (plain dual_cone None (Lower (n 0) ∷ Lower (n 0) ∷ [])) dual_log
+  pub everything : Passes (one Unsaid) whole_log
+  pub bounded : Passes (one (Lower (fraction (pos 3) 2))) (bounded_log (fraction (pos 3) 2))
+  pub no_solution : Passes empty (farkas_log (n 1))
+  pub unbalanced : Fails empty (farkas_log (n 2)) (2 ∷ 0 ∷ 8 ∷ [])
+  pub cut_first : Fails (one Unsaid) (entry.Version 1 ∷ entry.Cut [] (n 0) [] [] ∷ entry.End kind.Whole ∷ []) (2 ∷ 0 ∷ 2 ∷ [])
+  pub second_version : Fails (one Unsaid) (entry.Version 1 ∷ entry.Version 1 ∷ []) (2 ∷ 0 ∷ 2 ∷ [])
+  pub end_first : Fails (one Unsaid) (entry.End kind.Whole ∷ []) (1 ∷ 0 ∷ 2 ∷ [])
+
+-- ---- a file that maximises: x1 + x2 ≤ 1 and x ≥ 0, the variables as objectives
+abbrev pub largest : Parts
+largest = record {
+  dir = Max;
+  objs = 2;
+  a = cell 1 1 (n 1) ∷ cell 1 2 (n 1) ∷ [];
+  o = cell 1 1 (n 1) ∷ cell 2 2 (n 1) ∷ [];
+  row_bounds = Upper (n 1) ∷ [];
+  col_bounds = Lower (n 0) ∷ Lower (n 0) ∷ [];
+  cone = Orthant;
+  duality = None;
+}
+
+abbrev pub largest_front : List Entry
+largest_front =
+    entry.Version 1
+    ∷ entry.Duality (n 1 ∷ n 1 ∷ []) [] [] []
+    ∷ entry.Cut (n 1 ∷ n 0 ∷ []) minus_one (at 1 (n 1) ∷ at 3 (n 1) ∷ []) []
+    ∷ entry.Cut (n 0 ∷ n 1 ∷ []) minus_one (at 1 (n 1) ∷ at 2 (n 1) ∷ []) []
+    ∷ entry.Cut (half ∷ half ∷ []) (fraction (negsuc 0) 2) (at 1 half ∷ []) []
+    ∷ entry.Start (1 ∷ 2 ∷ []) (minus_one ∷ minus_one ∷ []) (n 1 ∷ n 0 ∷ n 0 ∷ n 1 ∷ [])
+    ∷ entry.Add 3 (pair 2 1 ∷ pair 3 1 ∷ [])
+    ∷ entry.Point 4 (at 2 (n 1) ∷ []) []
+    ∷ entry.Point 5 (at 1 (n 1) ∷ []) []
+    ∷ entry.Ray 2 [] []
+    ∷ entry.Ray 3 [] []
+    ∷ entry.Facet 2 ∷ entry.Facet 3 ∷ entry.Facet 1 ∷ []
+
+abbrev pub largest_log : List Entry
+largest_log = largest_front ++ solved_end
+
+abbrev pub numerators : List (List ℚ) → List (List ℤ)
+numerators vs = map (λ v. map (λ q. q.num) v) vs
+
+-- the points (0, 1) and (1, 0), the directions (-1, 0) and (0, -1) and the facets y2 ≤ 1, (y1 + y2) / 2 ≤ 1 / 2 and y1 ≤ 1 in the
+-- coordinates of the file, each facet with the numbers of its tight points and directions; and the log proves this answer
+pub record LargestLog : Type 0 where
+  pub file : Problem
+  pub says : Says file largest
+  pub points : numerators (map (λ g. g.y) (live_at file largest_log one_ℚ)) ≡ (pos 0 ∷ pos 1 ∷ []) ∷ (pos 1 ∷ pos 0 ∷ []) ∷ []
+  pub directions : numerators (map (λ g. g.y) (live_at file largest_log zero_ℚ)) ≡ (negsuc 0 ∷ pos 0 ∷ []) ∷ (pos 0 ∷ negsuc 0 ∷ []) ∷ []
+  pub tight : map (λ f. f.tight) (named_facets file largest_log (map (λ g. g.y) (live_at file largest_log one_ℚ)) (map (λ g. g.y) (live_at file largest_log zero_ℚ)))
+      ≡ (1 ∷ 3 ∷ []) ∷ (1 ∷ 2 ∷ []) ∷ (2 ∷ 4 ∷ []) ∷ []
+  pub bounds : map (λ f. f.gamma.num) (named_facets file largest_log [] []) ≡ pos 1 ∷ pos 1 ∷ pos 1 ∷ []
+  pub proves : Proves file largest_log
+      (Solved (duality_vector largest_log) (live_at file largest_log one_ℚ) (live_at file largest_log zero_ℚ)
+      (named_facets file largest_log (map (λ g. g.y) (live_at file largest_log one_ℚ)) (map (λ g. g.y) (live_at file largest_log zero_ℚ))))
+
+pub record WorkedLogs : Type 0 where
+  pub small : SmallLogs
+  pub other : OtherLogs
+  pub largest : LargestLog

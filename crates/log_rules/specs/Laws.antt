@@ -1,0 +1,103 @@
+-- What is proved of the rules: against events, of what stands, and of answers.
+use Rattle.polyhedra.specs.DoubleDescription.{IsNormed}
+use Rattle.polyhedra.specs.Exactness.{IsSolved}
+use Rattle.polyhedra.specs.Hull.{IsInHull, IsValidAt, IsVertex}
+use Rattle.polyhedra.specs.Inequality.{Inequality}
+use Rattle.polyhedra.specs.LowerImage.{completed}
+use Rattle.polyhedra.specs.TightSets.{IsDoubleDescriptionPair}
+use Rattle.upper_image.specs.UpperImage.{IsInWorkingImage, IsWorkingDirection, IsInImage, IsDirection, IsValidFor, front, IsInLowerImageOf}
+use Rattle.log_rules.specs.Events.{log_failure}
+use Rattle.log_rules.specs.Live.{Member, State, state, cut_at, inequality, in_use, rows_in_use, vectors, named}
+use Rattle.log_rules.specs.Proves.{AllMeet, Proves}
+use Rattle.log_rules.specs.Right.{IsRight, stated, IsSolution}
+use Rattle.std.specs.Prelude.{◌≡◌, ◌⊎◌, ◌++◌, suc, ◌≤◌, ◌<◌, true, List, [], map, filter, All, AllPairs, Contains, IsTrue, Bool, None, ◌↔◌, ◌-◌, ◌∷◌, length}
+use Rattle.exact_field.specs.Rational.{ℚ, zero_ℚ, one_ℚ}
+use Rattle.exact_field.specs.Order.{same_ℚ}
+use Rattle.vlp_reader.specs.declared.problem.Problem.{Problem}
+use Rattle.log_rules.specs.declared.answer.Answer.{Answer}
+use Rattle.log_rules.specs.declared.answer.Answer.TheVariants.{Solved}
+use Rattle.log_rules.specs.declared.answer.Gen.{Gen}
+use Rattle.log_rules.specs.declared.answer.Facet.{Facet}
+use Rattle.deriv_log.specs.declared.entry.Entry.{Entry}
+use Rattle.log_rules.specs.Order as order
+
+-- ---- the order of evaluation, and the rules
+-- a log without a failure meets all its rules
+abbrev pub EventsGiveMeets : Type 0
+EventsGiveMeets = (holds : ℚ → Bool) (file : Problem) (entries : List Entry) → log_failure holds file entries ≡ None → AllMeet file entries
+
+-- and where all numbers are held, a log that meets them has none: rules and events say the same
+abbrev pub MeetsGiveEvents : Type 0
+MeetsGiveEvents = (file : Problem) (entries : List Entry) → AllMeet file entries → log_failure (λ _. true) file entries ≡ None
+
+-- ---- what stands
+-- the live generators describe the cone of the rows in use; each is normed, and a point or a direction; their numbers rise
+pub record Stands (file : Problem) (s : State) : Type 0 where
+  pub described : IsDoubleDescriptionPair (suc file.objs) (rows_in_use file.objs s) (vectors s)
+  pub normed : All IsNormed (vectors s)
+  pub kinds : All (λ g. (g.t ≡ one_ℚ) ⊎ (g.t ≡ zero_ℚ)) s.live
+  pub rising : AllPairs (λ g g'. g.number < g'.number) s.live
+  pub made : All (λ g. (1 ≤ g.number) × (g.number ≤ s.made)) s.live
+
+-- so it is after entries that meet their rules, with a `start` among them
+abbrev pub RulesKeepDescription : Type 0
+RulesKeepDescription = (file : Problem) (entries : List Entry) → AllMeet file entries → IsTrue (order.has order.start entries) →
+    Stands file (state file.objs entries)
+
+-- a number stays with its generator: a live one whose number was made before was live before
+abbrev pub NumbersStay : Type 0
+NumbersStay = (file : Problem) (before rest : List Entry) → AllMeet file (before ++ rest) → IsTrue (order.has order.start before) →
+    (g : Member) → Contains (state file.objs (before ++ rest)).live g → g.number ≤ (state file.objs before).made →
+    Contains (state file.objs before).live g
+
+-- what is listed of a solved log is reached, and what is cut off is not in the image
+pub record IsReached (file : Problem) (entries : List Entry) (c : List ℚ) (points directions : List Gen) (facets : List Facet) : Type 0 where
+  pub points_in : All (λ g. IsInImage file g.y) points
+  pub directions_in : All (λ g. IsDirection file g.y) directions
+  pub cuts_valid : All (λ cut. IsValidAt file.objs (IsInWorkingImage file) c (inequality cut)) (state file.objs entries).cuts
+  pub hull_in : (y : List ℚ) → IsInHull file.objs (map (λ g. g.y) points) (map (λ g. g.y) directions) [] y → IsInImage file y
+  pub facets_valid : All (λ f. IsValidFor file (stated f)) facets
+
+abbrev pub SolvedIsReached : Type 0
+SolvedIsReached = (file : Problem) (entries : List Entry) (c : List ℚ) (points directions : List Gen) (facets : List Facet) →
+    Proves file entries (Solved c points directions facets) → IsReached file entries c points directions facets
+
+-- ---- exactness
+-- the vectors of the live generators with this t
+abbrev pub listed : State → ℚ → List (List ℚ)
+listed s t = map (λ g. g.y) (filter (λ g. same_ℚ g.t t) s.live)
+
+-- the inequalities that are named as facets
+abbrev pub named_cuts : State → List Entry → List Inequality
+named_cuts s entries = map (λ k. inequality (cut_at s.cuts k)) (named entries)
+
+-- a solved log meets the conditions of exactness for the image in working coordinates
+abbrev pub SolvedIsSolved : Type 0
+SolvedIsSolved = (file : Problem) (entries : List Entry) (c : List ℚ) (points directions : List Gen) (facets : List Facet) →
+    Proves file entries (Solved c points directions facets) →
+    let s = state file.objs entries in
+    IsSolved file.objs (IsInWorkingImage file) (IsWorkingDirection file) c (in_use s) (vectors s) (listed s one_ℚ) (listed s zero_ℚ)
+    (named_cuts s entries)
+
+-- what a log proves is right
+abbrev pub ProvedIsRight : Type 0
+ProvedIsRight = (file : Problem) (entries : List Entry) (answer : Answer) → Proves file entries answer → IsRight file answer
+
+-- entries prove one answer only
+abbrev pub OneAnswer : Type 0
+OneAnswer = (file : Problem) (entries : List Entry) (answer answer' : Answer) →
+    Proves file entries answer → Proves file entries answer' → answer ≡ answer'
+
+-- two right solutions for one file and one c agree in all but pre-images and dual vectors: in the points, the directions and the
+-- facets, in their order, and in the numbers of tight points and directions
+abbrev pub RightSolutionsAgree : Type 0
+RightSolutionsAgree = (file : Problem) (c : List ℚ) (points points' directions directions' : List Gen) (facets facets' : List Facet) →
+    IsSolution file c points directions facets → IsSolution file c points' directions' facets' →
+    (map (λ g. g.y) points ≡ map (λ g. g.y) points') × (map (λ g. g.y) directions ≡ map (λ g. g.y) directions')
+    × (map stated facets ≡ map stated facets') × (map (λ f. f.tight) facets ≡ map (λ f. f.tight) facets')
+
+-- the facets of a right solution, each by all entries of its normal but the last and its bound, are the vertices of the lower image
+abbrev pub FacetsAreLowerVertices : Type 0
+FacetsAreLowerVertices = (file : Problem) (c : List ℚ) (points directions : List Gen) (facets : List Facet) →
+    IsSolution file c points directions facets → (w : List ℚ) (bound : ℚ) → length w ≡ file.objs - 1 →
+    Contains (map stated facets) (completed (front c) w bound) ↔ IsVertex (IsInLowerImageOf file c) (w ++ bound ∷ [])

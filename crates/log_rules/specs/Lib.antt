@@ -1,0 +1,10 @@
+pub mod Events
+pub mod Examples
+pub mod Laws
+pub mod Live
+pub mod Meets
+pub mod Names
+pub mod Order
+pub mod Proves
+pub mod Right
+pub mod Runs

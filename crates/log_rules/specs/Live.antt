@@ -1,0 +1,165 @@
+-- What stands after some entries: the cuts, those in use, and the live generators.
+use Rattle.polyhedra.specs.Exactness.{homogenised, row_of, rows_of}
+use Rattle.polyhedra.specs.Inequality.{Inequality}
+use Rattle.polyhedra.specs.LiveList.{Numbered, LiveList, pairs, new_vectors}
+use Rattle.upper_image.specs.Spots.{pieces}
+use Rattle.std.specs.Prelude.{ℕ, suc, ◌+◌, ◌-◌, ◌==◌, Bool, true, false, List, [], ◌∷◌, ◌++◌, map, length, take, filter, fold, slice_index_or}
+use Rattle.std.specs.List.{list_any, filter_map}
+use Rattle.std.specs.Prelude.{Option, None, Some}
+use Rattle.exact_field.specs.Rational.{ℚ, zero_ℚ, one_ℚ, le_ℚ}
+use Rattle.exact_field.specs.Vector.{dot, entry}
+use Rattle.frac128.specs.declared.vectors.Spot.{Spot}
+use Rattle.deriv_log.specs.declared.entry.LogPair.{LogPair}
+use Rattle.deriv_log.specs.declared.entry.Entry.{Entry}
+use Rattle.deriv_log.specs.declared.entry.Entry.TheVariants.{Duality, Cut, Start, Add, Point, Ray, Facet}
+
+-- ---- cuts
+-- a cut with its dual vector
+pub record Stated : Type 0 where
+  pub w : List ℚ
+  pub gamma : ℚ
+  pub u : List Spot
+
+-- the inequality w . y ≥ gamma
+abbrev pub inequality : Stated → Inequality
+inequality cut = record { normal = cut.w; bound = cut.gamma }
+
+-- the cut number k, counted from 1
+abbrev pub cut_at : List Stated → ℕ → Stated
+cut_at cuts k = slice_index_or cuts (k - 1) record { w = []; gamma = zero_ℚ; u = [] }
+
+-- ---- generators
+-- a generator with its number: a point (y, 1) or a direction (y, 0)
+pub record Member : Type 0 where
+  pub number : ℕ
+  pub y : List ℚ
+  pub t : ℚ
+
+-- its vector (y, t)
+abbrev pub vector : Member → List ℚ
+vector g = homogenised g.y g.t
+
+-- the value of a row at it
+abbrev pub value : List ℚ → Member → ℚ
+value row g = dot row (vector g)
+
+-- a vector of q + 1 entries with a number
+abbrev pub member : ℕ → ℕ → List ℚ → Member
+member q k z = record { number = k; y = take q z; t = entry z (suc q) }
+
+-- vectors of q + 1 entries, numbered from k on
+abbrev pub numbered : ℕ → ℕ → List (List ℚ) → List Member
+numbered q k [] = []
+numbered q k (z ∷ zs) = member q k z ∷ numbered q (suc k) zs
+
+-- a generator of this number, if there is one
+abbrev pub find : List Member → ℕ → Option Member
+find [] k = None
+find (g ∷ live) k = elim (g.number == k) [ true ↦ Some g | false ↦ find live k ]
+
+-- the vector of the generator of this number
+abbrev pub vector_of : List Member → ℕ → List ℚ
+vector_of live k = elim (find live k) [ Some g ↦ vector g | None ↦ [] ]
+
+-- ---- what stands
+-- the cuts in their order, the numbers of those in use in the order in which they came into use, the live generators by rising
+-- number, and how many generators were ever made
+pub record State : Type 0 where
+  pub cuts : List Stated
+  pub used : List ℕ
+  pub live : List Member
+  pub made : ℕ
+
+-- the inequalities in use
+abbrev pub in_use : State → List Inequality
+in_use s = map (λ k. inequality (cut_at s.cuts k)) s.used
+
+-- the rows in use: row 0, which says t ≥ 0, and those of the cuts in use
+abbrev pub rows_in_use : ℕ → State → List (List ℚ)
+rows_in_use q s = rows_of q (in_use s)
+
+-- the row of a cut: its value at (y, t) is w . y - gamma t
+abbrev pub cut_row : State → ℕ → List ℚ
+cut_row s k = row_of (inequality (cut_at s.cuts k))
+
+-- the vectors of the live generators
+abbrev pub vectors : State → List (List ℚ)
+vectors s = map vector s.live
+
+-- ---- a new row
+-- the live generators as a numbered live list
+abbrev pub numbered_vector : Member → Numbered
+numbered_vector g = record { number = g.number; vector = vector g }
+
+abbrev pub live_list : State → LiveList
+live_list s = record { live = map numbered_vector s.live; next = suc s.made }
+
+-- two numbers as a pair of the log
+abbrev pub log_pair : ℕ × ℕ → LogPair
+log_pair pair = record { plus = pair.0; minus = pair.1 }
+
+-- the pairs of a live generator with a positive and one with a negative value that no third one covers, by rising plus and then by
+-- rising minus
+abbrev pub required_pairs : List (List ℚ) → List Member → List ℚ → List LogPair
+required_pairs rows live row = map log_pair (pairs rows (map numbered_vector live) row)
+
+-- the vectors that these pairs make: where the row is 0 between the two, normed
+abbrev pub made_vectors : ℕ → State → List ℚ → List (List ℚ)
+made_vectors q s row = new_vectors (rows_in_use q s) (map numbered_vector s.live) row
+
+-- the first generators: the point, then the directions
+abbrev pub first_live : ℕ → List ℚ → List ℚ → List Member
+first_live q point directions = numbered q 1 (homogenised point one_ℚ ∷ map (λ d. homogenised d zero_ℚ) (pieces q q directions))
+
+-- the next live generators: those whose value is at least 0, and one for each pair that is required, whatever pairs the log names
+abbrev pub next_live : ℕ → State → List ℚ → List Member
+next_live q s row = filter (λ g. le_ℚ zero_ℚ (value row g)) s.live ++ numbered q (suc s.made) (made_vectors q s row)
+
+-- what stands after one more entry, where there are q objectives
+abbrev pub after : ℕ → State → Entry → State
+after q s (Cut w gamma u _) = record s { cuts = s.cuts ++ record { w = w; gamma = gamma; u = u } ∷ [] }
+after q s (Start cuts point directions) = record s { used = cuts; live = first_live q point directions; made = suc q }
+after q s (Add cut _) = record s {
+  used = s.used ++ cut ∷ [];
+  live = next_live q s (cut_row s cut);
+  made = s.made + length (made_vectors q s (cut_row s cut));
+}
+after q s _ = s
+
+-- nothing
+abbrev pub nothing : State
+nothing = record { cuts = []; used = []; live = []; made = 0 }
+
+-- what stands after these entries
+abbrev pub state : ℕ → List Entry → State
+state q entries = fold (after q) nothing entries
+
+-- ---- what the other entries say
+-- the duality vector
+abbrev pub duality_vector : List Entry → List ℚ
+duality_vector [] = []
+duality_vector (Duality c _ _ _ ∷ _) = c
+duality_vector (_ ∷ entries) = duality_vector entries
+
+-- the pre-image that an entry gives the generator number k
+abbrev pub preimage_in : ℕ → Entry → Option (List Spot)
+preimage_in k (Point g x _) = elim (g == k) [ true ↦ Some x | false ↦ None ]
+preimage_in k (Ray g x _) = elim (g == k) [ true ↦ Some x | false ↦ None ]
+preimage_in k _ = None
+
+-- the pre-images that entries give it
+abbrev pub preimages : List Entry → ℕ → List (List Spot)
+preimages entries k = filter_map (preimage_in k) entries
+
+-- the cut that an entry names as a facet
+abbrev pub named_in : Entry → Option ℕ
+named_in (Facet cut) = Some cut
+named_in _ = None
+
+-- the cuts named as facets, in their order
+abbrev pub named : List Entry → List ℕ
+named entries = filter_map named_in entries
+
+-- a list of numbers has this one
+abbrev pub contains : List ℕ → ℕ → Bool
+contains ks k = list_any (λ j. j == k) ks

@@ -1,0 +1,120 @@
+-- What an entry must meet behind the entries before it: rule by rule, over exact numbers, in no order.
+use Rattle.polyhedra.specs.DoubleDescription.{leading}
+use Rattle.polyhedra.specs.Exactness.{IsCornerOf, TightLiesIn, IsNamed, IsAccounted}
+use Rattle.polyhedra.specs.Hull.{IsNormedDirection}
+use Rattle.polyhedra.specs.Vectors.{zeros, combination}
+use Rattle.upper_image.specs.Shows.{ShowsFeasible, ShowsRecession, ShowsAbove, ShowsFitting, ShowsCut}
+use Rattle.upper_image.specs.Spots.{pieces, dense, product}
+use Rattle.upper_image.specs.UpperImage.{normals}
+use Rattle.log_rules.specs.Live.{Member, State, state, vectors, inequality, cut_at, cut_row, in_use, rows_in_use, required_pairs, duality_vector, preimages, named}
+use Rattle.log_rules.specs.Order.{in_order}
+use Rattle.std.specs.Prelude.{◌≡◌, ◌≢◌, ℕ, ◌*◌, ◌<◌, ◌≤◌, IsTrue, List, [], map, length, All, AllPairs, Contains}
+use Rattle.exact_field.specs.Rational.{ℚ, zero_ℚ, one_ℚ, neg_ℚ, ◌<ℚ◌}
+use Rattle.frac128.specs.declared.vectors.Spot.{Spot}
+use Rattle.vlp_reader.specs.Sides.{sides, side_bounds}
+use Rattle.vlp_reader.specs.declared.problem.Problem.{Problem}
+use Rattle.deriv_log.specs.declared.entry.LogPair.{LogPair}
+use Rattle.deriv_log.specs.declared.entry.EndKind.{EndKind}
+use Rattle.deriv_log.specs.declared.entry.EndKind.TheVariants as kind
+use Rattle.deriv_log.specs.declared.entry.Entry.{Entry}
+use Rattle.deriv_log.specs.declared.entry.Entry.TheVariants.{Version, Duality, Cut, Start, Add, Point, Ray, Farkas, Whole, Line, Facet, End}
+use Rattle.log_rules.specs.Order as order
+
+-- ---- start: a point at which q cuts are tight, and for each of them a direction in which it alone grows
+pub record MeetsStart (file : Problem) (s : State) (cuts : List ℕ) (point directions : List ℚ) : Type 0 where
+  pub directions_many : length directions ≡ file.objs * file.objs
+  pub rise : AllPairs (λ k k'. k < k') cuts
+  pub exist : All (λ k. (1 ≤ k) × (k ≤ length s.cuts)) cuts
+  pub normed : All IsNormedDirection (pieces file.objs file.objs directions)
+  pub corner : IsCornerOf file.objs (map (λ k. inequality (cut_at s.cuts k)) cuts) point (pieces file.objs file.objs directions)
+
+-- ---- add: a cut that comes into use, with exactly the pairs that are required
+pub record MeetsAdd (file : Problem) (s : State) (cut : ℕ) (pairs : List LogPair) : Type 0 where
+  pub exists : (1 ≤ cut) × (cut ≤ length s.cuts)
+  pub unused : Contains s.used cut → ⊥
+  pub exactly : pairs ≡ required_pairs (rows_in_use file.objs s) s.live (cut_row s cut)
+
+-- ---- point and ray: a pre-image of a live generator that has none
+-- g is the live generator number k, has this t, and has no pre-image
+pub record IsOpen (before : List Entry) (s : State) (k : ℕ) (t : ℚ) (g : Member) : Type 0 where
+  pub live : Contains s.live g
+  pub number : g.number ≡ k
+  pub level : g.t ≡ t
+  pub fresh : preimages before k ≡ []
+
+pub record MeetsPoint (file : Problem) (before : List Entry) (s : State) (k : ℕ) (x m : List Spot) : Type 0 where
+  pub point : Member
+  pub index : IsOpen before s k one_ℚ point
+  pub feasible : ShowsFeasible file x
+  pub above : ShowsAbove file point.y x m
+
+pub record MeetsRay (file : Problem) (before : List Entry) (s : State) (k : ℕ) (x m : List Spot) : Type 0 where
+  pub direction : Member
+  pub index : IsOpen before s k zero_ℚ direction
+  pub recedes : ShowsRecession file x
+  pub above : ShowsAbove file direction.y x m
+
+-- ---- farkas, whole, line
+-- multipliers of the sides that show that they contradict each other
+pub record MeetsFarkas (file : Problem) (u : List Spot) : Type 0 where
+  pub index : All (λ s. s.at ≤ length (sides file)) u
+  pub sign : All (λ s. zero_ℚ <ℚ s.value) u
+  pub balance : combination file.cols (dense (length (sides file)) u) (normals file) ≡ zeros file.cols
+  pub bound : zero_ℚ <ℚ product (side_bounds file) u
+
+-- a feasible point, and a pre-image of the direction -c
+pub record MeetsWhole (file : Problem) (c : List ℚ) (x ray m : List Spot) : Type 0 where
+  pub feasible : ShowsFeasible file x
+  pub recedes : ShowsRecession file ray
+  pub above : ShowsAbove file (map neg_ℚ c) ray m
+
+-- a feasible point, and pre-images of the directions d and -d
+pub record MeetsLine (file : Problem) (d : List ℚ) (x ray m back n : List Spot) : Type 0 where
+  pub lengths : length d ≡ file.objs
+  pub scaled : leading d ≡ one_ℚ
+  pub feasible : ShowsFeasible file x
+  pub recedes : ShowsRecession file ray
+  pub above : ShowsAbove file d ray m
+  pub back_recedes : ShowsRecession file back
+  pub back_above : ShowsAbove file (map neg_ℚ d) back n
+
+-- ---- facet: a cut in use whose set of tight generators is largest, and not that of a facet named before
+pub record MeetsFacet (file : Problem) (before : List Entry) (s : State) (cut : ℕ) : Type 0 where
+  pub used : Contains s.used cut
+  pub unnamed : Contains (named before) cut → ⊥
+  pub largest : IsNamed file.objs (in_use s) (vectors s) (inequality (cut_at s.cuts cut))
+  pub other : All (λ k. TightLiesIn (vectors s) (cut_row s cut) (cut_row s k) → TightLiesIn (vectors s) (cut_row s k) (cut_row s cut) → ⊥)
+      (named before)
+
+-- ---- end: what the answer needs stands before it
+pub record MeetsSolved (file : Problem) (before : List Entry) (s : State) : Type 0 where
+  pub started : IsTrue (order.has order.start before)
+  pub reached : All (λ g. preimages before g.number ≢ []) s.live
+  pub accounted : All (IsAccounted file.objs (map (λ k. inequality (cut_at s.cuts k)) (named before)) (vectors s)) (in_use s)
+
+abbrev pub MeetsEnd : Problem → List Entry → EndKind → Type 0
+MeetsEnd file before kind.Infeasible = IsTrue (order.has order.farkas before)
+MeetsEnd file before kind.Whole = IsTrue (order.has order.whole before)
+MeetsEnd file before kind.NoVertex = IsTrue (order.has order.line before)
+MeetsEnd file before kind.Solved = MeetsSolved file before (state file.objs before)
+
+-- ---- all kinds
+-- what the entry must meet but for its order, where s stands
+abbrev pub MeetsKind : Problem → List Entry → State → Entry → Type 0
+MeetsKind file before s (Version n) = n ≡ 1
+MeetsKind file before s (Duality c weights picks inverse) = ShowsFitting file c weights picks inverse
+MeetsKind file before s (Cut w gamma u v) = ShowsCut file (duality_vector before) w gamma u v
+MeetsKind file before s (Start cuts point directions) = MeetsStart file s cuts point directions
+MeetsKind file before s (Add cut pairs) = MeetsAdd file s cut pairs
+MeetsKind file before s (Point k x m) = MeetsPoint file before s k x m
+MeetsKind file before s (Ray k x m) = MeetsRay file before s k x m
+MeetsKind file before s (Farkas u) = MeetsFarkas file u
+MeetsKind file before s (Whole x ray m) = MeetsWhole file (duality_vector before) x ray m
+MeetsKind file before s (Line d x ray m back n) = MeetsLine file d x ray m back n
+MeetsKind file before s (Facet cut) = MeetsFacet file before s cut
+MeetsKind file before s (End kind) = MeetsEnd file before kind
+
+-- the entry meets each of its rules behind the entries before it
+pub record Meets (file : Problem) (before : List Entry) (e : Entry) : Type 0 where
+  pub order : IsTrue (in_order before (order.kind e))
+  pub rules : MeetsKind file before (state file.objs before) e

@@ -1,0 +1,92 @@
+-- What a log proves: each entry meets its rules, and the answer is the one that the entries give.
+use Rattle.std.specs.Prelude.{◌≡◌, List, [], ◌∷◌, ◌++◌, map, take, Contains, filter, slice_index_or}
+use Rattle.exact_field.specs.Rational.{ℚ, zero_ℚ, one_ℚ}
+use Rattle.exact_field.specs.Order.{same_ℚ}
+use Rattle.polyhedra.specs.Exactness.{SameMembers}
+use Rattle.upper_image.specs.UpperImage.{signed, turned}
+use Rattle.log_rules.specs.Live.{Stated, Member, state, cut_at, duality_vector, preimages, named}
+use Rattle.log_rules.specs.Meets.{Meets}
+use Rattle.log_rules.specs.Right.{stated, key, tight_numbers, Rise}
+use Rattle.frac128.specs.declared.vectors.Spot.{Spot}
+use Rattle.vlp_reader.specs.declared.problem.Problem.{Problem}
+use Rattle.vlp_reader.specs.declared.problem.Dir.{Dir}
+use Rattle.vlp_reader.specs.declared.problem.Dir.TheVariants.{Min, Max}
+use Rattle.deriv_log.specs.Formed.{IsLog}
+use Rattle.log_rules.specs.declared.answer.Answer.{Answer}
+use Rattle.log_rules.specs.declared.answer.Answer.TheVariants.{Infeasible, Whole, NoVertex, Solved}
+use Rattle.log_rules.specs.declared.answer.Gen.{Gen}
+use Rattle.log_rules.specs.declared.answer.Facet.{Facet}
+use Rattle.deriv_log.specs.declared.entry.EndKind.TheVariants as kind
+use Rattle.deriv_log.specs.declared.entry.Entry.{Entry}
+use Rattle.deriv_log.specs.declared.entry.Entry.TheVariants as entry
+
+-- each entry meets its rules behind those before it
+abbrev pub AllMeet : Problem → List Entry → Type 0
+AllMeet file entries = (before : List Entry) (e : Entry) (after : List Entry) → entries ≡ before ++ e ∷ after → Meets file before e
+
+-- ---- the parts of the answer, in the coordinates of the file
+-- a live generator with its pre-image
+abbrev pub shown : Problem → List Entry → Member → Gen
+shown file entries g = record { y = turned file.dir g.y; pre = slice_index_or (preimages entries g.number) 0 [] }
+
+-- the live generators of this t, in the order of their numbers
+abbrev pub live_at : Problem → List Entry → ℚ → List Gen
+live_at file entries t = map (shown file entries) (filter (λ g. same_ℚ g.t t) (state file.objs entries).live)
+
+-- a cut as a facet of the file, with the numbers of its tight points and directions
+abbrev pub facet_of : Problem → List (List ℚ) → List (List ℚ) → Stated → Facet
+facet_of file points directions cut =
+    let gamma = signed file.dir cut.gamma in
+    record { w = cut.w; gamma = gamma; u = cut.u; tight = tight_numbers points directions record { normal = cut.w; bound = gamma } }
+
+-- the named cuts as facets, in the order in which they are named
+abbrev pub named_facets : Problem → List Entry → List (List ℚ) → List (List ℚ) → List Facet
+named_facets file entries points directions =
+    map (λ k. facet_of file points directions (cut_at (state file.objs entries).cuts k)) (named entries)
+
+-- the listed things are those that were found, in rising order of their vectors
+pub record IsSorting {X : Type 0} (vector : X → List ℚ) (found listed : List X) : Type 0 where
+  pub same : SameMembers found listed
+  pub rise : Rise (map vector listed)
+
+-- the points, directions and facets of the answer are those of the log
+pub record GivesSolution (file : Problem) (entries : List Entry) (c : List ℚ) (points directions : List Gen) (facets : List Facet) : Type 0 where
+  pub c_given : c ≡ duality_vector entries
+  pub points_are : IsSorting (λ g. g.y) (live_at file entries one_ℚ) points
+  pub directions_are : IsSorting (λ g. g.y) (live_at file entries zero_ℚ) directions
+  pub facets_are : IsSorting (λ f. key (stated f)) (named_facets file entries (map (λ g. g.y) points) (map (λ g. g.y) directions)) facets
+
+-- the pre-images of d and of -d in the coordinates of the file: for a maximising file the log's two change places
+abbrev pub forth : Dir → List Spot → List Spot → List Spot
+forth Min ray back = ray
+forth Max ray back = back
+
+-- the line and the first cut of the log
+pub record GivesLine (file : Problem) (entries : List Entry) (c : List ℚ) (x : List Spot) (d : List ℚ) (ray back : List Spot) (cut : Facet) : Type 0 where
+  pub c_given : c ≡ duality_vector entries
+  pub m : List Spot
+  pub n : List Spot
+  pub stands : Contains entries (entry.Line d x (forth file.dir ray back) m (forth file.dir back ray) n)
+  pub first : Stated
+  pub cuts : take 1 (state file.objs entries).cuts ≡ first ∷ []
+  pub shown_cut : cut ≡ facet_of file [] [] first
+
+-- the feasible point and the direction of the log
+pub record GivesWhole (entries : List Entry) (c : List ℚ) (x ray : List Spot) : Type 0 where
+  pub c_given : c ≡ duality_vector entries
+  pub m : List Spot
+  pub stands : Contains entries (entry.Whole x ray m)
+
+-- the answer that the entries give
+abbrev pub Gives : Problem → List Entry → Answer → Type 0
+Gives file entries (Infeasible u) = Contains entries (entry.End kind.Infeasible) × Contains entries (entry.Farkas u)
+Gives file entries (Whole c x ray) = Contains entries (entry.End kind.Whole) × GivesWhole entries c x ray
+Gives file entries (NoVertex c x d ray back cut) = Contains entries (entry.End kind.NoVertex) × GivesLine file entries c x d ray back cut
+Gives file entries (Solved c points directions facets) =
+    Contains entries (entry.End kind.Solved) × GivesSolution file entries c points directions facets
+
+-- the entries prove the answer for the file
+pub record Proves (file : Problem) (entries : List Entry) (answer : Answer) : Type 0 where
+  pub log : IsLog entries
+  pub meet : AllMeet file entries
+  pub gives : Gives file entries answer

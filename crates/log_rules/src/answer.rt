@@ -1,0 +1,53 @@
+//! What a log proves.
+
+use frac128::{Frac, Sparse, Vector};
+use src_sink::Items;
+
+/// A point or direction, with a pre-image.
+#[derive(Debug, Drop)]
+pub struct Gen {
+    pub y: Vector,
+    pub pre: Sparse,
+}
+
+/// The inequality `w.y >= gamma`, or `<=` for a maximising file, with its dual vector, and the numbers
+/// of the points and directions at which it is an equation. Points are numbered from 1, and directions
+/// go on.
+#[derive(Debug, Drop)]
+pub struct Facet {
+    pub w: Vector,
+    pub gamma: Frac,
+    pub u: Sparse,
+    pub tight: Items<u32>,
+}
+
+/// The answer to a vector linear program, in the coordinates of its file.
+#[derive(Debug, Drop)]
+pub enum Answer {
+    /// The sides contradict each other: these multipliers show it.
+    Infeasible {
+        u: Sparse,
+    },
+    /// The image is everything.
+    Whole {
+        c: Vector,
+        x: Sparse,
+        ray: Sparse,
+    },
+    /// The image has no vertex: it contains a line of direction d.
+    NoVertex {
+        c: Vector,
+        x: Sparse,
+        d: Vector,
+        ray: Sparse,
+        back: Sparse,
+        cut: Facet,
+    },
+    /// The vertices, the extreme directions and the facets of the image, each list in rising order.
+    Solved {
+        c: Vector,
+        points: Items<Gen>,
+        directions: Items<Gen>,
+        facets: Items<Facet>,
+    },
+}
