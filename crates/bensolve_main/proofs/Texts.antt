@@ -6,7 +6,7 @@ use Rattle.frac128.specs.declared.vectors.Spot.{Spot}
 use Rattle.vlp_reader.specs.Sides.{is_unsaid}
 use Rattle.vlp_reader.specs.declared.problem.Problem.{Problem}
 use Rattle.deriv_log.specs.LogText.{sparse_words}
-use Rattle.cert_check.specs.declared.answer.Answer.TheVariants.{Infeasible}
+use Rattle.log_rules.specs.declared.answer.Answer.TheVariants.{Infeasible}
 use Rattle.bensolve_main.specs.Text.{spot_text, report_text}
 
 -- words joined by blanks: a blank before each but the first

@@ -10,10 +10,10 @@ use Rattle.deriv_log.specs.Laws.{IsTextOf}
 use Rattle.cert_check.specs.Proves.{Proves}
 use Rattle.cert_check.specs.Right.{Right}
 use Rattle.cert_check.specs.Rules.{first_wrong}
-use Rattle.cert_check.specs.declared.answer.Answer.{Answer}
+use Rattle.log_rules.specs.declared.answer.Answer.{Answer}
 use Rattle.deriv_log.specs.declared.entry.Entry.{Entry}
 use Rattle.deriv_log.specs.declared.fault.LogFault.{LogFault as ALogFault}
-use Rattle.cert_check.specs.declared.fault.Rule.{Rule}
+use Rattle.log_rules.specs.declared.rule.Rule.{Rule}
 use Rattle.vlp_reader.specs.declared.fault.FileFault.{FileFault as AFileFault}
 use Rattle.bensolve_main.specs.Text.{report_text, fault_text}
 use Rattle.bensolve_main.specs.declared.status.LogRefusal.TheVariants.{Text, Wrong}

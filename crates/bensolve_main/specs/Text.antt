@@ -9,9 +9,9 @@ use Rattle.vlp_reader.specs.Sides.{is_unsaid}
 use Rattle.vlp_reader.specs.declared.problem.Problem.{Problem}
 use Rattle.deriv_log.specs.LogText.{sparse_words}
 use Rattle.deriv_log.specs.Names.{kind_number as log_kind_number, kind_name as log_kind_name}
-use Rattle.cert_check.specs.Names.{rule_number, rule_name}
-use Rattle.cert_check.specs.declared.answer.Answer.{Answer}
-use Rattle.cert_check.specs.declared.answer.Answer.TheVariants.{Infeasible, Whole, NoVertex, Solved}
+use Rattle.log_rules.specs.Names.{rule_number, rule_name}
+use Rattle.log_rules.specs.declared.answer.Answer.{Answer}
+use Rattle.log_rules.specs.declared.answer.Answer.TheVariants.{Infeasible, Whole, NoVertex, Solved}
 use Rattle.bensolve_main.specs.declared.status.LogRefusal.{LogRefusal}
 use Rattle.bensolve_main.specs.declared.status.LogRefusal.TheVariants.{Text, Wrong}
 use Rattle.bensolve_main.specs.declared.status.Status.{Status}

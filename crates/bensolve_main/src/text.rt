@@ -3,7 +3,7 @@ ghost use Rattle.std.specs.Prelude.{◌≡◌, ◌++◌, ◌∷◌, [], IfOk, On
 ghost use Rattle.std.specs.List.{flat_map};
 ghost use Rattle.frac128.specs.Text.{frac_text};
 ghost use Rattle.cert_check.specs.Right.{Right};
-ghost use Rattle.cert_check.specs.declared.answer.Answer.TheVariants.{Infeasible};
+ghost use Rattle.log_rules.specs.declared.answer.Answer.TheVariants.{Infeasible};
 ghost use Rattle.bensolve_main.specs.Text.{report_text, fault_text, spot_text};
 
 use crate::status::{LogRefusal, Status};

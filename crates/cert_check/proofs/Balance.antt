@@ -4,7 +4,7 @@ use Rattle.std.specs.Prelude.{◌&&◌, Option, Some, if◌then◌else◌}
 use Rattle.std.specs.List.{list_all}
 use Rattle.vlp_reader.specs.Sides.{numbers_from}
 use Rattle.cert_check.specs.Rules.{Test, tests, failing}
-use Rattle.cert_check.specs.declared.fault.Rule.{Rule}
+use Rattle.log_rules.specs.declared.rule.Rule.{Rule}
 use Rattle.cert_check.proofs.Booleans.{both, two_pass}
 
 second_fails : (a b : Bool) → b ≡ false → (a && b) ≡ false

@@ -10,8 +10,8 @@ use Rattle.vlp_reader.specs.Sides.{Side, sides, side_column, side_bounds, number
 use Rattle.vlp_reader.specs.declared.problem.Problem.{Problem}
 use Rattle.cert_check.specs.Rules.{tests, failing, farkas_tests}
 use Rattle.cert_check.specs.Table.{IsTableOf, side_of}
-use Rattle.cert_check.specs.declared.fault.Rule.{Rule}
-use Rattle.cert_check.specs.declared.fault.Rule.TheVariants as rule
+use Rattle.log_rules.specs.declared.rule.Rule.{Rule}
+use Rattle.log_rules.specs.declared.rule.Rule.TheVariants as rule
 use Rattle.cert_check.specs.declared.sides.BoundSide.{BoundSide}
 use Rattle.cert_check.proofs.Balance.{failing-same_rule}
 

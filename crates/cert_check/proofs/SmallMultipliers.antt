@@ -1,5 +1,5 @@
 -- Multipliers that a log writes, and whose values are short whole numbers.
-use Rattle.std.proofs.Common.{◌≡◌, ◌^◌, refl, Bool, true, ◌&&◌, nat_lt, List, [], ◌∷◌, length, IsTrue}
+use Rattle.std.proofs.Common.{◌^◌, refl, true, nat_lt, List, [], ◌∷◌, length, IsTrue}
 use Rattle.std.specs.List.{list_all}
 use Rattle.std.proofs.lemmas.Bool.{and_parts, and_from}
 use Rattle.frac128.specs.Held.{is_held}

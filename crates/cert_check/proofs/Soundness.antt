@@ -9,25 +9,24 @@ use Rattle.std.proofs.lemmas.List.Sums.{AllPass-from_list_all}
 use Rattle.exact_field.specs.Rational.{ℚ, zero_ℚ, lt_ℚ, ◌≤ℚ◌, ◌<ℚ◌}
 use Rattle.exact_field.proofs.Inequalities.{lt-le_ℚ}
 use Rattle.exact_field.proofs.Rationals.{zero_from_num}
-use Rattle.frac128.specs.Sparse.{is_zero, sparse_dot, rises_above}
+use Rattle.frac128.specs.Sparse.{is_zero, sparse_dot}
 use Rattle.frac128.specs.declared.vectors.Spot.{Spot}
 use Rattle.vlp_reader.specs.Sides.{sides, side_column}
 use Rattle.vlp_reader.specs.declared.problem.Problem.{Problem}
-use Rattle.deriv_log.specs.Formed.{is_formed, is_formed_part, ends_once, is_end}
+use Rattle.deriv_log.specs.Formed.{is_formed, ends_once, is_end}
 use Rattle.cert_check.specs.Proves.{MeetsFarkas, MeetsEnd, Meets, AllMeet}
 use Rattle.cert_check.specs.Right.{IsFarkas}
 use Rattle.cert_check.specs.Rules.{tests, begins, is_farkas, failing, farkas_tests, multiplier_tests, end_tests, entry_tests, wrong_at, first_wrong}
 use Rattle.cert_check.specs.SmallProblem.{is_small_problem, are_small_values}
 use Rattle.cert_check.proofs.SmallMultipliers.{formed_rises}
-use Rattle.deriv_log.specs.LogText.{sparse}
 use Rattle.cert_check.specs.Verdict.{Accepts}
-use Rattle.cert_check.specs.declared.answer.Answer.TheVariants as answer
+use Rattle.log_rules.specs.declared.answer.Answer.TheVariants as answer
 use Rattle.deriv_log.specs.declared.entry.EndKind.{EndKind}
 use Rattle.deriv_log.specs.declared.entry.EndKind.TheVariants as kind
 use Rattle.deriv_log.specs.declared.entry.Entry.{Entry}
 use Rattle.deriv_log.specs.declared.entry.Entry.TheVariants as entry
-use Rattle.cert_check.specs.declared.fault.Rule.{Rule}
-use Rattle.cert_check.specs.declared.fault.Rule.TheVariants as rule
+use Rattle.log_rules.specs.declared.rule.Rule.{Rule}
+use Rattle.log_rules.specs.declared.rule.Rule.TheVariants as rule
 use Rattle.cert_check.proofs.Balance.{pass-at}
 use Rattle.cert_check.proofs.FarkasTests.{all_pass}
 use Rattle.cert_check.proofs.Booleans.{both, at_most_from_test}

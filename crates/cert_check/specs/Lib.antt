@@ -1,5 +1,4 @@
 pub mod Earlier
-pub mod Names
 pub mod Proves
 pub mod Right
 pub mod Rules

@@ -5,8 +5,8 @@ use Rattle.frac128.specs.Sparse.{IsSparse, sparse_dot}
 use Rattle.frac128.specs.declared.vectors.Spot.{Spot}
 use Rattle.vlp_reader.specs.Sides.{sides, side_column, side_bounds, IsFeasible}
 use Rattle.vlp_reader.specs.declared.problem.Problem.{Problem}
-use Rattle.cert_check.specs.declared.answer.Answer.{Answer}
-use Rattle.cert_check.specs.declared.answer.Answer.TheVariants.{Infeasible, Whole, NoVertex, Solved}
+use Rattle.log_rules.specs.declared.answer.Answer.{Answer}
+use Rattle.log_rules.specs.declared.answer.Answer.TheVariants.{Infeasible, Whole, NoVertex, Solved}
 
 -- multipliers of the sides that show that no point meets them all: none is negative, their combination of
 -- the normals is 0, and that of the bounds is positive (Farkas)

@@ -11,8 +11,8 @@ use Rattle.deriv_log.specs.declared.entry.EndKind.{EndKind}
 use Rattle.deriv_log.specs.declared.entry.EndKind.TheVariants.{Infeasible, Whole as WholeEnd, NoVertex, Solved}
 use Rattle.deriv_log.specs.declared.entry.Entry.{Entry}
 use Rattle.deriv_log.specs.declared.entry.Entry.TheVariants.{Version, Duality, Cut, Start, Add, Point, Ray, Farkas, Whole, Line, Facet, End}
-use Rattle.cert_check.specs.declared.fault.Rule.{Rule}
-use Rattle.cert_check.specs.declared.fault.Rule.TheVariants as rule
+use Rattle.log_rules.specs.declared.rule.Rule.{Rule}
+use Rattle.log_rules.specs.declared.rule.Rule.TheVariants as rule
 
 abbrev pub is_version : Entry → Bool
 is_version (Version n) = true

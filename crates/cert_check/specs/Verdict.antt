@@ -4,9 +4,9 @@ use Rattle.vlp_reader.specs.declared.problem.Problem.{Problem}
 use Rattle.cert_check.specs.Proves.{Proves}
 use Rattle.cert_check.specs.Right.{Right}
 use Rattle.cert_check.specs.Rules.{first_wrong}
-use Rattle.cert_check.specs.declared.answer.Answer.{Answer}
-use Rattle.cert_check.specs.declared.answer.Refusal.{Refusal}
-use Rattle.cert_check.specs.declared.answer.Refusal.TheVariants.{Wrong, NoMemory}
+use Rattle.log_rules.specs.declared.answer.Answer.{Answer}
+use Rattle.cert_check.specs.declared.fault.Refusal.{Refusal}
+use Rattle.cert_check.specs.declared.fault.Refusal.TheVariants.{Wrong, NoMemory}
 use Rattle.deriv_log.specs.declared.entry.Entry.{Entry}
 
 -- an answer comes where no test fails; it is proved, and it is right

@@ -7,13 +7,13 @@ ghost use Rattle.cert_check.specs.Rules.{is_farkas, first_wrong};
 ghost use Rattle.cert_check.specs.Table.{IsTableOf};
 ghost use Rattle.cert_check.specs.Verdict.{Accepts, Refuses};
 
-use crate::answer::{Answer, Refusal};
 use crate::earlier::Earlier;
-use crate::fault::Rule;
+use crate::fault::Refusal;
 use crate::rules::entry_failure;
 use crate::sides::{BoundSide, side_table};
 use deriv_log::{Entries, Entry};
 use frac128::Sparse;
+use log_rules::{Answer, Rule};
 use src_sink::{Items, NoMemory};
 use std::alloc::Global;
 use vlp_reader::Problem;

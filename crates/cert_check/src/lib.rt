@@ -4,7 +4,6 @@
 //! The checker rests on no engine: it knows the problem, the log and the rules.
 #![tactic(auto)]
 
-mod answer;
 mod checker;
 mod earlier;
 mod fault;
@@ -14,7 +13,7 @@ mod rules;
 mod sides;
 mod sums;
 
-pub use answer::{Answer, Facet, Gen, Refusal};
 pub use checker::check;
-pub use fault::Rule;
+pub use fault::Refusal;
 pub use laws::farkas_shows_empty;
+pub use log_rules::{Answer, Facet, Gen, Rule};

@@ -9,19 +9,19 @@ ghost use Rattle.cert_check.specs.SmallProblem.{is_small_sparse};
 ghost use Rattle.deriv_log.specs.Formed.{is_formed, is_formed_part};
 ghost use Rattle.deriv_log.specs.LogText.{sparse};
 ghost use Rattle.cert_check.specs.Rules.{tests, failing, farkas_tests, multiplier_tests, end_tests, entry_tests};
-ghost use Rattle.cert_check.specs.declared.fault.Rule.TheVariants as rule;
+ghost use Rattle.log_rules.specs.declared.rule.Rule.TheVariants as rule;
 ghost use Rattle.cert_check.specs.Table.{IsTableOf};
 ghost use Rattle.cert_check.specs.Earlier.{IsEarlier};
 ghost use Rattle.deriv_log.specs.declared.entry.Entry.{Entry};
 
 use crate::earlier::Earlier;
-use crate::fault::Rule;
 use crate::magnitude::{are_small_values, is_small_problem};
 use crate::sides::BoundSide;
 use crate::sums::{bound_sum, column_sum};
 use deriv_log::{EndKind, Entry};
 use exact_field::Field;
 use frac128::{Frac, Sparse};
+use log_rules::Rule;
 use src_sink::Items;
 use vlp_reader::Problem;
 
