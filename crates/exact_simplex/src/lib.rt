@@ -1,0 +1,4 @@
+//! The simplex method over an exact field, in two phases, with certified ends.
+#![tactic(auto)]
+
+pub mod ratio;
