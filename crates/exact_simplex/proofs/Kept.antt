@@ -12,8 +12,9 @@ use Rattle.tableaux.proofs.Turns.{turn_positive, no_tie}
 use Rattle.lin_rows.specs.Lines.{AreLines}
 use Rattle.lin_rows.specs.Pivot.{table_of}
 use Rattle.lin_rows.proofs.Pivoted.{at_is, length-table}
+use Rattle.exact_simplex.specs.Phase.{AreColumns}
 use Rattle.exact_simplex.specs.Ratios.{IsLeaving}
-use Rattle.exact_simplex.proofs.Strict.{AreColumns, leaving_strict}
+use Rattle.exact_simplex.proofs.Strict.{leaving_strict}
 
 pub positive_kept : (n : ℕ) (start : Table) (first basis : List ℕ) (ls : List (List Entry)) (m : Table) (col : ℕ) (columns : List ℕ) (equations r : ℕ) → AreWide n start →
     HasMatrix n start basis (table_of n ls) m → AreLines n ls → 1 ≤ col → col ≤ n → AreColumns n columns →

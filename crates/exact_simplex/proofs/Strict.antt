@@ -10,13 +10,9 @@ use Rattle.tableaux.specs.Lex.{IsLexBelow, entries_at}
 use Rattle.lin_rows.specs.Lines.{AreLines, sum_at}
 use Rattle.lin_rows.specs.Pivot.{table_of}
 use Rattle.lin_rows.proofs.Pivoted.{at_is}
+use Rattle.exact_simplex.specs.Phase.{AreColumns}
 use Rattle.exact_simplex.specs.Ratios.{ratios, entry_in, ratios_in, IsLeaving}
 use Rattle.exact_simplex.proofs.Least.{strictly}
-
--- the columns stand in a table of this width
-abbrev pub AreColumns : ℕ → List ℕ → Type 0
-AreColumns n [] = Unit {0}
-AreColumns n (c ∷ columns) = (1 ≤ c) × (c ≤ n) × AreColumns n columns
 
 -- the quotients of row i + 1
 abbrev pub quotients_at : Table → ℕ → List ℕ → ℕ → List ℚ

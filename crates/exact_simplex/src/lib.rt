@@ -2,3 +2,4 @@
 #![tactic(auto)]
 
 pub mod ratio;
+pub mod phase;
