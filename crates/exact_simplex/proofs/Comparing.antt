@@ -1,8 +1,8 @@
 -- One column of the comparison of two rows' quotients.
-use Rattle.std.proofs.Common.{◌≡◌, ℕ, List, length, map, drop, sym, ap, ap₂, ◌∙◌, subst, arith, ◌<◌, ◌+◌, slice_index_or, Less, Greater, Equal, true, false}
+use Rattle.std.proofs.Common.{◌≡◌, ℕ, List, length, drop, sym, ap₂, ◌∙◌, arith, ◌<◌, ◌+◌, slice_index_or, Less, Greater, Equal, true, false}
 use Rattle.std.specs.declared.cmp.Ordering.{Ordering}
 use Rattle.std.proofs.lemmas.List.{get_or-map, length-map}
-use Rattle.exact_field.specs.Rational.{ℚ, zero_ℚ, ◌/ℚ◌, ◌<ℚ◌}
+use Rattle.exact_field.specs.Rational.{ℚ, zero_ℚ, ◌/ℚ◌}
 use Rattle.exact_field.specs.Order.{cmp_ℚ}
 use Rattle.exact_field.proofs.Comparison.{equal-cmp_ℚ, less-cmp_ℚ, greater-cmp_ℚ}
 use Rattle.polyhedra.specs.Sparse.{Entry}

@@ -1,5 +1,5 @@
 -- A pivot at the row that the ratio test found keeps the rows of the equations lexicographically positive.
-use Rattle.std.proofs.Common.{◌≡◌, ◌≢◌, ℕ, List, length, arith, ◌<◌, ◌≤◌, ◌+◌, Some, [], subst, sym, slice_index_or}
+use Rattle.std.proofs.Common.{◌≡◌, ◌≢◌, ℕ, List, length, arith, ◌<◌, ◌≤◌, ◌+◌, Some, subst, sym, slice_index_or}
 use Rattle.std.specs.Prelude.{◌==◌, if◌then◌else◌}
 use Rattle.exact_field.specs.Rational.{ℚ, zero_ℚ, one_ℚ, ◌<ℚ◌}
 use Rattle.polyhedra.specs.Vectors.{AreWide}
@@ -27,9 +27,9 @@ positive_kept n start first basis ls m col columns equations r wide h lines col_
     let d : Table = table_of n ls in
     let inside : equations ≤ length ls = omega (arith, high, h.d_many, length-table n ls lines) in
     let up : zero_ℚ <ℚ at d (r + 1) col =
-        subst (λ (q : ℚ). zero_ℚ <ℚ q) (sym (at_is n ls lines r col (omega (arith, least.0, inside)) col_low col_high)) least.1 in
+    subst (λ (q : ℚ). zero_ℚ <ℚ q) (sym (at_is n ls lines r col (omega (arith, least.0, inside)) col_low col_high)) least.1 in
     turn_positive n d h.d_wide columns (r + 1) col (omega arith) (omega (arith, least.0, high, h.d_many)) up (i + 1) (omega arith)
-      (omega (arith, l, high, h.d_many)) (positive r least.0) (positive i l)
-      (λ other up_i. leaving_strict n ls lines col columns equations r i col_low col_high within inside least l
-        (λ tie. no_tie n start first basis d m columns (i + 1) (r + 1) (at d (r + 1) col) (at d (i + 1) col) wide h units listed_at
-          (omega arith) (omega (arith, l, high)) (omega arith) (omega (arith, least.0, high)) other (full i l) (full r least.0) up_i tie) up_i)
+    (omega (arith, l, high, h.d_many)) (positive r least.0) (positive i l)
+    (λ other up_i. leaving_strict n ls lines col columns equations r i col_low col_high within inside least l
+    (λ tie. no_tie n start first basis d m columns (i + 1) (r + 1) (at d (r + 1) col) (at d (i + 1) col) wide h units listed_at
+    (omega arith) (omega (arith, l, high)) (omega arith) (omega (arith, least.0, high)) other (full i l) (full r least.0) up_i tie) up_i)

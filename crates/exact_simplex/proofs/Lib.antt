@@ -1,3 +1,4 @@
+pub mod Beginning
 pub mod Comparing
 pub mod Kept
 pub mod Least

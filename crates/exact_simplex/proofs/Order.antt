@@ -1,6 +1,6 @@
 -- The lexicographic order of what is left of two vectors.
-use Rattle.std.proofs.Common.{◌≡◌, ℕ, zero, suc, Bool, true, false, List, [], ◌∷◌, map, length, drop, refl, sym, ap, ap₂, ◌∙◌, arith, ◌<◌, ◌≤◌, ◌+◌, slice_index_or, get_or, not, ◌&&◌, ◌||◌}
-use Rattle.exact_field.specs.Rational.{ℚ, zero_ℚ, le_ℚ, ◌/ℚ◌, ◌<ℚ◌}
+use Rattle.std.proofs.Common.{◌≡◌, ℕ, zero, suc, Bool, true, false, List, [], ◌∷◌, length, drop, refl, sym, ap, ap₂, ◌∙◌, arith, ◌<◌, ◌≤◌, ◌+◌, slice_index_or, not, ◌&&◌, ◌||◌}
+use Rattle.exact_field.specs.Rational.{ℚ, zero_ℚ, le_ℚ, ◌<ℚ◌}
 use Rattle.polyhedra.proofs.Laws.{le_refl, le_of_lt}
 use Rattle.tableaux.specs.Lex.{lex_less}
 use Rattle.tableaux.proofs.Lexicographic.{not_le_of_lt}
@@ -31,7 +31,7 @@ module _ (i : ℕ) (us vs : List ℚ) (l : i < length us) (u : i < length vs) wh
       let next : i + 1 ≡ suc i = omega arith in
       ap (λ k. lex_less (drop k us) (drop k vs)) next
       ∙ sym (step i us vs l u ∙ ap (λ y. decided x y (lex_less (drop (suc i) us) (drop (suc i) vs))) (sym e)
-        ∙ ap₂ (λ a b. not a || (not (not b) && lex_less (drop (suc i) us) (drop (suc i) vs))) (le_refl x) (le_refl x))
+      ∙ ap₂ (λ a b. not a || (not (not b) && lex_less (drop (suc i) us) (drop (suc i) vs))) (le_refl x) (le_refl x))
 
 lex-nil : (u : List ℚ) → lex_less u [] ≡ false
 lex-nil [] = refl

@@ -1,10 +1,10 @@
 -- What the choices of a phase say of its table.
-use Rattle.std.proofs.Common.{◌≡◌, ◌≢◌, ℕ, zero, suc, List, [], ◌∷◌, length, refl, sym, ap, ap₂, ◌∙◌, subst, arith, ◌<◌, ◌≤◌, ◌+◌, inl, Bool, Option, None, Some, slice_index_or}
+use Rattle.std.proofs.Common.{◌≡◌, ℕ, zero, suc, List, [], ◌∷◌, length, refl, sym, ap, ap₂, ◌∙◌, subst, arith, ◌<◌, ◌≤◌, ◌+◌, inl, Bool, None, Some, slice_index_or}
 use Rattle.std.specs.Prelude.{IsFalse}
 use Rattle.exact_field.specs.Rational.{ℚ, zero_ℚ, ◌/ℚ◌, ◌≤ℚ◌, ◌<ℚ◌}
 use Rattle.exact_field.specs.declared.op.Left.{Left}
 use Rattle.polyhedra.specs.Sparse.{Entry}
-use Rattle.tableaux.specs.Table.{Table, at, quotient_at}
+use Rattle.tableaux.specs.Table.{Table, at}
 use Rattle.tableaux.specs.Dictionary.{IsDictionary}
 use Rattle.lin_rows.specs.declared.fault.RowFault.{RowFault}
 use Rattle.lin_rows.specs.declared.fault.RowFault.TheVariants.{Left as Stuck, NoMemory}
@@ -44,15 +44,26 @@ module _ (n : ℕ) (ls : List (List Entry)) (h : AreLines n ls) where
       let j : ℕ = slice_index_or columns k 0 in
       let there = column_at n columns k placed ratio.1 in
       let at_j : at (table_of n ls) (row + 1) j ≡ sum_at (slice_index_or ls row []) j = at_is n ls h row j stuck.0 there.0 there.1 in
-      let at_col : at (table_of n ls) (row + 1) col ≡ sum_at (slice_index_or ls row []) col = at_is n ls h row col stuck.0 low high in
-      (j, there.0, there.1, inl (refl, ratio.2, ratio.3 ∙ sym at_j, ratio.4 ∙ sym at_col,
-        subst (λ (q : ℚ). IsFalse (holds q)) (ap₂ (λ x y. x /ℚ y) (sym at_j) (sym at_col)) ratio.5))
+      let at_col : at (table_of n ls) (row + 1) col ≡ sum_at (slice_index_or ls row []) col = at_is n ls h row col stuck.0 low high in (
+        j,
+        there.0,
+        there.1,
+        inl (
+          refl,
+          ratio.2,
+          ratio.3 ∙ sym at_j,
+          ratio.4 ∙ sym at_col,
+          subst (λ (q : ℚ). IsFalse (holds q)) (ap₂ (λ x y. x /ℚ y) (sym at_j) (sym at_col)) ratio.5,
+        ),
+      )
 
 -- a fault of a pivot in a dictionary of t is one over t
 pub fault_of : {F : Type 0} (value : F → ℚ) (holds : ℚ → Bool) (n : ℕ) (t d : Table) (basis : List ℕ) (row col : ℕ) (fault : RowFault F) → IsDictionary n t basis d →
     IsPivotFault value holds n d basis row col fault → IsElimFault value holds n t fault
-fault_of value holds n t d basis row col (Stuck basis' row' col' step left) h stuck =
-    (d, subst (λ (b : List ℕ). IsDictionary n t b d) (sym stuck.0) h,
-      subst (λ (r : ℕ). IsPivotStep value holds n d r col' step left) (sym stuck.1)
-        (subst (λ (c : ℕ). IsPivotStep value holds n d row c step left) (sym stuck.2) stuck.3))
+fault_of value holds n t d basis row col (Stuck basis' row' col' step left) h stuck = (
+  d,
+  subst (λ (b : List ℕ). IsDictionary n t b d) (sym stuck.0) h,
+  subst (λ (r : ℕ). IsPivotStep value holds n d r col' step left) (sym stuck.1)
+      (subst (λ (c : ℕ). IsPivotStep value holds n d row c step left) (sym stuck.2) stuck.3),
+)
 fault_of value holds n t d basis row col NoMemory h stuck = tt

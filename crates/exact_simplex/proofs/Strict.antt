@@ -1,6 +1,6 @@
 -- The row that the ratio test found, as a turn of a phase takes it: rows from 1, quotients as multiples.
-use Rattle.std.proofs.Common.{◌≡◌, ℕ, suc, List, [], ◌∷◌, map, refl, sym, ap, ap₂, ◌∙◌, subst, arith, ◌<◌, ◌≤◌, ◌+◌, ◌-◌, length, slice_index_or, Some, All}
-use Rattle.std.proofs.lemmas.List.{length-map, get_or-map}
+use Rattle.std.proofs.Common.{◌≡◌, ℕ, List, [], ◌∷◌, refl, sym, ap, ap₂, ◌∙◌, subst, arith, ◌<◌, ◌≤◌, ◌+◌, length, slice_index_or, Some}
+use Rattle.std.proofs.lemmas.List.{length-map}
 use Rattle.exact_field.specs.Rational.{ℚ, zero_ℚ, ◌*ℚ◌, ◌/ℚ◌, inverse_ℚ, ◌<ℚ◌}
 use Rattle.polyhedra.specs.Vectors.{scaled}
 use Rattle.polyhedra.specs.Sparse.{Entry}
@@ -24,8 +24,8 @@ module _ (n : ℕ) (ls : List (List Entry)) (h : AreLines n ls) where
   ratios_are p [] i within l = refl
   ratios_are p (c ∷ columns) i within l =
       ap₂ (λ a b. a ∷ b)
-        (mul_comm (sum_at (slice_index_or ls i []) c) (inverse_ℚ p) ∙ ap (λ q. inverse_ℚ p *ℚ q) (sym (at_is n ls h i c l within.0 within.1)))
-        (ratios_are p columns i within.2 l)
+      (mul_comm (sum_at (slice_index_or ls i []) c) (inverse_ℚ p) ∙ ap (λ q. inverse_ℚ p *ℚ q) (sym (at_is n ls h i c l within.0 within.1)))
+      (ratios_are p columns i within.2 l)
 
   same_quotients : (col : ℕ) (columns : List ℕ) (i : ℕ) → 1 ≤ col → col ≤ n → AreColumns n columns → i < length ls →
       ratios_in ls col columns i ≡ quotients_at (table_of n ls) col columns i
@@ -42,8 +42,8 @@ module _ (n : ℕ) (ls : List (List Entry)) (h : AreLines n ls) where
       let of_r = same_quotients col columns r low high within (omega (arith, least.0, inside)) in
       let of_i = same_quotients col columns i low high within (omega (arith, l, inside)) in
       subst (λ (v : List ℚ). IsLexBelow v (quotients_at t col columns i)) of_r
-        (subst (λ (v : List ℚ). IsLexBelow (ratios_in ls col columns r) v) of_i
-          (strictly (entry_in ls col) (ratios_in ls col columns) m r i least l (subst (λ (q : ℚ). zero_ℚ <ℚ q) (at_is n ls h i col (omega (arith, l, inside)) low high) up)
-            (length-map columns (λ c. sum_at (slice_index_or ls r []) c /ℚ entry_in ls col r)
-              ∙ sym (length-map columns (λ c. sum_at (slice_index_or ls i []) c /ℚ entry_in ls col i)))
-            (λ e. no_tie (sym of_r ∙ e ∙ of_i))))
+      (subst (λ (v : List ℚ). IsLexBelow (ratios_in ls col columns r) v) of_i
+      (strictly (entry_in ls col) (ratios_in ls col columns) m r i least l (subst (λ (q : ℚ). zero_ℚ <ℚ q) (at_is n ls h i col (omega (arith, l, inside)) low high) up)
+      (length-map columns (λ c. sum_at (slice_index_or ls r []) c /ℚ entry_in ls col r)
+      ∙ sym (length-map columns (λ c. sum_at (slice_index_or ls i []) c /ℚ entry_in ls col i)))
+      (λ e. no_tie (sym of_r ∙ e ∙ of_i))))

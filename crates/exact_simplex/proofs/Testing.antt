@@ -1,14 +1,12 @@
 -- One row of the ratio test.
-use Rattle.std.proofs.Common.{◌≡◌, ℕ, zero, suc, List, [], ◌∷◌, ◌++◌, length, map, take, refl, sym, ap, ap₂, ◌∙◌, subst, arith, ◌<◌, ◌≤◌, ◌+◌, inl, inr, Bool, true, false, true≢false, IsTrue, slice_index_or, Option, None, Some, nat_eq}
+use Rattle.std.proofs.Common.{◌≡◌, ℕ, List, [], ◌∷◌, ◌++◌, length, take, sym, ap, ◌∙◌, subst, arith, ◌<◌, ◌+◌, inl, inr, Bool, true, false, true≢false, IsTrue, slice_index_or, nat_eq}
 use Rattle.std.specs.Prelude.{◌↔◌}
 use Rattle.std.specs.declared.alloc.Global.{Global}
 use Rattle.std.specs.declared.vec.Vec.{Vec}
-use Rattle.std.proofs.lemmas.List.{take_more, map_push, take_all, get_or_default}
+use Rattle.std.proofs.lemmas.List.{take_more, map_push}
 use Rattle.exact_field.specs.Rational.{ℚ, zero_ℚ, ◌+ℚ◌, ◌≤ℚ◌, ◌<ℚ◌}
 use Rattle.exact_field.proofs.Inequalities.{le_refl_ℚ, add-nonnegative, le_or_lt}
-use Rattle.exact_field.specs.declared.op.Left.{Left}
 use Rattle.polyhedra.specs.Sparse.{Entry}
-use Rattle.tableaux.specs.Lex.{lex_less}
 use Rattle.lin_rows.specs.declared.cells.Cell.{Cell}
 use Rattle.lin_rows.specs.Lines.{entry_of, entries, lines, Rises, AreLines, sum_at}
 use Rattle.lin_rows.proofs.Merging.{shown, sum_at-append}
@@ -16,7 +14,7 @@ use Rattle.lin_rows.proofs.ManyLines.{length-lines, line_at}
 use Rattle.exact_simplex.specs.declared.ratio.Either.{Either}
 use Rattle.exact_simplex.specs.declared.ratio.Either.TheVariants.{First, Second}
 use Rattle.exact_simplex.specs.declared.ratio.TestLeft.{TestLeft}
-use Rattle.exact_simplex.specs.Ratios.{ratios, IsRatioLeft, IsEither, entry_in, ratios_in, IsTestLeft, IsTestOf}
+use Rattle.exact_simplex.specs.Ratios.{IsRatioLeft, IsEither, entry_in, IsTestLeft, IsTestOf}
 
 pub not_positive : (b : Bool) (q : ℚ) → (IsTrue b ↔ (zero_ℚ <ℚ q)) → b ≡ false → q ≤ℚ zero_ℚ
 not_positive b q h e = elim (le_or_lt q zero_ℚ) [ inl down ↦ down | inr up ↦ absurd (true≢false (sym (h.1 up) ∙ e)) ]
@@ -40,15 +38,17 @@ module _ {F : Type 0} (value : F → ℚ) (rows : List (Vec (Cell F) Global)) (n
       p ≡ entry_in (lines value rows) col i → r ≡ entry_in (lines value rows) col b → us ≡ slice_index_or (lines value rows) i [] → vs ≡ slice_index_or (lines value rows) b [] →
       IsEither value holds p us r vs columns either → IsTestOf i b either test → IsTestLeft value holds (lines value rows) col columns test.row test.left
   test_of holds i b p r us vs (First left) test il bl p_is r_is us_is vs_is stuck e =
-      subst (λ (t : TestLeft F). IsTestLeft value holds (lines value rows) col columns t.row t.left) (sym e)
-        ( omega (arith, il, length-lines value rows)
-        , subst (λ (q : ℚ). IsRatioLeft value holds q (slice_index_or (lines value rows) i []) columns left) p_is
-            (subst (λ (es : List Entry). IsRatioLeft value holds p es columns left) us_is stuck) )
+      subst (λ (t : TestLeft F). IsTestLeft value holds (lines value rows) col columns t.row t.left) (sym e) (
+        omega (arith, il, length-lines value rows),
+        subst (λ (q : ℚ). IsRatioLeft value holds q (slice_index_or (lines value rows) i []) columns left) p_is
+            (subst (λ (es : List Entry). IsRatioLeft value holds p es columns left) us_is stuck),
+      )
   test_of holds i b p r us vs (Second left) test il bl p_is r_is us_is vs_is stuck e =
-      subst (λ (t : TestLeft F). IsTestLeft value holds (lines value rows) col columns t.row t.left) (sym e)
-        ( omega (arith, bl, length-lines value rows)
-        , subst (λ (q : ℚ). IsRatioLeft value holds q (slice_index_or (lines value rows) b []) columns left) r_is
-            (subst (λ (es : List Entry). IsRatioLeft value holds r es columns left) vs_is stuck) )
+      subst (λ (t : TestLeft F). IsTestLeft value holds (lines value rows) col columns t.row t.left) (sym e) (
+        omega (arith, bl, length-lines value rows),
+        subst (λ (q : ℚ). IsRatioLeft value holds q (slice_index_or (lines value rows) b []) columns left) r_is
+            (subst (λ (es : List Entry). IsRatioLeft value holds r es columns left) vs_is stuck),
+      )
 
 -- ---- the first negative entry
 shown_nonnegative : (b : Bool) (x : ℚ) → zero_ℚ ≤ℚ x → zero_ℚ ≤ℚ shown b x
@@ -60,11 +60,11 @@ pub scanned_more : {F : Type 0} (value : F → ℚ) (cells : List (Cell F)) (i :
     zero_ℚ ≤ℚ sum_at (entries value (take i cells)) j → zero_ℚ ≤ℚ shown (nat_eq c.at j) (value c.value) → zero_ℚ ≤ℚ sum_at (entries value (take (i + 1) cells)) j
 scanned_more value cells i c j l is before here =
     let more : entries value (take (i + 1) cells) ≡ entries value (take i cells) ++ entry_of value c ∷ [] =
-        ap (entries value) (take_more cells i c l ∙ ap (λ d. take i cells ++ d ∷ []) (sym is)) ∙ map_push (entry_of value) (take i cells) c in
+    ap (entries value) (take_more cells i c l ∙ ap (λ d. take i cells ++ d ∷ []) (sym is)) ∙ map_push (entry_of value) (take i cells) c in
     subst (λ (q : ℚ). zero_ℚ ≤ℚ q)
-      (sym (ap (λ es. sum_at es j) more ∙ sum_at-append (entries value (take i cells)) (entry_of value c ∷ []) j))
-      (add-nonnegative (sum_at (entries value (take i cells)) j) (shown (nat_eq c.at j) (value c.value) +ℚ zero_ℚ) before
-        (add-nonnegative (shown (nat_eq c.at j) (value c.value)) zero_ℚ here (le_refl_ℚ zero_ℚ)))
+    (sym (ap (λ es. sum_at es j) more ∙ sum_at-append (entries value (take i cells)) (entry_of value c ∷ []) j))
+    (add-nonnegative (sum_at (entries value (take i cells)) j) (shown (nat_eq c.at j) (value c.value) +ℚ zero_ℚ) before
+    (add-nonnegative (shown (nat_eq c.at j) (value c.value)) zero_ℚ here (le_refl_ℚ zero_ℚ)))
 
 pub shown_kept : (b : Bool) (x : ℚ) → zero_ℚ ≤ℚ x → zero_ℚ ≤ℚ shown b x
 shown_kept b x h = shown_nonnegative b x h

@@ -1,20 +1,18 @@
 -- One turn of a phase keeps what the phase keeps, and its measure falls.
-use Rattle.std.proofs.Common.{◌≡◌, ◌≢◌, ℕ, zero, suc, List, [], ◌∷◌, length, All, refl, sym, ap, ◌∙◌, subst, arith, ◌<◌, ◌≤◌, ◌+◌, ◌-◌, inl, inr, Some, slice_index_or, slice_set}
-use Rattle.std.specs.Prelude.{◌==◌, if◌then◌else◌}
+use Rattle.std.proofs.Common.{◌≡◌, ◌≢◌, ℕ, List, length, sym, ap, ◌∙◌, subst, arith, ◌<◌, ◌≤◌, ◌+◌, ◌-◌, inl, inr, Some, slice_set}
 use Rattle.std.proofs.lemmas.Bool.{cases_eq, cases_order}
 use Rattle.std.proofs.lemmas.List.{length-set}
 use Rattle.std.proofs.lemmas.List.Elements.{All-set}
-use Rattle.exact_field.specs.Rational.{ℚ, zero_ℚ, one_ℚ, ◌<ℚ◌}
+use Rattle.exact_field.specs.Rational.{ℚ, zero_ℚ, ◌<ℚ◌}
 use Rattle.exact_field.proofs.Inequalities.{positive-not-zero}
 use Rattle.polyhedra.specs.Sparse.{Entry}
-use Rattle.tableaux.specs.Table.{Table, row_of, at, pivoted, pivoted_row}
+use Rattle.tableaux.specs.Table.{Table, row_of, at, pivoted}
 use Rattle.tableaux.specs.Dictionary.{basic_column, IsDictionary}
 use Rattle.tableaux.specs.Lex.{IsLexBelow, entries_at}
 use Rattle.tableaux.proofs.Definition.{matrix_form, pivot_keeps_dictionary}
 use Rattle.tableaux.proofs.Eliminated.{exchanged}
 use Rattle.tableaux.proofs.Remaining.{remaining, cost_at, all_lists, is_listed, measure_falls}
 use Rattle.tableaux.proofs.Turns.{turn_rises}
-use Rattle.lin_rows.specs.Lines.{AreLines}
 use Rattle.lin_rows.specs.Pivot.{AreTableau, table_of}
 use Rattle.lin_rows.proofs.Pivoted.{at_is, length-table}
 use Rattle.exact_simplex.specs.Phase.{IsEquationBasis, IsStart, IsTurn, StaysDictionary, ArePositive}

@@ -1,5 +1,5 @@
 //! The simplex method over an exact field, in two phases, with certified ends.
 #![tactic(auto)]
 
-pub mod ratio;
 pub mod phase;
+pub mod ratio;

@@ -9,7 +9,7 @@ ghost use Rattle.tableaux.specs.Table.{Table};
 ghost use Rattle.polyhedra.specs.Vectors.{AreWide};
 ghost use Rattle.exact_simplex.specs.Phase.{IsPhaseEnd, IsStart, IsTurn};
 
-use crate::ratio::{entering, leaving, TestLeft};
+use crate::ratio::{TestLeft, entering, leaving};
 use exact_field::Field;
 use lin_rows::RowFault;
 use lin_rows::tableau::Tableau;

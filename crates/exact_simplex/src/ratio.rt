@@ -8,7 +8,7 @@ ghost use Rattle.exact_simplex.specs.Ratios.{IsEither, IsEitherAt, IsEntering, I
 ghost use Rattle.tableaux.specs.Lex.{lex_less};
 
 use exact_field::{Field, Left};
-use lin_rows::cells::{entry_at, Cell};
+use lin_rows::cells::{Cell, entry_at};
 use std::cmp::Ordering;
 
 /// Whether a number is above 0.
@@ -34,7 +34,13 @@ pub enum Either<F> {
 }
 
 /// How the quotients of two rows compare at one column.
-fn compare_at<F: Field>(u: &[Cell<F>], p: F, v: &[Cell<F>], r: F, col: u32) -> Result<Ordering, Either<F>>
+fn compare_at<F: Field>(
+    u: &[Cell<F>],
+    p: F,
+    v: &[Cell<F>],
+    r: F,
+    col: u32,
+) -> Result<Ordering, Either<F>>
     requires first { F.value p ≢ zero_ℚ }
     requires second { F.value r ≢ zero_ℚ }
     ensures ok { (n : ℕ) → Rises n 0 (entries F.value u.now) → Rises n 0 (entries F.value v.now) → IfOk result (λ order. order ≡ cmp_ℚ (sum_at (entries F.value u.now) col /ℚ F.value p) (sum_at (entries F.value v.now) col /ℚ F.value r)) }
@@ -52,7 +58,13 @@ fn compare_at<F: Field>(u: &[Cell<F>], p: F, v: &[Cell<F>], r: F, col: u32) -> R
 }
 
 /// Whether the quotients of one row by `p`, at these columns, stand before those of another by `r`.
-fn is_before<F: Field>(u: &[Cell<F>], p: F, v: &[Cell<F>], r: F, columns: &[u32]) -> Result<bool, Either<F>>
+fn is_before<F: Field>(
+    u: &[Cell<F>],
+    p: F,
+    v: &[Cell<F>],
+    r: F,
+    columns: &[u32],
+) -> Result<bool, Either<F>>
     requires first { F.value p ≢ zero_ℚ }
     requires second { F.value r ≢ zero_ℚ }
     ensures ok { (n : ℕ) → Rises n 0 (entries F.value u.now) → Rises n 0 (entries F.value v.now) → IfOk result (λ before. before ≡ lex_less (ratios (F.value p) (entries F.value u.now) columns.now) (ratios (F.value r) (entries F.value v.now) columns.now)) }
@@ -89,7 +101,13 @@ fn test_left<F: Field>(first: usize, second: usize, either: Either<F>) -> TestLe
 }
 
 /// The least row of the first `i + 1`, where `best` is that of the first `i`.
-fn better<F: Field>(rows: &[Vec<Cell<F>>], i: usize, best: Option<usize>, col: u32, columns: &[u32]) -> Result<Option<usize>, TestLeft<F>>
+fn better<F: Field>(
+    rows: &[Vec<Cell<F>>],
+    i: usize,
+    best: Option<usize>,
+    col: u32,
+    columns: &[u32],
+) -> Result<Option<usize>, TestLeft<F>>
     requires inside { i < length rows.now }
     requires found { MatchOption best ⊤ (λ r. r < length rows.now) }
     requires lines { (n : ℕ) × AreLines n (lines F.value rows.now) × IsLeaving (lines F.value rows.now) col columns.now i best }
@@ -115,7 +133,12 @@ fn better<F: Field>(rows: &[Vec<Cell<F>>], i: usize, best: Option<usize>, col: u
 }
 
 /// The ratio test over the first `count` rows: the row with the lexicographically least quotients, if any has a positive entry.
-pub fn leaving<F: Field>(rows: &[Vec<Cell<F>>], count: usize, col: u32, columns: &[u32]) -> Result<Option<usize>, TestLeft<F>>
+pub fn leaving<F: Field>(
+    rows: &[Vec<Cell<F>>],
+    count: usize,
+    col: u32,
+    columns: &[u32],
+) -> Result<Option<usize>, TestLeft<F>>
     requires inside { count ≤ length rows.now }
     requires lines { (n : ℕ) × AreLines n (lines F.value rows.now) }
     ensures ok { IfOk result (IsLeaving (lines F.value rows.now) col columns.now count) }

@@ -1,8 +1,8 @@
-use Rattle.std.proofs.Common.{◌≡◌, ◌≢◌, ◌∙◌, ◌+◌, ◌<◌, ◌≤◌, sym, ap, subst, arith, ℕ, List, length, None, Some, slice_index_or}
+use Rattle.std.proofs.Common.{◌≡◌, ◌≢◌, ◌∙◌, ◌+◌, ◌<◌, ◌≤◌, sym, ap, subst, arith, ℕ, List, length, None, Some}
 use Rattle.std.proofs.lemmas.List.{length-set}
 use Rattle.exact_field.specs.Rational.{zero_ℚ}
 use Rattle.tableaux.specs.Table.{Table, at, pivoted}
-use Rattle.lin_rows.specs.Lines.{lines, entries, AreLines}
+use Rattle.lin_rows.specs.Lines.{lines, entries}
 use Rattle.lin_rows.specs.Pivot.{AreTableau, IsPivotStep, IsPivotFault, table_of}
 use Rattle.lin_rows.specs.Eliminate.{IsElimFault}
 use Rattle.lin_rows.proofs.Errors.{err_holds}
@@ -31,13 +31,13 @@ returns-in-Err-clause-left g c =
     let es = own value now.rows.items n c.in-Some.col c.args.columns.now h c.args.cost inside cells c.index.result.now c.deref.ensures.value c.index.ensures in
     let rise = rises value now.rows.items n c.in-Some.col c.args.columns.now h c.args.cost inside cells c.index.result.now c.deref.ensures.value c.index.ensures in
     let betters = entering_betters n ls h c.args.cost c.args.unknowns c.in-Some.col (entries value cells) (omega (arith, inside, length-lines value now.rows.items))
-        c.requires.unknowns es (c.in-Some.ensures n rise) in
+    c.requires.unknowns es (c.in-Some.ensures n rise) in
     let col_high : c.in-Some.col ≤ n = omega (arith, betters.1, c.requires.unknowns) in
     let test = c.in-Err.test in
     let stuck = subst (λ (l : List _). IsTestLeft value holds l c.in-Some.col c.args.columns.now test.row test.left) (ap (lines value) c.deref-in-Some.ensures.value) c.in-Err.ensures.left in
     let step = test_step n ls h value holds c.in-Some.col test.row c.args.columns.now test.left betters.0 col_high c.requires.start.placed stuck in
     let fault = c.test_fault.ensures.left (table_of n ls)
-        (subst (λ (w : ℕ). IsPivotStep value holds w (table_of n ls) (test.row + 1) c.in-Some.col 1 test.left) (sym kept.width) step) in
+    (subst (λ (w : ℕ). IsPivotStep value holds w (table_of n ls) (test.row + 1) c.in-Some.col 1 test.left) (sym kept.width) step) in
     λ t wide first. fault_of value holds n t (table_of n ls) now.basis.items (test.row + 1) c.in-Some.col c.test_fault.result (kept.turn.dictionary t wide first)
     (subst (λ (w : ℕ). IsPivotFault value holds w (table_of n ls) now.basis.items (test.row + 1) c.in-Some.col c.test_fault.result) kept.width fault)
 
@@ -158,8 +158,16 @@ loop-col-preserved g c =
     let tableau = subst (λ (w : ℕ). AreTableau w (lines value after.rows.items) after.basis.items) width ok.lines in
     record {
       width = width;
-      many = omega (arith, kept.many, ok.lines.one_each, length-lines value after.rows.items, ap length ok.basis, length-set now.basis.items row col,
-          kept.turn.tableau.one_each, length-lines value now.rows.items);
+      many = omega (
+        arith,
+        kept.many,
+        ok.lines.one_each,
+        length-lines value after.rows.items,
+        ap length ok.basis,
+        length-set now.basis.items row col,
+        kept.turn.tableau.one_each,
+        length-lines value now.rows.items,
+      );
       turn = turn_more n c.args.equations c.args.columns.now start first.basis.items c.requires.start ls now.basis.items kept.turn row col betters.0 col_high found
           (lines value after.rows.items) after.basis.items table tableau ok.basis;
     }

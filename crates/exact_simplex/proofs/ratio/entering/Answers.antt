@@ -1,4 +1,4 @@
-use Rattle.std.proofs.Common.{◌≡◌, ◌∙◌, ap, sym, subst, refl, arith, length, take, ℕ, ◌<◌, ◌≤◌, nat_eq}
+use Rattle.std.proofs.Common.{sym, subst, arith, length, ◌<◌, ◌≤◌, nat_eq}
 use Rattle.std.proofs.lemmas.List.{take_all}
 use Rattle.exact_field.specs.Rational.{ℚ, zero_ℚ, ◌≤ℚ◌, ◌<ℚ◌}
 use Rattle.exact_field.proofs.Inequalities.{le_refl_ℚ}
@@ -21,9 +21,9 @@ returns-then-is_negative g c =
     let cell = c.index-row-i.result in
     let inside : i < length row = omega arith in
     λ n rises.
-      let e = entry_read value row i cell inside c.index-row-i.is in
-      let low : 1 ≤ cell.at = subst (λ p. 1 ≤ p.place) (sym e) (place_above n 0 (entries value row) i (record { place = cell.at; value = value cell.value }) rises (omega (arith, inside, length-entries value row))) in
-      (low, c.if-cell-count.true, subst (λ (q : ℚ). q <ℚ zero_ℚ) (found_at value n row rises i cell inside c.index-row-i.is) (c.is_negative.ensures.0 c.if-is_negative.true))
+    let e = entry_read value row i cell inside c.index-row-i.is in
+    let low : 1 ≤ cell.at = subst (λ p. 1 ≤ p.place) (sym e) (place_above n 0 (entries value row) i (record { place = cell.at; value = value cell.value }) rises (omega (arith, inside, length-entries value row))) in
+    (low, c.if-cell-count.true, subst (λ (q : ℚ). q <ℚ zero_ℚ) (found_at value n row rises i cell inside c.index-row-i.is) (c.is_negative.ensures.0 c.if-is_negative.true))
 
 pub loop-i-preserved : goal.loop-i-preserved
 loop-i-preserved g c =
@@ -33,17 +33,18 @@ loop-i-preserved g c =
     let cell = c.index-row-i.result in
     let inside : i < length row = omega arith in
     λ j l.
-      elim c.else-cell-count.branch
-        [ else-cell-count-via-then-cell-count+else-is_negative w ↦
-            scanned_more value row i cell j inside c.index-row-i.is (c.loop-i.invariant j l)
-              (shown_kept (nat_eq cell.at j) (value cell.value) (not_negative w.is_negative.result (value cell.value) w.is_negative.ensures w.if-is_negative.false))
-        | else-cell-count-via-else-cell-count w ↦
-            scanned_more value row i cell j inside c.index-row-i.is (c.loop-i.invariant j l)
-              (shown_elsewhere (nat_eq cell.at j) (value cell.value) (not_same cell.at j (λ e. omega (arith, e, l, w.if-cell-count.false)))) ]
+    elim c.else-cell-count.branch [
+      | else-cell-count-via-then-cell-count+else-is_negative w ↦
+          scanned_more value row i cell j inside c.index-row-i.is (c.loop-i.invariant j l)
+          (shown_kept (nat_eq cell.at j) (value cell.value) (not_negative w.is_negative.result (value cell.value) w.is_negative.ensures w.if-is_negative.false))
+      | else-cell-count-via-else-cell-count w ↦
+          scanned_more value row i cell j inside c.index-row-i.is (c.loop-i.invariant j l)
+          (shown_elsewhere (nat_eq cell.at j) (value cell.value) (not_same cell.at j (λ e. omega (arith, e, l, w.if-cell-count.false))))
+    ]
 
 pub returns : goal.returns
 returns g c =
     let value = g.F.Field.value in
     let row = c.args.row.now in
     λ n rises j low high.
-      subst (λ xs. zero_ℚ ≤ℚ sum_at (entries value xs) j) (take_all c.loop-i.i row (omega arith)) (c.loop-i.invariant j high)
+    subst (λ xs. zero_ℚ ≤ℚ sum_at (entries value xs) j) (take_all c.loop-i.i row (omega arith)) (c.loop-i.invariant j high)

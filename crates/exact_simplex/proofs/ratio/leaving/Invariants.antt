@@ -1,4 +1,4 @@
-use Rattle.std.proofs.Common.{ℕ, ◌<◌, length}
+use Rattle.std.proofs.Common.{◌<◌, length}
 use Rattle.std.specs.Prelude.{⊤, MatchOption}
 use Rattle.lin_rows.specs.Lines.{lines}
 use Rattle.exact_simplex.specs.Ratios.{IsLeaving}
