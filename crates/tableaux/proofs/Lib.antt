@@ -10,6 +10,7 @@ pub mod Inverse
 pub mod Lexicographic
 pub mod Matrix
 pub mod Orthogonal
+pub mod Own
 pub mod Phases
 pub mod Places
 pub mod Products

@@ -6,7 +6,7 @@ use Rattle.polyhedra.proofs.Lists.{Contains-here, Contains-there, Contains-cases
 use Rattle.std.proofs.Math.Nat.{eq-or-lt_of_le}
 use Rattle.std.proofs.lemmas.List.Elements.{All-head, All-tail}
 use Rattle.polyhedra.proofs.Members.{Contains-map}
-use Rattle.tableaux.specs.Table.{Table, row_of, list_from, listed}
+use Rattle.tableaux.specs.Table.{Table, row_of, list_from}
 use Rattle.tableaux.specs.Dictionary.{IsDictionary}
 use Rattle.tableaux.specs.Laws.{MeasureFalls}
 use Rattle.tableaux.specs.Lex.{lex_less, entries_at}
@@ -46,10 +46,10 @@ pub cost_found : (width : ℕ) (t : Table) (i : ℕ) (columns basis : List ℕ) 
     cost_at width t i columns basis ≡ Some (entries_at columns (row_of d i))
 cost_found width t i columns basis d w h l u = ap (taken columns) (row_found t basis width d i w h l u)
 
--- all lists of m numbers from 1 to w
+-- all lists of m numbers up to w
 abbrev pub all_lists : ℕ → ℕ → List (List ℕ)
 all_lists zero w = [] ∷ []
-all_lists (suc m) w = flat_map (λ c. map (λ b. c ∷ b) (all_lists m w)) (listed w (λ c. c))
+all_lists (suc m) w = flat_map (λ c. map (λ b. c ∷ b) (all_lists m w)) (list_from 0 (suc w) (λ c. c))
 
 pub contains_append_left : {X : Type 0} (xs ys : List X) (x : X) → Contains xs x → Contains (xs ++ ys) x
 contains_append_left [] ys x c = absurd (Contains-nil x c)
@@ -76,18 +76,17 @@ contains_number k (suc n) c h l =
       | inr m ↦ Contains-there k (list_from (suc k) n (λ i. i)) c (contains_number (suc k) n c (omega (arith, m)) (omega arith))
     ]
 
--- a list of m numbers from 1 to w is one of them
-pub is_listed : (m w : ℕ) (b : List ℕ) → length b ≡ m → All (λ c. 1 ≤ c) b → All (λ c. c ≤ w) b → Contains (all_lists m w) b
-is_listed zero w [] l low high = Contains-here [] [] [] refl
-is_listed zero w (c ∷ b) l low high = absurd (omega arith)
-is_listed (suc m) w [] l low high = absurd (omega arith)
-is_listed (suc m) w (c ∷ b) l low high =
-    let c_low : 1 ≤ c = All-head (λ c. 1 ≤ c) c b low in
+-- a list of m numbers up to w is one of them
+pub is_listed : (m w : ℕ) (b : List ℕ) → length b ≡ m → All (λ c. c ≤ w) b → Contains (all_lists m w) b
+is_listed zero w [] l high = Contains-here [] [] [] refl
+is_listed zero w (c ∷ b) l high = absurd (omega arith)
+is_listed (suc m) w [] l high = absurd (omega arith)
+is_listed (suc m) w (c ∷ b) l high =
     let c_high : c ≤ w = All-head (λ c. c ≤ w) c b high in
-    contains_flat (λ c. map (λ b. c ∷ b) (all_lists m w)) (listed w (λ c. c)) c (c ∷ b)
-    (contains_number 1 w c c_low (omega arith))
+    contains_flat (λ c. map (λ b. c ∷ b) (all_lists m w)) (list_from 0 (suc w) (λ c. c)) c (c ∷ b)
+    (contains_number 0 (suc w) c (omega arith) (omega arith))
     (Contains-map (λ b. c ∷ b) (all_lists m w) b
-    (is_listed m w b (omega arith) (All-tail (λ c. 1 ≤ c) c b low) (All-tail (λ c. c ≤ w) c b high)))
+    (is_listed m w b (omega arith) (All-tail (λ c. c ≤ w) c b high)))
 
 -- the measure of a phase that began with the dictionary start: it falls from one dictionary of start to another whose row i is greater at
 -- these columns
@@ -102,5 +101,5 @@ measure_falls width start i columns bases basis d e w l u c h less =
 pub measure_of_a_phase : MeasureFalls
 measure_of_a_phase width t i m columns w l u = (
   remaining (cost_at width t i columns) (all_lists m width),
-  λ basis d e long low high h less. measure_falls width t i columns (all_lists m width) basis d e w l u (is_listed m width basis long low high) h less,
+  λ basis d e long high h less. measure_falls width t i columns (all_lists m width) basis d e w l u (is_listed m width basis long high) h less,
 )

@@ -1,0 +1,49 @@
+-- What a phase of the simplex method starts from, what it keeps, and how it ends.
+use Rattle.std.specs.Prelude.{ℕ, ◌+◌, ◌<◌, ◌≤◌, ◌≡◌, ◌≢◌, All, List, [], ◌∷◌, length, slice_index_or, Option, None, Some}
+use Rattle.exact_field.specs.Rational.{zero_ℚ, ◌≤ℚ◌, ◌<ℚ◌}
+use Rattle.polyhedra.specs.Sparse.{Entry}
+use Rattle.polyhedra.specs.Vectors.{AreWide}
+use Rattle.tableaux.specs.Table.{Table, row_of, at}
+use Rattle.tableaux.specs.Dictionary.{basic_column, IsDictionary}
+use Rattle.tableaux.specs.Lex.{IsLexPositive, entries_at}
+use Rattle.lin_rows.specs.Pivot.{AreTableau, table_of}
+
+-- the columns stand in a table of this width
+abbrev pub AreColumns : ℕ → List ℕ → Type 0
+AreColumns n [] = Unit {0}
+AreColumns n (c ∷ columns) = (1 ≤ c) × (c ≤ n) × AreColumns n columns
+
+-- exactly the first rows, the equations, have a column
+pub record IsEquationBasis (n equations : ℕ) (basis : List ℕ) : Type 0 where
+  pub full : (i : ℕ) → i < equations → basic_column basis (i + 1) ≢ 0
+  pub only : (i : ℕ) → equations < i → basic_column basis i ≡ 0
+  pub high : All (λ c. c ≤ n) basis
+
+-- the rows of the equations, read at these columns, are lexicographically positive
+abbrev pub ArePositive : ℕ → List ℕ → Table → Type 0
+ArePositive equations columns d = (i : ℕ) → i < equations → IsLexPositive (entries_at columns (row_of d (i + 1)))
+
+-- a phase starts with a table that is its own dictionary at a basis whose columns are among those that are compared
+pub record IsStart (n equations : ℕ) (columns : List ℕ) (start : Table) (first : List ℕ) : Type 0 where
+  pub own : IsDictionary n start first start
+  pub inside : equations ≤ length start
+  pub full : IsEquationBasis n equations first
+  pub placed : AreColumns n columns
+  pub compared : (k : ℕ) → 1 ≤ k → k ≤ equations → (j : ℕ) × (j < length columns) × (slice_index_or columns j 0 ≡ basic_column first k)
+
+-- the table is that of a dictionary wherever the start is
+abbrev pub StaysDictionary : ℕ → Table → List ℕ → Table → List ℕ → Type 0
+StaysDictionary n start first d basis = (t : Table) → AreWide n t → IsDictionary n t first start → IsDictionary n t basis d
+
+-- what a phase keeps
+pub record IsTurn (n equations : ℕ) (columns : List ℕ) (start : Table) (first : List ℕ) (ls : List (List Entry)) (basis : List ℕ) : Type 0 where
+  pub tableau : AreTableau n ls basis
+  pub dictionary : StaysDictionary n start first (table_of n ls) basis
+  pub full : IsEquationBasis n equations basis
+  pub positive : ArePositive equations columns (table_of n ls)
+
+-- no unknown betters the cost row, or this one does so without limit
+abbrev pub IsPhaseEnd : ℕ → ℕ → ℕ → Table → Option ℕ → Type 0
+IsPhaseEnd equations cost unknowns d None = (j : ℕ) → 1 ≤ j → j ≤ unknowns → zero_ℚ ≤ℚ at d (cost + 1) j
+IsPhaseEnd equations cost unknowns d (Some c) =
+    (1 ≤ c) × (c ≤ unknowns) × (at d (cost + 1) c <ℚ zero_ℚ) × ((i : ℕ) → i < equations → at d (i + 1) c ≤ℚ zero_ℚ)

@@ -1,0 +1,165 @@
+//! The choice of a column and of a row: the signs of a cost row, and the lexicographic order of the quotients of rows.
+
+ghost use Rattle.std.specs.Prelude.{◌≡◌, ◌≢◌, ◌+◌, ◌<◌, ◌≤◌, ◌↔◌, ℕ, ⊤, length, IfOk, IfErr, IsTrue, MatchOption};
+ghost use Rattle.exact_field.specs.Order.{cmp_ℚ};
+ghost use Rattle.exact_field.specs.Rational.{zero_ℚ, ◌/ℚ◌, ◌<ℚ◌};
+ghost use Rattle.lin_rows.specs.Lines.{AreLines, entries, lines, Rises, sum_at};
+ghost use Rattle.exact_simplex.specs.Ratios.{IsEither, IsEitherAt, IsEntering, IsLeaving, IsTestLeft, IsTestOf, ratios};
+ghost use Rattle.tableaux.specs.Lex.{lex_less};
+
+use exact_field::{Field, Left};
+use lin_rows::cells::{Cell, entry_at};
+use std::cmp::Ordering;
+
+/// Whether a number is above 0.
+fn is_positive<F: Field>(x: F) -> bool
+    ensures { IsTrue result ↔ (zero_ℚ <ℚ F.value x) }
+{
+    F::zero() < x
+}
+
+/// Whether a number is below 0.
+fn is_negative<F: Field>(x: F) -> bool
+    ensures { IsTrue result ↔ (F.value x <ℚ zero_ℚ) }
+{
+    x < F::zero()
+}
+
+/// Which of two rows an overflow concerns.
+pub enum Either<F> {
+    /// The first.
+    First(Left<F>),
+    /// The second.
+    Second(Left<F>),
+}
+
+/// How the quotients of two rows compare at one column.
+fn compare_at<F: Field>(
+    u: &[Cell<F>],
+    p: F,
+    v: &[Cell<F>],
+    r: F,
+    col: u32,
+) -> Result<Ordering, Either<F>>
+    requires first { F.value p ≢ zero_ℚ }
+    requires second { F.value r ≢ zero_ℚ }
+    ensures ok { (n : ℕ) → Rises n 0 (entries F.value u.now) → Rises n 0 (entries F.value v.now) → IfOk result (λ order. order ≡ cmp_ℚ (sum_at (entries F.value u.now) col /ℚ F.value p) (sum_at (entries F.value v.now) col /ℚ F.value r)) }
+    ensures left { (n : ℕ) → Rises n 0 (entries F.value u.now) → Rises n 0 (entries F.value v.now) → IfErr result (IsEitherAt F.value F.holds (F.value p) (entries F.value u.now) (F.value r) (entries F.value v.now) col) }
+{
+    let a = match entry_at(u, col).div(p) {
+        Ok(a) => a,
+        Err(left) => return Err(Either::First(left)),
+    };
+    let b = match entry_at(v, col).div(r) {
+        Ok(b) => b,
+        Err(left) => return Err(Either::Second(left)),
+    };
+    Ok(a.cmp(&b))
+}
+
+/// Whether the quotients of one row by `p`, at these columns, stand before those of another by `r`.
+fn is_before<F: Field>(
+    u: &[Cell<F>],
+    p: F,
+    v: &[Cell<F>],
+    r: F,
+    columns: &[u32],
+) -> Result<bool, Either<F>>
+    requires first { F.value p ≢ zero_ℚ }
+    requires second { F.value r ≢ zero_ℚ }
+    ensures ok { (n : ℕ) → Rises n 0 (entries F.value u.now) → Rises n 0 (entries F.value v.now) → IfOk result (λ before. before ≡ lex_less (ratios (F.value p) (entries F.value u.now) columns.now) (ratios (F.value r) (entries F.value v.now) columns.now)) }
+    ensures left { (n : ℕ) → Rises n 0 (entries F.value u.now) → Rises n 0 (entries F.value v.now) → IfErr result (IsEither F.value F.holds (F.value p) (entries F.value u.now) (F.value r) (entries F.value v.now) columns.now) }
+{
+    for i in 0..columns.len() {
+        match compare_at(u, p, v, r, columns[i]) {
+            Err(left) => return Err(left),
+            Ok(Ordering::Less) => return Ok(true),
+            Ok(Ordering::Greater) => return Ok(false),
+            Ok(Ordering::Equal) => {}
+        }
+    }
+    Ok(false)
+}
+
+/// What the ratio test left, with the row that it looked at.
+#[derive(Debug, Drop)]
+pub struct TestLeft<F: Drop> {
+    /// The row, counted from 0.
+    pub row: usize,
+    /// The operands.
+    pub left: Left<F>,
+}
+
+/// The row that the overflow concerns.
+fn test_left<F: Field>(first: usize, second: usize, either: Either<F>) -> TestLeft<F>
+    ensures { IsTestOf first second either result }
+{
+    match either {
+        Either::First(left) => TestLeft { row: first, left },
+        Either::Second(left) => TestLeft { row: second, left },
+    }
+}
+
+/// The least row of the first `i + 1`, where `best` is that of the first `i`.
+fn better<F: Field>(
+    rows: &[Vec<Cell<F>>],
+    i: usize,
+    best: Option<usize>,
+    col: u32,
+    columns: &[u32],
+) -> Result<Option<usize>, TestLeft<F>>
+    requires inside { i < length rows.now }
+    requires found { MatchOption best ⊤ (λ r. r < length rows.now) }
+    requires lines { (n : ℕ) × AreLines n (lines F.value rows.now) × IsLeaving (lines F.value rows.now) col columns.now i best }
+    ensures found { IfOk result (λ r. MatchOption r ⊤ (λ r. r < length rows.now)) }
+    ensures ok { (n : ℕ) → AreLines n (lines F.value rows.now) → IsLeaving (lines F.value rows.now) col columns.now i best → IfOk result (IsLeaving (lines F.value rows.now) col columns.now (i + 1)) }
+    ensures left { (n : ℕ) → AreLines n (lines F.value rows.now) → IfErr result (λ test. IsTestLeft F.value F.holds (lines F.value rows.now) col columns.now test.row test.left) }
+{
+    let p = entry_at(&rows[i], col);
+    if !is_positive(p) {
+        return Ok(best);
+    }
+    match best {
+        None => Ok(Some(i)),
+        Some(b) => {
+            let r = entry_at(&rows[b], col);
+            match is_before(&rows[i], p, &rows[b], r, columns) {
+                Err(either) => Err(test_left(i, b, either)),
+                Ok(true) => Ok(Some(i)),
+                Ok(false) => Ok(Some(b)),
+            }
+        }
+    }
+}
+
+/// The ratio test over the first `count` rows: the row with the lexicographically least quotients, if any has a positive entry.
+pub fn leaving<F: Field>(
+    rows: &[Vec<Cell<F>>],
+    count: usize,
+    col: u32,
+    columns: &[u32],
+) -> Result<Option<usize>, TestLeft<F>>
+    requires inside { count ≤ length rows.now }
+    requires lines { (n : ℕ) × AreLines n (lines F.value rows.now) }
+    ensures ok { IfOk result (IsLeaving (lines F.value rows.now) col columns.now count) }
+    ensures left { IfErr result (λ test. IsTestLeft F.value F.holds (lines F.value rows.now) col columns.now test.row test.left) }
+{
+    let mut best = None;
+    for i in 0..count {
+        best = better(rows, i, best, col, columns)?;
+    }
+    Ok(best)
+}
+
+/// A column among the first `count` at which the row is negative: the first.
+pub fn entering<F: Field>(row: &[Cell<F>], count: u32) -> Option<u32>
+    ensures { (n : ℕ) → Rises n 0 (entries F.value row.now) → IsEntering (entries F.value row.now) count result }
+{
+    for i in 0..row.len() {
+        let cell = row[i];
+        if cell.at <= count && is_negative(cell.value) {
+            return Some(cell.at);
+        }
+    }
+    None
+}
