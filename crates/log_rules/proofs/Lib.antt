@@ -1,5 +1,4 @@
 pub mod AddDescribes
-pub mod Additions
 pub mod AnswerMembers
 pub mod Balanced
 pub mod ByEntries

@@ -6,5 +6,6 @@ pub mod Meets
 pub mod Names
 pub mod Order
 pub mod Proves
+pub mod Report
 pub mod Right
 pub mod Runs
