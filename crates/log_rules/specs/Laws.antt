@@ -1,9 +1,10 @@
 -- What is proved of the rules: against events, of what stands, and of answers.
 use Rattle.polyhedra.specs.Exactness.{IsSolved}
-use Rattle.polyhedra.specs.Hull.{IsInHull, IsValidAt, IsVertex}
+use Rattle.polyhedra.specs.Hull.{IsInHull, IsValidAt, IsVertex, IsExtremeDirection, IsNormedDirection}
 use Rattle.polyhedra.specs.Inequality.{Inequality}
-use Rattle.polyhedra.specs.LowerImage.{completed}
-use Rattle.upper_image.specs.UpperImage.{IsInWorkingImage, IsWorkingDirection, IsInImage, IsDirection, IsValidFor, front, IsInLowerImageOf}
+use Rattle.polyhedra.specs.LowerImage.{completed, IsRecession}
+use Rattle.polyhedra.specs.Vectors.{zeros}
+use Rattle.upper_image.specs.UpperImage.{IsInWorkingImage, IsWorkingDirection, IsInImage, IsDirection, IsValidFor, front, IsInLowerImageOf, signed}
 use Rattle.log_rules.specs.Events.{log_failure}
 use Rattle.polyhedra.specs.LiveList.{Numbered}
 use Rattle.polyhedra.specs.LiveSteps.{IsLive}
@@ -11,7 +12,7 @@ use Rattle.log_rules.specs.Live.{State, state, live_vectors, y_of, t_of, cut_at,
 use Rattle.log_rules.specs.Proves.{AllMeet, Proves}
 use Rattle.log_rules.specs.Right.{IsRight, stated, IsSolution}
 use Rattle.std.specs.Prelude.{ℕ, ◌≡◌, ◌⊎◌, ◌++◌, suc, ◌<◌, true, List, [], map, filter, All, Contains, IsTrue, Bool, None, ◌↔◌, ◌-◌, ◌∷◌, length}
-use Rattle.exact_field.specs.Rational.{ℚ, zero_ℚ, one_ℚ}
+use Rattle.exact_field.specs.Rational.{ℚ, zero_ℚ, one_ℚ, neg_ℚ}
 use Rattle.exact_field.specs.Order.{same_ℚ}
 use Rattle.vlp_reader.specs.declared.problem.Problem.{Problem}
 use Rattle.log_rules.specs.declared.answer.Answer.{Answer}
@@ -94,8 +95,16 @@ RightSolutionsAgree = (file : Problem) (c : List ℚ) (points points' directions
     (map (λ g. g.y) points ≡ map (λ g. g.y) points') × (map (λ g. g.y) directions ≡ map (λ g. g.y) directions')
     × (map stated facets ≡ map stated facets') × (map (λ f. f.tight) facets ≡ map (λ f. f.tight) facets')
 
--- the facets of a right solution, each by all entries of its normal but the last and its bound, are the vertices of the lower image
-abbrev pub FacetsAreLowerVertices : Type 0
-FacetsAreLowerVertices = (file : Problem) (c : List ℚ) (points directions : List Gen) (facets : List Facet) →
-    IsSolution file c points directions facets → (w : List ℚ) (bound : ℚ) → length w ≡ file.objs - 1 →
-    Contains (map stated facets) (completed (front c) w bound) ↔ IsVertex (IsInLowerImageOf file c) (w ++ bound ∷ [])
+-- the facets, each by all entries of its normal but the last and its bound, are the vertices of the lower image; and where that is not
+-- empty it has one normed extreme direction, in which the bound says less
+pub record DescribeLowerImage (file : Problem) (c : List ℚ) (facets : List Facet) : Type 0 where
+  pub vertices : (w : List ℚ) (bound : ℚ) → length w ≡ file.objs - 1 →
+      Contains (map stated facets) (completed (front c) w bound) ↔ IsVertex (IsInLowerImageOf file c) (w ++ bound ∷ [])
+  pub direction : (v : List ℚ) → IsInLowerImageOf file c v → (d : List ℚ) →
+      (IsExtremeDirection file.objs (IsRecession file.objs (IsInLowerImageOf file c)) d × IsNormedDirection d)
+      ↔ (d ≡ zeros (file.objs - 1) ++ signed file.dir (neg_ℚ one_ℚ) ∷ [])
+
+-- so it is for a right solution
+abbrev pub FacetsDescribeLowerImage : Type 0
+FacetsDescribeLowerImage = (file : Problem) (c : List ℚ) (points directions : List Gen) (facets : List Facet) →
+    IsSolution file c points directions facets → DescribeLowerImage file c facets
