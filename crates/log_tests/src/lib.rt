@@ -1,0 +1,7 @@
+//! The tests and steps of log entries that depend on the problem and on vectors alone. Each call goes
+//! through the events of its entry, or of a part of it, and stops at the first that fails.
+#![tactic(auto)]
+
+mod steps;
+
+pub use steps::{Steps, pass};
