@@ -22,6 +22,7 @@ use Rattle.log_rules.specs.Events.Event.{step, test}
 use Rattle.log_rules.specs.Runs.{Runs, Stops, steps}
 use Rattle.log_rules.specs.declared.stop.Stop.{Stop}
 use Rattle.log_rules.proofs.Failures.{steps-append}
+use Rattle.log_tests.proofs.Going.{any-default}
 use Rattle.log_rules.proofs.SparseSteps.{end_at, product_steps-sparse}
 use Rattle.log_rules.proofs.Through.{IsThrough, through-start, through-more, through-stop, through-end, through-as}
 
@@ -210,12 +211,6 @@ zip-swapped [] (y ∷ w) = refl
 zip-swapped (x ∷ v) [] = refl
 zip-swapped (x ∷ v) (y ∷ w) = ap (λ fs. (y, x) ∷ fs) (zip-swapped v w)
 
--- an entry within a list is the same whatever stands for those past its end
-at_any : (xs : List ℚ) (i : ℕ) (d e : ℚ) → i < length xs → slice_index_or xs i d ≡ slice_index_or xs i e
-at_any [] i d e h = absurd (omega (arith, h))
-at_any (x ∷ xs) zero d e h = refl
-at_any (x ∷ xs) (suc i) d e h = at_any xs i d e (omega (arith, h))
-
 -- ---- the places of a sparse vector
 -- the factors at its places, the vector's entry first, and with its own entry first
 abbrev pub at_spots : List ℚ → List Spot → List (ℚ × ℚ)
@@ -264,11 +259,11 @@ place-within n spots i s h l p = (go 0 spots i s h.sparse l p, subst (λ (z : Sp
 pub spot-at : (w : List ℚ) (spots : List Spot) (i : ℕ) (s : Spot) (b : ℚ) → i < length spots → s ≡ slice_index_or spots i s →
     1 ≤ s.at → s.at ≤ length w → b ≡ slice_index_or w (s.at - 1) b → (s.value, b) ≡ slice_index_or (of_spots spots w) i (s.value, b)
 spot-at w [] i s b l p low high q = absurd (omega (arith, l))
-spot-at w (x ∷ spots) zero s b l p low high q = ap₂ (λ (c d : ℚ). (c, d)) (ap (λ (z : Spot). z.value) p) (q ∙ at_any w (s.at - 1) b zero_ℚ (omega arith) ∙ ap (λ (z : Spot). entry w z.at) p)
+spot-at w (x ∷ spots) zero s b l p low high q = ap₂ (λ (c d : ℚ). (c, d)) (ap (λ (z : Spot). z.value) p) (q ∙ any-default w (s.at - 1) b zero_ℚ (omega arith) ∙ ap (λ (z : Spot). entry w z.at) p)
 spot-at w (x ∷ spots) (suc i) s b l p low high q = spot-at w spots i s b (omega (arith, l)) p low high q
 
 pub at-spot : (w : List ℚ) (spots : List Spot) (i : ℕ) (s : Spot) (b : ℚ) → i < length spots → s ≡ slice_index_or spots i s →
     1 ≤ s.at → s.at ≤ length w → b ≡ slice_index_or w (s.at - 1) b → (b, s.value) ≡ slice_index_or (at_spots w spots) i (b, s.value)
 at-spot w [] i s b l p low high q = absurd (omega (arith, l))
-at-spot w (x ∷ spots) zero s b l p low high q = ap₂ (λ (c d : ℚ). (c, d)) (q ∙ at_any w (s.at - 1) b zero_ℚ (omega arith) ∙ ap (λ (z : Spot). entry w z.at) p) (ap (λ (z : Spot). z.value) p)
+at-spot w (x ∷ spots) zero s b l p low high q = ap₂ (λ (c d : ℚ). (c, d)) (q ∙ any-default w (s.at - 1) b zero_ℚ (omega arith) ∙ ap (λ (z : Spot). entry w z.at) p) (ap (λ (z : Spot). z.value) p)
 at-spot w (x ∷ spots) (suc i) s b l p low high q = at-spot w spots i s b (omega (arith, l)) p low high q

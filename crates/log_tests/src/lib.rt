@@ -2,6 +2,10 @@
 //! through the events of its entry, or of a part of it, and stops at the first that fails.
 #![tactic(auto)]
 
+mod cone;
+mod sheet;
 mod steps;
 
+pub use cone::{in_cone, in_dual_cone};
+pub use sheet::{Matrix, Sheet};
 pub use steps::{Steps, pass};
