@@ -1,8 +1,9 @@
 -- How calls go through events: piece by piece, and item by item of a loop. General; belongs in log_rules.
-use Rattle.std.proofs.Common.{◌≡◌, ℕ, zero, suc, ◌+◌, ◌-◌, ◌<◌, ◌≤◌, List, [], ◌∷◌, ◌++◌, refl, sym, ap, ◌∙◌, subst, arith, None, length, drop, slice_index_or, true, false, nat_le, All}
+use Rattle.std.proofs.Common.{◌≡◌, ℕ, zero, suc, ◌+◌, ◌-◌, ◌<◌, ◌≤◌, List, [], ◌∷◌, ◌++◌, refl, sym, ap, ap₂, ◌∙◌, subst, arith, None, length, drop, slice_index_or, true, false, nat_le, All, map}
 use Rattle.std.specs.Prelude.{Ok, ⊤, Bool, Result}
-use Rattle.std.specs.List.{flat_map, list_all}
+use Rattle.std.specs.List.{flat_map, list_all, zip}
 use Rattle.std.proofs.lemmas.Bool.{leb-true}
+use Rattle.std.proofs.lemmas.List.{append-nil}
 use Rattle.std.proofs.lemmas.List.Elements.{All-weaker}
 use Rattle.frac128.specs.declared.vectors.Spot.{Spot}
 use Rattle.log_rules.specs.declared.rule.Rule.TheVariants as rule
@@ -55,6 +56,10 @@ stopped-behind {A} {B} {s} {m} {stop} p q = record { at = same_stop (A ++ B) B s
 pub ran-behind : {X : Type 0} {A B : List Event} {s m n : ℕ} {V : X → Type 0} {result : Result X Stop} → Passed A s m → Ran B m n V result → Ran (A ++ B) s n V result
 ran-behind {X} {A} {B} {s} {m} {n} {V} {result} p q = record { runs = runs-then is_held A B s m n V result p.none p.count q.runs }
 
+-- a call stops behind the events, by want of memory
+pub stopped-after : {A : List Event} {s m : ℕ} {stop : Stop} → Passed A s m → Stopped [] m stop → Stopped A s stop
+stopped-after {A} {s} {m} {stop} p q = subst (λ (es : List Event). Stopped es s stop) (append-nil A) (stopped-behind p q)
+
 -- ---- tests
 -- a test that code made, as the events have it
 pub test-as : (r : Rule) (b B : Bool) (taken : ℕ) (result : Result (Unit {0}) Stop) → b ≡ B →
@@ -99,6 +104,39 @@ pub item-as : {X : Type 0} (xs : List X) (i : ℕ) (x y : X) → y ≡ x → x �
 item-as {X} xs i x y e h = subst (λ (z : X). z ≡ slice_index_or xs i z) (sym e) h
 
 -- the item at a place of the numbers from 1 on
+-- an item of a list of images, and a pair of items
+pub map-at : {X Y : Type 0} (f : X → Y) (xs : List X) (i : ℕ) (x : X) → i < length xs → x ≡ slice_index_or xs i x → f x ≡ slice_index_or (map f xs) i (f x)
+map-at f [] i x h p = absurd (omega (arith, h))
+map-at f (y ∷ xs) zero x h p = ap f p
+map-at f (y ∷ xs) (suc i) x h p = map-at f xs i x (omega (arith, h)) p
+
+pub length-zip : {X Y : Type 0} (xs : List X) (ys : List Y) → length xs ≡ length ys → length (zip xs ys) ≡ length xs
+length-zip [] ys h = refl
+length-zip (x ∷ xs) [] h = absurd (omega (arith, h))
+length-zip (x ∷ xs) (y ∷ ys) h = ap suc (length-zip xs ys (omega (arith, h)))
+
+pub zip-at : {X Y : Type 0} (i : ℕ) (xs : List X) (ys : List Y) (a : X) (b : Y) → i < length xs → length xs ≡ length ys → a ≡ slice_index_or xs i a →
+    b ≡ slice_index_or ys i b → (a, b) ≡ slice_index_or (zip xs ys) i (a, b)
+zip-at i [] ys a b h l p q = absurd (omega (arith, h))
+zip-at i (x ∷ xs) [] a b h l p q = absurd (omega (arith, l))
+zip-at zero (x ∷ xs) (y ∷ ys) a b h l p q = ap₂ (λ c d. (c, d)) p q
+zip-at (suc i) (x ∷ xs) (y ∷ ys) a b h l p q = zip-at i xs ys a b (omega (arith, h)) (omega (arith, l)) p q
+
+-- the items from a place on
+pub drop-next : {X : Type 0} (i : ℕ) (xs : List X) (x : X) → i < length xs → x ≡ slice_index_or xs i x → drop i xs ≡ x ∷ drop (suc i) xs
+drop-next i [] x h p = absurd (omega (arith, h))
+drop-next zero (y ∷ xs) x h p = ap (λ c. c ∷ xs) (sym p)
+drop-next (suc i) (y ∷ xs) x h p = drop-next i xs x (omega (arith, h)) p
+
+pub drop-next-of : {X : Type 0} (xs : List X) (i j : ℕ) (x : X) → i + 1 ≡ j → i < length xs → x ≡ slice_index_or xs i x → drop i xs ≡ x ∷ drop j xs
+drop-next-of {X} xs i j x e h p =
+    let k : suc i ≡ j = omega (arith, e) in
+    subst (λ (n : ℕ). drop i xs ≡ x ∷ drop n xs) k (drop-next i xs x h p)
+
+pub drop-whole : {X : Type 0} (xs : List X) → drop (length xs) xs ≡ []
+drop-whole [] = refl
+drop-whole (x ∷ xs) = drop-whole xs
+
 -- the next entry of a vector, by its number
 pub next-entry : (v : List ℚ) (i : ℕ) (x : ℚ) → i < length v → x ≡ slice_index_or v i x → x ≡ entry v (i + 1)
 next-entry v i x h p =

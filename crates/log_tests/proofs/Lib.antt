@@ -1,3 +1,4 @@
 pub mod Going
 pub mod Products
 pub mod Columns
+pub mod SheetEvents

@@ -22,7 +22,7 @@ use Rattle.log_rules.specs.Events.Event.{step, test}
 use Rattle.log_rules.specs.Runs.{Runs, Stops, steps}
 use Rattle.log_rules.specs.declared.stop.Stop.{Stop}
 use Rattle.log_rules.proofs.Failures.{steps-append}
-use Rattle.log_tests.proofs.Going.{any-default}
+use Rattle.log_tests.proofs.Going.{any-default, drop-next, drop-whole}
 use Rattle.log_rules.proofs.SparseSteps.{end_at, product_steps-sparse}
 use Rattle.log_rules.proofs.Through.{IsThrough, through-start, through-more, through-stop, through-end, through-as}
 
@@ -78,15 +78,6 @@ sum_from-cons t a b fs = go (is_zero a || is_zero b) refl
     go true h = ap (λ z. sum_from z fs) (sym (none_more t a b h))
     go false h = refl
 
-drop-next : (i : ℕ) (fs : List (ℚ × ℚ)) (f : ℚ × ℚ) → i < length fs → f ≡ slice_index_or fs i f → drop i fs ≡ f ∷ drop (suc i) fs
-drop-next i [] f h p = absurd (omega (arith, h))
-drop-next zero (g ∷ fs) f h p = ap (λ c. c ∷ fs) (sym p)
-drop-next (suc i) (g ∷ fs) f h p = drop-next i fs f (omega (arith, h)) p
-
-drop-whole : (fs : List (ℚ × ℚ)) → drop (length fs) fs ≡ []
-drop-whole [] = refl
-drop-whole (f ∷ fs) = drop-whole fs
-
 -- what is known before place i: the rest of the events, and what the rest adds up to
 pub record IsSummed (fs : List (ℚ × ℚ)) (start i taken : ℕ) (total : ℚ) : Type 0 where
   pub through : IsThrough (sum_from zero_ℚ fs) start taken (sum_from total (drop i fs))
@@ -134,18 +125,6 @@ summed-end fs start i taken total h s =
     (sym (add-zero_ℚ total) ∙ sym (ap (λ (gs : List (ℚ × ℚ)). total +ℚ products gs) over) ∙ s.sum)
 
 -- ---- the places of two vectors
-pub length-zip : (v w : List ℚ) → length v ≡ length w → length (zip v w) ≡ length v
-length-zip [] w h = refl
-length-zip (x ∷ v) [] h = absurd (omega (arith, h))
-length-zip (x ∷ v) (y ∷ w) h = ap suc (length-zip v w (omega (arith, h)))
-
-pub zip-at : (i : ℕ) (v w : List ℚ) (a b : ℚ) → i < length v → length v ≡ length w → a ≡ slice_index_or v i a → b ≡ slice_index_or w i b →
-    (a, b) ≡ slice_index_or (zip v w) i (a, b)
-zip-at i [] w a b h l p q = absurd (omega (arith, h))
-zip-at i (x ∷ v) [] a b h l p q = absurd (omega (arith, l))
-zip-at zero (x ∷ v) (y ∷ w) a b h l p q = ap₂ (λ c d. (c, d)) p q
-zip-at (suc i) (x ∷ v) (y ∷ w) a b h l p q = zip-at i v w a b (omega (arith, h)) (omega (arith, l)) p q
-
 pub products-zip : (v w : List ℚ) → products (zip v w) ≡ dot v w
 products-zip [] w = refl
 products-zip (x ∷ v) [] = refl

@@ -1,12 +1,14 @@
 -- Parts of the events of entries, by the names of the calls that go through them.
 use Rattle.std.specs.Prelude.{ℕ, List, [], ◌∷◌, ◌++◌, length}
-use Rattle.std.specs.List.{flat_map}
+use Rattle.std.specs.List.{flat_map, zip}
 use Rattle.exact_field.specs.Rational.{ℚ, zero_ℚ, le_ℚ}
 use Rattle.exact_field.specs.Order.{same_ℚ}
 use Rattle.exact_field.specs.Vector.{dot, entry}
+use Rattle.exact_field.specs.declared.op.Op.TheVariants as op
+use Rattle.frac128.specs.Sparse.{is_zero}
 use Rattle.frac128.specs.declared.vectors.Spot.{Spot}
 use Rattle.log_rules.specs.Events.{Event, dot_steps, product_steps}
-use Rattle.log_rules.specs.Events.Event.{test}
+use Rattle.log_rules.specs.Events.Event.{test, step}
 use Rattle.log_rules.specs.declared.rule.Rule.TheVariants as rule
 use Rattle.upper_image.specs.Spots.{column, product}
 use Rattle.vlp_reader.specs.Sides.{numbers_from}
@@ -22,3 +24,43 @@ entry_events vectors m x i = product_steps (column vectors i) m ++ test rule.Con
 -- it is e
 abbrev pub combination_events : List (List ℚ) → List ℚ → List Spot → List Event
 combination_events vectors e m = flat_map (λ i. entry_events vectors m (entry e i) i) (numbers_from 1 (length e))
+
+-- ---- sides
+-- the product of v with x is at least the bound
+abbrev pub side_events : List ℚ → List ℚ → ℚ → List Event
+side_events v x bound = dot_steps v x ++ test rule.Side (le_ℚ bound (dot v x)) ∷ []
+
+-- x meets the sides with these normals and bounds
+abbrev pub sides_events : List (List ℚ) → List ℚ → List ℚ → List Event
+sides_events normals bounds x = flat_map (λ p. side_events p.0 x p.1) (zip normals bounds)
+
+-- no side with these normals falls along x
+abbrev pub recession_events : List (List ℚ) → List ℚ → List Event
+recession_events normals x = flat_map (λ v. side_events v x zero_ℚ) normals
+
+-- ---- the image
+-- y minus the product of v with x
+abbrev pub difference_events : List ℚ → List ℚ → ℚ → List Event
+difference_events v x y = dot_steps v x ++ step op.Sub y (dot v x) ∷ []
+
+-- the same for each entry of y and its row
+abbrev pub rest_events : List (List ℚ) → List ℚ → List ℚ → List Event
+rest_events rows y x = flat_map (λ p. difference_events p.0 x p.1) (zip rows y)
+
+-- ---- columns
+-- the product of a column of the sides with u is that of a column of the objectives with w
+abbrev pub balance_events : List ℚ → List ℚ → List ℚ → List ℚ → List Event
+balance_events sides objectives u w =
+    dot_steps sides u ++ dot_steps objectives w ++ test rule.Balance (same_ℚ (dot sides u) (dot objectives w)) ∷ []
+
+-- the same in each column
+abbrev pub balances_events : List (List ℚ) → List (List ℚ) → List ℚ → List ℚ → List Event
+balances_events sides objectives u w = flat_map (λ p. balance_events p.0 p.1 u w) (zip sides objectives)
+
+-- the product of a column of the sides with u is 0
+abbrev pub vanishing_events : List ℚ → List ℚ → List Event
+vanishing_events u v = dot_steps v u ++ test rule.Balance (is_zero (dot v u)) ∷ []
+
+-- the same in each column
+abbrev pub contradiction_events : List (List ℚ) → List ℚ → List Event
+contradiction_events sides u = flat_map (vanishing_events u) sides

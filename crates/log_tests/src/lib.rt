@@ -3,9 +3,11 @@
 #![tactic(auto)]
 
 mod cone;
+mod image;
 mod sheet;
 mod steps;
 
 pub use cone::{in_cone, in_dual_cone};
+pub use image::{above, in_feasible, in_recession};
 pub use sheet::{Matrix, Sheet};
 pub use steps::{Steps, pass};

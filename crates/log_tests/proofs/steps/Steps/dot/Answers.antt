@@ -5,7 +5,8 @@ use Rattle.exact_field.specs.Rational.{ℚ}
 use Rattle.frac128.specs.Held.{is_held}
 use Rattle.log_rules.specs.Events.{dot_steps}
 use Rattle.log_rules.specs.Runs.{Runs}
-use Rattle.log_tests.proofs.Products.{summed-start, summed-more, summed-room, summed-stop, summed-end, zip-at, length-zip, products-zip}
+use Rattle.log_tests.proofs.Products.{summed-start, summed-more, summed-room, summed-stop, summed-end, products-zip}
+use Rattle.log_tests.proofs.Going.{zip-at, length-zip}
 use Rattle.log_tests.proofs.steps.Steps.dot.Goals as goal
 
 pub loop-i-init : goal.loop-i-init
