@@ -1,8 +1,8 @@
 -- How calls go through events: piece by piece, and item by item of a loop. General; belongs in log_rules.
-use Rattle.std.proofs.Common.{◌≡◌, ℕ, zero, suc, ◌+◌, ◌-◌, ◌<◌, ◌≤◌, List, [], ◌∷◌, ◌++◌, refl, sym, ap, ap₂, ◌∙◌, subst, arith, None, length, drop, slice_index_or, true, false, nat_le, All, map}
-use Rattle.std.specs.Prelude.{Ok, ⊤, Bool, Result}
+use Rattle.std.proofs.Common.{◌≡◌, ℕ, zero, suc, ◌+◌, ◌-◌, ◌<◌, ◌≤◌, List, [], ◌∷◌, ◌++◌, refl, sym, ap, ap₂, ◌∙◌, subst, arith, None, length, drop, slice_index_or, true, false, nat_le, All, map, ◌==◌}
+use Rattle.std.specs.Prelude.{Ok, Err, ⊤, Bool, Result}
 use Rattle.std.specs.List.{flat_map, list_all, zip}
-use Rattle.std.proofs.lemmas.Bool.{leb-true}
+use Rattle.std.proofs.lemmas.Bool.{leb-true, eqb-true}
 use Rattle.std.proofs.lemmas.List.{append-nil}
 use Rattle.std.proofs.lemmas.List.Elements.{All-weaker}
 use Rattle.frac128.specs.declared.vectors.Spot.{Spot}
@@ -60,6 +60,11 @@ ran-behind {X} {A} {B} {s} {m} {n} {V} {result} p q = record { runs = runs-then 
 pub stopped-after : {A : List Event} {s m : ℕ} {stop : Stop} → Passed A s m → Stopped [] m stop → Stopped A s stop
 stopped-after {A} {s} {m} {stop} p q = subst (λ (es : List Event). Stopped es s stop) (append-nil A) (stopped-behind p q)
 
+-- a call that begins at the first step
+pub whole-run : {X : Type 0} (E : List Event) (now : ℕ) (V : X → Type 0) (result : Result X Stop) → Runs is_held E 0 now V result → Runs is_held E 0 (steps E) V result
+whole-run E now V (Ok x) h = (h.0, omega arith, h.2)
+whole-run E now V (Err stop) h = h
+
 -- ---- tests
 -- a test that code made, as the events have it
 pub test-as : (r : Rule) (b B : Bool) (taken : ℕ) (result : Result (Unit {0}) Stop) → b ≡ B →
@@ -75,6 +80,10 @@ then-test A s m r b B result p e h = runs-then is_held A (test r B ∷ []) s m m
 pub test-passed : (n : ℕ) (r : Rule) (b : Bool) → first_failure is_held n (test r b ∷ []) ≡ None → b ≡ true
 test-passed n r true h = refl
 test-passed n r false h = absurd cc
+
+-- a length that was tested
+pub length-tested : (n k : ℕ) → first_failure is_held 1 (test rule.Length (n == k) ∷ []) ≡ None → n ≡ k
+length-tested n k h = eqb-true n k (test-passed 1 rule.Length (n == k) h)
 
 -- the places that were tested
 pub spots-within : (taken n : ℕ) (spots : List Spot) → first_failure is_held (suc taken) (places_within n spots ∷ []) ≡ None → All (λ s. s.at ≤ n) spots

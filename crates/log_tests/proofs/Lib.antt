@@ -2,3 +2,4 @@ pub mod Going
 pub mod Products
 pub mod Columns
 pub mod SheetEvents
+pub mod StepBounds

@@ -1,16 +1,16 @@
 -- The events of an entry, as code goes through them by the rows and the columns of a sheet.
-use Rattle.std.proofs.Common.{◌≡◌, ◌≢◌, ℕ, zero, suc, ◌+◌, ◌-◌, ◌<◌, ◌≤◌, List, [], ◌∷◌, ◌++◌, refl, sym, ap, ap₂, ◌∙◌, subst, arith, Bool, true, false, length, map, if◌then◌else◌, slice_index_or, All, nat_eq, replicate, take}
+use Rattle.std.proofs.Common.{◌≡◌, ◌≢◌, ℕ, zero, suc, ◌+◌, ◌-◌, ◌<◌, ◌≤◌, List, [], ◌∷◌, ◌++◌, refl, sym, ap, ap₂, ◌∙◌, subst, arith, Bool, true, false, length, map, if◌then◌else◌, slice_index_or, All, nat_eq, replicate, take, ◌==◌}
 use Rattle.std.specs.Prelude.{⊤, Some}
 use Rattle.std.specs.List.{flat_map, zip}
 use Rattle.std.proofs.Math.ListN.{set}
 use Rattle.std.specs.Ordering.{as_partial_cmp, partial_le}
 use Rattle.std.specs.declared.cmp.Ordering.TheVariants.{Less, Equal, Greater}
 use Rattle.std.proofs.lemmas.Bool.{eq-eqb, ne_eqb}
-use Rattle.std.proofs.lemmas.List.{length-map, map-append, take_more}
+use Rattle.std.proofs.lemmas.List.{length-map, map-append, take_more, append_assoc}
 use Rattle.std.proofs.lemmas.List.Elements.{All-nil, All-head, All-tail}
 use Rattle.std.proofs.lemmas.List.Folds.{flat_map-map}
 use Rattle.exact_field.specs.Order.{same_ℚ, cmp_ℚ}
-use Rattle.exact_field.specs.Rational.{ℚ, zero_ℚ, le_ℚ, neg_ℚ, ◌-ℚ◌, ◌+ℚ◌}
+use Rattle.exact_field.specs.Rational.{ℚ, zero_ℚ, one_ℚ, le_ℚ, lt_ℚ, neg_ℚ, ◌-ℚ◌, ◌+ℚ◌}
 use Rattle.exact_field.specs.Vector.{dot, entry}
 use Rattle.exact_field.specs.declared.op.Op.TheVariants as op
 use Rattle.frac128.specs.Sparse.{is_zero}
@@ -21,12 +21,15 @@ use Rattle.upper_image.specs.Spots.{IsVector, dense, product, entry_of}
 use Rattle.upper_image.specs.UpperImage.{normals, objective, objectives, objective_column, rest}
 use Rattle.upper_image.proofs.Widths.{wide_sides, length-objective, length-numbers, entry-made, length-dense}
 use Rattle.log_rules.proofs.ByEntries.{same_entries, entry-suc}
-use Rattle.log_rules.specs.Events.{Event, dot_steps, product_steps, places_within, in_feasible, in_recession, in_cone, above, balance}
+use Rattle.log_rules.specs.Events.{Event, dot_steps, product_steps, places_within, in_feasible, in_recession, in_cone, above, balance, values_positive, farkas_events, cut_events}
+use Rattle.log_rules.specs.Live.{duality_vector}
+use Rattle.deriv_log.specs.declared.entry.Entry.{Entry}
+use Rattle.upper_image.specs.OrderingCone.{dual_of}
 use Rattle.log_rules.specs.Events.Event.{test, step}
 use Rattle.log_rules.specs.declared.rule.Rule.TheVariants as rule
 use Rattle.vlp_reader.specs.Sides.{sides, side_column, side_bounds, numbers_from}
 use Rattle.vlp_reader.specs.declared.problem.Problem.{Problem}
-use Rattle.log_tests.specs.Parts.{side_events, sides_events, recession_events, difference_events, rest_events, balance_events, balances_events, vanishing_events, contradiction_events}
+use Rattle.log_tests.specs.Parts.{side_events, sides_events, recession_events, difference_events, rest_events, balance_events, balances_events, vanishing_events, contradiction_events, positive_events, bound_events, scaled_events}
 use Rattle.log_tests.specs.Sheets.{IsSheetOf}
 use Rattle.log_tests.specs.declared.sheet.Sheet.{Sheet}
 
@@ -186,3 +189,85 @@ map-take_more {X} {Y} f xs i x h p =
 pub take_whole : {X : Type 0} (xs : List X) → take (length xs) xs ≡ xs
 take_whole [] = refl
 take_whole {X} (x ∷ xs) = ap (λ (ys : List X). x ∷ ys) (take_whole xs)
+
+-- ---- columns
+length-side_column : (file : Problem) (j : ℕ) → length (side_column file j) ≡ length (sides file)
+length-side_column file j = length-map (sides file) (λ s. entry s.normal j)
+
+balance_as : (file : Problem) (w : List ℚ) (u : List Spot) (j : ℕ) →
+    balance_events (side_column file j) (objective_column file j) (dense (length (sides file)) u) w ≡ balance file w u j
+balance_as file w u j = ap (λ (k : ℕ). balance_events (side_column file j) (objective_column file j) (dense k u) w) (sym (length-side_column file j))
+
+pub balances-sheet : (file : Problem) (sheet : Sheet) (w : List ℚ) (u : List Spot) → IsSheetOf file sheet →
+    flat_map (balance file w u) (numbers_from 1 file.cols)
+    ≡ balances_events (map (dense (length (sides file))) sheet.sides.columns) (map (dense file.objs) sheet.objectives.columns) (dense (length (sides file)) u) w
+balances-sheet file sheet w u h =
+    sym (ap₂ (λ gs ps. balances_events gs ps (dense (length (sides file)) u) w) h.side_columns.stand h.objective_columns.stand
+    ∙ ap (λ ps. flat_map (λ p. balance_events p.0 p.1 (dense (length (sides file)) u) w) ps) (zip-maps (side_column file) (objective_column file) (numbers_from 1 file.cols))
+    ∙ flat_map-map (λ p. balance_events p.0 p.1 (dense (length (sides file)) u) w) (λ j. (side_column file j, objective_column file j)) (numbers_from 1 file.cols)
+    ∙ flat_map-equal _ _ (balance_as file w u) (numbers_from 1 file.cols))
+
+pub contradiction-sheet : (file : Problem) (sheet : Sheet) (u : List Spot) → IsSheetOf file sheet →
+    flat_map (λ j. product_steps (side_column file j) u ++ test rule.Balance (is_zero (product (side_column file j) u)) ∷ []) (numbers_from 1 file.cols)
+    ≡ contradiction_events (map (dense (length (sides file))) sheet.sides.columns) (dense (length (sides file)) u)
+contradiction-sheet file sheet u h =
+    sym (ap (λ gs. contradiction_events gs (dense (length (sides file)) u)) h.side_columns.stand
+    ∙ flat_map-map (vanishing_events (dense (length (sides file)) u)) (side_column file) (numbers_from 1 file.cols)
+    ∙ flat_map-equal _ _ (λ j. ap (λ (k : ℕ). vanishing_events (dense k u) (side_column file j)) (sym (length-side_column file j))) (numbers_from 1 file.cols))
+
+pub contradiction-as : (n : ℕ) (A D : List ℚ) (R R' : List (List Spot)) → A ≡ D → length D ≡ n → R ≡ R' →
+    contradiction_events (map (dense (length A)) R) A ≡ contradiction_events (map (dense n) R') D
+contradiction-as n A D R R' a d r =
+    ap (λ (v : List ℚ). contradiction_events (map (dense (length v)) R) v) a ∙ ap (λ (k : ℕ). contradiction_events (map (dense k) R) D) d
+    ∙ ap (λ (us : List (List Spot)). contradiction_events (map (dense n) us) D) r
+
+pub balances-as : (n q : ℕ) (A D w : List ℚ) (R R' P P' : List (List Spot)) → A ≡ D → length D ≡ n → length w ≡ q → R ≡ R' → P ≡ P' →
+    balances_events (map (dense (length A)) R) (map (dense (length w)) P) A w ≡ balances_events (map (dense n) R') (map (dense q) P') D w
+balances-as n q A D w R R' P P' a d e r p =
+    ap (λ (v : List ℚ). balances_events (map (dense (length v)) R) (map (dense (length w)) P) v w) a
+    ∙ ap₂ (λ (k j : ℕ). balances_events (map (dense k) R) (map (dense j) P) D w) d e
+    ∙ ap₂ (λ (us vs : List (List Spot)). balances_events (map (dense n) us) (map (dense q) vs) D w) r p
+
+pub columns-columns : (file : Problem) (sheet : Sheet) → IsSheetOf file sheet → length sheet.sides.columns ≡ length sheet.objectives.columns
+columns-columns file sheet h =
+    sym (length-map sheet.sides.columns (dense (length (sides file)))) ∙ ap (λ (vs : List (List ℚ)). length vs) h.side_columns.stand
+    ∙ length-map (numbers_from 1 file.cols) (side_column file) ∙ sym (length-map (numbers_from 1 file.cols) (objective_column file))
+    ∙ ap (λ (vs : List (List ℚ)). length vs) (sym h.objective_columns.stand) ∙ length-map sheet.objectives.columns (dense file.objs)
+
+pub length-bounds : (file : Problem) (sheet : Sheet) → IsSheetOf file sheet → length sheet.bounds ≡ length (sides file)
+length-bounds file sheet h = ap (λ (bs : List ℚ). length bs) h.bounds ∙ length-map (sides file) (λ s. s.bound)
+
+-- ---- the parts of entries, one behind the other
+farkas-parts : (a b e : Event) (B P : List Event) → ((a ∷ b ∷ B) ++ P) ++ (e ∷ []) ≡ a ∷ b ∷ (B ++ (P ++ e ∷ []))
+farkas-parts a b e B P = ap (λ es. a ∷ b ∷ es) (append_assoc B P (e ∷ []))
+
+cut-parts : (a b c s e : Event) (B I D P : List Event) →
+    ((((a ∷ b ∷ c ∷ B) ++ I) ++ D) ++ (s ∷ P)) ++ (e ∷ []) ≡ a ∷ b ∷ c ∷ (B ++ (I ++ ((D ++ s ∷ []) ++ (P ++ e ∷ []))))
+cut-parts a b c s e B I D P =
+    append_assoc (((a ∷ b ∷ c ∷ B) ++ I) ++ D) (s ∷ P) (e ∷ [])
+    ∙ append_assoc ((a ∷ b ∷ c ∷ B) ++ I) D ((s ∷ P) ++ e ∷ [])
+    ∙ append_assoc (a ∷ b ∷ c ∷ B) I (D ++ ((s ∷ P) ++ e ∷ []))
+    ∙ ap (λ (es : List Event). a ∷ b ∷ c ∷ (B ++ (I ++ es))) (sym (append_assoc D (s ∷ []) (P ++ e ∷ [])))
+
+pub farkas-sheet : (file : Problem) (sheet : Sheet) (u : List Spot) → IsSheetOf file sheet →
+    farkas_events file u
+    ≡ places_within (length (sides file)) u ∷ values_positive u
+    ∷ (contradiction_events (map (dense (length (sides file))) sheet.sides.columns) (dense (length (sides file)) u) ++ positive_events (side_bounds file) u)
+farkas-sheet file sheet u h =
+    farkas-parts (places_within (length (sides file)) u) (values_positive u) (test rule.Bound (lt_ℚ zero_ℚ (product (side_bounds file) u)))
+    (flat_map (λ j. product_steps (side_column file j) u ++ test rule.Balance (is_zero (product (side_column file j) u)) ∷ []) (numbers_from 1 file.cols))
+    (product_steps (side_bounds file) u)
+    ∙ ap (λ (es : List Event). places_within (length (sides file)) u ∷ values_positive u ∷ (es ++ positive_events (side_bounds file) u)) (contradiction-sheet file sheet u h)
+
+pub cut-sheet : (file : Problem) (sheet : Sheet) (before : List Entry) (c w : List ℚ) (gamma : ℚ) (u v : List Spot) → IsSheetOf file sheet → duality_vector before ≡ c →
+    cut_events file before w gamma u v
+    ≡ test rule.Length (length w == file.objs) ∷ places_within (length (sides file)) u ∷ values_positive u
+    ∷ (balances_events (map (dense (length (sides file))) sheet.sides.columns) (map (dense file.objs) sheet.objectives.columns) (dense (length (sides file)) u) w
+    ++ (in_cone (dual_of file.cone) w v ++ (scaled_events w c ++ bound_events (side_bounds file) u gamma)))
+cut-sheet file sheet before c w gamma u v h given =
+    cut-parts (test rule.Length (length w == file.objs)) (places_within (length (sides file)) u) (values_positive u)
+    (test rule.Scaled (same_ℚ (dot w (duality_vector before)) one_ℚ)) (test rule.Bound (same_ℚ (product (side_bounds file) u) gamma))
+    (flat_map (balance file w u) (numbers_from 1 file.cols)) (in_cone (dual_of file.cone) w v) (dot_steps w (duality_vector before)) (product_steps (side_bounds file) u)
+    ∙ ap₂ (λ (es : List Event) (d : List ℚ). test rule.Length (length w == file.objs) ∷ places_within (length (sides file)) u ∷ values_positive u
+    ∷ (es ++ (in_cone (dual_of file.cone) w v ++ (scaled_events w d ++ bound_events (side_bounds file) u gamma))))
+    (balances-sheet file sheet w u h) given

@@ -1,7 +1,7 @@
 -- Parts of the events of entries, by the names of the calls that go through them.
 use Rattle.std.specs.Prelude.{ℕ, List, [], ◌∷◌, ◌++◌, length}
 use Rattle.std.specs.List.{flat_map, zip}
-use Rattle.exact_field.specs.Rational.{ℚ, zero_ℚ, le_ℚ}
+use Rattle.exact_field.specs.Rational.{ℚ, zero_ℚ, one_ℚ, le_ℚ, lt_ℚ}
 use Rattle.exact_field.specs.Order.{same_ℚ}
 use Rattle.exact_field.specs.Vector.{dot, entry}
 use Rattle.exact_field.specs.declared.op.Op.TheVariants as op
@@ -64,3 +64,16 @@ vanishing_events u v = dot_steps v u ++ test rule.Balance (is_zero (dot v u)) �
 -- the same in each column
 abbrev pub contradiction_events : List (List ℚ) → List ℚ → List Event
 contradiction_events sides u = flat_map (vanishing_events u) sides
+
+-- ---- a cut
+-- the product of the bounds with u is above 0
+abbrev pub positive_events : List ℚ → List Spot → List Event
+positive_events bounds u = product_steps bounds u ++ test rule.Bound (lt_ℚ zero_ℚ (product bounds u)) ∷ []
+
+-- it is gamma
+abbrev pub bound_events : List ℚ → List Spot → ℚ → List Event
+bound_events bounds u gamma = product_steps bounds u ++ test rule.Bound (same_ℚ (product bounds u) gamma) ∷ []
+
+-- the product of w with the duality vector is 1
+abbrev pub scaled_events : List ℚ → List ℚ → List Event
+scaled_events w c = dot_steps w c ++ test rule.Scaled (same_ℚ (dot w c) one_ℚ) ∷ []

@@ -3,11 +3,13 @@
 #![tactic(auto)]
 
 mod cone;
+mod cut;
 mod image;
 mod sheet;
 mod steps;
 
 pub use cone::{in_cone, in_dual_cone};
+pub use cut::{check_cut, check_farkas};
 pub use image::{above, in_feasible, in_recession};
 pub use sheet::{Matrix, Sheet};
 pub use steps::{Steps, pass};
