@@ -81,6 +81,15 @@ pub test-passed : (n : ℕ) (r : Rule) (b : Bool) → first_failure is_held n (t
 test-passed n r true h = refl
 test-passed n r false h = absurd cc
 
+pub first-passed : (n : ℕ) (r : Rule) (b : Bool) (es : List Event) → first_failure is_held n (test r b ∷ es) ≡ None → b ≡ true
+first-passed n r true es h = refl
+first-passed n r false es h = absurd cc
+
+pub places-passed : (taken n : ℕ) (spots : List Spot) (es : List Event) → first_failure is_held (suc taken) (places_within n spots ∷ es) ≡ None → All (λ s. s.at ≤ n) spots
+places-passed taken n spots es h =
+    All-weaker (λ s. nat_le s.at n ≡ true) (λ s. s.at ≤ n) (λ s l. leb-true s.at n l) spots
+    (list_all-true (λ s. nat_le s.at n) spots (first-passed (suc taken) rule.Index (list_all (λ s. nat_le s.at n) spots) es h))
+
 -- a length that was tested
 pub length-tested : (n k : ℕ) → first_failure is_held 1 (test rule.Length (n == k) ∷ []) ≡ None → n ≡ k
 length-tested n k h = eqb-true n k (test-passed 1 rule.Length (n == k) h)

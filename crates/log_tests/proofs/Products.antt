@@ -14,7 +14,9 @@ use Rattle.exact_field.specs.declared.op.Op.TheVariants as op
 use Rattle.exact_field.proofs.Rationals.{add-zero_ℚ, zero-add_ℚ, add_assoc_ℚ, zero-mul_ℚ, mul-zero_ℚ}
 use Rattle.frac128.specs.Held.{is_held}
 use Rattle.frac128.specs.Sparse.{is_zero, rises_above}
-use Rattle.polyhedra.proofs.Tests.{true-list_all}
+use Rattle.polyhedra.proofs.Tests.{true-list_all, same_tests, test_of_zero, zero_of_test}
+use Rattle.polyhedra.specs.DoubleDescription as poly
+use Rattle.log_rules.proofs.PassedTests.{zero_passes}
 use Rattle.frac128.specs.declared.vectors.Spot.{Spot}
 use Rattle.upper_image.specs.Spots.{IsVector, dense, product}
 use Rattle.log_rules.specs.Events.{Event, first_failure, sum_from, dot_steps, product_steps}
@@ -246,3 +248,19 @@ pub at-spot : (w : List ℚ) (spots : List Spot) (i : ℕ) (s : Spot) (b : ℚ) 
 at-spot w [] i s b l p low high q = absurd (omega (arith, l))
 at-spot w (x ∷ spots) zero s b l p low high q = ap₂ (λ (c d : ℚ). (c, d)) (q ∙ any-default w (s.at - 1) b zero_ℚ (omega arith) ∙ ap (λ (z : Spot). entry w z.at) p) (ap (λ (z : Spot). z.value) p)
 at-spot w (x ∷ spots) (suc i) s b l p low high q = at-spot w spots i s b (omega (arith, l)) p low high q
+
+-- ---- a number that is 0, by either test
+pub zero_tests : (q : ℚ) → is_zero q ≡ poly.is_zero q
+zero_tests q =
+    same_tests (is_zero q) (poly.is_zero q) (λ h. test_of_zero q (zero_is q h)) (λ h. zero_passes q (zero_of_test q h))
+
+-- the first entry that is not 0
+pub leading-here : (v : List ℚ) (i : ℕ) (x : ℚ) → i < length v → x ≡ slice_index_or v i x → is_zero x ≡ false → poly.leading (drop i v) ≡ x
+leading-here v i x h p z =
+    ap (λ (u : List ℚ). poly.leading u) (drop-next i v x h p) ∙ ap (λ (b : Bool). if b then poly.leading (drop (suc i) v) else x) (sym (zero_tests x) ∙ z)
+
+pub leading-next : (v : List ℚ) (i : ℕ) (x : ℚ) → i < length v → x ≡ slice_index_or v i x → is_zero x ≡ true → poly.leading (drop i v) ≡ poly.leading (drop (i + 1) v)
+leading-next v i x h p z =
+    let k : suc i ≡ i + 1 = omega arith in
+    ap (λ (u : List ℚ). poly.leading u) (drop-next i v x h p) ∙ ap (λ (b : Bool). if b then poly.leading (drop (suc i) v) else x) (sym (zero_tests x) ∙ z)
+    ∙ ap (λ (j : ℕ). poly.leading (drop j v)) k

@@ -271,3 +271,7 @@ cut-sheet file sheet before c w gamma u v h given =
     ∙ ap₂ (λ (es : List Event) (d : List ℚ). test rule.Length (length w == file.objs) ∷ places_within (length (sides file)) u ∷ values_positive u
     ∷ (es ++ (in_cone (dual_of file.cone) w v ++ (scaled_events w d ++ bound_events (side_bounds file) u gamma))))
     (balances-sheet file sheet w u h) given
+
+pub line-parts : (a b : Event) (F R A B C : List Event) → ((((a ∷ b ∷ F) ++ R) ++ A) ++ B) ++ C ≡ a ∷ b ∷ (F ++ (R ++ (A ++ (B ++ C))))
+line-parts a b F R A B C =
+    append_assoc (((a ∷ b ∷ F) ++ R) ++ A) B C ∙ append_assoc ((a ∷ b ∷ F) ++ R) A (B ++ C) ∙ append_assoc (a ∷ b ∷ F) R (A ++ (B ++ C))

@@ -1,5 +1,5 @@
 -- How many steps the events of an entry have at most.
-use Rattle.std.proofs.Common.{◌≡◌, ℕ, suc, ◌+◌, ◌*◌, ◌≤◌, ◌<◌, ◌^◌, List, [], ◌∷◌, ◌++◌, refl, sym, ap, ◌∙◌, subst, arith, Bool, true, false, ◌||◌, length, if◌then◌else◌, All, map, zip}
+use Rattle.std.proofs.Common.{◌≡◌, ℕ, suc, ◌+◌, ◌*◌, ◌≤◌, ◌<◌, ◌^◌, List, [], ◌∷◌, ◌++◌, refl, sym, ap, ◌∙◌, subst, arith, Bool, true, false, ◌||◌, length, if◌then◌else◌, All, map, zip, length-append, None}
 use Rattle.std.specs.List.{flat_map, enumerate_from}
 use Rattle.std.proofs.lemmas.List.{length-map}
 use Rattle.std.proofs.lemmas.List.Elements.{All-head, All-tail}
@@ -18,11 +18,15 @@ use Rattle.upper_image.specs.Spots.{column, dense, product}
 use Rattle.upper_image.specs.UpperImage.{objective, objective_column, rest}
 use Rattle.upper_image.proofs.Widths.{wide_sides, length-numbers, length-objective, length-dense, length-rest}
 use Rattle.vlp_reader.specs.Cones.{cone_fits, each_has}
-use Rattle.vlp_reader.specs.Sides.{sides, side_column, side_bounds, numbers_from}
+use Rattle.vlp_reader.specs.Sides.{sides, side_column, side_bounds, numbers_from, sides_from, sides_of, row_vector, unit}
+use Rattle.vlp_reader.specs.declared.problem.Bound.{Bound}
+use Rattle.vlp_reader.specs.declared.problem.Bound.TheVariants.{Unsaid, Free, Lower, Upper, Double, Fixed}
 use Rattle.vlp_reader.specs.declared.problem.Problem.{Problem}
 use Rattle.vlp_reader.specs.declared.problem.Cone.{Cone}
 use Rattle.vlp_reader.specs.declared.problem.Cone.TheVariants.{Orthant, Gens, Dual}
-use Rattle.log_rules.specs.Events.{Event, sum_from, dot_steps, product_steps, in_cone, in_feasible, in_recession, above, balance, farkas_events, cut_events, whole_events, line_events}
+use Rattle.frac128.specs.Held.{is_held}
+use Rattle.log_tests.proofs.Going.{places-passed}
+use Rattle.log_rules.specs.Events.{Event, first_failure, sum_from, dot_steps, product_steps, in_cone, in_feasible, in_recession, above, balance, farkas_events, cut_events, whole_events, line_events}
 use Rattle.log_rules.specs.Events.Event.{test, step}
 use Rattle.log_rules.specs.Live.{duality_vector}
 use Rattle.deriv_log.specs.declared.entry.Entry.{Entry}
@@ -117,11 +121,36 @@ steps-dual_cone n Orthant e m fits k = omega arith
 steps-dual_cone n (Gens vs) e m fits k = by_rows vs e m (few_vectors n vs fits) k
 steps-dual_cone n (Dual vs) e m fits k = generated vs e m (few_vectors n vs fits) k
 
+-- ---- the sides
+few_of : (v : ℕ → List ℚ) (k : ℕ) (bounds : List Bound) → length (sides_from v k bounds) ≤ 2 * length bounds
+few_of v k [] = omega arith
+few_of v k (b ∷ bounds) = go b (few_of v (suc k) bounds)
+  where
+    go : (c : Bound) → length (sides_from v (suc k) bounds) ≤ 2 * length bounds → length (sides_of (v k) c ++ sides_from v (suc k) bounds) ≤ 2 * suc (length bounds)
+    go Unsaid h = omega (arith, h)
+    go Free h = omega (arith, h)
+    go (Lower low) h = omega (arith, h)
+    go (Upper high) h = omega (arith, h)
+    go (Double low high) h = omega (arith, h)
+    go (Fixed value) h = omega (arith, h)
+
+pub few_sides : (file : Problem) → length (sides file) ≤ 400000
+few_sides file =
+    let a = few_of (row_vector file) 1 file.row_bounds in
+    let b = few_of (unit file.cols) 1 file.col_bounds in
+    let both = length-append (sides_from (row_vector file) 1 file.row_bounds) (sides_from (unit file.cols) 1 file.col_bounds) in
+    let rows = file.row_count in
+    let cols = file.col_count in
+    let rows_few = file.rows_bounded in
+    let cols_few = file.cols_bounded in
+    omega (arith, a, b, both, rows, cols, rows_few, cols_few)
+
 -- ---- farkas and cut
-pub steps-farkas : (file : Problem) (u : List Spot) → length (sides file) ≤ 4294967294 → steps (farkas_events file u) < 2 ^ 63
-steps-farkas file u h =
-    let few = steps-all (λ j. product_steps (side_column file j) u ++ test rule.Balance (is_zero (product (side_column file j) u)) ∷ []) 8589934588
-    (λ j. steps-tested (product_steps (side_column file j) u) _ _ 8589934588 (wide (side_column file j) (length-map (sides file) (λ s. entry s.normal j)) (steps-product (side_column file j) u)))
+pub steps-farkas : (file : Problem) (u : List Spot) → steps (farkas_events file u) < 2 ^ 63
+steps-farkas file u =
+    let h = few_sides file in
+    let few = steps-all (λ j. product_steps (side_column file j) u ++ test rule.Balance (is_zero (product (side_column file j) u)) ∷ []) 800000
+    (λ j. steps-tested (product_steps (side_column file j) u) _ _ 800000 (wide (side_column file j) (length-map (sides file) (λ s. entry s.normal j)) (steps-product (side_column file j) u)))
     (numbers_from 1 file.cols) in
     let long = length-numbers 1 file.cols in
     let cols = file.cols_bounded in
@@ -131,14 +160,15 @@ steps-farkas file u h =
     (test rule.Bound (lt_ℚ zero_ℚ (product (side_bounds file) u)) ∷ []) in
     omega (arith, few, long, cols, last, first, both)
   where
-    wide : (v : List ℚ) {n : ℕ} → length v ≡ length (sides file) → n ≤ 2 * length v → n ≤ 8589934588
-    wide v {n} e l = omega (arith, e, l, h)
+    wide : (v : List ℚ) {n : ℕ} → length v ≡ length (sides file) → n ≤ 2 * length v → n ≤ 800000
+    wide v {n} e l = let h = few_sides file in omega (arith, e, l, h)
 
-pub steps-cut : (file : Problem) (before : List Entry) (w : List ℚ) (gamma : ℚ) (u v : List Spot) → length (sides file) ≤ 4294967294 → length w ≤ 100000 →
+pub steps-cut : (file : Problem) (before : List Entry) (w : List ℚ) (gamma : ℚ) (u v : List Spot) → length w ≤ 100000 →
     steps (cut_events file before w gamma u v) < 2 ^ 63
-steps-cut file before w gamma u v h k =
-    let few = steps-all (balance file w u) 8590134588
-    (λ j. steps-tested (product_steps (side_column file j) u ++ dot_steps (objective_column file j) w) _ _ 8590134588
+steps-cut file before w gamma u v k =
+    let h = few_sides file in
+    let few = steps-all (balance file w u) 1000000
+    (λ j. steps-tested (product_steps (side_column file j) u ++ dot_steps (objective_column file j) w) _ _ 1000000
     (column_of j (steps-append (product_steps (side_column file j) u) (dot_steps (objective_column file j) w))
     (steps-product (side_column file j) u) (length-map (sides file) (λ s. entry s.normal j)) (steps-dot_right (objective_column file j) w)))
     (numbers_from 1 file.cols) in
@@ -158,12 +188,13 @@ steps-cut file before w gamma u v h k =
     let fourth = steps-append (B ++ I ++ D ++ (test rule.Scaled (same_ℚ (dot w (duality_vector before)) one_ℚ) ∷ P)) (test rule.Bound (same_ℚ (product (side_bounds file) u) gamma) ∷ []) in
     omega (arith, few, long, cols, cone, scale, bound, sides_long, first, second, third, fourth, h, k)
   where
-    column_of : (j : ℕ) {n m l : ℕ} → l ≡ n + m → n ≤ 2 * length (side_column file j) → length (side_column file j) ≡ length (sides file) → m ≤ 2 * length w → l ≤ 8590134588
-    column_of j {n} {m} {l} e a b d = omega (arith, e, a, b, d, h, k)
+    column_of : (j : ℕ) {n m l : ℕ} → l ≡ n + m → n ≤ 2 * length (side_column file j) → length (side_column file j) ≡ length (sides file) → m ≤ 2 * length w → l ≤ 1000000
+    column_of j {n} {m} {l} e a b d = let h = few_sides file in omega (arith, e, a, b, d, h, k)
 
 -- ---- points and directions
-pub steps-feasible : (file : Problem) (x : List Spot) → length (sides file) ≤ 4294967294 → steps (in_feasible file x) ≤ 858993458800000
-steps-feasible file x h =
+pub steps-feasible : (file : Problem) (x : List Spot) → steps (in_feasible file x) ≤ 80000000000
+steps-feasible file x =
+    let h = few_sides file in
     let few = steps-each (λ s. product_steps s.normal x ++ test rule.Side (le_ℚ s.bound (product s.normal x)) ∷ []) (λ s. length s.normal ≡ file.cols) 200000
     (λ s w. steps-tested (product_steps s.normal x) _ _ 200000 (row_of w (steps-product s.normal x))) (sides file) (wide_sides file) in
     omega (arith, few, h)
@@ -171,8 +202,9 @@ steps-feasible file x h =
     row_of : {l n : ℕ} → l ≡ file.cols → n ≤ 2 * l → n ≤ 200000
     row_of {l} {n} e a = let cols = file.cols_bounded in omega (arith, e, a, cols)
 
-pub steps-recession : (file : Problem) (x : List Spot) → length (sides file) ≤ 4294967294 → steps (in_recession file x) ≤ 858993458800000
-steps-recession file x h =
+pub steps-recession : (file : Problem) (x : List Spot) → steps (in_recession file x) ≤ 80000000000
+steps-recession file x =
+    let h = few_sides file in
     let few = steps-each (λ s. product_steps s.normal x ++ test rule.Side (le_ℚ zero_ℚ (product s.normal x)) ∷ []) (λ s. length s.normal ≡ file.cols) 200000
     (λ s w. steps-tested (product_steps s.normal x) _ _ 200000 (row_of w (steps-product s.normal x))) (sides file) (wide_sides file) in
     omega (arith, few, h)
@@ -195,3 +227,35 @@ steps-above file y x m h =
   where
     entry_of : (i : ℕ) {n l : ℕ} → l ≡ n + 1 → n ≤ 2 * length (objective file i) → length (objective file i) ≡ file.cols → l ≤ 200001
     entry_of i {n} {l} e a b = let cols = file.cols_bounded in omega (arith, e, a, b, cols)
+
+-- ---- whole and line
+pub steps-whole : (file : Problem) (c : List ℚ) (x ray m : List Spot) → length c ≡ file.objs → steps (whole_events file c x ray m) < 2 ^ 63
+steps-whole file c x ray m h =
+    let a = steps-feasible file x in
+    let b = steps-recession file ray in
+    let d = steps-above file (map neg_ℚ c) ray m (length-map c neg_ℚ ∙ h) in
+    let first = steps-append (in_feasible file x) (in_recession file ray) in
+    let both = steps-append (in_feasible file x ++ in_recession file ray) (above file (map neg_ℚ c) ray m) in
+    omega (arith, a, b, d, first, both)
+
+pub steps-line : (file : Problem) (d : List ℚ) (x ray m back n : List Spot) → length d ≡ file.objs → steps (line_events file d x ray m back n) < 2 ^ 63
+steps-line file d x ray m back n h =
+    let a = steps-feasible file x in
+    let b = steps-recession file ray in
+    let e = steps-above file d ray m h in
+    let f = steps-recession file back in
+    let g = steps-above file (map neg_ℚ d) back n (length-map d neg_ℚ ∙ h) in
+    let F = in_feasible file x in
+    let R = in_recession file ray in
+    let A = above file d ray m in
+    let B = in_recession file back in
+    let first = steps-append F R in
+    let second = steps-append (F ++ R) A in
+    let third = steps-append (F ++ R ++ A) B in
+    let fourth = steps-append (F ++ R ++ A ++ B) (above file (map neg_ℚ d) back n) in
+    omega (arith, a, b, e, f, g, first, second, third, fourth)
+
+-- what is in the recession cone names columns
+pub recession-places : (taken : ℕ) (file : Problem) (x : List Spot) → first_failure is_held (suc taken) (in_recession file x) ≡ None → All (λ s. s.at ≤ file.cols) x
+recession-places taken file x h =
+    places-passed taken file.cols x (flat_map (λ s. product_steps s.normal x ++ test rule.Side (le_ℚ zero_ℚ (product s.normal x)) ∷ []) (sides file)) h

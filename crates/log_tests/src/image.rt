@@ -122,7 +122,7 @@ pub fn in_recession(
 }
 
 /// Appends a number.
-fn append(list: &mut Vec<Frac>, value: Frac) -> Result<(), Stop>
+pub fn append(list: &mut Vec<Frac>, value: Frac) -> Result<(), Stop>
     ensures { (taken : ℕ) → Runs is_held [] taken taken (λ _. list.new.items ≡ list.old.items ++ value ∷ []) result }
 {
     match list.push(value) {

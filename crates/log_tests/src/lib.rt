@@ -5,11 +5,13 @@
 mod cone;
 mod cut;
 mod image;
+mod line;
 mod sheet;
 mod steps;
 
 pub use cone::{in_cone, in_dual_cone};
 pub use cut::{check_cut, check_farkas};
 pub use image::{above, in_feasible, in_recession};
+pub use line::{check_line, check_whole};
 pub use sheet::{Matrix, Sheet};
 pub use steps::{Steps, pass};

@@ -81,7 +81,7 @@ pub are_balanced-requires-clause-room : goal.are_balanced-requires-clause-room
 are_balanced-requires-clause-room c =
     let before : List Entry = (entry.Duality c.args.c.now [] [] [] ∷ []) in
     let given : duality_vector before ≡ c.args.c.now = refl in
-    let room : 0 + steps (cut_events c.args.problem.now before c.args.w.now c.args.gamma c.args.u.now c.args.v.now) < 9223372036854775808 = let bound = c.as_slice-bounds.ensures.bound in let long = (ap (λ (bs : List ℚ). length bs) c.as_slice-bounds.ensures.items ∙ length-bounds c.args.problem.now c.args.sheet.now c.requires.sheet) in let wide = (length-tested (length c.args.w.now) c.args.problem.now.objs (c.in_ok-pass.ensures 0).0) in let objs = c.args.problem.now.objs_bounded in let few = steps-cut c.args.problem.now before c.args.w.now c.args.gamma c.args.u.now c.args.v.now (omega (arith, bound, long)) (omega (arith, wide, objs)) in omega (arith, few) in
+    let room : 0 + steps (cut_events c.args.problem.now before c.args.w.now c.args.gamma c.args.u.now c.args.v.now) < 9223372036854775808 = let wide = (length-tested (length c.args.w.now) c.args.problem.now.objs (c.in_ok-pass.ensures 0).0) in let objs = c.args.problem.now.objs_bounded in let few = steps-cut c.args.problem.now before c.args.w.now c.args.gamma c.args.u.now c.args.v.now (omega (arith, wide, objs)) in omega (arith, few) in
     let came0 : Passed (test rule.Length (length c.args.w.now == c.args.problem.now.objs) ∷ []) 0 0 = record { none = (c.in_ok-pass.ensures 0).0; count = (c.in_ok-pass.ensures 0).1 } in
     let came1 : Passed (places_within (length (sides c.args.problem.now)) c.args.u.now ∷ []) 0 0 = record { none = (subst (λ (es : List Event). Runs {X = Unit {0}} is_held es 0 0 (λ _. ⊤) (Ok tt)) (ap (λ (n : ℕ). places_within n c.args.u.now ∷ []) (ap (λ (bs : List ℚ). length bs) c.as_slice-bounds.ensures.items ∙ length-bounds c.args.problem.now c.args.sheet.now c.requires.sheet)) ((c.in_ok-places_within.ensures 0).0, (c.in_ok-places_within.ensures 0).1, tt)).0; count = (subst (λ (es : List Event). Runs {X = Unit {0}} is_held es 0 0 (λ _. ⊤) (Ok tt)) (ap (λ (n : ℕ). places_within n c.args.u.now ∷ []) (ap (λ (bs : List ℚ). length bs) c.as_slice-bounds.ensures.items ∙ length-bounds c.args.problem.now c.args.sheet.now c.requires.sheet)) ((c.in_ok-places_within.ensures 0).0, (c.in_ok-places_within.ensures 0).1, tt)).1 } in
     let came2 : Passed (values_positive c.args.u.now ∷ []) 0 0 = record { none = (c.in_ok-values_positive.ensures 0).0; count = (c.in_ok-values_positive.ensures 0).1 } in
@@ -105,7 +105,7 @@ pub in_dual_cone-requires-clause-room : goal.in_dual_cone-requires-clause-room
 in_dual_cone-requires-clause-room c =
     let before : List Entry = (entry.Duality c.args.c.now [] [] [] ∷ []) in
     let given : duality_vector before ≡ c.args.c.now = refl in
-    let room : 0 + steps (cut_events c.args.problem.now before c.args.w.now c.args.gamma c.args.u.now c.args.v.now) < 9223372036854775808 = let bound = c.as_slice-bounds.ensures.bound in let long = (ap (λ (bs : List ℚ). length bs) c.as_slice-bounds.ensures.items ∙ length-bounds c.args.problem.now c.args.sheet.now c.requires.sheet) in let wide = (length-tested (length c.args.w.now) c.args.problem.now.objs (c.in_ok-pass.ensures 0).0) in let objs = c.args.problem.now.objs_bounded in let few = steps-cut c.args.problem.now before c.args.w.now c.args.gamma c.args.u.now c.args.v.now (omega (arith, bound, long)) (omega (arith, wide, objs)) in omega (arith, few) in
+    let room : 0 + steps (cut_events c.args.problem.now before c.args.w.now c.args.gamma c.args.u.now c.args.v.now) < 9223372036854775808 = let wide = (length-tested (length c.args.w.now) c.args.problem.now.objs (c.in_ok-pass.ensures 0).0) in let objs = c.args.problem.now.objs_bounded in let few = steps-cut c.args.problem.now before c.args.w.now c.args.gamma c.args.u.now c.args.v.now (omega (arith, wide, objs)) in omega (arith, few) in
     let came0 : Passed (test rule.Length (length c.args.w.now == c.args.problem.now.objs) ∷ []) 0 0 = record { none = (c.in_ok-pass.ensures 0).0; count = (c.in_ok-pass.ensures 0).1 } in
     let came1 : Passed (places_within (length (sides c.args.problem.now)) c.args.u.now ∷ []) 0 0 = record { none = (subst (λ (es : List Event). Runs {X = Unit {0}} is_held es 0 0 (λ _. ⊤) (Ok tt)) (ap (λ (n : ℕ). places_within n c.args.u.now ∷ []) (ap (λ (bs : List ℚ). length bs) c.as_slice-bounds.ensures.items ∙ length-bounds c.args.problem.now c.args.sheet.now c.requires.sheet)) ((c.in_ok-places_within.ensures 0).0, (c.in_ok-places_within.ensures 0).1, tt)).0; count = (subst (λ (es : List Event). Runs {X = Unit {0}} is_held es 0 0 (λ _. ⊤) (Ok tt)) (ap (λ (n : ℕ). places_within n c.args.u.now ∷ []) (ap (λ (bs : List ℚ). length bs) c.as_slice-bounds.ensures.items ∙ length-bounds c.args.problem.now c.args.sheet.now c.requires.sheet)) ((c.in_ok-places_within.ensures 0).0, (c.in_ok-places_within.ensures 0).1, tt)).1 } in
     let came2 : Passed (values_positive c.args.u.now ∷ []) 0 0 = record { none = (c.in_ok-values_positive.ensures 0).0; count = (c.in_ok-values_positive.ensures 0).1 } in
@@ -131,7 +131,7 @@ pub is_scaled-requires-clause-room : goal.is_scaled-requires-clause-room
 is_scaled-requires-clause-room c =
     let before : List Entry = (entry.Duality c.args.c.now [] [] [] ∷ []) in
     let given : duality_vector before ≡ c.args.c.now = refl in
-    let room : 0 + steps (cut_events c.args.problem.now before c.args.w.now c.args.gamma c.args.u.now c.args.v.now) < 9223372036854775808 = let bound = c.as_slice-bounds.ensures.bound in let long = (ap (λ (bs : List ℚ). length bs) c.as_slice-bounds.ensures.items ∙ length-bounds c.args.problem.now c.args.sheet.now c.requires.sheet) in let wide = (length-tested (length c.args.w.now) c.args.problem.now.objs (c.in_ok-pass.ensures 0).0) in let objs = c.args.problem.now.objs_bounded in let few = steps-cut c.args.problem.now before c.args.w.now c.args.gamma c.args.u.now c.args.v.now (omega (arith, bound, long)) (omega (arith, wide, objs)) in omega (arith, few) in
+    let room : 0 + steps (cut_events c.args.problem.now before c.args.w.now c.args.gamma c.args.u.now c.args.v.now) < 9223372036854775808 = let wide = (length-tested (length c.args.w.now) c.args.problem.now.objs (c.in_ok-pass.ensures 0).0) in let objs = c.args.problem.now.objs_bounded in let few = steps-cut c.args.problem.now before c.args.w.now c.args.gamma c.args.u.now c.args.v.now (omega (arith, wide, objs)) in omega (arith, few) in
     let came0 : Passed (test rule.Length (length c.args.w.now == c.args.problem.now.objs) ∷ []) 0 0 = record { none = (c.in_ok-pass.ensures 0).0; count = (c.in_ok-pass.ensures 0).1 } in
     let came1 : Passed (places_within (length (sides c.args.problem.now)) c.args.u.now ∷ []) 0 0 = record { none = (subst (λ (es : List Event). Runs {X = Unit {0}} is_held es 0 0 (λ _. ⊤) (Ok tt)) (ap (λ (n : ℕ). places_within n c.args.u.now ∷ []) (ap (λ (bs : List ℚ). length bs) c.as_slice-bounds.ensures.items ∙ length-bounds c.args.problem.now c.args.sheet.now c.requires.sheet)) ((c.in_ok-places_within.ensures 0).0, (c.in_ok-places_within.ensures 0).1, tt)).0; count = (subst (λ (es : List Event). Runs {X = Unit {0}} is_held es 0 0 (λ _. ⊤) (Ok tt)) (ap (λ (n : ℕ). places_within n c.args.u.now ∷ []) (ap (λ (bs : List ℚ). length bs) c.as_slice-bounds.ensures.items ∙ length-bounds c.args.problem.now c.args.sheet.now c.requires.sheet)) ((c.in_ok-places_within.ensures 0).0, (c.in_ok-places_within.ensures 0).1, tt)).1 } in
     let came2 : Passed (values_positive c.args.u.now ∷ []) 0 0 = record { none = (c.in_ok-values_positive.ensures 0).0; count = (c.in_ok-values_positive.ensures 0).1 } in
@@ -159,7 +159,7 @@ pub has_bound-requires-clause-room : goal.has_bound-requires-clause-room
 has_bound-requires-clause-room c =
     let before : List Entry = (entry.Duality c.args.c.now [] [] [] ∷ []) in
     let given : duality_vector before ≡ c.args.c.now = refl in
-    let room : 0 + steps (cut_events c.args.problem.now before c.args.w.now c.args.gamma c.args.u.now c.args.v.now) < 9223372036854775808 = let bound = c.as_slice-bounds.ensures.bound in let long = (ap (λ (bs : List ℚ). length bs) c.as_slice-bounds.ensures.items ∙ length-bounds c.args.problem.now c.args.sheet.now c.requires.sheet) in let wide = (length-tested (length c.args.w.now) c.args.problem.now.objs (c.in_ok-pass.ensures 0).0) in let objs = c.args.problem.now.objs_bounded in let few = steps-cut c.args.problem.now before c.args.w.now c.args.gamma c.args.u.now c.args.v.now (omega (arith, bound, long)) (omega (arith, wide, objs)) in omega (arith, few) in
+    let room : 0 + steps (cut_events c.args.problem.now before c.args.w.now c.args.gamma c.args.u.now c.args.v.now) < 9223372036854775808 = let wide = (length-tested (length c.args.w.now) c.args.problem.now.objs (c.in_ok-pass.ensures 0).0) in let objs = c.args.problem.now.objs_bounded in let few = steps-cut c.args.problem.now before c.args.w.now c.args.gamma c.args.u.now c.args.v.now (omega (arith, wide, objs)) in omega (arith, few) in
     let came0 : Passed (test rule.Length (length c.args.w.now == c.args.problem.now.objs) ∷ []) 0 0 = record { none = (c.in_ok-pass.ensures 0).0; count = (c.in_ok-pass.ensures 0).1 } in
     let came1 : Passed (places_within (length (sides c.args.problem.now)) c.args.u.now ∷ []) 0 0 = record { none = (subst (λ (es : List Event). Runs {X = Unit {0}} is_held es 0 0 (λ _. ⊤) (Ok tt)) (ap (λ (n : ℕ). places_within n c.args.u.now ∷ []) (ap (λ (bs : List ℚ). length bs) c.as_slice-bounds.ensures.items ∙ length-bounds c.args.problem.now c.args.sheet.now c.requires.sheet)) ((c.in_ok-places_within.ensures 0).0, (c.in_ok-places_within.ensures 0).1, tt)).0; count = (subst (λ (es : List Event). Runs {X = Unit {0}} is_held es 0 0 (λ _. ⊤) (Ok tt)) (ap (λ (n : ℕ). places_within n c.args.u.now ∷ []) (ap (λ (bs : List ℚ). length bs) c.as_slice-bounds.ensures.items ∙ length-bounds c.args.problem.now c.args.sheet.now c.requires.sheet)) ((c.in_ok-places_within.ensures 0).0, (c.in_ok-places_within.ensures 0).1, tt)).1 } in
     let came2 : Passed (values_positive c.args.u.now ∷ []) 0 0 = record { none = (c.in_ok-values_positive.ensures 0).0; count = (c.in_ok-values_positive.ensures 0).1 } in

@@ -58,7 +58,7 @@ all_vanish-requires-clause-sides c = vectors-as (length (sides c.args.problem.no
 
 pub all_vanish-requires-clause-room : goal.all_vanish-requires-clause-room
 all_vanish-requires-clause-room c =
-    let room : 0 + steps (farkas_events c.args.problem.now c.args.u.now) < 9223372036854775808 = let bound = c.as_slice-bounds.ensures.bound in let long = (ap (λ (bs : List ℚ). length bs) c.as_slice-bounds.ensures.items ∙ length-bounds c.args.problem.now c.args.sheet.now c.requires.sheet) in let few = steps-farkas c.args.problem.now c.args.u.now (omega (arith, bound, long)) in omega (arith, few) in
+    let room : 0 + steps (farkas_events c.args.problem.now c.args.u.now) < 9223372036854775808 = let few = steps-farkas c.args.problem.now c.args.u.now in omega (arith, few) in
     let came0 : Passed (places_within (length (sides c.args.problem.now)) c.args.u.now ∷ []) 0 0 = record { none = (subst (λ (es : List Event). Runs {X = Unit {0}} is_held es 0 0 (λ _. ⊤) (Ok tt)) (ap (λ (n : ℕ). places_within n c.args.u.now ∷ []) (ap (λ (bs : List ℚ). length bs) c.as_slice-bounds.ensures.items ∙ length-bounds c.args.problem.now c.args.sheet.now c.requires.sheet)) ((c.in_ok-places_within.ensures 0).0, (c.in_ok-places_within.ensures 0).1, tt)).0; count = (subst (λ (es : List Event). Runs {X = Unit {0}} is_held es 0 0 (λ _. ⊤) (Ok tt)) (ap (λ (n : ℕ). places_within n c.args.u.now ∷ []) (ap (λ (bs : List ℚ). length bs) c.as_slice-bounds.ensures.items ∙ length-bounds c.args.problem.now c.args.sheet.now c.requires.sheet)) ((c.in_ok-places_within.ensures 0).0, (c.in_ok-places_within.ensures 0).1, tt)).1 } in
     let came1 : Passed (values_positive c.args.u.now ∷ []) 0 0 = record { none = (c.in_ok-values_positive.ensures 0).0; count = (c.in_ok-values_positive.ensures 0).1 } in
     let came2 : Passed ([]) 0 0 = record { none = (c.in_ok-values.ensures 0).0; count = (c.in_ok-values.ensures 0).1 } in
@@ -78,7 +78,7 @@ has_positive_bound-requires-clause-vector c = record { sparse = c.requires.spars
 
 pub has_positive_bound-requires-clause-room : goal.has_positive_bound-requires-clause-room
 has_positive_bound-requires-clause-room c =
-    let room : 0 + steps (farkas_events c.args.problem.now c.args.u.now) < 9223372036854775808 = let bound = c.as_slice-bounds.ensures.bound in let long = (ap (λ (bs : List ℚ). length bs) c.as_slice-bounds.ensures.items ∙ length-bounds c.args.problem.now c.args.sheet.now c.requires.sheet) in let few = steps-farkas c.args.problem.now c.args.u.now (omega (arith, bound, long)) in omega (arith, few) in
+    let room : 0 + steps (farkas_events c.args.problem.now c.args.u.now) < 9223372036854775808 = let few = steps-farkas c.args.problem.now c.args.u.now in omega (arith, few) in
     let came0 : Passed (places_within (length (sides c.args.problem.now)) c.args.u.now ∷ []) 0 0 = record { none = (subst (λ (es : List Event). Runs {X = Unit {0}} is_held es 0 0 (λ _. ⊤) (Ok tt)) (ap (λ (n : ℕ). places_within n c.args.u.now ∷ []) (ap (λ (bs : List ℚ). length bs) c.as_slice-bounds.ensures.items ∙ length-bounds c.args.problem.now c.args.sheet.now c.requires.sheet)) ((c.in_ok-places_within.ensures 0).0, (c.in_ok-places_within.ensures 0).1, tt)).0; count = (subst (λ (es : List Event). Runs {X = Unit {0}} is_held es 0 0 (λ _. ⊤) (Ok tt)) (ap (λ (n : ℕ). places_within n c.args.u.now ∷ []) (ap (λ (bs : List ℚ). length bs) c.as_slice-bounds.ensures.items ∙ length-bounds c.args.problem.now c.args.sheet.now c.requires.sheet)) ((c.in_ok-places_within.ensures 0).0, (c.in_ok-places_within.ensures 0).1, tt)).1 } in
     let came1 : Passed (values_positive c.args.u.now ∷ []) 0 0 = record { none = (c.in_ok-values_positive.ensures 0).0; count = (c.in_ok-values_positive.ensures 0).1 } in
     let came2 : Passed ([]) 0 0 = record { none = (c.in_ok-values.ensures 0).0; count = (c.in_ok-values.ensures 0).1 } in
