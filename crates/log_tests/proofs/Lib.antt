@@ -3,3 +3,4 @@ pub mod Products
 pub mod Columns
 pub mod SheetEvents
 pub mod StepBounds
+pub mod Matrices

@@ -6,6 +6,7 @@ mod cone;
 mod cut;
 mod image;
 mod line;
+mod matrix;
 mod sheet;
 mod steps;
 
