@@ -1,11 +1,15 @@
 -- Matrices by their cells: the sparse vectors of their rows and columns.
 use Rattle.std.proofs.Common.{◌≡◌, ◌≢◌, ℕ, zero, suc, ◌+◌, ◌-◌, ◌<◌, ◌≤◌, List, [], ◌∷◌, ◌++◌, refl, sym, ap, ap₂, ◌∙◌, subst, arith, Bool, true, false, not, ◌&&◌, ◌||◌, length, map, if◌then◌else◌, slice_index_or, All, IsTrue, nat_eq, nat_lt, nat_le, ◌==◌, replicate, take, inl, inr, ◌⊎◌}
 use Rattle.std.proofs.Math.ListN.{set}
-use Rattle.std.proofs.lemmas.Bool.{eq-eqb, ne_eqb, eqb-true, ltb-true, lt-ltb, leb-true, and_parts, and_from}
+use Rattle.std.proofs.lemmas.Bool.{eq-eqb, ne_eqb, eqb-true, ltb-true, lt-ltb, leb-true, le-leb, and_parts, and_from}
 use Rattle.std.proofs.lemmas.Bool.Decides.{eqb_tells}
-use Rattle.std.proofs.lemmas.List.{length-map, take_more, append_assoc}
-use Rattle.std.proofs.lemmas.List.Elements.{All-nil, All-cons, All-head, All-tail}
-use Rattle.exact_field.specs.Rational.{ℚ, zero_ℚ, neg_ℚ}
+use Rattle.std.proofs.lemmas.List.{length-map, length-take, take_more, map-append, append_assoc}
+use Rattle.std.proofs.lemmas.Grind.{flat_map-append}
+use Rattle.std.specs.List.{flat_map, zip}
+use Rattle.polyhedra.proofs.Tests.{or_right}
+use Rattle.std.proofs.lemmas.List.Elements.{All-nil, All-cons, All-head, All-tail, All-append, All-map, All-from_recursion}
+use Rattle.std.specs.List.{AllByRecursion}
+use Rattle.exact_field.specs.Rational.{ℚ, zero_ℚ, one_ℚ, whole, neg_ℚ}
 use Rattle.exact_field.specs.Vector.{entry}
 use Rattle.exact_field.proofs.Rationals.{neg-zero_ℚ}
 use Rattle.frac128.specs.Held.{size-neg}
@@ -15,13 +19,15 @@ use Rattle.polyhedra.specs.Sparse.{value_at, values_from}
 use Rattle.upper_image.specs.Spots.{IsVector, dense, entry_of}
 use Rattle.upper_image.specs.UpperImage.{signed}
 use Rattle.vlp_reader.specs.Cells.{are_cells, cells_behind, place_before, is_within, coefficient}
-use Rattle.vlp_reader.specs.Sides.{numbers_from}
+use Rattle.vlp_reader.specs.Sides.{numbers_from, sides_of, sides_from, unit}
+use Rattle.vlp_reader.specs.declared.problem.Bound.{Bound}
+use Rattle.vlp_reader.specs.declared.problem.Bound.TheVariants.{Unsaid, Free, Lower, Upper, Double, Fixed}
 use Rattle.vlp_reader.specs.declared.problem.Cell.{Cell}
 use Rattle.vlp_reader.specs.declared.problem.Dir.{Dir}
 use Rattle.vlp_reader.specs.declared.problem.Dir.TheVariants.{Min, Max}
 use Rattle.vlp_reader.specs.declared.statement.Axis.{Axis}
 use Rattle.vlp_reader.specs.declared.statement.Axis.TheVariants.{Row, Column}
-use Rattle.log_tests.specs.Sheets.{StandFor, key_of, place_of, spot_of, spots_in, row_cells, cells_from, turned_spot}
+use Rattle.log_tests.specs.Sheets.{StandFor, key_of, place_of, spot_of, spots_in, row_cells, cells_from, turned_spot, side_spots, side_values, all_side_spots, unit_spots}
 use Rattle.log_tests.proofs.Products.{zero_is}
 
 -- ---- lists by number
@@ -272,3 +278,220 @@ columns-stand dir R C cells h =
       stand = maps-again (dense R) (spots_in Column dir cells) (numbers_from 1 C)
           ∙ map-equal _ _ (λ j. values-made R 1 _ (λ i. signed dir (coefficient cells i j)) (λ i. column-values dir cells i j)) (numbers_from 1 C);
     }
+
+-- ---- the cells of rows
+cells_from-push : (k : ℕ) (rows : List (List Spot)) (r : List Spot) → cells_from k (rows ++ r ∷ []) ≡ cells_from k rows ++ row_cells (k + length rows) r
+cells_from-push k [] r = let same : k ≡ k + 0 = omega arith in append-none (row_cells k r) ∙ ap (λ (n : ℕ). row_cells n r) same
+cells_from-push k (q ∷ rows) r =
+    let same : suc k + length rows ≡ k + suc (length rows) = omega arith in
+    ap (λ cs. row_cells k q ++ cs) (cells_from-push (suc k) rows r)
+    ∙ sym (append_assoc (row_cells k q) (cells_from (suc k) rows) (row_cells (suc k + length rows) r))
+    ∙ ap (λ (n : ℕ). row_cells k q ++ cells_from (suc k) rows ++ row_cells n r) same
+
+pub cells_from-more : (rows : List (List Spot)) (i : ℕ) (r : List Spot) → i < length rows → r ≡ slice_index_or rows i r →
+    cells_from 1 (take (i + 1) rows) ≡ cells_from 1 (take i rows) ++ row_cells (i + 1) r
+cells_from-more rows i r h p =
+    let same : 1 + length (take i rows) ≡ i + 1 = omega (arith, length-take i rows) in
+    ap (cells_from 1) (take_more rows i r h) ∙ ap (λ (q : List Spot). cells_from 1 (take i rows ++ q ∷ [])) (sym p)
+    ∙ cells_from-push 1 (take i rows) r ∙ ap (λ (n : ℕ). cells_from 1 (take i rows) ++ row_cells n r) same
+
+pub numbers-more : {X : Type 0} (f : ℕ → X) (k n : ℕ) → map f (numbers_from k (n + 1)) ≡ map f (numbers_from k n) ++ f (k + n) ∷ []
+numbers-more {X} f k n = let one : n + 1 ≡ suc n = omega arith in ap (λ (m : ℕ). map f (numbers_from k m)) one ∙ go k n
+  where
+    go : (j m : ℕ) → map f (numbers_from j (suc m)) ≡ map f (numbers_from j m) ++ f (j + m) ∷ []
+    go j zero = let same : j ≡ j + 0 = omega arith in ap (λ (l : ℕ). f l ∷ []) same
+    go j (suc m) =
+        let same : suc j + m ≡ j + suc m = omega arith in
+        ap (λ (ys : List X). f j ∷ ys) (go (suc j) m ∙ ap (λ (l : ℕ). map f (numbers_from (suc j) m) ++ f l ∷ []) same)
+
+pub flat_map-more : {X A : Type 0} (f : X → List A) (xs : List X) (i : ℕ) (x : X) → i < length xs → x ≡ slice_index_or xs i x →
+    flat_map f (take (i + 1) xs) ≡ flat_map f (take i xs) ++ f x
+flat_map-more {X} {A} f xs i x h p =
+    ap (flat_map f) (take_more xs i x h) ∙ flat_map-append f (take i xs) (slice_index_or xs i x ∷ [])
+    ∙ ap (λ (ys : List A). flat_map f (take i xs) ++ ys) (append-none (f (slice_index_or xs i x)))
+    ∙ ap (λ (y : X). flat_map f (take i xs) ++ f y) (sym p)
+
+-- the cells rise, within the sizes
+before_place : (r c row col : ℕ) → ((r < row) ⊎ ((r ≡ row) × (c < col))) → IsTrue (place_before r c row col)
+before_place r c row col (inl h) = ap (λ (b : Bool). b || (r == row && nat_lt c col)) (lt-ltb r row h)
+before_place r c row col (inr h) = or_right (nat_lt r row) (r == row && nat_lt c col) (and_from (r == row) (nat_lt c col) (eq-eqb r row h.0) (lt-ltb c col h.1))
+
+row_behind : (R C r c k l : ℕ) (spots : List Spot) (more : List Cell) → 1 ≤ k → k ≤ R → ((r < k) ⊎ ((r ≡ k) × (c ≤ l))) → IsTrue (rises_above l spots) →
+    All (λ s. s.at ≤ C) spots → ((r' c' : ℕ) → r' ≤ k → IsTrue (cells_behind R C r' c' more)) → IsTrue (cells_behind R C r c (row_cells k spots ++ more))
+row_behind R C r c k l [] more low high b rise wide m = m r c (at_most b)
+  where
+    at_most : ((r < k) ⊎ ((r ≡ k) × (c ≤ l))) → r ≤ k
+    at_most (inl h) = omega (arith, h)
+    at_most (inr h) = omega (arith, h)
+row_behind R C r c k l (s ∷ spots) more low high b rise wide m =
+    let p = and_parts (nat_lt l s.at) (not (is_zero s.value) && rises_above s.at spots) rise in
+    let q = and_parts (not (is_zero s.value)) (rises_above s.at spots) p.1 in
+    let above : l < s.at = ltb-true l s.at p.0 in
+    let within : s.at ≤ C = All-head (λ z. z.at ≤ C) s spots wide in
+    and_from (place_before r c k s.at) (is_within R C k s.at && (not (is_zero s.value) && cells_behind R C k s.at (row_cells k spots ++ more))) (before_place r c k s.at (next b above))
+    (and_from (is_within R C k s.at) (not (is_zero s.value) && cells_behind R C k s.at (row_cells k spots ++ more))
+    (and_from (nat_lt 0 k) (nat_le k R && (nat_lt 0 s.at && nat_le s.at C)) (lt-ltb 0 k (omega (arith, low)))
+    (and_from (nat_le k R) (nat_lt 0 s.at && nat_le s.at C) (le-leb k R high)
+    (and_from (nat_lt 0 s.at) (nat_le s.at C) (lt-ltb 0 s.at (omega (arith, above))) (le-leb s.at C within))))
+    (and_from (not (is_zero s.value)) (cells_behind R C k s.at (row_cells k spots ++ more)) q.0
+    (row_behind R C k s.at k s.at spots more low high (inr (refl, omega arith)) q.1 (All-tail (λ z. z.at ≤ C) s spots wide) m)))
+  where
+    next : ((r < k) ⊎ ((r ≡ k) × (c ≤ l))) → l < s.at → (r < k) ⊎ ((r ≡ k) × (c < s.at))
+    next (inl h) a = inl h
+    next (inr h) a = inr (h.0, omega (arith, h, a))
+
+rows_behind : (R C r c k : ℕ) (rows : List (List Spot)) → r < k → k + length rows ≤ R + 1 → All (IsVector C) rows → IsTrue (cells_behind R C r c (cells_from k rows))
+rows_behind R C r c k [] h l all = refl
+rows_behind R C r c k (q ∷ rows) h l all =
+    let v = All-head (IsVector C) q rows all in
+    row_behind R C r c k 0 q (cells_from (suc k) rows) (omega (arith, h)) (omega (arith, l)) (inl h) v.sparse v.places
+    (λ r' c' m. rows_behind R C r' c' (suc k) rows (omega (arith, m)) (omega (arith, l)) (All-tail (IsVector C) q rows all))
+
+pub cells_from-are : (C : ℕ) (rows : List (List Spot)) → All (IsVector C) rows → IsTrue (are_cells (length rows) C (cells_from 1 rows))
+cells_from-are C rows h = rows_behind (length rows) C 0 0 1 rows (omega arith) (omega arith) h
+
+-- their entries
+row-coefficient : (k j : ℕ) (spots : List Spot) (more : List Cell) → coefficient more k j ≡ zero_ℚ → coefficient (row_cells k spots ++ more) k j ≡ value_at (map entry_of spots) j
+row-coefficient k j [] more h = h
+row-coefficient k j (s ∷ spots) more h =
+    ap (λ (b : Bool). if b && (s.at == j) then s.value else coefficient (row_cells k spots ++ more) k j) (eq-eqb k k refl)
+    ∙ ap (λ (q : ℚ). if s.at == j then s.value else q) (row-coefficient k j spots more h)
+
+other-coefficient : (k i j : ℕ) (spots : List Spot) (more : List Cell) → k ≢ i → coefficient (row_cells k spots ++ more) i j ≡ coefficient more i j
+other-coefficient k i j [] more h = refl
+other-coefficient k i j (s ∷ spots) more h =
+    ap (λ (b : Bool). if b && (s.at == j) then s.value else coefficient (row_cells k spots ++ more) i j) (ne_eqb k i h) ∙ other-coefficient k i j spots more h
+
+no-coefficient : (k i j : ℕ) (rows : List (List Spot)) → i < k → coefficient (cells_from k rows) i j ≡ zero_ℚ
+no-coefficient k i j [] h = refl
+no-coefficient k i j (q ∷ rows) h = other-coefficient k i j q (cells_from (suc k) rows) (λ e. omega (arith, e, h)) ∙ no-coefficient (suc k) i j rows (omega (arith, h))
+
+map-numbers : {X : Type 0} (f g : ℕ → X) (k n : ℕ) → ((i : ℕ) → k ≤ i → f i ≡ g i) → map f (numbers_from k n) ≡ map g (numbers_from k n)
+map-numbers f g k zero h = refl
+map-numbers {X} f g k (suc n) h = ap₂ (λ (a : X) (b : List X). a ∷ b) (h k (omega arith)) (map-numbers f g (suc k) n (λ i l. h i (omega (arith, l))))
+
+rows-again : (w k : ℕ) (rows : List (List Spot)) →
+    map (λ i. map (λ j. coefficient (cells_from k rows) i j) (numbers_from 1 w)) (numbers_from k (length rows)) ≡ map (dense w) rows
+rows-again w k [] = refl
+rows-again w k (q ∷ rows) =
+    ap₂ (λ (a : List ℚ) (b : List (List ℚ)). a ∷ b)
+    (sym (values-made w 1 (value_at (map entry_of q)) (λ j. coefficient (row_cells k q ++ cells_from (suc k) rows) k j)
+    (λ j. sym (row-coefficient k j q (cells_from (suc k) rows) (no-coefficient (suc k) k j rows (omega arith))))))
+    (map-numbers _ _ (suc k) (length rows) (λ i l. map-equal _ _ (λ j. other-coefficient k i j q (cells_from (suc k) rows) (λ e. omega (arith, e, l))) (numbers_from 1 w))
+    ∙ rows-again w (suc k) rows)
+
+pub cells_from-stand : (w : ℕ) (rows : List (List Spot)) →
+    map (λ i. map (λ j. coefficient (cells_from 1 rows) i j) (numbers_from 1 w)) (numbers_from 1 (length rows)) ≡ map (dense w) rows
+cells_from-stand w rows = rows-again w 1 rows
+
+-- ---- the sides
+values-equal : (n k : ℕ) (f g : ℕ → ℚ) → ((j : ℕ) → f j ≡ g j) → values_from n k f ≡ values_from n k g
+values-equal zero k f g h = refl
+values-equal (suc n) k f g h = ap₂ (λ a b. a ∷ b) (h k) (values-equal n (suc k) f g h)
+
+turned-values : (dir : Dir) (u : List Spot) (j : ℕ) → value_at (map entry_of (map (turned_spot dir) u)) j ≡ signed dir (value_at (map entry_of u) j)
+turned-values dir [] j = signed-zero dir
+turned-values dir (s ∷ u) j = go (nat_eq s.at j) (turned-values dir u j)
+  where
+    go : (b : Bool) → value_at (map entry_of (map (turned_spot dir) u)) j ≡ signed dir (value_at (map entry_of u) j) →
+        (if b then signed dir s.value else value_at (map entry_of (map (turned_spot dir) u)) j) ≡ signed dir (if b then s.value else value_at (map entry_of u) j)
+    go true h = refl
+    go false h = h
+
+signed-values : (n k : ℕ) (f : ℕ → ℚ) → values_from n k (λ j. neg_ℚ (f j)) ≡ map neg_ℚ (values_from n k f)
+signed-values zero k f = refl
+signed-values (suc n) k f = ap (λ v. neg_ℚ (f k) ∷ v) (signed-values n (suc k) f)
+
+lower_dense : (n : ℕ) (u : List Spot) → dense n (map (turned_spot Min) u) ≡ dense n u
+lower_dense n u = values-equal n 1 _ _ (turned-values Min u)
+
+upper_dense : (n : ℕ) (u : List Spot) → dense n (map (turned_spot Max) u) ≡ map neg_ℚ (dense n u)
+upper_dense n u = values-equal n 1 _ _ (turned-values Max u) ∙ signed-values n 1 (value_at (map entry_of u))
+
+one_bound : (n : ℕ) (u : List Spot) (v : List ℚ) (b : Bound) → dense n u ≡ v → map (dense n) (side_spots u b) ≡ map (λ s. s.normal) (sides_of v b)
+one_bound n u v Unsaid h = refl
+one_bound n u v Free h = refl
+one_bound n u v (Lower low) h = ap (λ w. w ∷ []) (lower_dense n u ∙ h)
+one_bound n u v (Upper high) h = ap (λ w. w ∷ []) (upper_dense n u ∙ ap (map neg_ℚ) h)
+one_bound n u v (Double low high) h = ap₂ (λ w z. w ∷ z ∷ []) (lower_dense n u ∙ h) (upper_dense n u ∙ ap (map neg_ℚ) h)
+one_bound n u v (Fixed value) h = ap₂ (λ w z. w ∷ z ∷ []) (lower_dense n u ∙ h) (upper_dense n u ∙ ap (map neg_ℚ) h)
+
+pub bounds_normals : (n k : ℕ) (v : ℕ → List ℚ) (us : List (List Spot)) (bs : List Bound) → map (dense n) us ≡ map v (numbers_from k (length bs)) →
+    map (dense n) (all_side_spots us bs) ≡ map (λ s. s.normal) (sides_from v k bs)
+bounds_normals n k v [] [] h = refl
+bounds_normals n k v [] (b ∷ bs) h = absurd cc
+bounds_normals n k v (u ∷ us) [] h = absurd cc
+bounds_normals n k v (u ∷ us) (b ∷ bs) h =
+    let first : dense n u ≡ v k = cc in
+    let more : map (dense n) us ≡ map v (numbers_from (suc k) (length bs)) = cc in
+    map-append (dense n) (side_spots u b) (all_side_spots us bs)
+    ∙ ap₂ (λ (a c : List (List ℚ)). a ++ c) (one_bound n u (v k) b first) (bounds_normals n (suc k) v us bs more)
+    ∙ sym (map-append (λ s. s.normal) (sides_of (v k) b) (sides_from v (suc k) bs))
+
+one_values : (v : List ℚ) (b : Bound) → side_values b ≡ map (λ s. s.bound) (sides_of v b)
+one_values v Unsaid = refl
+one_values v Free = refl
+one_values v (Lower low) = refl
+one_values v (Upper high) = refl
+one_values v (Double low high) = refl
+one_values v (Fixed value) = refl
+
+pub bounds_values : (v : ℕ → List ℚ) (k : ℕ) (bs : List Bound) → flat_map side_values bs ≡ map (λ s. s.bound) (sides_from v k bs)
+bounds_values v k [] = refl
+bounds_values v k (b ∷ bs) =
+    ap₂ (λ (a c : List ℚ). a ++ c) (one_values (v k) b) (bounds_values v (suc k) bs) ∙ sym (map-append (λ s. s.bound) (sides_of (v k) b) (sides_from v (suc k) bs))
+
+turned_rises : (dir : Dir) (l : ℕ) (u : List Spot) → rises_above l (map (turned_spot dir) u) ≡ rises_above l u
+turned_rises dir l [] = refl
+turned_rises dir l (s ∷ u) = ap₂ (λ (a b : Bool). nat_lt l s.at && (not a && b)) (zero-signed dir s.value) (turned_rises dir s.at u)
+
+turned_vector : (n : ℕ) (dir : Dir) (u : List Spot) → IsVector n u → IsVector n (map (turned_spot dir) u)
+turned_vector n dir u h =
+    record { sparse = turned_rises dir 0 u ∙ h.sparse; places = All-map (λ s. s.at ≤ n) (turned_spot dir) u h.places }
+
+one_sparse : (n : ℕ) (u : List Spot) (b : Bound) → IsVector n u → All (IsVector n) (side_spots u b)
+one_sparse n u b h = All-from_recursion (IsVector n) (side_spots u b) (go b)
+  where
+    go : (c : Bound) → AllByRecursion (IsVector n) (side_spots u c)
+    go Unsaid = tt
+    go Free = tt
+    go (Lower low) = (turned_vector n Min u h, tt)
+    go (Upper high) = (turned_vector n Max u h, tt)
+    go (Double low high) = (turned_vector n Min u h, (turned_vector n Max u h, tt))
+    go (Fixed value) = (turned_vector n Min u h, (turned_vector n Max u h, tt))
+
+pub bounds_sparse : (n : ℕ) (us : List (List Spot)) (bs : List Bound) → All (IsVector n) us → All (IsVector n) (all_side_spots us bs)
+bounds_sparse n [] bs h = All-nil (IsVector n)
+bounds_sparse n (u ∷ us) [] h = All-nil (IsVector n)
+bounds_sparse n (u ∷ us) (b ∷ bs) h =
+    All-append (IsVector n) (side_spots u b) (all_side_spots us bs) (one_sparse n u b (All-head (IsVector n) u us h)) (bounds_sparse n us bs (All-tail (IsVector n) u us h))
+
+-- ---- unit vectors
+turn_test : (k j : ℕ) → nat_eq k j ≡ (j == k)
+turn_test k j = go (eqb_tells k j)
+  where
+    go : ((nat_eq k j ≡ true) × (k ≡ j)) ⊎ ((nat_eq k j ≡ false) × (k ≢ j)) → nat_eq k j ≡ (j == k)
+    go (inl e) = e.0 ∙ sym (eq-eqb j k (sym e.1))
+    go (inr e) = e.0 ∙ sym (ne_eqb j k (λ q. e.1 (sym q)))
+
+pub units_stand : (n : ℕ) (ks : List ℕ) → map (dense n) (map unit_spots ks) ≡ map (unit n) ks
+units_stand n ks =
+    maps-again (dense n) unit_spots ks
+    ∙ map-equal _ _ (λ k. values-made n 1 _ (λ j. if j == k then one_ℚ else zero_ℚ) (λ j. ap (λ (b : Bool). if b then one_ℚ else zero_ℚ) (turn_test k j))) ks
+
+one_filled : is_zero one_ℚ ≡ false
+unfolding whole
+one_filled = refl
+
+unit_vector : (n k : ℕ) → 1 ≤ k → k ≤ n → IsVector n (unit_spots k)
+unit_vector n k low high =
+    record {
+      sparse = and_from (nat_lt 0 k) (not (is_zero one_ℚ) && true) (lt-ltb 0 k (omega (arith, low))) (and_from (not (is_zero one_ℚ)) true (ap not one_filled) refl);
+      places = All-cons (λ s. s.at ≤ n) (record { at = k; value = one_ℚ }) [] high (All-nil (λ s. s.at ≤ n));
+    }
+
+pub units_sparse : (n k m : ℕ) → 1 ≤ k → k + m ≤ n + 1 → All (IsVector n) (map unit_spots (numbers_from k m))
+units_sparse n k zero low high = All-nil (IsVector n)
+units_sparse n k (suc m) low high =
+    All-cons (IsVector n) (unit_spots k) (map unit_spots (numbers_from (suc k) m)) (unit_vector n k low (omega (arith, high)))
+    (units_sparse n (suc k) m (omega (arith, low)) (omega (arith, high)))

@@ -1,6 +1,7 @@
 -- What a sheet stands for: the sides and the objectives of a file, by rows and by columns.
 use Rattle.std.specs.Prelude.{◌≡◌, ℕ, suc, ◌==◌, if◌then◌else◌, List, [], ◌∷◌, ◌++◌, map, length, All}
-use Rattle.exact_field.specs.Rational.{ℚ}
+use Rattle.std.specs.List.{flat_map, zip}
+use Rattle.exact_field.specs.Rational.{ℚ, one_ℚ}
 use Rattle.frac128.specs.declared.vectors.Spot.{Spot}
 use Rattle.upper_image.specs.Spots.{IsVector, dense}
 use Rattle.upper_image.specs.UpperImage.{normals, objectives, objective_column, signed}
@@ -8,6 +9,9 @@ use Rattle.vlp_reader.specs.Sides.{sides, side_column, side_bounds, numbers_from
 use Rattle.vlp_reader.specs.declared.problem.Problem.{Problem}
 use Rattle.vlp_reader.specs.declared.problem.Cell.{Cell}
 use Rattle.vlp_reader.specs.declared.problem.Dir.{Dir}
+use Rattle.vlp_reader.specs.declared.problem.Dir.TheVariants.{Min, Max}
+use Rattle.vlp_reader.specs.declared.problem.Bound.{Bound}
+use Rattle.vlp_reader.specs.declared.problem.Bound.TheVariants.{Unsaid, Free, Lower, Upper, Double, Fixed}
 use Rattle.vlp_reader.specs.declared.statement.Axis.{Axis}
 use Rattle.vlp_reader.specs.declared.statement.Axis.TheVariants.{Row, Column}
 use Rattle.log_tests.specs.declared.sheet.Sheet.{Sheet}
@@ -56,3 +60,30 @@ cells_from k (r ∷ rows) = row_cells k r ++ cells_from (suc k) rows
 -- a sparse vector times s
 abbrev pub turned_spot : Dir → Spot → Spot
 turned_spot dir s = record { at = s.at; value = signed dir s.value }
+
+-- ---- the sides
+-- the vectors of the sides of one bound of a sparse vector
+abbrev pub side_spots : List Spot → Bound → List (List Spot)
+side_spots v Unsaid = []
+side_spots v Free = []
+side_spots v (Lower low) = map (turned_spot Min) v ∷ []
+side_spots v (Upper high) = map (turned_spot Max) v ∷ []
+side_spots v (Double low high) = map (turned_spot Min) v ∷ map (turned_spot Max) v ∷ []
+side_spots v (Fixed value) = map (turned_spot Min) v ∷ map (turned_spot Max) v ∷ []
+
+-- the bounds of the sides of one bound
+abbrev pub side_values : Bound → List ℚ
+side_values Unsaid = []
+side_values Free = []
+side_values (Lower low) = signed Min low ∷ []
+side_values (Upper high) = signed Max high ∷ []
+side_values (Double low high) = signed Min low ∷ signed Max high ∷ []
+side_values (Fixed value) = signed Min value ∷ signed Max value ∷ []
+
+-- those of all bounds, each with its vector
+abbrev pub all_side_spots : List (List Spot) → List Bound → List (List Spot)
+all_side_spots vectors bounds = flat_map (λ p. side_spots p.0 p.1) (zip vectors bounds)
+
+-- the unit vector with 1 at place j
+abbrev pub unit_spots : ℕ → List Spot
+unit_spots j = record { at = j; value = one_ℚ } ∷ []

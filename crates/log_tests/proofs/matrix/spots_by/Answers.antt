@@ -24,8 +24,12 @@ use Rattle.log_tests.specs.Parts.{product_events, entry_events, combination_even
 use Rattle.log_tests.proofs.Going.{Passed, Stopped, passed-then, stopped-in, stopped-behind, Ran, ran-behind, test-as, then-test, test-passed, spots-within, room-in, room-behind, any-default, next-entry, item-as, next-number, at-room, at-stop, at-more, at-end}
 use Rattle.log_tests.proofs.Products.{at_spots, of_spots, summed-start, summed-more, summed-room, summed-stop, summed-end, place-within, at-spot, spot-at, product_steps-spots, product-spots}
 use Rattle.std.proofs.Math.ListN.{set}
-use Rattle.log_tests.proofs.Matrices.{none-lists, spots_by-more}
-use Rattle.log_tests.specs.Sheets.{key_of, spot_of, spots_in}
+use Rattle.log_tests.proofs.Matrices.{none-lists, spots_by-more, cells_from-more, numbers-more, flat_map-more}
+use Rattle.log_tests.proofs.Going.{zip-at, length-zip}
+use Rattle.log_tests.proofs.SheetEvents.{take_whole}
+use Rattle.std.proofs.Common.{take}
+use Rattle.log_tests.specs.Sheets.{key_of, spot_of, spots_in, row_cells, cells_from, unit_spots, side_spots, side_values, all_side_spots}
+use Rattle.vlp_reader.specs.declared.problem.Bound.{Bound}
 use Rattle.vlp_reader.specs.declared.problem.Cell.{Cell}
 use Rattle.log_tests.proofs.matrix.spots_by.Goals as goal
 
