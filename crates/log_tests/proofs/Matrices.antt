@@ -16,10 +16,12 @@ use Rattle.frac128.specs.Held.{size-neg}
 use Rattle.frac128.specs.Sparse.{IsSparse, is_zero, rises_above}
 use Rattle.frac128.specs.declared.vectors.Spot.{Spot}
 use Rattle.polyhedra.specs.Sparse.{value_at, values_from}
-use Rattle.upper_image.specs.Spots.{IsVector, dense, entry_of}
-use Rattle.upper_image.specs.UpperImage.{signed}
+use Rattle.upper_image.specs.Spots.{IsVector, dense, column, entry_of}
+use Rattle.upper_image.specs.UpperImage.{signed, normals, objectives, objective_column}
+use Rattle.upper_image.proofs.Widths.{entry-made, side_columns}
 use Rattle.vlp_reader.specs.Cells.{are_cells, cells_behind, place_before, is_within, coefficient}
-use Rattle.vlp_reader.specs.Sides.{numbers_from, sides_of, sides_from, unit}
+use Rattle.vlp_reader.specs.Sides.{numbers_from, sides, sides_of, sides_from, side_column, side_bounds, row_vector, unit}
+use Rattle.vlp_reader.specs.declared.problem.Problem.{Problem}
 use Rattle.vlp_reader.specs.declared.problem.Bound.{Bound}
 use Rattle.vlp_reader.specs.declared.problem.Bound.TheVariants.{Unsaid, Free, Lower, Upper, Double, Fixed}
 use Rattle.vlp_reader.specs.declared.problem.Cell.{Cell}
@@ -27,7 +29,8 @@ use Rattle.vlp_reader.specs.declared.problem.Dir.{Dir}
 use Rattle.vlp_reader.specs.declared.problem.Dir.TheVariants.{Min, Max}
 use Rattle.vlp_reader.specs.declared.statement.Axis.{Axis}
 use Rattle.vlp_reader.specs.declared.statement.Axis.TheVariants.{Row, Column}
-use Rattle.log_tests.specs.Sheets.{StandFor, key_of, place_of, spot_of, spots_in, row_cells, cells_from, turned_spot, side_spots, side_values, all_side_spots, unit_spots}
+use Rattle.log_tests.specs.declared.sheet.Sheet.{Sheet}
+use Rattle.log_tests.specs.Sheets.{IsSheetOf, StandFor, key_of, place_of, spot_of, spots_in, row_cells, cells_from, turned_spot, side_spots, side_values, all_side_spots, unit_spots}
 use Rattle.log_tests.proofs.Products.{zero_is}
 
 -- ---- lists by number
@@ -495,3 +498,65 @@ units_sparse n k zero low high = All-nil (IsVector n)
 units_sparse n k (suc m) low high =
     All-cons (IsVector n) (unit_spots k) (map unit_spots (numbers_from (suc k) m)) (unit_vector n k low (omega (arith, high)))
     (units_sparse n (suc k) m (omega (arith, low)) (omega (arith, high)))
+
+-- ---- the columns of rows
+map-range : {X : Type 0} (f g : ℕ → X) (k n m : ℕ) → k + n ≤ m + 1 → ((i : ℕ) → k ≤ i → i ≤ m → f i ≡ g i) → map f (numbers_from k n) ≡ map g (numbers_from k n)
+map-range f g k zero m l h = refl
+map-range {X} f g k (suc n) m l h =
+    ap₂ (λ (a : X) (b : List X). a ∷ b) (h k (omega arith) (omega (arith, l))) (map-range f g (suc k) n m (omega (arith, l)) (λ i a b. h i (omega (arith, a)) b))
+
+-- the columns of rows that stand for the vectors are the vectors' columns
+pub columns-of_rows : (w : ℕ) (rows : List (List Spot)) (vectors : List (List ℚ)) → map (dense w) rows ≡ vectors →
+    map (λ j. map (λ i. coefficient (cells_from 1 rows) i j) (numbers_from 1 (length rows))) (numbers_from 1 w) ≡ map (column vectors) (numbers_from 1 w)
+columns-of_rows w rows vectors h =
+    map-range _ _ 1 w w (omega arith) (λ j low high.
+    map-equal _ _ (λ i. sym (entry-made (λ k. coefficient (cells_from 1 rows) i k) w j low high)) (numbers_from 1 (length rows))
+    ∙ sym (maps-again (λ v. entry v j) (λ i. map (λ k. coefficient (cells_from 1 rows) i k) (numbers_from 1 w)) (numbers_from 1 (length rows)))
+    ∙ ap (λ (vs : List (List ℚ)). column vs j) (cells_from-stand w rows ∙ h))
+
+-- ---- a sheet
+pub sheet-stands : (file : Problem) (sheet : Sheet) → All (IsVector file.cols) sheet.sides.rows → map (dense file.cols) sheet.sides.rows ≡ normals file →
+    sheet.bounds ≡ side_bounds file → sheet.sides.columns ≡ map (spots_in Column Min (cells_from 1 sheet.sides.rows)) (numbers_from 1 file.cols) →
+    sheet.objectives.rows ≡ map (spots_in Row file.dir file.o) (numbers_from 1 file.objs) →
+    sheet.objectives.columns ≡ map (spots_in Column file.dir file.o) (numbers_from 1 file.cols) → IsSheetOf file sheet
+sheet-stands file sheet wide stand bounds columns orows ocolumns =
+    let many : length sheet.sides.rows ≡ length (sides file) =
+    sym (length-map sheet.sides.rows (dense file.cols)) ∙ ap (λ (vs : List (List ℚ)). length vs) stand ∙ length-map (sides file) (λ s. s.normal) in
+    let upright = columns-stand Min (length sheet.sides.rows) file.cols (cells_from 1 sheet.sides.rows) (cells_from-are file.cols sheet.sides.rows wide) in
+    record {
+      side_rows = record { sparse = wide; stand = stand };
+      side_columns = subst (λ (ls : List (List Spot)). StandFor (length (sides file)) ls (map (side_column file) (numbers_from 1 file.cols))) (sym columns)
+          (subst (λ (n : ℕ). StandFor n (map (spots_in Column Min (cells_from 1 sheet.sides.rows)) (numbers_from 1 file.cols)) (map (side_column file) (numbers_from 1 file.cols))) many
+          record {
+            sparse = upright.sparse;
+            stand = upright.stand ∙ columns-of_rows file.cols sheet.sides.rows (normals file) stand ∙ map-equal _ _ (side_columns file) (numbers_from 1 file.cols);
+          });
+      bounds = bounds;
+      objective_rows = subst (λ (ls : List (List Spot)). StandFor file.cols ls (objectives file)) (sym orows) (rows-stand file.dir file.objs file.cols file.o file.o_cells);
+      objective_columns = subst (λ (ls : List (List Spot)). StandFor file.objs ls (map (objective_column file) (numbers_from 1 file.cols))) (sym ocolumns)
+          (columns-stand file.dir file.objs file.cols file.o file.o_cells);
+    }
+
+-- the sides that code makes
+pub sides-made : (file : Problem) → map (dense file.cols) (all_side_spots (map (spots_in Row Min file.a) (numbers_from 1 file.rows)) file.row_bounds
+    ++ all_side_spots (map unit_spots (numbers_from 1 file.cols)) file.col_bounds) ≡ normals file
+sides-made file =
+    map-append (dense file.cols) (all_side_spots (map (spots_in Row Min file.a) (numbers_from 1 file.rows)) file.row_bounds) (all_side_spots (map unit_spots (numbers_from 1 file.cols)) file.col_bounds)
+    ∙ ap₂ (λ (a b : List (List ℚ)). a ++ b)
+    (bounds_normals file.cols 1 (row_vector file) (map (spots_in Row Min file.a) (numbers_from 1 file.rows)) file.row_bounds
+    ((rows-stand Min file.rows file.cols file.a file.a_cells).stand ∙ ap (λ (n : ℕ). map (row_vector file) (numbers_from 1 n)) (sym file.row_count)))
+    (bounds_normals file.cols 1 (unit file.cols) (map unit_spots (numbers_from 1 file.cols)) file.col_bounds
+    (units_stand file.cols (numbers_from 1 file.cols) ∙ ap (λ (n : ℕ). map (unit file.cols) (numbers_from 1 n)) (sym file.col_count)))
+    ∙ sym (map-append (λ s. s.normal) (sides_from (row_vector file) 1 file.row_bounds) (sides_from (unit file.cols) 1 file.col_bounds))
+
+pub values-sides : (file : Problem) → flat_map side_values file.row_bounds ++ flat_map side_values file.col_bounds ≡ side_bounds file
+values-sides file =
+    ap₂ (λ (a b : List ℚ). a ++ b) (bounds_values (row_vector file) 1 file.row_bounds) (bounds_values (unit file.cols) 1 file.col_bounds)
+    ∙ sym (map-append (λ s. s.bound) (sides_from (row_vector file) 1 file.row_bounds) (sides_from (unit file.cols) 1 file.col_bounds))
+
+pub sparse-sides : (file : Problem) → All (IsVector file.cols) (all_side_spots (map (spots_in Row Min file.a) (numbers_from 1 file.rows)) file.row_bounds
+    ++ all_side_spots (map unit_spots (numbers_from 1 file.cols)) file.col_bounds)
+sparse-sides file =
+    All-append (IsVector file.cols) (all_side_spots (map (spots_in Row Min file.a) (numbers_from 1 file.rows)) file.row_bounds) (all_side_spots (map unit_spots (numbers_from 1 file.cols)) file.col_bounds)
+    (bounds_sparse file.cols (map (spots_in Row Min file.a) (numbers_from 1 file.rows)) file.row_bounds (rows-stand Min file.rows file.cols file.a file.a_cells).sparse)
+    (bounds_sparse file.cols (map unit_spots (numbers_from 1 file.cols)) file.col_bounds (units_sparse file.cols 1 file.cols (omega arith) (omega arith)))

@@ -63,17 +63,18 @@ pub fn spots_by(
     dir: Dir,
     cells: &[Cell],
     count: u32,
-) -> Result<Vec<Sparse>, NoMemory>
+) -> Result<Items<Sparse>, NoMemory>
+    requires few { count ≤ 100000 }
     requires from_one { All (λ c. 1 ≤ key_of axis c) cells.now }
     requires to_end { All (λ c. key_of axis c ≤ count) cells.now }
-    ensures { IfOk result (λ lists. lists.items ≡ map (spots_in axis dir cells.now) (numbers_from 1 count)) }
+    ensures { IfOk result (λ lists. lists ≡ map (spots_in axis dir cells.now) (numbers_from 1 count)) }
 {
     let mut lists = empty_lists(alloc, count)?;
     for cell in cells {
         let spot = spot_of(axis, dir, cell);
         lists[key_of(axis, cell) as usize - 1].push(spot)?;
     }
-    Ok(lists)
+    Ok(Items::from_vec(lists))
 }
 
 /// Appends the cells of a row.

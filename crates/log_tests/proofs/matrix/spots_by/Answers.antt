@@ -33,6 +33,14 @@ use Rattle.vlp_reader.specs.declared.problem.Bound.{Bound}
 use Rattle.vlp_reader.specs.declared.problem.Cell.{Cell}
 use Rattle.log_tests.proofs.matrix.spots_by.Goals as goal
 
+pub from_vec-requires : goal.from_vec-requires
+from_vec-requires c =
+    let long = ap (λ (ls : List (List Spot)). length ls) c.loop-cell.invariant in
+    let count = length-map (numbers_from 1 c.args.count) (spots_in c.args.axis c.args.dir (take c.loop-cell.cell-index c.args.cells.now)) in
+    let numbers = length-numbers 1 c.args.count in
+    let few = c.requires.few in
+    omega (arith, long, count, numbers, few)
+
 pub loop-cell-init : goal.loop-cell-init
 loop-cell-init c = c.in_ok-lists.ensures ∙ none-lists {X = Spot} c.args.count 1
 
