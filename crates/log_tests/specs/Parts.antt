@@ -1,7 +1,7 @@
 -- Parts of the events of entries, by the names of the calls that go through them.
-use Rattle.std.specs.Prelude.{ℕ, List, [], ◌∷◌, ◌++◌, length}
-use Rattle.std.specs.List.{flat_map, zip}
-use Rattle.exact_field.specs.Rational.{ℚ, zero_ℚ, one_ℚ, le_ℚ, lt_ℚ}
+use Rattle.std.specs.Prelude.{ℕ, Bool, ◌==◌, if◌then◌else◌, List, [], ◌∷◌, ◌++◌, length}
+use Rattle.std.specs.List.{flat_map, zip, list_all, enumerate_from}
+use Rattle.exact_field.specs.Rational.{ℚ, zero_ℚ, one_ℚ, ◌/ℚ◌, le_ℚ, lt_ℚ}
 use Rattle.exact_field.specs.Order.{same_ℚ}
 use Rattle.exact_field.specs.Vector.{dot, entry}
 use Rattle.exact_field.specs.declared.op.Op.TheVariants as op
@@ -77,3 +77,35 @@ bound_events bounds u gamma = product_steps bounds u ++ test rule.Bound (same_�
 -- the product of w with the duality vector is 1
 abbrev pub scaled_events : List ℚ → List ℚ → List Event
 scaled_events w c = dot_steps w c ++ test rule.Scaled (same_ℚ (dot w c) one_ℚ) ∷ []
+
+-- ---- duality
+-- x divided by the divisor is the expected number
+abbrev pub quotient_events : ℚ → ℚ → ℚ → List Event
+quotient_events divisor x expected = step op.Div x divisor ∷ test rule.Scaled (same_ℚ expected (x /ℚ divisor)) ∷ []
+
+-- f divided by the divisor is c
+abbrev pub quotients_events : List ℚ → List ℚ → ℚ → List Event
+quotients_events f c divisor = flat_map (λ i. quotient_events divisor (entry f i) (entry c i)) (numbers_from 1 (length f))
+
+-- a row that is not 0 has a product above 0 with c
+abbrev pub row_events : List ℚ → List ℚ → List Event
+row_events c v = if list_all is_zero v then [] else dot_steps v c ++ test rule.Interior (lt_ℚ zero_ℚ (dot v c)) ∷ []
+
+abbrev pub rows_events : List ℚ → List (List ℚ) → List Event
+rows_events c rows = flat_map (row_events c) rows
+
+-- the vectors with their weights have the entry x at place i
+abbrev pub weight_events : List (List ℚ) → List ℚ → ℚ → ℕ → List Event
+weight_events vectors weights x i = dot_steps (column vectors i) weights ++ test rule.Interior (same_ℚ (dot (column vectors i) weights) x) ∷ []
+
+-- they sum to c
+abbrev pub weights_events : List (List ℚ) → List ℚ → List ℚ → List Event
+weights_events vectors weights c = flat_map (λ i. weight_events vectors weights (entry c i) i) (numbers_from 1 (length c))
+
+-- the product of v with a row is 1 where it is its own, and 0 else
+abbrev pub unit_events : List ℚ → Bool → List ℚ → List Event
+unit_events row own v = dot_steps v row ++ test rule.Interior (same_ℚ (dot v row) (if own then one_ℚ else zero_ℚ)) ∷ []
+
+-- the same for each of the vectors, the own one being number a
+abbrev pub units_events : List (List ℚ) → ℕ → List ℚ → List Event
+units_events vectors a row = flat_map (λ b. unit_events row (a == b.0) b.1) (enumerate_from 1 vectors)

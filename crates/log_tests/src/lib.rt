@@ -4,9 +4,11 @@
 
 mod cone;
 mod cut;
+mod duality;
 mod image;
 mod line;
 mod matrix;
+mod numbers;
 mod sheet;
 mod steps;
 

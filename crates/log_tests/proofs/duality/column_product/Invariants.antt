@@ -1,0 +1,12 @@
+use Rattle.std.proofs.Common.{◌+◌, length}
+use Rattle.std.specs.List.{zip}
+use Rattle.exact_field.specs.Vector.{entry}
+use Rattle.upper_image.specs.Spots.{column}
+use Rattle.vlp_reader.specs.Sides.{numbers_from}
+use Rattle.log_tests.specs.Parts.{quotient_events, row_events, weight_events}
+use Rattle.log_tests.proofs.Going.{IsAt}
+use Rattle.log_tests.proofs.Products.{IsSummed}
+use Rattle.log_tests.proofs.duality.column_product.Given as goal
+
+abbrev pub invariant-loop-i : goal.invariant-loop-i
+invariant-loop-i l = IsSummed (zip (column l.fn.vectors (l.fn.place + 1)) l.fn.weights) l.fn.counter.taken l.i l.counter.taken l.total
