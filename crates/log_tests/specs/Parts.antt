@@ -109,3 +109,7 @@ unit_events row own v = dot_steps v row ++ test rule.Interior (same_ℚ (dot v r
 -- the same for each of the vectors, the own one being number a
 abbrev pub units_events : List (List ℚ) → ℕ → List ℚ → List Event
 units_events vectors a row = flat_map (λ b. unit_events row (a == b.0) b.1) (enumerate_from 1 vectors)
+
+-- the last entry of f is positive, and f divided by it is c
+abbrev pub follow_events : List ℚ → List ℚ → List Event
+follow_events f c = test rule.Scaled (lt_ℚ zero_ℚ (entry f (length f))) ∷ quotients_events f c (entry f (length f))

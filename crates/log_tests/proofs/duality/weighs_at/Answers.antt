@@ -20,7 +20,7 @@ use Rattle.upper_image.specs.OrderingCone.{dual_of}
 use Rattle.upper_image.proofs.Widths.{vectors_wide, length-numbers, length-dense}
 use Rattle.vlp_reader.specs.Sides.{sides, side_column, side_bounds, numbers_from}
 use Rattle.vlp_reader.specs.declared.problem.Cone.TheVariants as cone
-use Rattle.log_tests.specs.Parts.{product_events, entry_events, combination_events, side_events, sides_events, recession_events, difference_events, rest_events, balance_events, balances_events, vanishing_events, contradiction_events, positive_events, bound_events, scaled_events, quotient_events, quotients_events, row_events, rows_events, weight_events, weights_events, unit_events, units_events}
+use Rattle.log_tests.specs.Parts.{product_events, entry_events, combination_events, side_events, sides_events, recession_events, difference_events, rest_events, balance_events, balances_events, vanishing_events, contradiction_events, positive_events, bound_events, scaled_events, quotient_events, quotients_events, row_events, rows_events, weight_events, weights_events, unit_events, units_events, follow_events}
 use Rattle.log_tests.proofs.Going.{Passed, Stopped, passed-then, stopped-in, stopped-behind, Ran, ran-behind, test-as, then-test, test-passed, spots-within, room-in, room-behind, any-default, next-entry, item-as, next-number, at-room, at-stop, at-more, at-end}
 use Rattle.log_tests.proofs.Products.{at_spots, of_spots, summed-start, summed-more, summed-room, summed-stop, summed-end, place-within, at-spot, spot-at, product_steps-spots, product-spots}
 use Rattle.std.specs.Prelude.{Ok, if◌then◌else◌}

@@ -20,7 +20,7 @@ use Rattle.upper_image.specs.OrderingCone.{dual_of}
 use Rattle.upper_image.proofs.Widths.{vectors_wide, length-numbers, length-dense}
 use Rattle.vlp_reader.specs.Sides.{sides, side_column, side_bounds, numbers_from}
 use Rattle.vlp_reader.specs.declared.problem.Cone.TheVariants as cone
-use Rattle.log_tests.specs.Parts.{product_events, entry_events, combination_events, side_events, sides_events, recession_events, difference_events, rest_events, balance_events, balances_events, vanishing_events, contradiction_events, positive_events, bound_events, scaled_events, quotient_events, quotients_events, row_events, rows_events, weight_events, weights_events, unit_events, units_events}
+use Rattle.log_tests.specs.Parts.{product_events, entry_events, combination_events, side_events, sides_events, recession_events, difference_events, rest_events, balance_events, balances_events, vanishing_events, contradiction_events, positive_events, bound_events, scaled_events, quotient_events, quotients_events, row_events, rows_events, weight_events, weights_events, unit_events, units_events, follow_events}
 use Rattle.log_tests.proofs.Going.{Passed, Stopped, passed-then, stopped-in, stopped-behind, Ran, ran-behind, test-as, then-test, test-passed, spots-within, room-in, room-behind, any-default, next-entry, item-as, next-number, at-room, at-stop, at-more, at-end}
 use Rattle.log_tests.proofs.Products.{at_spots, of_spots, summed-start, summed-more, summed-room, summed-stop, summed-end, place-within, at-spot, spot-at, product_steps-spots, product-spots}
 use Rattle.std.specs.Prelude.{Ok, if◌then◌else◌}
@@ -29,10 +29,13 @@ use Rattle.log_tests.proofs.Columns.{column-at, wide-at}
 use Rattle.log_tests.proofs.Products.{products-zip}
 use Rattle.exact_field.specs.declared.op.Op.TheVariants as op
 use Rattle.log_rules.specs.Events.{rises, all_within, duality_events, follows_given, interior, inverse_steps, has_lengths}
+use Rattle.log_tests.proofs.RisingNumbers.{rises-more, rises-end}
 use Rattle.log_tests.proofs.numbers.rises.Goals as goal
 
 pub loop-i-preserved : goal.loop-i-preserved
-loop-i-preserved c = ?
+loop-i-preserved c =
+    let next : c.loop-i.i ≡ c.loop-i.i + 1 - 1 = omega arith in
+    c.loop-i.invariant ∙ rises-more c.args.numbers.now c.loop-i.i (omega arith) (omega arith) c.if-numbers-i.false ∙ ap (λ (k : ℕ). rises (drop k c.args.numbers.now)) next
 
 pub returns : goal.returns
-returns c = ?
+returns c = sym (c.loop-i.invariant ∙ rises-end c.args.numbers.now c.loop-i.i (omega arith))

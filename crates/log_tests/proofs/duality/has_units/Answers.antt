@@ -1,0 +1,66 @@
+use Rattle.std.proofs.Common.{rules, sym, subst, ap, ap₂, arith, refl, ◌∙◌, ◌≡◌, ◌+◌, ◌-◌, ◌*◌, ◌<◌, ◌≤◌, ◌^◌, ℕ, suc, List, [], ◌∷◌, ◌++◌, length, map, drop, Bool, true, ◌==◌, nat_le, slice_index_or, All, IsTrue, zip}
+use Rattle.std.specs.Prelude.{⊤}
+use Rattle.std.specs.List.{flat_map, list_all, enumerate_from}
+use Rattle.std.proofs.lemmas.List.{length-map, append_assoc}
+use Rattle.exact_field.specs.Order.{same_ℚ}
+use Rattle.exact_field.specs.Rational.{ℚ, zero_ℚ, one_ℚ, le_ℚ, lt_ℚ, neg_ℚ, ◌+ℚ◌, ◌-ℚ◌, ◌*ℚ◌, ◌/ℚ◌}
+use Rattle.exact_field.specs.Vector.{dot, entry}
+use Rattle.frac128.specs.Held.{is_held}
+use Rattle.frac128.specs.Sparse.{is_zero}
+use Rattle.frac128.specs.declared.vectors.Spot.{Spot}
+use Rattle.log_rules.specs.Events.{Event, first_failure, sum_from, dot_steps, product_steps, places_within, values_positive, none_given, products_events, in_cone, in_feasible, in_recession, above, balance, cut_events, farkas_events, whole_events, line_events}
+use Rattle.log_rules.specs.Events.Event.{test, step}
+use Rattle.log_rules.specs.Runs.{Runs, Stops, steps}
+use Rattle.log_rules.specs.declared.rule.Rule.TheVariants as rule
+use Rattle.log_rules.proofs.Failures.{steps-append, stops-then}
+use Rattle.polyhedra.proofs.Lists.{HasWidth}
+use Rattle.upper_image.specs.Spots.{IsVector, column, dense, product}
+use Rattle.upper_image.specs.UpperImage.{normals, objective, objectives, objective_column, rest}
+use Rattle.upper_image.specs.OrderingCone.{dual_of}
+use Rattle.upper_image.proofs.Widths.{vectors_wide, length-numbers, length-dense}
+use Rattle.vlp_reader.specs.Sides.{sides, side_column, side_bounds, numbers_from}
+use Rattle.vlp_reader.specs.declared.problem.Cone.TheVariants as cone
+use Rattle.log_tests.specs.Parts.{product_events, entry_events, combination_events, side_events, sides_events, recession_events, difference_events, rest_events, balance_events, balances_events, vanishing_events, contradiction_events, positive_events, bound_events, scaled_events, quotient_events, quotients_events, row_events, rows_events, weight_events, weights_events, unit_events, units_events, follow_events}
+use Rattle.log_tests.proofs.Going.{Passed, Stopped, passed-then, stopped-in, stopped-behind, Ran, ran-behind, test-as, then-test, test-passed, spots-within, room-in, room-behind, any-default, next-entry, item-as, next-number, at-room, at-stop, at-more, at-end}
+use Rattle.log_tests.proofs.Products.{at_spots, of_spots, summed-start, summed-more, summed-room, summed-stop, summed-end, place-within, at-spot, spot-at, product_steps-spots, product-spots}
+use Rattle.std.specs.Prelude.{Ok, if◌then◌else◌}
+use Rattle.log_tests.proofs.Going.{IsAt, whole-run, map-at, zip-at, length-zip}
+use Rattle.log_tests.proofs.Columns.{column-at, wide-at}
+use Rattle.log_tests.proofs.Products.{products-zip}
+use Rattle.exact_field.specs.declared.op.Op.TheVariants as op
+use Rattle.log_rules.specs.Events.{rises, all_within, duality_events, follows_given, interior, inverse_steps, has_lengths}
+use Rattle.upper_image.specs.Shows.{picked}
+use Rattle.upper_image.specs.Spots.{pieces}
+use Rattle.std.proofs.Common.{take}
+use Rattle.polyhedra.proofs.Tests.{both_true}
+use Rattle.log_tests.proofs.RisingNumbers.{numbered-next, length-numbered, length-pieces, pieces-at, picked-at}
+use Rattle.log_tests.proofs.duality.has_units.Goals as goal
+
+pub has_unit-requires-clause-room : goal.has_unit-requires-clause-room
+has_unit-requires-clause-room c =
+    let long = length-numbered 1 (picked c.args.vectors.now c.args.picks.now) in
+    let many = length-map c.args.picks.now (λ k. slice_index_or c.args.vectors.now (k - 1) []) in
+    let most = at-room (λ b. unit_events c.args.row.now (c.args.number == b.0) b.1) (enumerate_from 1 (picked c.args.vectors.now c.args.picks.now)) c.args.counter.now.taken c.loop-b.b c.loop-b.counter.taken ((c.loop-b.b + 1, c.as_slice-v.result.now)) (omega (arith, long, many)) (numbered-next (picked c.args.vectors.now c.args.picks.now) c.loop-b.b c.as_slice-v.result.now (omega (arith, many)) (picked-at c.args.vectors.now c.args.picks.now c.loop-b.b c.index-vectors-picks.result c.as_slice-v.result.now c.requires.picks (omega arith) c.index-vectors-picks.is c.as_slice-v.ensures.items)) c.loop-b.invariant in
+    let room = c.requires.room in
+    omega (arith, most, room)
+
+pub returns-in_err-has_unit : goal.returns-in_err-has_unit
+returns-in_err-has_unit c =
+    let long = length-numbered 1 (picked c.args.vectors.now c.args.picks.now) in
+    let many = length-map c.args.picks.now (λ k. slice_index_or c.args.vectors.now (k - 1) []) in
+    let stopped = at-stop (λ b. unit_events c.args.row.now (c.args.number == b.0) b.1) (enumerate_from 1 (picked c.args.vectors.now c.args.picks.now)) c.args.counter.now.taken c.loop-b.b c.loop-b.counter.taken ((c.loop-b.b + 1, c.as_slice-v.result.now)) c.in_err-has_unit.field-0.0 (omega (arith, long, many)) (numbered-next (picked c.args.vectors.now c.args.picks.now) c.loop-b.b c.as_slice-v.result.now (omega (arith, many)) (picked-at c.args.vectors.now c.args.picks.now c.loop-b.b c.index-vectors-picks.result c.as_slice-v.result.now c.requires.picks (omega arith) c.index-vectors-picks.is c.as_slice-v.ensures.items)) c.loop-b.invariant c.in_err-has_unit.ensures in
+    search (stopped, rules)
+
+pub loop-b-preserved : goal.loop-b-preserved
+loop-b-preserved c =
+    let long = length-numbered 1 (picked c.args.vectors.now c.args.picks.now) in
+    let many = length-map c.args.picks.now (λ k. slice_index_or c.args.vectors.now (k - 1) []) in
+    at-more (λ b. unit_events c.args.row.now (c.args.number == b.0) b.1) (enumerate_from 1 (picked c.args.vectors.now c.args.picks.now)) c.args.counter.now.taken c.loop-b.b c.loop-b.counter.taken c.has_unit.new.counter.taken ((c.loop-b.b + 1, c.as_slice-v.result.now)) (omega (arith, long, many)) (numbered-next (picked c.args.vectors.now c.args.picks.now) c.loop-b.b c.as_slice-v.result.now (omega (arith, many)) (picked-at c.args.vectors.now c.args.picks.now c.loop-b.b c.index-vectors-picks.result c.as_slice-v.result.now c.requires.picks (omega arith) c.index-vectors-picks.is c.as_slice-v.ensures.items)) c.loop-b.invariant
+    record { none = c.in_ok-has_unit.ensures.0; count = c.in_ok-has_unit.ensures.1 }
+
+pub returns : goal.returns
+returns c =
+    let long = length-numbered 1 (picked c.args.vectors.now c.args.picks.now) in
+    let many = length-map c.args.picks.now (λ k. slice_index_or c.args.vectors.now (k - 1) []) in
+    let done = at-end (λ b. unit_events c.args.row.now (c.args.number == b.0) b.1) (enumerate_from 1 (picked c.args.vectors.now c.args.picks.now)) c.args.counter.now.taken c.loop-b.b c.loop-b.counter.taken (omega (arith, long, many)) c.loop-b.invariant in
+    (done.none, done.count, tt)
