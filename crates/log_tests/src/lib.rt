@@ -14,6 +14,7 @@ mod steps;
 
 pub use cone::{in_cone, in_dual_cone};
 pub use cut::{check_cut, check_farkas};
+pub use duality::check_duality;
 pub use image::{above, in_feasible, in_recession};
 pub use line::{check_line, check_whole};
 pub use sheet::{Matrix, Sheet};
