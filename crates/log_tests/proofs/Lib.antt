@@ -5,3 +5,4 @@ pub mod SheetEvents
 pub mod StepBounds
 pub mod Matrices
 pub mod RisingNumbers
+pub mod NamedCuts

@@ -264,11 +264,11 @@ recession-places taken file x h =
     places-passed taken file.cols x (flat_map (λ s. product_steps s.normal x ++ test rule.Side (le_ℚ zero_ℚ (product s.normal x)) ∷ []) (sides file)) h
 
 -- ---- duality
-short_pieces : (n q : ℕ) (xs : List ℚ) → All (λ p. length p ≤ q) (pieces n q xs)
+pub short_pieces : (n q : ℕ) (xs : List ℚ) → All (λ p. length p ≤ q) (pieces n q xs)
 short_pieces zero q xs = All-nil (λ p. length p ≤ q)
 short_pieces (suc n) q xs = All-cons (λ p. length p ≤ q) (take q xs) (pieces n q (drop q xs)) (let l = length-take q xs in omega (arith, l)) (short_pieces n q (drop q xs))
 
-short_numbered : (k q : ℕ) (ps : List (List ℚ)) → All (λ p. length p ≤ q) ps → All (λ p. length p.1 ≤ q) (enumerate_from k ps)
+pub short_numbered : (k q : ℕ) (ps : List (List ℚ)) → All (λ p. length p ≤ q) ps → All (λ p. length p.1 ≤ q) (enumerate_from k ps)
 short_numbered k q [] h = All-nil (λ p. length p.1 ≤ q)
 short_numbered k q (p ∷ ps) h =
     All-cons (λ a. length a.1 ≤ q) (k, p) (enumerate_from (k + 1) ps) (All-head (λ u. length u ≤ q) p ps h) (short_numbered (k + 1) q ps (All-tail (λ u. length u ≤ q) p ps h))

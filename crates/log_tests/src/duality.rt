@@ -16,7 +16,7 @@ ghost use Rattle.upper_image.specs.Spots.{column, pieces};
 ghost use Rattle.vlp_reader.specs.Cones.{cone_fits, duality_fits};
 ghost use Rattle.vlp_reader.specs.declared.problem.Cone.TheVariants as cone;
 
-use crate::numbers::{all_within, rises};
+use crate::numbers::are_picks;
 use crate::steps::{Steps, is_positive, is_zero, pass};
 use frac128::{Frac, Vector};
 use log_rules::{Rule, Stop};
@@ -213,13 +213,6 @@ fn inverts(counter: &mut Steps, objs: usize, vectors: &[Vector], picks: &[u32], 
         has_units(counter, vectors, picks, a + 1, row)?;
     }
     Ok(())
-}
-
-/// Whether picks rise, from 1 to `most`.
-fn are_picks(most: usize, picks: &[u32]) -> bool
-    ensures { result ≡ (numbers_rise picks.now && numbers_within most picks.now) }
-{
-    rises(picks) && all_within(most, picks)
 }
 
 /// `c` is interior to the cone of the generators: their sum with positive weights, of which as many as there are

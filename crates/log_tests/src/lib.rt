@@ -3,6 +3,7 @@
 #![tactic(auto)]
 
 mod cone;
+mod corner;
 mod cut;
 mod duality;
 mod image;
@@ -13,6 +14,7 @@ mod sheet;
 mod steps;
 
 pub use cone::{in_cone, in_dual_cone};
+pub use corner::{Cut, check_start};
 pub use cut::{check_cut, check_farkas};
 pub use duality::check_duality;
 pub use image::{above, in_feasible, in_recession};

@@ -29,7 +29,7 @@ fn negated(alloc: Global, v: &[Frac]) -> Result<Vec<Frac>, Stop>
 }
 
 /// The first entry that is not 0, or 0 where there is none.
-fn leading(v: &[Frac]) -> Frac
+pub fn leading(v: &[Frac]) -> Frac
     ensures { result ≡ leading v.now }
 {
     for x in v {
