@@ -1,13 +1,18 @@
 -- A line is written as its first word, further words with a blank before each, and a line feed; a text as its lines one after the other.
-use Rattle.std.proofs.Common.{◌≡◌, ◌<◌, ◌+◌, ◌-◌, ℕ, suc, List, [], ◌∷◌, ◌++◌, map, arith, codes, replicate, refl, sym, ap, ◌∙◌, append_assoc, append-nil, decimal}
+use Rattle.std.proofs.Common.{◌≡◌, ◌<◌, ◌+◌, ◌-◌, ℕ, suc, List, [], ◌∷◌, ◌++◌, map, arith, codes, replicate, refl, sym, ap, subst, ◌∙◌, append_assoc, append-nil, decimal}
 use Rattle.std.specs.List.{flat_map}
-use Rattle.src_sink.specs.Texts.{line_text, words_text}
+use Rattle.src_sink.specs.Texts.{line_text}
 use Rattle.exact_field.specs.Rational.{ℚ}
 use Rattle.frac128.specs.Text.{frac_text}
 use Rattle.frac128.specs.declared.vectors.Spot.{Spot}
 use Rattle.deriv_log.specs.LogText.{spot_words}
 use Rattle.deriv_log.specs.Printing.{spaced}
 use Rattle.deriv_log.proofs.Printed.{spaced-append, line_of_words}
+use Rattle.log_rules.specs.Report.{vector_line, facet_line, dual_line, dual_direction_line, incidence_line, section, image_lines}
+use Rattle.log_rules.specs.declared.answer.Answer.TheVariants.{Solved}
+use Rattle.log_rules.specs.declared.answer.Gen.{Gen}
+use Rattle.log_rules.specs.declared.answer.Facet.{Facet}
+use Rattle.vlp_reader.specs.declared.problem.Problem.{Problem}
 use Rattle.sol_writer.specs.Lines.{entries_text, lines_text}
 
 -- ---- words of lists
@@ -105,3 +110,32 @@ then_line {old} {now} l w h = then_lines (l ∷ []) w (h ∙ ap (λ r. now ++ r)
 pub then_each : {X : Type 0} {old now next : List ℕ} {ls : List (List (List ℕ))} (f : X → List (List ℕ)) (xs : List X) → Lines old ls now →
     next ≡ now ++ flat_map (λ x. line_text (f x)) xs → Lines old (ls ++ map f xs) next
 then_each {X} {old} {now} f xs w h = then_lines (map f xs) w (h ∙ ap (λ r. now ++ r) (lines-map f xs))
+
+-- the sections of a solution one after the other
+pub sections_written : {old c_end points_end directions_end facets_end dual_end now : List ℕ} (file : Problem) (c : List ℚ) (points directions : List Gen) (facets : List Facet) →
+    Lines old (vector_line (codes "c") c ∷ []) c_end →
+    points_end ≡ c_end ++ lines_text (section (codes "points") (λ g. vector_line (codes "1") g.y) points) →
+    directions_end ≡ points_end ++ lines_text (section (codes "directions") (λ g. vector_line (codes "0") g.y) directions) →
+    facets_end ≡ directions_end ++ lines_text (section (codes "facets") facet_line facets) →
+    dual_end ≡ facets_end ++ lines_text (section (codes "dual") (dual_line file.objs) facets ++ dual_direction_line file ∷ []) →
+    now ≡ dual_end ++ lines_text (section (codes "incidence") incidence_line facets) →
+    Lines old (image_lines file (Solved c points directions facets)) now
+sections_written {old} {c_end} {points_end} {directions_end} {facets_end} {dual_end} {now} file c points directions facets w p d f u i =
+    let ps = section (codes "points") (λ (g : Gen). vector_line (codes "1") g.y) points in
+    let ds = section (codes "directions") (λ (g : Gen). vector_line (codes "0") g.y) directions in
+    let fs = section (codes "facets") facet_line facets in
+    let us = section (codes "dual") (dual_line file.objs) facets in
+    let last = dual_direction_line file in
+    let is = section (codes "incidence") incidence_line facets in
+    let front = ((vector_line (codes "c") c ∷ ps) ++ ds) ++ fs in
+    subst (λ (ls : List (List (List ℕ))). Lines old ls now)
+    (ap (λ ls. ls ++ is) (sym (append_assoc front us (last ∷ []))) ∙ append_assoc (front ++ us) (last ∷ []) is)
+    (then_lines is (then_lines (us ++ last ∷ []) (then_lines fs (then_lines ds (then_lines ps w p) d) f) u) i)
+
+-- the parts of a report one after the other, in a text that was empty
+pub report_written : {a b c d : List ℕ} (head image : List (List (List ℕ))) (word : List (List ℕ)) (shown : List (List (List ℕ))) →
+    a ≡ [] ++ lines_text head → b ≡ a ++ lines_text image → c ≡ b ++ line_text word → d ≡ c ++ lines_text shown →
+    d ≡ lines_text (head ++ image ++ word ∷ shown)
+report_written head image word shown h i w s =
+    (then_lines {old = []} shown (then_line word (then_lines image (first_lines head h) i) w) s).text
+    ∙ ap lines_text (append_assoc (head ++ image) (word ∷ []) shown)

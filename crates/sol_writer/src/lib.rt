@@ -6,3 +6,6 @@ mod solution;
 mod text;
 
 pub use text::report;
+
+#[cfg(test)]
+mod tests;

@@ -107,17 +107,23 @@ fn put_zeros(count: u32, into: &mut Bytes) -> Result<(), NoMemory>
     Ok(())
 }
 
+/// The last entry of the extreme direction of the dual image, a blank before it.
+fn downward(direction: Dir) -> &'static [u8]
+    ensures { result.now ≡ 32 ∷ downward direction }
+{
+    match direction {
+        Dir::Min => b" -1",
+        Dir::Max => b" 1",
+    }
+}
+
 /// Appends the line of the one extreme direction of the dual image.
 fn put_dual_direction(problem: &Problem, into: &mut Bytes) -> Result<(), NoMemory>
     ensures { OnOk result (into.new ≡ into.old ++ line_text (dual_direction_line problem.now)) }
 {
     into.push(b'0')?;
     put_zeros(problem.objs - 1, into)?;
-    let downward: &[u8] = match problem.dir {
-        Dir::Min => b" -1",
-        Dir::Max => b" 1",
-    };
-    into.append(downward)?;
+    into.append(downward(problem.dir))?;
     into.push(b'\n')?;
     Ok(())
 }

@@ -1,5 +1,7 @@
 //! The report.
-ghost use Rattle.std.specs.Prelude.{◌≡◌, ◌++◌, ◌∷◌, [], List, IfOk, OnOk, codes};
+ghost use Rattle.std.specs.Prelude.{◌≡◌, ◌++◌, ◌∷◌, [], List, IfOk, OnOk, codes, count_by, decimal};
+ghost use Rattle.src_sink.specs.Texts.{line_text};
+ghost use Rattle.vlp_reader.specs.Sides.{is_unsaid};
 ghost use Rattle.std.specs.List.{flat_map};
 ghost use Rattle.exact_field.specs.Rational.{ℚ};
 ghost use Rattle.log_rules.specs.Report.{answer_name, head_lines, image_lines, witness_lines, report_text};
@@ -29,16 +31,34 @@ fn answer_name(answer: &Answer) -> &'static [u8]
     }
 }
 
-/// Appends the first lines: the kind of answer, and how many rows and columns have no line of bounds.
-fn put_head(problem: &Problem, answer: &Answer, into: &mut Bytes) -> Result<(), NoMemory>
-    ensures { OnOk result (into.new ≡ into.old ++ lines_text (head_lines problem.now answer.now)) }
+/// Appends the line of an answer's kind.
+fn put_kind(answer: &Answer, into: &mut Bytes) -> Result<(), NoMemory>
+    ensures { OnOk result (into.new ≡ into.old ++ line_text (codes "answer" ∷ answer_name answer.now ∷ [])) }
 {
-    into.append(b"report 1\nanswer ")?;
+    into.append(b"answer ")?;
     into.append(answer_name(answer))?;
-    into.append(b"\nfree")?;
+    into.push(b'\n')?;
+    Ok(())
+}
+
+/// Appends the line that tells how many rows and columns have no line of bounds.
+fn put_free(problem: &Problem, into: &mut Bytes) -> Result<(), NoMemory>
+    ensures { OnOk result (into.new ≡ into.old ++ line_text (codes "free" ∷ decimal (count_by is_unsaid problem.now.row_bounds) ∷ decimal (count_by is_unsaid problem.now.col_bounds) ∷ [])) }
+{
+    into.append(b"free")?;
     put_natural(problem.unsaid_rows() as usize, into)?;
     put_natural(problem.unsaid_cols() as usize, into)?;
     into.push(b'\n')?;
+    Ok(())
+}
+
+/// Appends the first lines: the version of reports, the kind of answer, and what has no bounds.
+fn put_head(problem: &Problem, answer: &Answer, into: &mut Bytes) -> Result<(), NoMemory>
+    ensures { OnOk result (into.new ≡ into.old ++ lines_text (head_lines problem.now answer.now)) }
+{
+    into.append(b"report 1\n")?;
+    put_kind(answer, into)?;
+    put_free(problem, into)?;
     Ok(())
 }
 
