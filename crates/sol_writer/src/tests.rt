@@ -5,7 +5,7 @@ use log_rules::{Answer, Facet, Gen};
 use src_sink::{Bytes, Items, NoMemory};
 use std::alloc::Global;
 use std::test::Fail;
-use vlp_reader::{Problem, read_vlp};
+use vlp_reader::read_vlp;
 
 /// A file that maximises two variables with a sum of at most 1.
 const LARGEST: &[u8] =
@@ -105,7 +105,9 @@ fn line(alloc: Global) -> Result<Answer, Fail> {
 }
 
 fn written(alloc: Global, text: &[u8], answer: &Answer) -> Result<Bytes, Fail> {
-    let problem: Problem = read_vlp(alloc, text)?;
+    let mut bytes = Items::new(alloc);
+    bytes.append(text)?;
+    let problem = read_vlp(alloc, bytes.as_slice())?;
     Ok(report(alloc, &problem, answer)?)
 }
 
