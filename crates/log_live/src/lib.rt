@@ -1,0 +1,6 @@
+//! The live generators of a log, with the rows that are tight at each, as its entries come.
+#![tactic(auto)]
+
+mod generator;
+
+pub use generator::{Generator, find};
