@@ -2,5 +2,8 @@
 #![tactic(auto)]
 
 mod generator;
+mod marks;
+mod tight;
 
 pub use generator::{Generator, find};
+pub use tight::TightSets;
