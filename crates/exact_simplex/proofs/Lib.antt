@@ -1,9 +1,16 @@
 pub mod Beginning
 pub mod Comparing
+pub mod Driven
 pub mod Kept
 pub mod Least
+pub mod Opened
+pub mod OpeningTurns
 pub mod Order
 pub mod PhaseReads
+pub mod Pivots
+pub mod Programs
+pub mod Signed
 pub mod Strict
 pub mod Testing
 pub mod Turn
+pub mod Untouched

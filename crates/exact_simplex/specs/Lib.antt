@@ -1,2 +1,6 @@
+pub mod Driving
+pub mod Ends
 pub mod Phase
+pub mod Program
 pub mod Ratios
+pub mod Refused
