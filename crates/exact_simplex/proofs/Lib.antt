@@ -1,14 +1,17 @@
 pub mod Beginning
 pub mod Comparing
 pub mod Driven
+pub mod DrivingTurns
 pub mod Kept
 pub mod Least
+pub mod Moved
 pub mod Opened
 pub mod OpeningTurns
 pub mod Order
 pub mod PhaseReads
 pub mod Pivots
 pub mod Programs
+pub mod Results
 pub mod Signed
 pub mod Strict
 pub mod Testing
