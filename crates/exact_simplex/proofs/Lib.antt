@@ -9,6 +9,7 @@ pub mod Opened
 pub mod OpeningTurns
 pub mod Order
 pub mod PhaseReads
+pub mod Phased
 pub mod Pivots
 pub mod Programs
 pub mod Results
