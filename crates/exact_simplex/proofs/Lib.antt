@@ -11,10 +11,15 @@ pub mod Order
 pub mod PhaseReads
 pub mod Phased
 pub mod Pivots
+pub mod ProgramLines
 pub mod Programs
+pub mod Readings
 pub mod Results
+pub mod Shortened
 pub mod Signed
 pub mod Strict
+pub mod SystemLines
+pub mod Tabled
 pub mod Testing
 pub mod Turn
 pub mod Untouched

@@ -1,6 +1,6 @@
 -- A phase in a tableau of a system.
 use Rattle.std.proofs.Common.{◌≡◌, ◌≢◌, ℕ, zero, suc, List, [], ◌∷◌, length, take, sym, ap, ◌∙◌, subst, arith, ◌<◌, ◌≤◌, ◌+◌, ◌-◌, inl, inr, refl, Bool, true, false, true≢false, not, ◌&&◌, ◌||◌, slice_index_or, All}
-use Rattle.std.proofs.lemmas.Bool.{cases_lt}
+use Rattle.std.proofs.lemmas.List.{get_or-take, length-take-le}
 use Rattle.exact_field.specs.Rational.{ℚ, zero_ℚ, le_ℚ, ◌≤ℚ◌, ◌<ℚ◌}
 use Rattle.exact_field.specs.Vector.{entry}
 use Rattle.polyhedra.specs.Vectors.{zeros}
@@ -29,17 +29,6 @@ use Rattle.exact_simplex.proofs.Pivots.{basis_many}
 -- ---- lists
 all_by_place : (n : ℕ) (xs : List ℕ) → ((i : ℕ) → i < length xs → slice_index_or xs i 0 ≤ n) → All (λ c. c ≤ n) xs
 all_by_place n xs h = λ i e l. subst (λ (c : ℕ). c ≤ n) (same_default xs i 0 e l) (h i l)
-
-take_place : (m : ℕ) (xs : List ℕ) (i : ℕ) → i < m → slice_index_or (take m xs) i 0 ≡ slice_index_or xs i 0
-take_place zero xs i l = absurd (omega arith)
-take_place (suc m) [] i l = refl
-take_place (suc m) (x ∷ xs) zero l = refl
-take_place (suc m) (x ∷ xs) (suc i) l = take_place m xs i (omega arith)
-
-length_take : (m : ℕ) (xs : List ℕ) → m ≤ length xs → length (take m xs) ≡ m
-length_take zero xs l = refl
-length_take (suc m) [] l = absurd (omega arith)
-length_take (suc m) (x ∷ xs) l = ap suc (length_take m xs (omega arith))
 
 are_columns : (n m : ℕ) (xs : List ℕ) → ((i : ℕ) → i < m → i < length xs → (1 ≤ slice_index_or xs i 0) × (slice_index_or xs i 0 ≤ n)) → AreColumns n (take m xs)
 are_columns n zero xs h = tt
@@ -105,14 +94,14 @@ module _ {F : Type 0} (value : F → ℚ) (s : System) (ok : IsSystem s) (t : Ta
       are_columns n m basis (λ i l u. (let some : slice_index_or basis i 0 ≢ 0 = λ none. h.full (i + 1) (omega arith) (omega arith) (place basis i ∙ none) in omega arith, let low = low_column i in omega arith)),
     );
     compared = λ k l u.
-        (suc (k - 1), omega (arith, length_take m basis (omega (arith, many))), take_place m basis (k - 1) (omega arith));
+        (suc (k - 1), omega (arith, length-take-le m basis (omega (arith, many))), get_or-take m basis (k - 1) 0 (omega arith));
   }
 
   phase_compared : AreCompared n m basis columns
   phase_compared zero l = inl refl
   phase_compared (suc j) l =
-      let inside : j < m = omega (arith, l, length_take m basis (omega (arith, many))) in
-      inr (j + 1, omega arith, omega arith, take_place m basis j inside ∙ sym (place basis j))
+      let inside : j < m = omega (arith, l, length-take-le m basis (omega (arith, many))) in
+      inr (j + 1, omega arith, omega arith, get_or-take m basis j 0 inside ∙ sym (place basis j))
 
   phase_turn : IsTurn n m columns d basis (lines value t.rows.items) basis
   phase_turn = record {
