@@ -2,6 +2,7 @@ pub mod Beginning
 pub mod Comparing
 pub mod Driven
 pub mod DrivingTurns
+pub mod EndsRead
 pub mod Kept
 pub mod Least
 pub mod Moved
@@ -17,6 +18,7 @@ pub mod Readings
 pub mod Results
 pub mod Shortened
 pub mod Signed
+pub mod SolvingEnds
 pub mod Strict
 pub mod SystemLines
 pub mod Tabled

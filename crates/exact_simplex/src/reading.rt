@@ -1,6 +1,6 @@
 //! The ends of a linear program, read off its last dictionary.
 
-ghost use Rattle.std.specs.Prelude.{◌≡◌, ◌+◌, ◌<◌, ◌≤◌, ℕ, map, take, length, IfOk, IfErr};
+ghost use Rattle.std.specs.Prelude.{◌≡◌, ◌+◌, ◌<◌, ◌≤◌, ℕ, map, take, length, IfOk, IfErr, OnOk};
 ghost use Rattle.exact_field.specs.Rational.{zero_ℚ, ◌*ℚ◌, ◌<ℚ◌, ◌≤ℚ◌};
 ghost use Rattle.tableaux.specs.Dictionary.{basic_column, first_multipliers, multipliers, ray, solution};
 ghost use Rattle.tableaux.specs.Simplex.{IsBest};
@@ -50,6 +50,7 @@ fn farkas<F: Field>(
     requires lengths { HasLengths system.now }
     requires held { IsTableauOf F.value (system_of F.value system.now) tableau.old }
     ensures ok { IfOk result (λ v. map F.value v ≡ first_multipliers (system_of F.value system.now) (table_in F.value (system_of F.value system.now) tableau.old)) }
+    ensures same { OnOk result (tableau.new ≡ tableau.old) }
     ensures left { IfErr result (IsSystemFault F.value F.holds (system_of F.value system.now)) }
 {
     let mut out = Items::new(tableau.alloc);
