@@ -1,14 +1,12 @@
 -- The first entry of a row that is not 0, and what a pivot there keeps.
-use Rattle.std.proofs.Common.{◌≡◌, ◌≢◌, ℕ, List, [], ◌∷◌, ◌++◌, length, take, sym, refl, ap, ap₂, ◌∙◌, subst, arith, ◌<◌, ◌≤◌, ◌+◌, ◌-◌, inl, inr, Bool, true, false, true≢false, IsTrue, slice_index_or, slice_set, nat_eq}
+use Rattle.std.proofs.Common.{◌≡◌, ◌≢◌, ℕ, List, [], ◌∷◌, ◌++◌, length, take, sym, refl, ap, ap₂, ◌∙◌, subst, arith, ◌<◌, ◌≤◌, ◌+◌, inl, inr, Bool, true, false, true≢false, IsTrue, slice_index_or, slice_set, nat_eq}
 use Rattle.std.specs.Prelude.{◌↔◌}
-use Rattle.std.proofs.lemmas.Bool.{cases_eq, cases_lt}
+use Rattle.std.proofs.lemmas.Bool.{cases_eq}
 use Rattle.std.proofs.lemmas.List.{take_more, map_push}
 use Rattle.exact_field.specs.Rational.{ℚ, zero_ℚ, ◌+ℚ◌, ◌≤ℚ◌}
 use Rattle.exact_field.specs.Vector.{entry}
-use Rattle.exact_field.proofs.Rationals.{same_or_not}
 use Rattle.polyhedra.proofs.Laws.{add_zero}
-use Rattle.polyhedra.specs.Sparse.{Entry}
-use Rattle.tableaux.specs.Table.{Table, System, IsSystem, row_of, at, pivoted, equation_count, unknown_count, right_column}
+use Rattle.tableaux.specs.Table.{Table, System, IsSystem, at, pivoted, equation_count, unknown_count, right_column}
 use Rattle.tableaux.specs.Dictionary.{basic_column, IsDictionaryOf, IsExchanged}
 use Rattle.tableaux.specs.Simplex.{IsFeasibleAt}
 use Rattle.tableaux.proofs.Phases.{stays_at}

@@ -1,10 +1,9 @@
 -- The ends that are read off a tableau, with the basis of the equations alone.
-use Rattle.std.proofs.Common.{◌≡◌, ℕ, List, take, sym, ap, ◌∙◌, subst, ◌<◌, ◌≤◌}
+use Rattle.std.proofs.Common.{◌≡◌, ℕ, List, take, sym, ◌∙◌, subst, ◌≤◌}
 use Rattle.exact_field.specs.Rational.{ℚ, zero_ℚ, ◌≤ℚ◌, ◌<ℚ◌}
 use Rattle.tableaux.specs.Table.{Table, System, at, equation_count, unknown_count, right_column, first_cost, second_cost}
-use Rattle.tableaux.specs.Dictionary.{basic_column, solution, ray, multipliers, first_multipliers}
-use Rattle.tableaux.specs.Phases.{AreIdle}
-use Rattle.tableaux.specs.Simplex.{IsBest, IsFeasibleAt, OptimalAt, InfeasibleAt, UnboundedAt}
+use Rattle.tableaux.specs.Dictionary.{solution, ray, multipliers, first_multipliers}
+use Rattle.tableaux.specs.Simplex.{IsBest, OptimalAt, InfeasibleAt, UnboundedAt}
 use Rattle.lin_rows.specs.declared.tableau.Tableau.{Tableau}
 use Rattle.exact_simplex.specs.Program.{IsFeasible, IsPrimal, IsIdle, table_in}
 use Rattle.exact_simplex.proofs.Shortened.{short_full, short_feasible, short_solution, short_ray, short_artificial}

@@ -3,6 +3,7 @@ pub mod Comparing
 pub mod Driven
 pub mod DrivingTurns
 pub mod EndsRead
+pub mod Faults
 pub mod Kept
 pub mod Least
 pub mod Moved

@@ -1,17 +1,17 @@
 -- The opening: one pivot for each artificial column.
-use Rattle.std.proofs.Common.{◌≡◌, ◌≢◌, ℕ, Bool, true, false, List, length, sym, ap, ap₂, ◌∙◌, subst, arith, ◌<◌, ◌≤◌, ◌+◌, ◌-◌, inl, inr, slice_set, refl}
+use Rattle.std.proofs.Common.{◌≡◌, ◌≢◌, ℕ, Bool, true, false, List, length, sym, ap, ap₂, ◌∙◌, subst, arith, ◌<◌, ◌≤◌, ◌+◌, inl, inr, slice_set, refl}
 use Rattle.std.specs.Prelude.{if◌then◌else◌}
 use Rattle.std.proofs.lemmas.Bool.{cases_eq, cases_lt}
 use Rattle.exact_field.specs.Rational.{ℚ, zero_ℚ, one_ℚ, ◌*ℚ◌, neg_ℚ, inverse_ℚ, lt_ℚ, ◌≤ℚ◌, ◌<ℚ◌}
 use Rattle.exact_field.specs.Vector.{entry}
 use Rattle.exact_field.proofs.Rationals.{mul-inverse_ℚ, one-not-zero}
-use Rattle.exact_field.proofs.Inequalities.{le_or_lt, neg-positive, lt-not-le}
+use Rattle.exact_field.proofs.Inequalities.{le_or_lt, neg-positive}
 use Rattle.polyhedra.proofs.Laws.{mul_assoc, mul_comm, mul_one, le_of_lt}
 use Rattle.polyhedra.proofs.Algebra.{one_mul, mul_zero, zero_mul, neg_mul}
 use Rattle.tableaux.specs.Table.{Table, System, IsSystem, row_of, at, pivoted, table_of, artificial_sign, artificial_column, equation_count, unknown_count, right_column}
 use Rattle.tableaux.specs.Dictionary.{basic_column, IsDictionaryOf}
-use Rattle.tableaux.proofs.Places.{delta, delta-same, delta-other}
-use Rattle.tableaux.proofs.Entries.{sign_of, sign-squared, table-long, table-wide, equation-artificial, equation-right}
+use Rattle.tableaux.proofs.Places.{delta-same, delta-other}
+use Rattle.tableaux.proofs.Entries.{sign_of, sign-squared, table-long, equation-artificial, equation-right}
 use Rattle.exact_simplex.proofs.Untouched.{row_untouched, pivot_row_at, moved, system_dictionary_after}
 
 -- the first k equations have their artificial columns, and the others are as in the table

@@ -1,16 +1,14 @@
 -- A phase in a tableau of a system.
-use Rattle.std.proofs.Common.{◌≡◌, ◌≢◌, ℕ, zero, suc, List, [], ◌∷◌, length, take, sym, ap, ◌∙◌, subst, arith, ◌<◌, ◌≤◌, ◌+◌, ◌-◌, inl, inr, refl, Bool, true, false, true≢false, not, ◌&&◌, ◌||◌, slice_index_or, All}
+use Rattle.std.proofs.Common.{◌≡◌, ◌≢◌, ℕ, zero, suc, List, [], ◌∷◌, length, take, sym, ap, ◌∙◌, subst, arith, ◌<◌, ◌≤◌, ◌+◌, ◌-◌, inl, inr, refl, Bool, false, true≢false, not, ◌&&◌, ◌||◌, slice_index_or, All}
 use Rattle.std.proofs.lemmas.List.{get_or-take, length-take-le}
-use Rattle.exact_field.specs.Rational.{ℚ, zero_ℚ, le_ℚ, ◌≤ℚ◌, ◌<ℚ◌}
+use Rattle.exact_field.specs.Rational.{ℚ, zero_ℚ, le_ℚ, ◌≤ℚ◌}
 use Rattle.exact_field.specs.Vector.{entry}
 use Rattle.polyhedra.specs.Vectors.{zeros}
-use Rattle.polyhedra.specs.Sparse.{Entry}
 use Rattle.polyhedra.proofs.Order.{le_or_lt}
 use Rattle.polyhedra.proofs.Laws.{le_of_lt}
 use Rattle.tableaux.specs.Table.{Table, System, IsSystem, row_of, at, equation_count, unknown_count, right_column}
 use Rattle.tableaux.specs.Dictionary.{basic_column, IsDictionaryOf, IsBasisOf}
 use Rattle.tableaux.specs.Lex.{lex_less, IsLexPositive, entries_at}
-use Rattle.tableaux.specs.Phases.{AreIdle}
 use Rattle.tableaux.proofs.Entries.{table-long, table-wide}
 use Rattle.tableaux.proofs.Lexicographic.{not_le_of_lt}
 use Rattle.tableaux.proofs.Definition.{same_default}
@@ -19,10 +17,10 @@ use Rattle.lin_rows.specs.declared.fault.RowFault.{RowFault}
 use Rattle.lin_rows.specs.declared.fault.RowFault.TheVariants.{Left, NoMemory}
 use Rattle.lin_rows.specs.declared.tableau.Tableau.{Tableau}
 use Rattle.lin_rows.specs.Lines.{lines}
-use Rattle.lin_rows.specs.Pivot.{AreTableau, table_of}
+use Rattle.lin_rows.specs.Pivot.{table_of}
 use Rattle.exact_simplex.specs.Ends.{IsSystemFault}
 use Rattle.exact_simplex.specs.Phase.{AreColumns, AreEntered, IsEquationBasis, IsMoved, IsPhaseFault, IsStart, IsTurn}
-use Rattle.exact_simplex.specs.Program.{IsIdle, IsPrimal, IsTableauOf, table_in}
+use Rattle.exact_simplex.specs.Program.{IsIdle, IsPrimal, table_in}
 use Rattle.exact_simplex.proofs.Beginning.{AreCompared, start_positive}
 use Rattle.exact_simplex.proofs.Pivots.{basis_many}
 

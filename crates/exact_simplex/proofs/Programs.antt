@@ -1,9 +1,9 @@
 -- A program in numbers.
-use Rattle.std.proofs.Common.{◌≡◌, ℕ, List, length, map, take, drop, sym, ap, ◌∙◌, arith, ◌<◌, ◌≤◌, ◌+◌, ◌-◌, ◌*◌, slice_index_or}
+use Rattle.std.proofs.Common.{◌≡◌, ℕ, List, length, map, take, drop, sym, ap, ◌∙◌, arith, ◌<◌, ◌≤◌, ◌+◌, ◌-◌, ◌*◌}
 use Rattle.std.proofs.Math.Nat.{mul-le-mul_left}
 use Rattle.std.proofs.lemmas.List.{length-map, length-take-le, length-drop}
 use Rattle.exact_field.specs.Rational.{ℚ}
-use Rattle.tableaux.specs.Table.{Table, IsSystem, row_of, listed, equation_count, unknown_count, right_column}
+use Rattle.tableaux.specs.Table.{IsSystem, row_of, equation_count, unknown_count, right_column}
 use Rattle.tableaux.proofs.Places.{length-list_from, list_from-place, listed-place}
 use Rattle.lin_rows.specs.declared.system.System.{System as Program}
 use Rattle.exact_simplex.specs.Program.{HasLengths, coefficients_of, system_of}

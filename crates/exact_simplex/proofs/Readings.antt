@@ -1,5 +1,5 @@
 -- What is read off a tableau of a program.
-use Rattle.std.proofs.Common.{◌≡◌, ℕ, List, [], length, map, sym, refl, ap, ap₂, ◌∙◌, subst, arith, ◌<◌, ◌≤◌, ◌+◌, ◌-◌, Bool, inr, slice_index_or}
+use Rattle.std.proofs.Common.{◌≡◌, ℕ, List, [], length, map, sym, refl, ap, ◌∙◌, subst, arith, ◌<◌, ◌≤◌, ◌+◌, ◌-◌, Bool, inr, slice_index_or}
 use Rattle.std.specs.Prelude.{IsFalse}
 use Rattle.std.specs.declared.alloc.Global.{Global}
 use Rattle.std.specs.declared.vec.Vec.{Vec}
@@ -9,8 +9,7 @@ use Rattle.exact_field.specs.Vector.{entry}
 use Rattle.exact_field.specs.declared.op.Op.TheVariants.{Sub}
 use Rattle.exact_field.specs.declared.op.Left.{Left as Operation}
 use Rattle.polyhedra.proofs.Laws.{mul_one}
-use Rattle.polyhedra.specs.Sparse.{Entry}
-use Rattle.tableaux.specs.Table.{Table, System, IsSystem, at, table_of, artificial_sign, artificial_column, equation_count, unknown_count, right_column, first_cost, second_cost}
+use Rattle.tableaux.specs.Table.{System, IsSystem, at, table_of, artificial_sign, artificial_column, equation_count, right_column, first_cost}
 use Rattle.tableaux.proofs.Places.{delta-same}
 use Rattle.tableaux.proofs.Entries.{sign_of, equation-artificial}
 use Rattle.lin_rows.specs.declared.cells.Cell.{Cell}
@@ -23,7 +22,7 @@ use Rattle.lin_rows.proofs.Pivoted.{at_is}
 use Rattle.exact_simplex.specs.Ends.{IsSystemFault}
 use Rattle.exact_simplex.specs.Phase.{IsGivenUp}
 use Rattle.exact_simplex.specs.Program.{HasLengths, IsTableauOf, system_of, table_in}
-use Rattle.exact_simplex.proofs.Pivots.{rows_many, basis_many}
+use Rattle.exact_simplex.proofs.Pivots.{rows_many}
 use Rattle.exact_simplex.proofs.Programs.{system_ok, equation_count_is, unknown_count_is, right_column_is}
 use Rattle.exact_simplex.proofs.Testing.{own, rises}
 

@@ -1,11 +1,11 @@
 -- A basis without the places of the cost rows, which have no column.
-use Rattle.std.proofs.Common.{◌≡◌, ◌≢◌, ℕ, zero, suc, List, [], ◌∷◌, length, take, sym, refl, ap, ◌∙◌, subst, arith, ◌<◌, ◌≤◌, ◌+◌, ◌-◌, inl, inr, slice_index_or}
+use Rattle.std.proofs.Common.{◌≡◌, ℕ, zero, suc, List, [], ◌∷◌, length, take, sym, refl, ap, ◌∙◌, subst, arith, ◌<◌, ◌≤◌, ◌+◌, ◌-◌, inl, inr, slice_index_or}
 use Rattle.std.specs.Prelude.{◌==◌, if◌then◌else◌}
 use Rattle.std.proofs.lemmas.Bool.{cases_lt}
 use Rattle.std.proofs.lemmas.List.{get_or-take, get_or_past, length-take}
 use Rattle.exact_field.specs.Rational.{ℚ, zero_ℚ, one_ℚ, neg_ℚ}
-use Rattle.tableaux.specs.Table.{Table, System, at, column_of, listed, table_of, equation_count, unknown_count, right_column}
-use Rattle.tableaux.specs.Dictionary.{basic_column, AreBasicMultipliers, IsBasicCombination, IsChanged, IsDictionary, IsDictionaryOf, IsFull, IsFullDictionaryOf, value_of_column, solution, ray}
+use Rattle.tableaux.specs.Table.{Table, System, at, column_of, table_of, equation_count, unknown_count, right_column}
+use Rattle.tableaux.specs.Dictionary.{basic_column, AreBasicMultipliers, IsDictionary, IsDictionaryOf, IsFull, IsFullDictionaryOf, value_of_column, solution, ray}
 use Rattle.tableaux.specs.Simplex.{IsFeasibleAt}
 use Rattle.tableaux.proofs.Found.{list_from-same}
 use Rattle.tableaux.proofs.Places.{same_or_other, if_false}

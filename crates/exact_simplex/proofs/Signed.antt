@@ -1,7 +1,7 @@
 -- A number with the sign of an artificial column.
-use Rattle.std.proofs.Common.{◌≡◌, Bool, true, false, sym, ap, ◌∙◌, refl}
+use Rattle.std.proofs.Common.{◌≡◌, sym, ap, ◌∙◌}
 use Rattle.std.specs.Prelude.{if◌then◌else◌, not}
-use Rattle.exact_field.specs.Rational.{ℚ, zero_ℚ, one_ℚ, ◌*ℚ◌, neg_ℚ, lt_ℚ, ◌≤ℚ◌, ◌<ℚ◌}
+use Rattle.exact_field.specs.Rational.{ℚ, zero_ℚ, one_ℚ, ◌*ℚ◌, neg_ℚ, ◌≤ℚ◌, ◌<ℚ◌}
 use Rattle.polyhedra.proofs.Algebra.{one_mul, neg_mul}
 use Rattle.tableaux.specs.Table.{artificial_sign}
 

@@ -1,7 +1,7 @@
 -- What the phases hand on.
-use Rattle.std.proofs.Common.{◌≡◌, ℕ, sym, ap, ◌∙◌, subst, arith, ◌<◌, ◌≤◌, ◌+◌, ◌-◌, None, Some}
+use Rattle.std.proofs.Common.{◌≡◌, ℕ, subst, arith, ◌≤◌, ◌+◌, ◌-◌, None, Some}
 use Rattle.exact_field.specs.Rational.{ℚ, zero_ℚ, ◌≤ℚ◌, ◌<ℚ◌}
-use Rattle.tableaux.specs.Table.{System, IsSystem, at, equation_count, unknown_count, right_column, first_cost, second_cost}
+use Rattle.tableaux.specs.Table.{System, IsSystem, at, equation_count, unknown_count, right_column, first_cost}
 use Rattle.tableaux.specs.Dictionary.{IsFullDictionaryOf}
 use Rattle.tableaux.specs.Simplex.{IsBest}
 use Rattle.tableaux.proofs.Phases.{phase_limited, phase_feasible}

@@ -1,20 +1,20 @@
 -- The lines of the table of a system, cell by cell.
-use Rattle.std.proofs.Common.{◌≡◌, ◌≢◌, ℕ, zero, suc, List, [], ◌∷◌, ◌++◌, length, map, take, sym, refl, ap, ap₂, ◌∙◌, subst, arith, ◌<◌, ◌≤◌, ◌+◌, ◌-◌, inl, inr, slice_index_or}
+use Rattle.std.proofs.Common.{◌≡◌, ◌≢◌, ℕ, suc, List, [], ◌∷◌, ◌++◌, length, map, take, sym, refl, ap, ◌∙◌, subst, arith, ◌<◌, ◌≤◌, ◌+◌, ◌-◌, inl, inr, slice_index_or}
 use Rattle.std.proofs.Math.ListN.{length-append}
 use Rattle.std.proofs.lemmas.Bool.{cases_lt}
-use Rattle.std.proofs.lemmas.List.{get_or-take, length-take-le, length-take, take_all, take_at, take-append-le}
+use Rattle.std.proofs.lemmas.List.{get_or-take, length-take, take_all, take_at, take-append-le}
 use Rattle.exact_field.specs.Rational.{ℚ, zero_ℚ, one_ℚ, ◌*ℚ◌, neg_ℚ}
 use Rattle.exact_field.specs.Vector.{entry}
 use Rattle.polyhedra.specs.Sparse.{Entry}
 use Rattle.polyhedra.specs.Vectors.{scaled}
 use Rattle.polyhedra.proofs.Algebra.{mul_zero}
 use Rattle.polyhedra.proofs.Laws.{mul_one}
-use Rattle.tableaux.specs.Table.{Table, System, IsSystem, row_of, at, unit, table_of, artificial_column, equation_count, unknown_count, right_column, first_cost, second_cost}
-use Rattle.tableaux.proofs.Places.{row-wide, delta, delta-same, delta-other}
+use Rattle.tableaux.specs.Table.{Table, System, IsSystem, row_of, at, unit, table_of, equation_count, unknown_count, right_column, first_cost, second_cost}
+use Rattle.tableaux.proofs.Places.{row-wide, delta-same, delta-other}
 use Rattle.tableaux.proofs.Reading.{slice-past}
 use Rattle.tableaux.proofs.Entries.{sign_of, table-long, table-wide, row-equation, equation-artificial, equation-right, first-unknown, first-artificial, first-right, second-unknown, second-artificial, second-right}
 use Rattle.lin_rows.specs.Clear.{Writes}
-use Rattle.lin_rows.specs.Lines.{Rises, last_place, sum_at}
+use Rattle.lin_rows.specs.Lines.{Rises, last_place}
 use Rattle.lin_rows.specs.Read.{IsLineOf}
 use Rattle.lin_rows.proofs.Building.{line_pushed, last_pushed}
 

@@ -1,7 +1,7 @@
 -- The tableau of the table of a program.
-use Rattle.std.proofs.Common.{◌≡◌, ℕ, List, [], length, sym, refl, ◌∙◌, subst, arith, ◌<◌, ◌+◌, slice_index_or, false}
+use Rattle.std.proofs.Common.{◌≡◌, ℕ, [], length, sym, refl, ◌∙◌, subst, arith, ◌<◌, ◌+◌, slice_index_or, false}
 use Rattle.exact_field.specs.Rational.{ℚ}
-use Rattle.tableaux.specs.Table.{Table, System, IsSystem, row_of, table_of, equation_count, right_column}
+use Rattle.tableaux.specs.Table.{Table, System, IsSystem, row_of, table_of, right_column}
 use Rattle.tableaux.specs.Dictionary.{basic_column, IsDictionary}
 use Rattle.tableaux.proofs.Eliminated.{starts}
 use Rattle.tableaux.proofs.Entries.{table-long, table-wide}

@@ -49,10 +49,7 @@ fn drive_row<F: Field>(
 }
 
 /// Drives all artificial columns out, but for those of equations that are 0 at all unknowns.
-pub fn drive_out<F: Field>(
-    tableau: &mut Tableau<F>,
-    system: &System<F>,
-) -> Result<(), RowFault<F>>
+pub fn drive_out<F: Field>(tableau: &mut Tableau<F>, system: &System<F>) -> Result<(), RowFault<F>>
     requires lengths { HasLengths system.now }
     requires feasible { IsFeasible F.value (system_of F.value system.now) tableau.old }
     ensures feasible { OnOk result (IsFeasible F.value (system_of F.value system.now) tableau.new) }

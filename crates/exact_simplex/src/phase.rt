@@ -98,11 +98,5 @@ pub fn optimize<F: Field>(
     ensures left { IfErr result (IsSystemFault F.value F.holds (system_of F.value system.now)) }
 {
     let columns = compared(tableau, system.rows)?;
-    run_phase(
-        tableau,
-        system.rows as usize,
-        cost,
-        system.cols,
-        &columns,
-    )
+    run_phase(tableau, system.rows as usize, cost, system.cols, &columns)
 }

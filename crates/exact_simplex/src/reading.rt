@@ -43,10 +43,7 @@ fn dual<F: Field>(tableau: &Tableau<F>, system: &System<F>) -> Result<Items<F>, 
 }
 
 /// The multipliers of the cost row of phase one.
-fn farkas<F: Field>(
-    tableau: &mut Tableau<F>,
-    system: &System<F>,
-) -> Result<Items<F>, RowFault<F>>
+fn farkas<F: Field>(tableau: &mut Tableau<F>, system: &System<F>) -> Result<Items<F>, RowFault<F>>
     requires lengths { HasLengths system.now }
     requires held { IsTableauOf F.value (system_of F.value system.now) tableau.old }
     ensures ok { IfOk result (λ v. map F.value v ≡ first_multipliers (system_of F.value system.now) (table_in F.value (system_of F.value system.now) tableau.old)) }
@@ -110,10 +107,7 @@ pub fn infeasible<F: Field>(
 }
 
 /// The optimal end, where no unknown betters the second cost.
-pub fn optimal<F: Field>(
-    tableau: &mut Tableau<F>,
-    system: &System<F>,
-) -> Result<LpEnd<F>, NoMemory>
+pub fn optimal<F: Field>(tableau: &mut Tableau<F>, system: &System<F>) -> Result<LpEnd<F>, NoMemory>
     requires lengths { HasLengths system.now }
     requires feasible { IsFeasible F.value (system_of F.value system.now) tableau.old }
     requires best { IsBest (system_of F.value system.now) (second_cost (system_of F.value system.now)) (table_in F.value (system_of F.value system.now) tableau.old) }

@@ -20,10 +20,7 @@ use lin_rows::{RowFault, System};
 use std::alloc::Global;
 
 /// Phase one. Answers whether its cost stays below 0.
-fn first_phase<F: Field>(
-    tableau: &mut Tableau<F>,
-    system: &System<F>,
-) -> Result<bool, RowFault<F>>
+fn first_phase<F: Field>(tableau: &mut Tableau<F>, system: &System<F>) -> Result<bool, RowFault<F>>
     requires lengths { HasLengths system.now }
     requires primal { IsPrimal F.value (system_of F.value system.now) tableau.old }
     ensures primal { OnOk result (IsPrimal F.value (system_of F.value system.now) tableau.new) }

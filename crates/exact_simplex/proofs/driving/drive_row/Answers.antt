@@ -1,4 +1,4 @@
-use Rattle.std.proofs.Common.{◌≡◌, ◌≢◌, ◌+◌, ◌<◌, ℕ, List, length, [], slice_set, subst, arith, Option, None, Some}
+use Rattle.std.proofs.Common.{◌≡◌, ◌+◌, ℕ, List, [], slice_set, subst, arith, Option, Some}
 use Rattle.std.proofs.lemmas.Result.{IfErr-weaker}
 use Rattle.polyhedra.specs.Sparse.{Entry}
 use Rattle.tableaux.specs.Table.{pivoted, right_column}

@@ -1,4 +1,4 @@
-use Rattle.std.proofs.Common.{sym, refl, ap, ◌∙◌, subst, arith, length, ◌<◌, ◌≤◌, ◌≡◌, ◌≢◌, nat_eq}
+use Rattle.std.proofs.Common.{sym, refl, subst, arith, length, ◌<◌, ◌≤◌, ◌≡◌, ◌≢◌, nat_eq}
 use Rattle.std.proofs.lemmas.List.{take_all}
 use Rattle.exact_field.specs.Rational.{ℚ, zero_ℚ}
 use Rattle.lin_rows.specs.Lines.{entries, sum_at}

@@ -1,4 +1,4 @@
-use Rattle.std.proofs.Common.{sym, ap, subst, arith, ◌+◌, ◌≡◌, ℕ, [], List}
+use Rattle.std.proofs.Common.{sym, ap, subst, arith, ◌+◌, ◌≡◌, List}
 use Rattle.polyhedra.specs.Sparse.{Entry}
 use Rattle.lin_rows.specs.Lines.{entries}
 use Rattle.tableaux.specs.Table.{first_cost, right_column, row_of, table_of}

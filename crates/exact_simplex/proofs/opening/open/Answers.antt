@@ -1,4 +1,4 @@
-use Rattle.std.proofs.Common.{◌∙◌, arith, ◌≡◌, ◌+◌, ap}
+use Rattle.std.proofs.Common.{◌∙◌, arith}
 use Rattle.lin_rows.proofs.Errors.{err_holds}
 use Rattle.exact_simplex.specs.Ends.{IsSystemFault}
 use Rattle.exact_simplex.specs.Program.{system_of}

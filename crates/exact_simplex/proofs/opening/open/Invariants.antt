@@ -1,4 +1,3 @@
-use Rattle.std.proofs.Common.{ℕ}
 use Rattle.exact_simplex.specs.Program.{IsTableauOf, system_of, table_in}
 use Rattle.exact_simplex.proofs.Opened.{IsOpened}
 use Rattle.exact_simplex.proofs.opening.open.Given as goal

@@ -1,4 +1,4 @@
-use Rattle.std.proofs.Common.{sym, ap, subst, arith, length, ◌∙◌, ◌≡◌, ◌<◌, slice_index_or}
+use Rattle.std.proofs.Common.{ap, arith, length, ◌∙◌, slice_index_or}
 use Rattle.lin_rows.specs.Lines.{entries}
 use Rattle.exact_simplex.proofs.ProgramLines.{second_more, second_ends}
 use Rattle.exact_simplex.proofs.opening.second_cost_line.Goals as goal

@@ -3,7 +3,7 @@ use Rattle.std.proofs.lemmas.List.{length_push}
 use Rattle.tableaux.specs.Table.{first_cost, right_column, row_of, second_cost, table_of}
 use Rattle.polyhedra.specs.Sparse.{Entry}
 use Rattle.lin_rows.specs.declared.tableau.Tableau.{Tableau}
-use Rattle.lin_rows.specs.Lines.{lines, entries}
+use Rattle.lin_rows.specs.Lines.{entries}
 use Rattle.lin_rows.specs.Read.{IsLineOf}
 use Rattle.lin_rows.proofs.Building.{each_more, none_more}
 use Rattle.exact_simplex.specs.Program.{system_of}

@@ -1,6 +1,6 @@
-use Rattle.std.proofs.Common.{◌≡◌, ◌∙◌, ◌+◌, ℕ, List, length, sym, ap, subst, arith, ◌∷◌, take}
-use Rattle.std.proofs.lemmas.Result.{IfErr-weaker, IfOk-weaker, on_ok_weaker}
-use Rattle.tableaux.specs.Table.{Table, equation_count, unknown_count, right_column}
+use Rattle.std.proofs.Common.{◌∙◌, ℕ, sym, subst, arith}
+use Rattle.std.proofs.lemmas.Result.{IfErr-weaker, IfOk-weaker}
+use Rattle.tableaux.specs.Table.{Table, equation_count, unknown_count}
 use Rattle.lin_rows.specs.Lines.{lines}
 use Rattle.lin_rows.specs.Pivot.{table_of}
 use Rattle.exact_simplex.specs.Ends.{IsSystemFault}

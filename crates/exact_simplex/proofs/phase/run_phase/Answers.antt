@@ -1,15 +1,15 @@
-use Rattle.std.proofs.Common.{◌≡◌, ◌≢◌, ◌∙◌, ◌+◌, ◌<◌, ◌≤◌, sym, ap, subst, arith, ℕ, List, length, None, Some, slice_set, refl}
+use Rattle.std.proofs.Common.{◌≡◌, ◌≢◌, ◌∙◌, ◌+◌, ◌<◌, ◌≤◌, sym, ap, subst, arith, ℕ, List, length, None, Some, slice_set}
 use Rattle.std.proofs.lemmas.List.{length-set}
 use Rattle.exact_field.specs.Rational.{zero_ℚ}
 use Rattle.tableaux.specs.Table.{Table, at, pivoted}
 use Rattle.lin_rows.specs.Lines.{lines, entries}
-use Rattle.lin_rows.specs.Pivot.{AreTableau, IsPivotStep, IsPivotFault, table_of}
+use Rattle.lin_rows.specs.Pivot.{AreTableau, IsPivotFault, table_of}
 use Rattle.lin_rows.proofs.Errors.{err_holds}
 use Rattle.lin_rows.proofs.ManyLines.{length-lines}
 use Rattle.lin_rows.proofs.Pivoted.{length-table}
 use Rattle.exact_simplex.specs.Ratios.{IsLeaving, IsTestLeft}
 use Rattle.exact_simplex.specs.Phase.{IsMoved, IsPhaseFault}
-use Rattle.exact_simplex.proofs.Moved.{moved_none, moved_more, given_up_fault, pivot_given_up}
+use Rattle.exact_simplex.proofs.Moved.{moved_more, given_up_fault, pivot_given_up}
 use Rattle.exact_simplex.proofs.PhaseReads.{entering_betters, entering_none, without_limit, test_step}
 use Rattle.tableaux.proofs.Eliminated.{exchanged}
 use Rattle.exact_simplex.proofs.Testing.{own, rises}

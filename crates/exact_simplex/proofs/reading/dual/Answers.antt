@@ -1,4 +1,4 @@
-use Rattle.std.proofs.Common.{◌≡◌, ◌∙◌, ◌+◌, ℕ, ap, ap₂, arith, refl, slice_index_or, map}
+use Rattle.std.proofs.Common.{◌≡◌, ◌∙◌, ◌+◌, ℕ, ap, ap₂, arith, slice_index_or}
 use Rattle.exact_field.specs.Rational.{◌*ℚ◌}
 use Rattle.tableaux.specs.Table.{artificial_column, at, listed, second_cost, equation_count, table_of}
 use Rattle.lin_rows.proofs.Lists.{mapped_more}

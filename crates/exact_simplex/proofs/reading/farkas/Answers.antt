@@ -1,10 +1,9 @@
-use Rattle.std.proofs.Common.{◌≡◌, ◌∙◌, ◌+◌, ◌<◌, ◌≤◌, ℕ, ap, ap₂, sym, subst, arith, refl, slice_index_or, map}
+use Rattle.std.proofs.Common.{◌≡◌, ◌∙◌, ◌+◌, ℕ, ap, ap₂, sym, subst, arith, slice_index_or}
 use Rattle.std.specs.Prelude.{IsFalse}
 use Rattle.exact_field.specs.Rational.{ℚ, one_ℚ, ◌*ℚ◌, ◌-ℚ◌}
-use Rattle.tableaux.specs.Table.{artificial_column, at, listed, first_cost, equation_count, right_column, table_of}
+use Rattle.tableaux.specs.Table.{artificial_column, at, listed, first_cost, equation_count, table_of}
 use Rattle.lin_rows.proofs.Lists.{mapped_more}
 use Rattle.lin_rows.proofs.ManyLines.{length-lines}
-use Rattle.lin_rows.specs.declared.tableau.Tableau.{Tableau}
 use Rattle.exact_simplex.specs.Program.{IsTableauOf, system_of, table_in}
 use Rattle.exact_simplex.proofs.Programs.{equation_count_is, right_column_is}
 use Rattle.exact_simplex.proofs.Readings.{sign_is, row_there, cost_read, less_one_fault}

@@ -8,7 +8,7 @@ use Rattle.exact_simplex.proofs.reading.infeasible.Goals as goal
 pub columns_of-basis-requires : goal.columns_of-basis-requires
 columns_of-basis-requires g c =
     let value = g.F.Field.value in
-    subst (IsTableauOf value (system_of value c.args.system.now)) (sym c.in_ok-farkas.ensures.same) c.requires.primal.held
+    record { held = subst (IsTableauOf value (system_of value c.args.system.now)) (sym c.in_ok-farkas.ensures.same) c.requires.primal.held }
 
 pub returns-clause-read_off : goal.returns-clause-read_off
 returns-clause-read_off g c =

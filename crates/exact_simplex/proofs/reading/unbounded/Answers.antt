@@ -1,9 +1,7 @@
-use Rattle.std.proofs.Common.{◌≡◌, ◌∙◌, ◌≤◌, ap, ap₂, ℕ, List, sym, subst, take, map, arith}
-use Rattle.exact_field.specs.Rational.{ℚ}
-use Rattle.tableaux.specs.Table.{Table, equation_count, right_column, unknown_count}
+use Rattle.std.proofs.Common.{◌≡◌, ◌∙◌, ◌≤◌, ap, ap₂, ℕ, sym, subst, take, map, arith}
+use Rattle.tableaux.specs.Table.{right_column}
 use Rattle.tableaux.specs.Dictionary.{ray}
 use Rattle.tableaux.specs.Elimination.{ray_of}
-use Rattle.tableaux.specs.Simplex.{UnboundedAt}
 use Rattle.tableaux.proofs.Ends.{ends_are_right}
 use Rattle.lin_rows.specs.Lines.{AreLines, lines}
 use Rattle.lin_rows.specs.Pivot.{table_of as table_of_lines}
@@ -26,9 +24,12 @@ returns-clause-read_off g c =
     let along : map value c.in_ok-ray.ray ≡ ray s t.basis.items (table_in value s t) col =
     c.in_ok-ray.ensures n (subst (AreLines n) (sym rows) c.requires.feasible.held.tableau.lines) c.requires.low high
     ∙ ap₂ (λ b l. ray_of p.cols b (table_of_lines n l) col) c.deref-2.ensures.value rows
-    ∙ ap (λ k. ray_of k t.basis.items (table_in value s t) col) (sym (unknown_count_is value p c.requires.lengths)) in
-    (table_in value s t, col, unbounded_read value s t c.columns_of-basis.result columns (map value c.in_ok-x.x) (map value c.in_ok-ray.ray) col c.requires.feasible c.requires.idle c.requires.low
-    c.requires.high c.requires.betters c.requires.unlimited c.in_ok-x.ensures along)
+    ∙ ap (λ k. ray_of k t.basis.items (table_in value s t) col) (sym (unknown_count_is value p c.requires.lengths)) in (
+      table_in value s t,
+      col,
+      unbounded_read value s t c.columns_of-basis.result columns (map value c.in_ok-x.x) (map value c.in_ok-ray.ray) col c.requires.feasible c.requires.idle c.requires.low
+          c.requires.high c.requires.betters c.requires.unlimited c.in_ok-x.ensures along,
+    )
 
 pub returns-clause-certified : goal.returns-clause-certified
 returns-clause-certified g c =
