@@ -4,6 +4,8 @@ pub mod Driven
 pub mod DrivingTurns
 pub mod EndsRead
 pub mod Faults
+pub mod HintTurns
+pub mod Hinted
 pub mod Kept
 pub mod Least
 pub mod Moved

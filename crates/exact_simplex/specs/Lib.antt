@@ -1,5 +1,6 @@
 pub mod Driving
 pub mod Ends
+pub mod Hint
 pub mod Phase
 pub mod Program
 pub mod Ratios

@@ -4,6 +4,7 @@
 
 mod answer;
 pub mod driving;
+pub mod hint;
 pub mod opening;
 pub mod phase;
 pub mod ratio;
@@ -11,4 +12,4 @@ pub mod reading;
 mod solve;
 
 pub use answer::{LpEnd, LpFault};
-pub use solve::solve_lp;
+pub use solve::{solve_lp, solve_lp_from};

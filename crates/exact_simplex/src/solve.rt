@@ -9,6 +9,7 @@ ghost use Rattle.exact_simplex.specs.Program.{HasLengths, IsFeasible, IsIdle, Is
 
 use crate::answer::{LpEnd, LpFault, lp_fault};
 use crate::driving::drive_out;
+use crate::hint::hinted;
 use crate::opening::{open, unopened};
 use crate::phase::optimize;
 use crate::ratio::is_negative;
@@ -96,6 +97,44 @@ pub fn solve_lp<F: Field>(alloc: Global, system: &System<F>) -> Result<LpEnd<F>,
     ensures left { IfErr result (IsLpFault F.value F.holds (system_of F.value system.now)) }
 {
     match solved(alloc, system) {
+        Ok(end) => Ok(end),
+        Err(fault) => Err(lp_fault(fault)),
+    }
+}
+
+/// The end of the program, from a hint on, or anew where this gives no first basis.
+fn solved_from<F: Field>(
+    alloc: Global,
+    system: &System<F>,
+    columns: &[u32],
+) -> Result<LpEnd<F>, RowFault<F>>
+    requires { HasLengths system.now }
+    ensures certified { IfOk result (IsCertified F.value (system_of F.value system.now)) }
+    ensures read_off { IfOk result (IsReadOff F.value (system_of F.value system.now)) }
+    ensures left { IfErr result (IsSystemFault F.value F.holds (system_of F.value system.now)) }
+{
+    match hinted(alloc, system, columns)? {
+        Some(mut tableau) => second_phase(&mut tableau, system),
+        None => solved(alloc, system),
+    }
+}
+
+/// How the program ends, as `solve_lp` says, with a hint at its last basis.
+///
+/// The unknowns of the hint come in one after the other, each at some row without a column where it is not 0; numbers that name
+/// no unknown, and those that find no such row, are passed over, so no artificial column comes in. If then an equation has no
+/// column, or a right side is negative, the program is solved anew. Overflows of these pivots are answered as any others.
+pub fn solve_lp_from<F: Field>(
+    alloc: Global,
+    system: &System<F>,
+    columns: &[u32],
+) -> Result<LpEnd<F>, LpFault<F>>
+    requires { HasLengths system.now }
+    ensures certified { IfOk result (IsCertified F.value (system_of F.value system.now)) }
+    ensures read_off { IfOk result (IsReadOff F.value (system_of F.value system.now)) }
+    ensures left { IfErr result (IsLpFault F.value F.holds (system_of F.value system.now)) }
+{
+    match solved_from(alloc, system, columns) {
         Ok(end) => Ok(end),
         Err(fault) => Err(lp_fault(fault)),
     }
