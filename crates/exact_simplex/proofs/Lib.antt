@@ -4,6 +4,7 @@ pub mod Driven
 pub mod DrivingTurns
 pub mod EndsRead
 pub mod Faults
+pub mod Gathered
 pub mod HintTurns
 pub mod Hinted
 pub mod Kept
@@ -19,6 +20,7 @@ pub mod ProgramLines
 pub mod Programs
 pub mod Readings
 pub mod Results
+pub mod SameBasis
 pub mod Shortened
 pub mod Signed
 pub mod SolvingEnds

@@ -4,13 +4,9 @@ use Rattle.std.specs.Prelude.{IsFalse}
 use Rattle.exact_field.specs.Rational.{ℚ, zero_ℚ, ◌/ℚ◌, ◌≤ℚ◌, ◌<ℚ◌}
 use Rattle.exact_field.specs.declared.op.Left.{Left}
 use Rattle.polyhedra.specs.Sparse.{Entry}
-use Rattle.tableaux.specs.Table.{Table, at}
-use Rattle.tableaux.specs.Dictionary.{IsDictionary}
-use Rattle.lin_rows.specs.declared.fault.RowFault.{RowFault}
-use Rattle.lin_rows.specs.declared.fault.RowFault.TheVariants.{Left as Stuck, NoMemory}
+use Rattle.tableaux.specs.Table.{at}
 use Rattle.lin_rows.specs.Lines.{AreLines, sum_at}
-use Rattle.lin_rows.specs.Pivot.{table_of, IsPivotStep, IsPivotFault}
-use Rattle.lin_rows.specs.Eliminate.{IsElimFault}
+use Rattle.lin_rows.specs.Pivot.{table_of, IsPivotStep}
 use Rattle.lin_rows.proofs.Pivoted.{at_is}
 use Rattle.exact_simplex.specs.Phase.{AreColumns, IsPhaseEnd}
 use Rattle.exact_simplex.specs.Ratios.{IsEntering, IsLeaving, IsTestLeft}

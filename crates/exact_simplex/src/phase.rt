@@ -57,6 +57,7 @@ pub fn run_phase<F: Field>(
     ensures turn { OnOk result (IsTurn tableau.old.width equations columns.now (table_of tableau.old.width (lines F.value tableau.old.rows.items)) tableau.old.basis.items (lines F.value tableau.new.rows.items) tableau.new.basis.items) }
     ensures moved { OnOk result (IsMoved equations unknowns (table_of tableau.old.width (lines F.value tableau.old.rows.items)) tableau.old.basis.items (table_of tableau.old.width (lines F.value tableau.new.rows.items)) tableau.new.basis.items) }
     ensures width { tableau.new.width ≡ tableau.old.width }
+    ensures still { IsPhaseEnd equations cost unknowns (table_of tableau.old.width (lines F.value tableau.old.rows.items)) None → IfOk result (λ col. (col ≡ None) × (tableau.new ≡ tableau.old)) }
     ensures end { IfOk result (IsPhaseEnd equations cost unknowns (table_of tableau.old.width (lines F.value tableau.new.rows.items))) }
     ensures left { IfErr result (IsPhaseFault F.value F.holds tableau.old.width equations unknowns (table_of tableau.old.width (lines F.value tableau.old.rows.items)) tableau.old.basis.items) }
 {
@@ -94,6 +95,7 @@ pub fn optimize<F: Field>(
     requires high { cost ≤ system.now.rows + 1 }
     ensures primal { OnOk result (IsPrimal F.value (system_of F.value system.now) tableau.new) }
     ensures idle { IsIdle F.value (system_of F.value system.now) tableau.old → OnOk result (IsIdle F.value (system_of F.value system.now) tableau.new) }
+    ensures still { IsPhaseEnd (equation_count (system_of F.value system.now)) cost (unknown_count (system_of F.value system.now)) (table_in F.value (system_of F.value system.now) tableau.old) None → IfOk result (λ col. (col ≡ None) × (tableau.new ≡ tableau.old)) }
     ensures end { IfOk result (IsPhaseEnd (equation_count (system_of F.value system.now)) cost (unknown_count (system_of F.value system.now)) (table_in F.value (system_of F.value system.now) tableau.new)) }
     ensures left { IfErr result (IsSystemFault F.value F.holds (system_of F.value system.now)) }
 {

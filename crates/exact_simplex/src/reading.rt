@@ -6,6 +6,7 @@ ghost use Rattle.tableaux.specs.Dictionary.{basic_column, first_multipliers, mul
 ghost use Rattle.tableaux.specs.Simplex.{IsBest};
 ghost use Rattle.tableaux.specs.Table.{artificial_sign, at, equation_count, first_cost, right_column, second_cost, unknown_count};
 ghost use Rattle.exact_simplex.specs.Ends.{IsCertified, IsReadOff, IsSystemFault};
+ghost use Rattle.exact_simplex.specs.Hint.{IsOptimalEnd};
 ghost use Rattle.exact_simplex.specs.Program.{HasLengths, IsFeasible, IsIdle, IsPrimal, IsTableauOf, system_of, table_in};
 
 use crate::answer::LpEnd;
@@ -113,6 +114,7 @@ pub fn optimal<F: Field>(tableau: &mut Tableau<F>, system: &System<F>) -> Result
     requires best { IsBest (system_of F.value system.now) (second_cost (system_of F.value system.now)) (table_in F.value (system_of F.value system.now) tableau.old) }
     ensures certified { IfOk result (IsCertified F.value (system_of F.value system.now)) }
     ensures read_off { IfOk result (IsReadOff F.value (system_of F.value system.now)) }
+    ensures basis { IfOk result (IsOptimalEnd (λ basis. basis ≡ take system.now.rows tableau.old.basis.items)) }
 {
     let x = solution_at(tableau, system)?;
     let dual = dual(tableau, system)?;

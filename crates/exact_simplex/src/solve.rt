@@ -1,10 +1,11 @@
 //! Linear programs by two phases.
 
-ghost use Rattle.std.specs.Prelude.{◌≡◌, ◌↔◌, IsTrue, OnOk, IfOk, IfErr};
+ghost use Rattle.std.specs.Prelude.{◌≡◌, ◌↔◌, IsTrue, take, OnOk, IfOk, IfErr};
 ghost use Rattle.exact_field.specs.Rational.{zero_ℚ, ◌<ℚ◌};
 ghost use Rattle.tableaux.specs.Simplex.{IsBest};
-ghost use Rattle.tableaux.specs.Table.{at, first_cost, right_column};
+ghost use Rattle.tableaux.specs.Table.{at, first_cost, right_column, second_cost};
 ghost use Rattle.exact_simplex.specs.Ends.{IsCertified, IsLpFault, IsReadOff, IsSystemFault};
+ghost use Rattle.exact_simplex.specs.Hint.{IsBestBasis, IsOptimalEnd, NameSame};
 ghost use Rattle.exact_simplex.specs.Program.{HasLengths, IsFeasible, IsIdle, IsPrimal, system_of, table_in};
 
 use crate::answer::{LpEnd, LpFault, lp_fault};
@@ -47,6 +48,7 @@ fn second_phase<F: Field>(
     ensures certified { IfOk result (IsCertified F.value (system_of F.value system.now)) }
     ensures read_off { IfOk result (IsReadOff F.value (system_of F.value system.now)) }
     ensures left { IfErr result (IsSystemFault F.value F.holds (system_of F.value system.now)) }
+    ensures still { IsBest (system_of F.value system.now) (second_cost (system_of F.value system.now)) (table_in F.value (system_of F.value system.now) tableau.old) → IfOk result (IsOptimalEnd (λ basis. basis ≡ take system.now.rows tableau.old.basis.items)) }
 {
     match optimize(tableau, system, system.rows as usize + 1)? {
         None => Ok(optimal(tableau, system)?),
@@ -112,6 +114,7 @@ fn solved_from<F: Field>(
     ensures certified { IfOk result (IsCertified F.value (system_of F.value system.now)) }
     ensures read_off { IfOk result (IsReadOff F.value (system_of F.value system.now)) }
     ensures left { IfErr result (IsSystemFault F.value F.holds (system_of F.value system.now)) }
+    ensures hint { IsBestBasis (system_of F.value system.now) columns.now → IfOk result (IsOptimalEnd (NameSame columns.now)) }
 {
     match hinted(alloc, system, columns)? {
         Some(mut tableau) => second_phase(&mut tableau, system),
@@ -133,6 +136,7 @@ pub fn solve_lp_from<F: Field>(
     ensures certified { IfOk result (IsCertified F.value (system_of F.value system.now)) }
     ensures read_off { IfOk result (IsReadOff F.value (system_of F.value system.now)) }
     ensures left { IfErr result (IsLpFault F.value F.holds (system_of F.value system.now)) }
+    ensures hint { IsBestBasis (system_of F.value system.now) columns.now → IfOk result (IsOptimalEnd (NameSame columns.now)) }
 {
     match solved_from(alloc, system, columns) {
         Ok(end) => Ok(end),

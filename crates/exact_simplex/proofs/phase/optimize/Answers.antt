@@ -1,4 +1,4 @@
-use Rattle.std.proofs.Common.{◌∙◌, ℕ, sym, subst, arith}
+use Rattle.std.proofs.Common.{◌∙◌, ℕ, sym, subst, arith, None}
 use Rattle.std.proofs.lemmas.Result.{IfErr-weaker, IfOk-weaker}
 use Rattle.tableaux.specs.Table.{Table, equation_count, unknown_count}
 use Rattle.lin_rows.specs.Lines.{lines}
@@ -111,3 +111,16 @@ returns-clause-left g c =
     (λ fault stuck. phase_fault value s ok before c.requires.primal holds w p.rows p.cols c.requires.primal.held.width (sym (equation_count_is value p c.requires.lengths))
     (sym (unknown_count_is value p c.requires.lengths)) fault stuck)
     c.run_phase.ensures.left
+
+pub returns-clause-still : goal.returns-clause-still
+returns-clause-still g c =
+    let value = g.F.Field.value in
+    let p = c.args.system.now in
+    let s = system_of value p in
+    let before = c.args.tableau.now in
+    let w : ℕ = before.width in
+    let ls = lines value before.rows.items in
+    λ end. c.run_phase.ensures.still
+    (subst (λ (k : ℕ). IsPhaseEnd k c.args.cost p.cols (table_of w ls) None) (equation_count_is value p c.requires.lengths)
+    (subst (λ (k : ℕ). IsPhaseEnd (equation_count s) c.args.cost k (table_of w ls) None) (unknown_count_is value p c.requires.lengths)
+    (subst (λ (v : ℕ). IsPhaseEnd (equation_count s) c.args.cost (unknown_count s) (table_of v ls) None) (sym c.requires.primal.held.width) end)))

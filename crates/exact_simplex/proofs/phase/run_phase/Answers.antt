@@ -1,6 +1,8 @@
 use Rattle.std.proofs.Common.{◌≡◌, ◌≢◌, ◌∙◌, ◌+◌, ◌<◌, ◌≤◌, sym, ap, subst, arith, ℕ, List, length, None, Some, slice_set}
 use Rattle.std.proofs.lemmas.List.{length-set}
-use Rattle.exact_field.specs.Rational.{zero_ℚ}
+use Rattle.exact_field.specs.Rational.{zero_ℚ, ◌<ℚ◌}
+use Rattle.exact_field.proofs.Inequalities.{lt-not-le}
+use Rattle.lin_rows.specs.declared.tableau.Tableau.{Tableau}
 use Rattle.tableaux.specs.Table.{Table, at, pivoted}
 use Rattle.lin_rows.specs.Lines.{lines, entries}
 use Rattle.lin_rows.specs.Pivot.{AreTableau, IsPivotFault, table_of}
@@ -59,6 +61,23 @@ returns-in-Ok-None-clause-end g c =
     let leaving = subst (λ (o : _). IsLeaving (lines value c.deref-in-Some.result.now) c.in-Some.col c.args.columns.now c.args.equations o) c.in-Ok-None.field-0-is c.in-Ok-None.ensures.ok in
     let none = subst (λ (l : List _). IsLeaving l c.in-Some.col c.args.columns.now c.args.equations None) (ap (lines value) c.deref-in-Some.ensures.value) leaving in
     (betters.0, betters.1, betters.2, without_limit n ls h c.in-Some.col c.args.equations c.args.columns.now betters.0 col_high (omega (arith, c.requires.cost, inside, many)) none)
+
+pub returns-in-Ok-None-clause-still : goal.returns-in-Ok-None-clause-still
+returns-in-Ok-None-clause-still g c =
+    let value = g.F.Field.value in
+    let n : ℕ = c.args.tableau.now.width in
+    let now = c.loop-col.tableau in
+    let ls = lines value now.rows.items in
+    let kept = c.loop-col.invariant in
+    let cells = c.deref.result.now in
+    let inside : c.args.cost < length now.rows.items = omega (arith, c.requires.inside, kept.many) in
+    let h = kept.turn.tableau.lines in
+    let many = length-lines value now.rows.items in
+    let es = own value now.rows.items n c.in-Some.col c.args.columns.now h c.args.cost inside cells c.index.result.now c.deref.ensures.value c.index.ensures in
+    let rise = rises value now.rows.items n c.in-Some.col c.args.columns.now h c.args.cost inside cells c.index.result.now c.deref.ensures.value c.index.ensures in
+    let betters = entering_betters n ls h c.args.cost c.args.unknowns c.in-Some.col (entries value cells) (omega (arith, inside, many)) c.requires.unknowns es (c.in-Some.ensures n rise) in
+    λ end. absurd (lt-not-le (at (table_of n (lines value c.args.tableau.now.rows.items)) (c.args.cost + 1) c.in-Some.col) zero_ℚ
+    (subst (λ (t : Tableau _). at (table_of n (lines value t.rows.items)) (c.args.cost + 1) c.in-Some.col <ℚ zero_ℚ) (kept.still end) betters.2) (end c.in-Some.col betters.0 betters.1))
 
 pub pivot-requires-clause-low : goal.pivot-requires-clause-low
 pivot-requires-clause-low g c =
@@ -168,6 +187,8 @@ loop-col-preserved g c =
         kept.turn.tableau.one_each,
         length-lines value now.rows.items,
       );
+      still = λ end. absurd (lt-not-le (at start (c.args.cost + 1) col) zero_ℚ
+          (subst (λ (t : Tableau _). at (table_of n (lines value t.rows.items)) (c.args.cost + 1) col <ℚ zero_ℚ) (kept.still end) betters.2) (end col betters.0 betters.1));
       moved =
           let own_dictionary = kept.turn.dictionary start c.requires.start.own.wide c.requires.start.own in
           let size : length first.rows.items ≡ length (table_of n ls) = sym (length-lines value first.rows.items) ∙ sym (length-table n (lines value first.rows.items) c.requires.turn.tableau.lines)

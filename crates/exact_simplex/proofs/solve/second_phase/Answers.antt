@@ -1,6 +1,10 @@
-use Rattle.std.proofs.Common.{◌≡◌, ◌+◌, ℕ, ap, sym, subst, arith, Option, Some}
+use Rattle.std.proofs.Common.{◌∙◌, ◌≡◌, ◌+◌, ℕ, ap, sym, subst, arith, Option, Some, take}
 use Rattle.exact_field.specs.Rational.{zero_ℚ, ◌<ℚ◌}
 use Rattle.tableaux.specs.Table.{at, equation_count, second_cost, unknown_count}
+use Rattle.tableaux.specs.Simplex.{IsBest}
+use Rattle.lin_rows.specs.declared.tableau.Tableau.{Tableau}
+use Rattle.exact_simplex.specs.Hint.{IsOptimalEnd}
+use Rattle.exact_simplex.proofs.Results.{none_some}
 use Rattle.exact_simplex.specs.Phase.{IsPhaseEnd}
 use Rattle.exact_simplex.specs.Program.{system_of, table_in}
 use Rattle.exact_simplex.proofs.Programs.{system_ok, equation_count_is}
@@ -74,3 +78,23 @@ unbounded-requires-clause-unlimited g c =
     let t = c.optimize.new.tableau in
     without_limit value s (system_ok value p c.requires.lengths) t (p.rows + 1) c.in-Some.col (ap (λ n. n + 1) (sym (equation_count_is value p c.requires.lengths)))
     (subst (λ (o : Option ℕ). IsPhaseEnd (equation_count s) (p.rows + 1) (unknown_count s) (table_in value s t) o) c.in-Some.is c.in_ok-optimize.ensures.end)
+
+pub returns-in_ok-optimal-in-None-clause-still : goal.returns-in_ok-optimal-in-None-clause-still
+returns-in_ok-optimal-in-None-clause-still g c =
+    let value = g.F.Field.value in
+    let p = c.args.system.now in
+    let s = system_of value p in
+    let row : p.rows + 1 + 1 ≡ second_cost s = omega (arith, equation_count_is value p c.requires.lengths) in
+    λ best.
+    let still = c.in_ok-optimize.ensures.still (subst (λ (r : ℕ). IsBest s r (table_in value s c.args.tableau.now)) (sym row) best) in
+    subst (λ (t : Tableau _). IsOptimalEnd (λ b. b ≡ take p.rows t.basis.items) c.in_ok-optimal-in-None.field-0) still.1 c.in_ok-optimal-in-None.ensures.basis
+
+pub returns-in_ok-unbounded-in-Some-clause-still : goal.returns-in_ok-unbounded-in-Some-clause-still
+returns-in_ok-unbounded-in-Some-clause-still g c =
+    let value = g.F.Field.value in
+    let p = c.args.system.now in
+    let s = system_of value p in
+    let row : p.rows + 1 + 1 ≡ second_cost s = omega (arith, equation_count_is value p c.requires.lengths) in
+    λ best.
+    let still = c.in_ok-optimize.ensures.still (subst (λ (r : ℕ). IsBest s r (table_in value s c.args.tableau.now)) (sym row) best) in
+    absurd (none_some c.in-Some.col (sym still.0 ∙ c.in-Some.is))
