@@ -1,6 +1,7 @@
 pub mod Covering
 pub mod KeptNext
 pub mod MadePairs
+pub mod MarkedSoFar
 pub mod NextLists
 pub mod NormedCorners
 pub mod NotZero

@@ -1,9 +1,9 @@
 -- Corners stay corners when they are normed.
-use Rattle.std.proofs.Common.{◌≡◌, ◌≢◌, ℕ, zero, suc, ◌<◌, ◌≤◌, List, [], map, length, All, Bool, true, false, true≢false, refl, sym, ap, ◌∙◌, subst, arith, nat_eq, slice_index_or, set, ◌+◌, ◌⊎◌, inl, inr}
+use Rattle.std.proofs.Common.{◌≡◌, ◌≢◌, ℕ, ◌<◌, ◌≤◌, List, [], map, length, All, Bool, true, false, true≢false, refl, sym, ap, ◌∙◌, subst, arith, nat_eq, slice_index_or, ◌⊎◌, inl, inr}
 use Rattle.std.specs.Prelude.{not}
-use Rattle.std.proofs.lemmas.List.{get_or-map, get_or_past, get_or-set_other, get_or-set_same, length-map}
+use Rattle.std.proofs.lemmas.List.{get_or-map, get_or_past, length-map}
 use Rattle.std.proofs.lemmas.List.Elements.{All-from_get_or}
-use Rattle.std.proofs.lemmas.Bool.{cases_lt, eqb-true, eq-eqb, ne_eqb}
+use Rattle.std.proofs.lemmas.Bool.{cases_lt, eqb-true, eq-eqb}
 use Rattle.exact_field.specs.Rational.{ℚ, zero_ℚ, ◌*ℚ◌, ◌<ℚ◌}
 use Rattle.exact_field.specs.Vector.{dot}
 use Rattle.polyhedra.specs.Dependence.{AreCorners}
@@ -14,35 +14,10 @@ use Rattle.polyhedra.proofs.Lists.{wide-map}
 use Rattle.polyhedra.proofs.Norming.{norm_factor, norm_factor-positive, normed_is_normed, norming-other, is_zero-scaled}
 use Rattle.polyhedra.proofs.Order.{mul_positive, not_zero_of_positive}
 use Rattle.polyhedra.proofs.Tests.{test_of_other, test_of_zero}
-use Rattle.incid_sets.specs.Marks.{has, no_marks}
+use Rattle.incid_sets.specs.Marks.{has}
 use Rattle.double_descr.specs.State.{tight_set}
 use Rattle.double_descr.specs.Starting.{IsAllBut}
 use Rattle.double_descr.proofs.Covering.{same_marks}
-
--- ---- the set of all numbers but one, number by number
-none_yet : (n k : ℕ) → has (no_marks n) k ≡ false
-none_yet zero k = refl
-none_yet (suc n) zero = refl
-none_yet (suc n) (suc k) = none_yet n k
-
-pub none_there : (bound : ℕ) (marks : List Bool) → marks ≡ no_marks bound → (k : ℕ) → has marks k ≡ false
-none_there bound marks e k = ap (λ m. has m k) e ∙ none_yet bound k
-
-module _ (out k : ℕ) (old : List Bool) (done : (j : ℕ) → j < k → has old j ≡ not (nat_eq j out)) where
-  pub with_one : (new : List Bool) → new ≡ set old k true → k < length old → (k ≡ out → ⊥) → (j : ℕ) → j < k + 1 → has new j ≡ not (nat_eq j out)
-  with_one new e l o j h = ap (λ m. has m j) e ∙ go (cases_lt j k)
-    where
-      go : (j < k) ⊎ (k ≤ j) → has (set old k true) j ≡ not (nat_eq j out)
-      go (inl less) = get_or-set_other old k j true false (omega arith) ∙ done j less
-      go (inr other) = let same : j ≡ k = omega arith in
-          ap (has (set old k true)) same ∙ get_or-set_same old k true false l ∙ sym (ap not (ne_eqb j out (λ s. o (sym same ∙ s))))
-
-  pub without_one : (new : List Bool) → new ≡ old → has old k ≡ false → k ≡ out → (j : ℕ) → j < k + 1 → has new j ≡ not (nat_eq j out)
-  without_one new e none o j h = ap (λ m. has m j) e ∙ go (cases_lt j k)
-    where
-      go : (j < k) ⊎ (k ≤ j) → has old j ≡ not (nat_eq j out)
-      go (inl less) = done j less
-      go (inr other) = let same : j ≡ k = omega arith in ap (has old) same ∙ none ∙ sym (ap not (eq-eqb j out (same ∙ o)))
 
 module _ (n : ℕ) (rows vectors : List (List ℚ)) (c : AreCorners n rows vectors) where
   -- row i is not 0 at vector i

@@ -1,5 +1,5 @@
 //! A double description.
-ghost use Rattle.std.specs.Prelude.{◌≡◌, ◌<◌, List, [], ◌∷◌, ◌++◌, All, Contains, IfErr, IfOk, OnErr, OnOk, length, slice_index_or};
+ghost use Rattle.std.specs.Prelude.{◌≡◌, ◌<◌, ◌≤◌, List, [], ◌∷◌, ◌++◌, All, Contains, IfErr, IfOk, OnErr, OnOk, length, slice_index_or};
 ghost use Rattle.exact_field.specs.Rational.{ℚ};
 ghost use Rattle.polyhedra.specs.Cone.{HasFullRank};
 ghost use Rattle.polyhedra.specs.LiveList.{numbers, step};
@@ -18,7 +18,7 @@ use crate::starting::{copied, normed_all};
 use exact_field::Field;
 use incid_sets::Marks;
 use lin_rows::{Rows, corners};
-use src_sink::Items;
+use src_sink::{Items, MOST_ITEMS};
 use std::alloc::Global;
 use std::marker::Model;
 
@@ -79,6 +79,7 @@ impl<F: Field> Dd<F> {
     pub fn live(&self) -> &[u32]
         ensures live { result.now ≡ numbers self.now.list.live }
         ensures described { IsLive self.now.width self.now.rows self.now.list }
+        ensures bound { length result.now ≤ MOST_ITEMS }
     {
         self.numbers.as_slice()
     }

@@ -1,7 +1,7 @@
-use Rattle.std.proofs.Common.{length, true, false, ap, ◌∙◌, arith}
-use Rattle.std.proofs.lemmas.List.{get_or-set_other, length-replicate, length-set}
-use Rattle.incid_sets.specs.Marks.{has}
-use Rattle.double_descr.proofs.NormedCorners.{none_there, with_one, without_one}
+use Rattle.std.proofs.Common.{nat_eq, ap, ◌∙◌, arith}
+use Rattle.std.specs.Prelude.{not}
+use Rattle.std.proofs.lemmas.Bool.{eq-eqb, ne_eqb}
+use Rattle.double_descr.proofs.MarkedSoFar.{none_marked, one_marked, one_passed}
 use Rattle.double_descr.proofs.starting.all_but.Goals as goal
 use Rattle.double_descr.proofs.starting.all_but.Goals.{then-k-out, else-k-out}
 
@@ -9,27 +9,14 @@ pub insert-requires : goal.insert-requires
 insert-requires c = omega (arith, c.loop-k.invariant.bounded)
 
 pub loop-k-init : goal.loop-k-init
-loop-k-init c = record {
-  bounded = ap length c.in_ok-marks.ensures ∙ length-replicate c.args.bound false;
-  done = λ j h. absurd (omega arith);
-  open_ = λ j h. none_there c.args.bound c.in_ok-marks.marks c.in_ok-marks.ensures j;
-}
+loop-k-init c = none_marked c.args.bound (λ j. not (nat_eq j c.args.out)) c.in_ok-marks.marks c.in_ok-marks.ensures
 
 pub loop-k-preserved : goal.loop-k-preserved
 loop-k-preserved c = elim c.if-k-out.branch [
-  | then-k-out w ↦ record {
-    bounded = ap length (w.marks-is ∙ w.insert.ensures) ∙ length-set c.loop-k.marks c.loop-k.k true ∙ c.loop-k.invariant.bounded;
-    done = with_one c.args.out c.loop-k.k c.loop-k.marks c.loop-k.invariant.done c.if-k-out.marks (w.marks-is ∙ w.insert.ensures)
-        (omega (arith, c.loop-k.invariant.bounded)) w.if-k-out.true;
-    open_ = λ j h. ap (λ m. has m j) (w.marks-is ∙ w.insert.ensures) ∙ get_or-set_other c.loop-k.marks c.loop-k.k j true false (omega arith)
-        ∙ c.loop-k.invariant.open_ j (omega arith);
-  }
-  | else-k-out w ↦ record {
-    bounded = ap length w.marks-is ∙ c.loop-k.invariant.bounded;
-    done = without_one c.args.out c.loop-k.k c.loop-k.marks c.loop-k.invariant.done c.if-k-out.marks w.marks-is
-        (c.loop-k.invariant.open_ c.loop-k.k (omega arith)) w.if-k-out.false;
-    open_ = λ j h. ap (λ m. has m j) w.marks-is ∙ c.loop-k.invariant.open_ j (omega arith);
-  }
+  | then-k-out w ↦ one_marked c.args.bound c.loop-k.k (λ j. not (nat_eq j c.args.out)) c.loop-k.marks c.if-k-out.marks c.loop-k.invariant
+      (w.marks-is ∙ w.insert.ensures) c.loop-k-test.true (ap not (ne_eqb c.loop-k.k c.args.out w.if-k-out.true))
+  | else-k-out w ↦ one_passed c.args.bound c.loop-k.k (λ j. not (nat_eq j c.args.out)) c.loop-k.marks c.if-k-out.marks c.loop-k.invariant
+      w.marks-is (ap not (eq-eqb c.loop-k.k c.args.out w.if-k-out.false))
 ]
 
 pub returns : goal.returns
