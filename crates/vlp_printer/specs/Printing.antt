@@ -1,11 +1,16 @@
 -- The text of a problem.
-use Rattle.std.specs.Prelude.{◌≡◌, ℕ, ◌-◌, not, find, if◌then◌else◌, List, [], ◌∷◌, ◌++◌, length, map, sum_by, count_by, slice_index_or, codes, decimal, Option, None, Some}
+use Rattle.std.specs.Prelude.{◌≡◌, ℕ, ◌-◌, true, false, not, if◌then◌else◌, List, [], ◌∷◌, ◌++◌, length, map, sum_by, count_by, slice_index_or, codes, decimal, Option, None, Some, Ok, All}
 use Rattle.std.specs.List.{flat_map}
 use Rattle.exact_field.specs.Rational.{ℚ}
 use Rattle.exact_field.specs.Vector.{entry}
 use Rattle.frac128.specs.Sparse.{is_zero}
 use Rattle.src_sink.specs.Texts.{line_text}
+use Rattle.vlp_reader.specs.FirstFault.{Reads}
+use Rattle.vlp_reader.specs.Grammar.{are_within_limits}
+use Rattle.vlp_reader.specs.Number.{number_of}
 use Rattle.vlp_reader.specs.Sides.{numbers_from, is_unsaid}
+use Rattle.vlp_reader.specs.declared.sizes.ConeSizes.{ConeSizes}
+use Rattle.vlp_reader.specs.declared.sizes.Sizes.{Sizes}
 use Rattle.vlp_reader.specs.declared.problem.Bound.{Bound}
 use Rattle.vlp_reader.specs.declared.problem.Bound.TheVariants.{Unsaid, Free, Lower, Upper, Double, Fixed}
 use Rattle.vlp_reader.specs.declared.problem.Cell.{Cell}
@@ -14,7 +19,7 @@ use Rattle.vlp_reader.specs.declared.problem.Cone.TheVariants.{Orthant, Gens, Du
 use Rattle.vlp_reader.specs.declared.problem.Dir.{Dir}
 use Rattle.vlp_reader.specs.declared.problem.Dir.TheVariants.{Min, Max}
 use Rattle.vlp_reader.specs.declared.problem.Problem.{Problem}
-use Rattle.vlp_printer.specs.Decimal.{is_decimal, number_text}
+use Rattle.vlp_printer.specs.Decimal.{number_text}
 use Rattle.vlp_printer.specs.declared.fault.PrintFault.{PrintFault}
 use Rattle.vlp_printer.specs.declared.fault.PrintFault.TheVariants.{NotDecimal, NoMemory}
 
@@ -55,6 +60,24 @@ abbrev pub cone_words : Cone → List (List ℕ)
 cone_words Orthant = []
 cone_words (Gens vectors) = codes "cone" ∷ decimal (length vectors) ∷ decimal (entry_count vectors) ∷ []
 cone_words (Dual vectors) = codes "dualcone" ∷ decimal (length vectors) ∷ decimal (entry_count vectors) ∷ []
+
+-- the sizes that the problem line says
+abbrev pub printed_cone : Cone → Option ConeSizes
+printed_cone Orthant = None
+printed_cone (Gens vectors) = Some (record { dual = false; vectors = length vectors; entries = entry_count vectors })
+printed_cone (Dual vectors) = Some (record { dual = true; vectors = length vectors; entries = entry_count vectors })
+
+abbrev pub printed_sizes : Problem → Sizes
+printed_sizes problem =
+    record {
+      dir = problem.dir;
+      rows = problem.rows;
+      cols = problem.cols;
+      entries = length problem.a;
+      objs = problem.objs;
+      obj_entries = length problem.o;
+      cone = printed_cone problem.cone;
+    }
 
 abbrev pub heading_words : Problem → List (List ℕ)
 heading_words problem =
@@ -110,12 +133,29 @@ problem_text problem =
     ++ (duality_text (duality_entries problem.duality) ++ (vectors_text (cone_vectors problem.cone)
     ++ (bounds_text (codes "i") problem.row_bounds ++ (bounds_text (codes "j") problem.col_bounds ++ line_text (codes "e" ∷ [])))))))
 
--- why a problem is not printed: its first number, in the order of printing, that has no decimal form; or want of memory
+-- some word that the grammar accepts as a number has this value
+abbrev pub HasWord : ℚ → Type 0
+HasWord q = (word : List ℕ) × (number_of word ≡ Ok q)
+
+-- the sizes of a problem are within the limits that the grammar sets
+abbrev pub IsWithinLimits : Problem → Type 0
+IsWithinLimits problem = are_within_limits (printed_sizes problem) ≡ true
+
+-- a number is the first of these that is the value of no word
+pub record IsFirstWithoutWord (numbers : List ℚ) (q : ℚ) : Type 0 where
+  pub before : List ℚ
+  pub behind : List ℚ
+  pub place : numbers ≡ before ++ q ∷ behind
+  pub words : All HasWord before
+  pub no_word : ¬ HasWord q
+
+-- why a problem is not printed: its first number, in the order of printing, that has no word; or want of memory
 abbrev pub RefusesText : Problem → PrintFault → Type 0
-RefusesText problem (NotDecimal q) = find (λ p. not (is_decimal p)) (printed_numbers problem) ≡ Some q
+RefusesText problem (NotDecimal q) = IsFirstWithoutWord (printed_numbers problem) q
 RefusesText problem NoMemory = Unit {0}
 
--- what is printed: the text of the problem, all of whose numbers have a decimal form
+-- what is printed: the text of the problem, all of whose numbers have a word; within the limits it reads as this problem
 pub record Prints (problem : Problem) (text : List ℕ) : Type 0 where
-  pub decimal : find (λ p. not (is_decimal p)) (printed_numbers problem) ≡ None
+  pub words : All HasWord (printed_numbers problem)
   pub same : text ≡ problem_text problem
+  pub round_trip : IsWithinLimits problem → Reads text problem
