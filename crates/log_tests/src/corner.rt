@@ -33,7 +33,11 @@ pub struct Cut {
 fn magnitude(value: Frac) -> Frac
     ensures { result ≡ magnitude value }
 {
-    if is_nonnegative(value) { value } else { value.neg() }
+    if is_nonnegative(value) {
+        value
+    } else {
+        value.neg()
+    }
 }
 
 /// Whether the first entry that is not 0 is 1 or -1.
@@ -86,11 +90,20 @@ fn are_tight(counter: &mut Steps, cuts: &[Cut], named: &[u32], point: &[Frac]) -
 fn fits_corner(own: bool, product: Frac) -> bool
     ensures { result ≡ (if own then lt_ℚ zero_ℚ product else is_number_zero product) }
 {
-    if own { is_positive(product) } else { is_zero(product) }
+    if own {
+        is_positive(product)
+    } else {
+        is_zero(product)
+    }
 }
 
 /// A cut's product with a direction is positive for its own, and 0 for the others.
-fn meets_direction(counter: &mut Steps, w: &[Frac], own: bool, direction: &[Frac]) -> Result<(), Stop>
+fn meets_direction(
+    counter: &mut Steps,
+    w: &[Frac],
+    own: bool,
+    direction: &[Frac],
+) -> Result<(), Stop>
     requires lengths { length w.now ≡ length direction.now }
     requires room { counter.old.taken + steps (corner_events w.now own direction.now) < 2 ^ 63 }
     ensures { Runs is_held (corner_events w.now own direction.now) counter.old.taken counter.new.taken (λ _. ⊤) result }
@@ -100,7 +113,13 @@ fn meets_direction(counter: &mut Steps, w: &[Frac], own: bool, direction: &[Frac
 }
 
 /// The same for each of the directions, rows of `objs` numbers.
-fn meets_directions(counter: &mut Steps, objs: usize, directions: &[Frac], w: &[Frac], number: usize) -> Result<(), Stop>
+fn meets_directions(
+    counter: &mut Steps,
+    objs: usize,
+    directions: &[Frac],
+    w: &[Frac],
+    number: usize,
+) -> Result<(), Stop>
     requires few { objs ≤ 100000 }
     requires entries { length directions.now ≡ objs * objs }
     requires width { length w.now ≡ objs }
@@ -115,7 +134,13 @@ fn meets_directions(counter: &mut Steps, objs: usize, directions: &[Frac], w: &[
 }
 
 /// The same for each of the named cuts.
-fn meet_directions(counter: &mut Steps, objs: usize, cuts: &[Cut], named: &[u32], directions: &[Frac]) -> Result<(), Stop>
+fn meet_directions(
+    counter: &mut Steps,
+    objs: usize,
+    cuts: &[Cut],
+    named: &[u32],
+    directions: &[Frac],
+) -> Result<(), Stop>
     requires few { objs ≤ 100000 }
     requires entries { length directions.now ≡ objs * objs }
     requires widths { All (λ cut. length cut.w ≡ objs) cuts.now }
@@ -141,15 +166,24 @@ fn lists_fit(objs: u32, named: &[u32], point: &[Frac], directions: &[Frac]) -> b
 
 /// The tests of a `start` entry, where these cuts stand: the named ones meet in `point`, and each has its direction,
 /// along which it rises and the others stay. It costs twice the cube of the number of objectives.
-pub fn check_start(problem: &Problem, cuts: &[Cut], named: &[u32], point: &[Frac], directions: &[Frac]) -> Result<(), Stop>
+pub fn check_start(
+    problem: &Problem,
+    cuts: &[Cut],
+    named: &[u32],
+    point: &[Frac],
+    directions: &[Frac],
+) -> Result<(), Stop>
     requires widths { All (λ cut. length cut.w ≡ problem.now.objs) cuts.now }
     ensures { (s : State) → s.cuts ≡ map stated cuts.now
         → Runs is_held (start_events problem.now s named.now point.now directions.now) 0
-            (steps (start_events problem.now s named.now point.now directions.now)) (λ _. ⊤) result }
+        (steps (start_events problem.now s named.now point.now directions.now)) (λ _. ⊤) result }
 {
     let mut counter = Steps { taken: 0 };
     let objs = problem.objs as usize;
-    pass(Rule::Length, lists_fit(problem.objs, named, point, directions))?;
+    pass(
+        Rule::Length,
+        lists_fit(problem.objs, named, point, directions),
+    )?;
     pass(Rule::Index, are_picks(cuts.len(), named))?;
     pass(Rule::Corner, are_normed(objs, directions))?;
     are_tight(&mut counter, cuts, named, point)?;

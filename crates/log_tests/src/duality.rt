@@ -23,13 +23,7 @@ use log_rules::{Rule, Stop};
 use vlp_reader::{Cone, Problem};
 
 /// Whether the lists of a `duality` entry have their lengths.
-fn has_lengths(
-    objs: u32,
-    cone: &Cone,
-    weights: &[Frac],
-    picks: &[u32],
-    inverse: &[Frac],
-) -> bool
+fn has_lengths(objs: u32, cone: &Cone, weights: &[Frac], picks: &[u32], inverse: &[Frac]) -> bool
     ensures { result ≡ lists_have_lengths objs cone.now weights.now picks.now inverse.now }
 {
     match cone {
@@ -128,7 +122,12 @@ fn meets_rows(counter: &mut Steps, rows: &[Vector], c: &[Frac]) -> Result<(), St
 }
 
 /// The product of the entries at one place of the vectors, counted from 0, with weights.
-fn column_product(counter: &mut Steps, vectors: &[Vector], place: usize, weights: &[Frac]) -> Result<Frac, Stop>
+fn column_product(
+    counter: &mut Steps,
+    vectors: &[Vector],
+    place: usize,
+    weights: &[Frac],
+) -> Result<Frac, Stop>
     requires entries { All (λ v. place < length v) vectors.now }
     requires lengths { length vectors.now ≡ length weights.now }
     requires room { counter.old.taken + steps (dot_steps (column vectors.now (place + 1)) weights.now) < 2 ^ 63 }
@@ -144,7 +143,13 @@ fn column_product(counter: &mut Steps, vectors: &[Vector], place: usize, weights
 }
 
 /// The vectors with their weights have this entry at a place, counted from 0.
-fn weighs_at(counter: &mut Steps, vectors: &[Vector], place: usize, weights: &[Frac], expected: Frac) -> Result<(), Stop>
+fn weighs_at(
+    counter: &mut Steps,
+    vectors: &[Vector],
+    place: usize,
+    weights: &[Frac],
+    expected: Frac,
+) -> Result<(), Stop>
     requires entries { All (λ v. place < length v) vectors.now }
     requires lengths { length vectors.now ≡ length weights.now }
     requires room { counter.old.taken + steps (weight_events vectors.now weights.now expected (place + 1)) < 2 ^ 63 }
@@ -185,7 +190,13 @@ fn has_unit(counter: &mut Steps, row: &[Frac], own: bool, v: &[Frac]) -> Result<
 }
 
 /// The same for each picked vector, of which the one of this number, from 1, is the row's own.
-fn has_units(counter: &mut Steps, vectors: &[Vector], picks: &[u32], number: usize, row: &[Frac]) -> Result<(), Stop>
+fn has_units(
+    counter: &mut Steps,
+    vectors: &[Vector],
+    picks: &[u32],
+    number: usize,
+    row: &[Frac],
+) -> Result<(), Stop>
     requires widths { All (λ v. length v ≡ length row.now) vectors.now }
     requires picks { numbers_within (length vectors.now) picks.now ≡ true }
     requires room { counter.old.taken + steps (units_events (picked vectors.now picks.now) number row.now) < 2 ^ 63 }
@@ -199,7 +210,13 @@ fn has_units(counter: &mut Steps, vectors: &[Vector], picks: &[u32], number: usi
 }
 
 /// The rows of `objs` numbers invert the picked vectors.
-fn inverts(counter: &mut Steps, objs: usize, vectors: &[Vector], picks: &[u32], inverse: &[Frac]) -> Result<(), Stop>
+fn inverts(
+    counter: &mut Steps,
+    objs: usize,
+    vectors: &[Vector],
+    picks: &[u32],
+    inverse: &[Frac],
+) -> Result<(), Stop>
     requires few { objs ≤ 100000 }
     requires entries { length inverse.now ≡ objs * objs }
     requires widths { All (λ v. length v ≡ objs) vectors.now }
@@ -217,7 +234,14 @@ fn inverts(counter: &mut Steps, objs: usize, vectors: &[Vector], picks: &[u32], 
 
 /// `c` is interior to the cone of the generators: their sum with positive weights, of which as many as there are
 /// entries have an inverse.
-fn is_solid(counter: &mut Steps, vectors: &[Vector], c: &[Frac], weights: &[Frac], picks: &[u32], inverse: &[Frac]) -> Result<(), Stop>
+fn is_solid(
+    counter: &mut Steps,
+    vectors: &[Vector],
+    c: &[Frac],
+    weights: &[Frac],
+    picks: &[u32],
+    inverse: &[Frac],
+) -> Result<(), Stop>
     requires few { length c.now ≤ 100000 }
     requires widths { All (λ v. length v ≡ length c.now) vectors.now }
     requires weights { length vectors.now ≡ length weights.now }
@@ -245,7 +269,12 @@ fn follows(counter: &mut Steps, f: &[Frac], c: &[Frac]) -> Result<(), Stop>
 }
 
 /// `c` is as the problem asks for it.
-fn follows_given(counter: &mut Steps, cone: &Cone, duality: &Option<Vector>, c: &[Frac]) -> Result<(), Stop>
+fn follows_given(
+    counter: &mut Steps,
+    cone: &Cone,
+    duality: &Option<Vector>,
+    c: &[Frac],
+) -> Result<(), Stop>
     requires some { 0 < length c.now }
     requires fits { IsTrue (duality_fits (length c.now) duality.now) }
     requires room { counter.old.taken + steps (follows_given (length c.now) cone.now duality.now c.now) < 2 ^ 63 }
@@ -261,7 +290,14 @@ fn follows_given(counter: &mut Steps, cone: &Cone, duality: &Option<Vector>, c: 
 }
 
 /// `c` is interior to the cone.
-fn is_interior(counter: &mut Steps, cone: &Cone, c: &[Frac], weights: &[Frac], picks: &[u32], inverse: &[Frac]) -> Result<(), Stop>
+fn is_interior(
+    counter: &mut Steps,
+    cone: &Cone,
+    c: &[Frac],
+    weights: &[Frac],
+    picks: &[u32],
+    inverse: &[Frac],
+) -> Result<(), Stop>
     requires few { length c.now ≤ 100000 }
     requires fits { IsTrue (cone_fits (length c.now) cone.now) }
     requires lengths { lists_have_lengths (length c.now) cone.now weights.now picks.now inverse.now ≡ true }
@@ -279,13 +315,22 @@ fn is_interior(counter: &mut Steps, cone: &Cone, c: &[Frac], weights: &[Frac], p
 /// The tests of a `duality` entry: `c` is interior to the ordering cone, and as the problem asks for it. It costs
 /// at most the cube of the number of objectives, where the cone is given by generators, and the entries of the
 /// cone's vectors else.
-pub fn check_duality(problem: &Problem, c: &[Frac], weights: &[Frac], picks: &[u32], inverse: &[Frac]) -> Result<(), Stop>
+pub fn check_duality(
+    problem: &Problem,
+    c: &[Frac],
+    weights: &[Frac],
+    picks: &[u32],
+    inverse: &[Frac],
+) -> Result<(), Stop>
     ensures { Runs is_held (duality_events problem.now c.now weights.now picks.now inverse.now) 0
         (steps (duality_events problem.now c.now weights.now picks.now inverse.now)) (λ _. ⊤) result }
 {
     let mut counter = Steps { taken: 0 };
     let objs = problem.objs;
-    pass(Rule::Length, lists_fit(objs, &problem.cone, c, weights, picks, inverse))?;
+    pass(
+        Rule::Length,
+        lists_fit(objs, &problem.cone, c, weights, picks, inverse),
+    )?;
     pass(Rule::Scaled, c[objs as usize - 1] == Frac::from(1))?;
     follows_given(&mut counter, &problem.cone, &problem.duality, c)?;
     is_interior(&mut counter, &problem.cone, c, weights, picks, inverse)

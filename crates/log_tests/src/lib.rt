@@ -21,3 +21,6 @@ pub use image::{above, in_feasible, in_recession};
 pub use line::{check_line, check_whole};
 pub use sheet::{Matrix, Sheet};
 pub use steps::{Steps, pass};
+
+#[cfg(test)]
+mod tests;

@@ -81,4 +81,4 @@ returns c =
     let pairs = length-zip (column c.args.vectors.now (c.args.place + 1)) c.args.weights.now wide in
     let over : c.loop-i.i ≡ length (zip (column c.args.vectors.now (c.args.place + 1)) c.args.weights.now) = omega (arith, high, pairs) in
     let done = summed-end (zip (column c.args.vectors.now (c.args.place + 1)) c.args.weights.now) c.args.counter.now.taken c.loop-i.i c.loop-i.counter.taken c.loop-i.total over c.loop-i.invariant in
-    (done.0, done.1, done.2 ∙ products-zip (column c.args.vectors.now (c.args.place + 1)) c.args.weights.now )
+    (done.0, done.1, done.2 ∙ products-zip (column c.args.vectors.now (c.args.place + 1)) c.args.weights.now)
