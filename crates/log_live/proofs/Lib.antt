@@ -1,3 +1,4 @@
 pub mod Columns
 pub mod Finding
 pub mod OneMore
+pub mod ValuesAt

@@ -4,6 +4,8 @@
 mod generator;
 mod marks;
 mod tight;
+mod values;
 
 pub use generator::{Generator, find};
 pub use tight::TightSets;
+pub use values::values_at;
