@@ -30,7 +30,7 @@ fn value_at(counter: &mut Steps, w: &[Frac], gamma: Frac, vector: &[Frac]) -> Re
 }
 
 /// Appends a number.
-fn append(list: &mut Items<Frac>, value: Frac) -> Result<(), Stop>
+pub fn append(list: &mut Items<Frac>, value: Frac) -> Result<(), Stop>
     ensures { (taken : ℕ) → Runs is_held [] taken taken (λ _. list.new ≡ list.old ++ value ∷ []) result }
 {
     match list.push(value) {
