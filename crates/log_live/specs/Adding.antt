@@ -1,7 +1,7 @@
 -- What an `add` entry does to the live generators, by the parts that the calls go through.
 use Rattle.std.specs.Prelude.{◌≡◌, ℕ, suc, List, [], ◌∷◌, ◌++◌, length, map, take, All, Bool, false, not, ◌||◌, nat_eq, if◌then◌else◌}
 use Rattle.std.specs.List.{flat_map}
-use Rattle.exact_field.specs.Rational.{ℚ, one_ℚ, neg_ℚ, ◌*ℚ◌}
+use Rattle.exact_field.specs.Rational.{ℚ, zero_ℚ, one_ℚ, neg_ℚ, ◌*ℚ◌, ◌/ℚ◌}
 use Rattle.exact_field.specs.Vector.{dot, entry}
 use Rattle.exact_field.specs.declared.op.Op.TheVariants as op
 use Rattle.frac128.specs.Sparse.{is_zero}
@@ -9,7 +9,7 @@ use Rattle.polyhedra.specs.DoubleDescription.{covers}
 use Rattle.polyhedra.specs.Exactness.{homogenised}
 use Rattle.polyhedra.specs.LiveList.{Numbered, LivePair}
 use Rattle.log_live.specs.Live.{numbered_of}
-use Rattle.log_rules.specs.Events.{Event, dot_steps}
+use Rattle.log_rules.specs.Events.{Event, dot_steps, divisor, meeting_point, meeting_steps}
 use Rattle.log_rules.specs.Events.Event.{step}
 use Rattle.log_live.specs.declared.generator.Generator.{Generator}
 
@@ -57,3 +57,13 @@ entry_events k plus minus = step op.Mul k minus ∷ step op.Add plus (k *ℚ min
 -- each entry divided by the divisor
 abbrev pub quotients_events : ℚ → List ℚ → List Event
 quotients_events divisor y = map (λ x. step op.Div x divisor) y
+
+-- the steps of a new generator, from the row's values a and b at the two generators
+abbrev pub pair_events : ℕ → ℚ → ℚ → List ℚ → List ℚ → List Event
+pair_events q a b plus minus =
+    let z = meeting_point (a /ℚ neg_ℚ b) plus minus in
+    step op.Div a (neg_ℚ b) ∷ meeting_steps (a /ℚ neg_ℚ b) plus minus ++ quotients_events (divisor q z) (take q z)
+
+-- its entries: y divided, and a t that is 1 or 0
+abbrev pub new_entries : ℕ → List ℚ → List ℚ
+new_entries q z = map (λ x. x /ℚ divisor q z) (take q z) ++ (if is_zero (entry z (suc q)) then zero_ℚ else one_ℚ) ∷ []

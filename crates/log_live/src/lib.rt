@@ -9,7 +9,7 @@ mod tight;
 mod values;
 
 pub use generator::{Generator, find};
-pub use made::{divided, meeting};
+pub use made::new_vector;
 pub use pairs::is_uncovered;
 pub use tight::TightSets;
 pub use values::values_at;

@@ -30,7 +30,7 @@ pub struct Cut {
 }
 
 /// A number without its sign.
-fn magnitude(value: Frac) -> Frac
+pub fn magnitude(value: Frac) -> Frac
     ensures { result ≡ magnitude value }
 {
     if is_nonnegative(value) {

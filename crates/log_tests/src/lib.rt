@@ -14,11 +14,11 @@ mod sheet;
 mod steps;
 
 pub use cone::{in_cone, in_dual_cone};
-pub use corner::{Cut, check_start};
+pub use corner::{Cut, check_start, magnitude};
 pub use cut::{check_cut, check_farkas};
 pub use duality::check_duality;
 pub use image::{above, in_feasible, in_recession};
-pub use line::{check_line, check_whole};
+pub use line::{check_line, check_whole, leading};
 pub use sheet::{Matrix, Sheet};
 pub use steps::{Steps, is_nonnegative, is_positive, is_zero, pass};
 
