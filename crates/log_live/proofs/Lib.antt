@@ -3,3 +3,4 @@ pub mod Finding
 pub mod OneMore
 pub mod ValuesAt
 pub mod Covering
+pub mod PairMatches

@@ -1,15 +1,17 @@
 -- What an `add` entry does to the live generators, by the parts that the calls go through.
-use Rattle.std.specs.Prelude.{◌≡◌, ℕ, suc, List, [], ◌∷◌, ◌++◌, length, map, take, All, Bool, false, not, ◌||◌, nat_eq, if◌then◌else◌}
+use Rattle.std.specs.Prelude.{◌≡◌, ℕ, suc, List, [], ◌∷◌, ◌++◌, length, map, take, drop, All, ◌&&◌, Bool, false, not, ◌||◌, nat_eq, if◌then◌else◌}
 use Rattle.std.specs.List.{flat_map}
-use Rattle.exact_field.specs.Rational.{ℚ, zero_ℚ, one_ℚ, neg_ℚ, ◌*ℚ◌, ◌/ℚ◌}
+use Rattle.exact_field.specs.Rational.{ℚ, zero_ℚ, one_ℚ, neg_ℚ, ◌*ℚ◌, ◌/ℚ◌, lt_ℚ}
 use Rattle.exact_field.specs.Vector.{dot, entry}
 use Rattle.exact_field.specs.declared.op.Op.TheVariants as op
 use Rattle.frac128.specs.Sparse.{is_zero}
 use Rattle.polyhedra.specs.DoubleDescription.{covers}
 use Rattle.polyhedra.specs.Exactness.{homogenised}
-use Rattle.polyhedra.specs.LiveList.{Numbered, LivePair}
+use Rattle.polyhedra.specs.LiveList.{Numbered, LivePair, is_uncovered_live}
 use Rattle.log_live.specs.Live.{numbered_of}
-use Rattle.log_rules.specs.Events.{Event, dot_steps, divisor, meeting_point, meeting_steps}
+use Rattle.log_rules.specs.Events.{Event, dot_steps, divisor, meeting_point, meeting_steps, same_pairs}
+use Rattle.log_rules.specs.Live.{value}
+use Rattle.deriv_log.specs.declared.entry.LogPair.{LogPair}
 use Rattle.log_rules.specs.Events.Event.{step}
 use Rattle.log_live.specs.declared.generator.Generator.{Generator}
 
@@ -67,3 +69,22 @@ pair_events q a b plus minus =
 -- its entries: y divided, and a t that is 1 or 0
 abbrev pub new_entries : ℕ → List ℚ → List ℚ
 new_entries q z = map (λ x. x /ℚ divisor q z) (take q z) ++ (if is_zero (entry z (suc q)) then zero_ℚ else one_ℚ) ∷ []
+
+-- the pair of two generators that a row parts and no third one covers, or none
+abbrev pub uncovered_pair : List (List ℚ) → List Numbered → List ℚ → Numbered → Numbered → List LogPair
+uncovered_pair rows live row p m =
+    if lt_ℚ (value row m) zero_ℚ && is_uncovered_live rows live record { plus_side = p; minus_side = m } then record { plus = p.number; minus = m.number } ∷ [] else []
+
+-- the pairs of a generator with those of a list, and of the generators of a list at which the row is positive with all live ones
+abbrev pub pairs_with : List (List ℚ) → List Numbered → List ℚ → Numbered → List Numbered → List LogPair
+pairs_with rows live row p ms = flat_map (uncovered_pair rows live row p) ms
+
+abbrev pub pairs_at : List (List ℚ) → List Numbered → List ℚ → Numbered → List LogPair
+pairs_at rows live row p = if lt_ℚ zero_ℚ (value row p) then pairs_with rows live row p live else []
+
+abbrev pub pairs_from : List (List ℚ) → List Numbered → List ℚ → List Numbered → List LogPair
+pairs_from rows live row ps = flat_map (pairs_at rows live row) ps
+
+-- the pairs of the log from place old on are the block and then those from place new on; or they are not, whatever follows
+abbrev pub Matches : List LogPair → ℕ → Bool → ℕ → List LogPair → Type 0
+Matches pairs old result new block = (more : List LogPair) → same_pairs (drop old pairs) (block ++ more) ≡ (if result then same_pairs (drop new pairs) more else false)

@@ -4,6 +4,7 @@
 mod generator;
 mod made;
 mod marks;
+mod matching;
 mod pairs;
 mod tight;
 mod values;
