@@ -11,6 +11,7 @@ mod values;
 
 pub use generator::{Generator, find};
 pub use made::new_vector;
+pub use matching::has_pairs;
 pub use pairs::is_uncovered;
 pub use tight::TightSets;
 pub use values::values_at;
