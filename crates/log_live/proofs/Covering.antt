@@ -1,10 +1,6 @@
 -- Sets of tight rows: what it means that one contains the common rows of two others.
-use Rattle.std.proofs.lemmas.List.{length-map, map-append}
-use Rattle.polyhedra.specs.TightSets.{IsTight}
-use Rattle.polyhedra.proofs.Tests.{zero_of_test, test_of_zero}
 use Rattle.polyhedra.proofs.Members.{member_of}
-use Rattle.incid_sets.specs.Marks.{no_marks}
-use Rattle.std.proofs.Common.{drop, slice_index_or, All, subst, Contains, ◌+◌, ◌-◌, ◌++◌, min, set, ◌≡◌, ℕ, zero, suc, ◌<◌, List, [], ◌∷◌, length, map, Bool, true, false, true≢false, not, ◌&&◌, ◌||◌, refl, sym, ap, ap₂, ◌∙◌, arith, get_or}
+use Rattle.std.proofs.Common.{drop, slice_index_or, All, ◌+◌, ◌≡◌, ℕ, zero, suc, ◌<◌, List, [], ◌∷◌, length, map, Bool, true, false, true≢false, not, ◌&&◌, ◌||◌, refl, sym, ap, ◌∙◌, arith, get_or}
 use Rattle.std.specs.Prelude.{IsTrue, ◌↔◌}
 use Rattle.std.specs.List.{list_all}
 use Rattle.exact_field.specs.Rational.{ℚ}

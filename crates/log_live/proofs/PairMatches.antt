@@ -1,5 +1,5 @@
 -- How lists of pairs are matched, block by block.
-use Rattle.std.proofs.Common.{◌≡◌, ℕ, zero, suc, ◌+◌, ◌<◌, ◌≤◌, List, [], ◌∷◌, ◌++◌, refl, sym, ap, ap₂, ◌∙◌, subst, arith, Bool, true, false, ◌&&◌, ◌==◌, length, drop, if◌then◌else◌, slice_index_or, append_assoc, take, map, filter, cond, nat_le}
+use Rattle.std.proofs.Common.{◌≡◌, ℕ, zero, suc, ◌+◌, ◌<◌, ◌≤◌, List, [], ◌∷◌, ◌++◌, refl, sym, ap, ap₂, ◌∙◌, arith, Bool, true, false, ◌&&◌, ◌==◌, length, drop, if◌then◌else◌, slice_index_or, append_assoc, take, map, filter, cond, nat_le}
 use Rattle.std.specs.List.{flat_map}
 use Rattle.std.proofs.lemmas.Grind.{flat_map-append}
 use Rattle.std.proofs.lemmas.List.{take-append-drop, length-map, map-append, append-nil}
@@ -11,7 +11,7 @@ use Rattle.polyhedra.specs.LiveList.{Numbered, LivePair, is_uncovered_live, prod
 use Rattle.deriv_log.specs.declared.entry.LogPair.{LogPair}
 use Rattle.log_rules.specs.Events.{same_pairs}
 use Rattle.log_rules.specs.Live.{value, log_pair, required_pairs}
-use Rattle.log_live.specs.Adding.{Matches, pairs_with, pairs_from, uncovered_pair}
+use Rattle.log_live.specs.Adding.{Matches, pairs_with, pairs_from}
 use Rattle.log_tests.proofs.Going.{drop-next, any-default, map-at}
 use Rattle.log_tests.proofs.Matrices.{flat_map-more}
 use Rattle.log_tests.proofs.SheetEvents.{take_whole}

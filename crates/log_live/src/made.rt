@@ -25,7 +25,13 @@ fn meeting_entry(counter: &mut Steps, k: Frac, plus: Frac, minus: Frac) -> Resul
 }
 
 /// The point between two generators, before it is normed.
-pub fn meeting(alloc: Global, counter: &mut Steps, k: Frac, plus: &[Frac], minus: &[Frac]) -> Result<Items<Frac>, Stop>
+pub fn meeting(
+    alloc: Global,
+    counter: &mut Steps,
+    k: Frac,
+    plus: &[Frac],
+    minus: &[Frac],
+) -> Result<Items<Frac>, Stop>
     requires lengths { length plus.now ≡ length minus.now }
     requires room { counter.old.taken + steps (meeting_steps k plus.now minus.now) < 2 ^ 63 }
     ensures { Runs is_held (meeting_steps k plus.now minus.now) counter.old.taken counter.new.taken (λ z. z ≡ meeting_point k plus.now minus.now) result }
@@ -39,7 +45,12 @@ pub fn meeting(alloc: Global, counter: &mut Steps, k: Frac, plus: &[Frac], minus
 }
 
 /// A vector divided by a number, entry by entry.
-pub fn divided(alloc: Global, counter: &mut Steps, divisor: Frac, y: &[Frac]) -> Result<Items<Frac>, Stop>
+pub fn divided(
+    alloc: Global,
+    counter: &mut Steps,
+    divisor: Frac,
+    y: &[Frac],
+) -> Result<Items<Frac>, Stop>
     requires divisor { divisor ≢ zero_ℚ }
     requires room { counter.old.taken + steps (quotients_events divisor y.now) < 2 ^ 63 }
     ensures { Runs is_held (quotients_events divisor y.now) counter.old.taken counter.new.taken (λ z. z ≡ map (λ x. x /ℚ divisor) y.now) result }
@@ -68,7 +79,11 @@ fn divisor(q: usize, z: &[Frac]) -> Frac
 fn kind_of(value: Frac) -> Frac
     ensures { result ≡ (if is_number_zero value then zero_ℚ else one_ℚ) }
 {
-    if is_zero(value) { Frac::from(0) } else { Frac::from(1) }
+    if is_zero(value) {
+        Frac::from(0)
+    } else {
+        Frac::from(1)
+    }
 }
 
 /// The entries of the new generator between two, from the row's values at them.

@@ -40,7 +40,14 @@ fn is_next(pairs: &[LogPair], found: usize, plus: u32, minus: u32) -> bool
 }
 
 /// Matches the pair of two generators, if the row parts them and no third one covers it.
-fn match_pair(generators: &[Generator], plus: &Generator, minus: &Generator, at_minus: Frac, pairs: &[LogPair], scan: &mut Scan) -> bool
+fn match_pair(
+    generators: &[Generator],
+    plus: &Generator,
+    minus: &Generator,
+    at_minus: Frac,
+    pairs: &[LogPair],
+    scan: &mut Scan,
+) -> bool
     requires plus { length scan.old.common ≡ length plus.now.tight }
     requires minus { length scan.old.common ≡ length minus.now.tight }
     ensures common { length scan.new.common ≡ length scan.old.common }
@@ -62,7 +69,13 @@ fn match_pair(generators: &[Generator], plus: &Generator, minus: &Generator, at_
 }
 
 /// Matches the pairs of a generator at which the row is positive.
-fn match_with(generators: &[Generator], values: &[Frac], plus: &Generator, pairs: &[LogPair], scan: &mut Scan) -> bool
+fn match_with(
+    generators: &[Generator],
+    values: &[Frac],
+    plus: &Generator,
+    pairs: &[LogPair],
+    scan: &mut Scan,
+) -> bool
     requires values { length values.now ≡ length generators.now }
     requires plus { length scan.old.common ≡ length plus.now.tight }
     requires bounds { All (λ g. length g.tight ≡ length plus.now.tight) generators.now }
@@ -79,7 +92,14 @@ fn match_with(generators: &[Generator], values: &[Frac], plus: &Generator, pairs
 }
 
 /// Matches the pairs of one generator, if the row is positive there.
-fn match_at(generators: &[Generator], values: &[Frac], plus: &Generator, at_plus: Frac, pairs: &[LogPair], scan: &mut Scan) -> bool
+fn match_at(
+    generators: &[Generator],
+    values: &[Frac],
+    plus: &Generator,
+    at_plus: Frac,
+    pairs: &[LogPair],
+    scan: &mut Scan,
+) -> bool
     requires values { length values.now ≡ length generators.now }
     requires plus { length scan.old.common ≡ length plus.now.tight }
     requires bounds { All (λ g. length g.tight ≡ length plus.now.tight) generators.now }
@@ -96,7 +116,12 @@ fn match_at(generators: &[Generator], values: &[Frac], plus: &Generator, at_plus
 /// Whether the pairs of the log are those of the live generators that the row parts and no third one covers, in their
 /// order. The cost is at the worst that of the opposite pairs times the generators times the words of a tight set; most
 /// scans stop early.
-pub fn has_pairs(generators: &[Generator], values: &[Frac], pairs: &[LogPair], common: Marks) -> bool
+pub fn has_pairs(
+    generators: &[Generator],
+    values: &[Frac],
+    pairs: &[LogPair],
+    common: Marks,
+) -> bool
     requires values { length values.now ≡ length generators.now }
     requires bounds { All (λ g. length g.tight ≡ length common) generators.now }
     ensures { (rows : List (List ℚ)) (row : List ℚ) → All (HasTightSet rows) generators.now → values.now ≡ map (λ g. value row (numbered_of g)) generators.now
@@ -108,7 +133,14 @@ pub fn has_pairs(generators: &[Generator], values: &[Frac], pairs: &[LogPair], c
         last: 0,
     };
     for i in 0..generators.len() {
-        if !match_at(generators, values, &generators[i], values[i], pairs, &mut scan) {
+        if !match_at(
+            generators,
+            values,
+            &generators[i],
+            values[i],
+            pairs,
+            &mut scan,
+        ) {
             return false;
         }
     }

@@ -40,7 +40,13 @@ pub fn append(list: &mut Items<Frac>, value: Frac) -> Result<(), Stop>
 }
 
 /// The values of a cut at the generators. It costs the entries of them all.
-pub fn values_at(alloc: Global, counter: &mut Steps, w: &[Frac], gamma: Frac, generators: &[Generator]) -> Result<Items<Frac>, Stop>
+pub fn values_at(
+    alloc: Global,
+    counter: &mut Steps,
+    w: &[Frac],
+    gamma: Frac,
+    generators: &[Generator],
+) -> Result<Items<Frac>, Stop>
     requires kinds { AreGenerators (length w.now) generators.now }
     requires room { counter.old.taken + steps (all_value_events w.now gamma (length w.now) generators.now) < 2 ^ 63 }
     ensures { Runs is_held (all_value_events w.now gamma (length w.now) generators.now) counter.old.taken counter.new.taken

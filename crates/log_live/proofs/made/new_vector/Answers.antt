@@ -1,34 +1,20 @@
-use Rattle.std.proofs.Common.{rules, sym, subst, ap, ap₂, arith, refl, ◌∙◌, ◌≡◌, ◌+◌, ◌-◌, ◌*◌, ◌<◌, ◌≤◌, ◌^◌, ℕ, suc, List, [], ◌∷◌, ◌++◌, length, map, drop, Bool, true, ◌==◌, nat_le, slice_index_or, All, IsTrue, zip}
+use Rattle.std.proofs.Common.{rules, sym, subst, ap, ap₂, arith, ◌∙◌, ◌≡◌, ◌+◌, ◌<◌, suc, List, [], ◌∷◌, ◌++◌, length, map, slice_index_or, zip}
 use Rattle.std.specs.Prelude.{⊤}
-use Rattle.std.specs.List.{flat_map, list_all, enumerate_from}
-use Rattle.std.proofs.lemmas.List.{length-map, append_assoc}
-use Rattle.exact_field.specs.Order.{same_ℚ}
-use Rattle.exact_field.specs.Rational.{ℚ, zero_ℚ, one_ℚ, le_ℚ, lt_ℚ, neg_ℚ, ◌+ℚ◌, ◌-ℚ◌, ◌*ℚ◌, ◌/ℚ◌}
-use Rattle.exact_field.specs.Vector.{dot, entry}
+use Rattle.std.proofs.lemmas.List.{length-map}
+use Rattle.exact_field.specs.Rational.{ℚ, zero_ℚ, one_ℚ, neg_ℚ, ◌+ℚ◌, ◌*ℚ◌, ◌/ℚ◌}
+use Rattle.exact_field.specs.Vector.{entry}
 use Rattle.frac128.specs.Held.{is_held}
 use Rattle.frac128.specs.Sparse.{is_zero}
-use Rattle.frac128.specs.declared.vectors.Spot.{Spot}
-use Rattle.log_rules.specs.Events.{Event, first_failure, sum_from, dot_steps, product_steps, places_within, values_positive, none_given, products_events, in_cone, in_feasible, in_recession, above, balance, cut_events, farkas_events, whole_events, line_events}
-use Rattle.log_rules.specs.Events.Event.{test, step}
+use Rattle.log_rules.specs.Events.{Event}
+use Rattle.log_rules.specs.Events.Event.{step}
 use Rattle.log_rules.specs.Runs.{Runs, Stops, steps}
-use Rattle.log_rules.specs.declared.rule.Rule.TheVariants as rule
-use Rattle.log_rules.proofs.Failures.{steps-append, stops-then}
-use Rattle.polyhedra.proofs.Lists.{HasWidth}
-use Rattle.upper_image.specs.Spots.{IsVector, column, dense, product}
-use Rattle.upper_image.specs.UpperImage.{normals, objective, objectives, objective_column, rest}
-use Rattle.upper_image.specs.OrderingCone.{dual_of}
-use Rattle.upper_image.proofs.Widths.{vectors_wide, length-numbers, length-dense}
-use Rattle.vlp_reader.specs.Sides.{sides, side_column, side_bounds, numbers_from}
-use Rattle.vlp_reader.specs.declared.problem.Cone.TheVariants as cone
-use Rattle.log_tests.proofs.Going.{Passed, Stopped, passed-then, stopped-in, stopped-behind, Ran, ran-behind, test-as, then-test, test-passed, spots-within, room-in, room-behind, any-default, next-entry, item-as, next-number, at-room, at-stop, at-more, at-end}
-use Rattle.log_tests.proofs.Products.{at_spots, of_spots, summed-start, summed-more, summed-room, summed-stop, summed-end, place-within, at-spot, spot-at, product_steps-spots, product-spots}
+use Rattle.log_tests.proofs.Going.{Passed, Stopped, passed-then, stopped-in, stopped-behind, room-in, room-behind, any-default}
 use Rattle.std.proofs.Common.{take}
 use Rattle.std.specs.Prelude.{Ok}
 use Rattle.exact_field.specs.declared.op.Op.TheVariants as op
-use Rattle.log_live.specs.Adding.{entry_events, quotients_events, pair_events, new_entries}
+use Rattle.log_live.specs.Adding.{quotients_events}
 use Rattle.log_rules.specs.Events.{meeting_steps, meeting_point, divisor}
-use Rattle.log_tests.proofs.Going.{stopped-after, zip-at, length-zip}
-use Rattle.log_tests.proofs.SheetEvents.{map-take_more, take_whole}
+use Rattle.log_tests.proofs.Going.{stopped-after, length-zip}
 use Rattle.std.specs.Prelude.{if◌then◌else◌}
 use Rattle.std.proofs.lemmas.List.{length-take}
 use Rattle.log_rules.proofs.ByEntries.{entry-suc}
@@ -108,6 +94,9 @@ returns c =
     let pairs = length-zip c.args.plus.now c.args.minus.now same in
     let wide = c.requires.plus in
     let all = passed-then came0 (passed-then came1 came2) in
-    let last : c.index-z-q.result ≡ entry (meeting_point (c.args.at_plus /ℚ neg_ℚ c.args.at_minus) c.args.plus.now c.args.minus.now) (suc c.args.q) = c.index-z-q.is ∙ any-default c.as_slice-z.result.now c.args.q c.index-z-q.result zero_ℚ (omega (arith, told, images, pairs, wide)) ∙ ap (λ (v : List ℚ). slice_index_or v c.args.q zero_ℚ) (c.as_slice-z.ensures.items ∙ c.in_ok-sum.ensures.2 ∙ ap (λ (k : ℚ). meeting_point k c.args.plus.now c.args.minus.now) (c.in_ok-k.ensures.2 ∙ ap (λ (d : ℚ). c.args.at_plus /ℚ d) c.neg.ensures)) ∙ sym (entry-suc (meeting_point (c.args.at_plus /ℚ neg_ℚ c.args.at_minus) c.args.plus.now c.args.minus.now) c.args.q) in
-    (all.none, all.count, (c.in_ok-append.ensures 0).2 ∙ ap₂ (λ (vs : List ℚ) (t : ℚ). vs ++ t ∷ []) (c.in_ok-vector.ensures.2 ∙ ap₂ (λ (d : ℚ) (v : List ℚ). map (λ x. x /ℚ d) (take c.args.q v)) (c.divisor-by.ensures ∙ ap (divisor c.args.q) (c.as_slice-z.ensures.items ∙ c.in_ok-sum.ensures.2 ∙ ap (λ (k : ℚ). meeting_point k c.args.plus.now c.args.minus.now) (c.in_ok-k.ensures.2 ∙ ap (λ (d : ℚ). c.args.at_plus /ℚ d) c.neg.ensures))) (c.as_slice-z.ensures.items ∙ c.in_ok-sum.ensures.2 ∙ ap (λ (k : ℚ). meeting_point k c.args.plus.now c.args.minus.now) (c.in_ok-k.ensures.2 ∙ ap (λ (d : ℚ). c.args.at_plus /ℚ d) c.neg.ensures)))
-    (c.kind_of.ensures ∙ ap (λ (t : ℚ). if is_zero t then zero_ℚ else one_ℚ) last))
+    let last : c.index-z-q.result ≡ entry (meeting_point (c.args.at_plus /ℚ neg_ℚ c.args.at_minus) c.args.plus.now c.args.minus.now) (suc c.args.q) = c.index-z-q.is ∙ any-default c.as_slice-z.result.now c.args.q c.index-z-q.result zero_ℚ (omega (arith, told, images, pairs, wide)) ∙ ap (λ (v : List ℚ). slice_index_or v c.args.q zero_ℚ) (c.as_slice-z.ensures.items ∙ c.in_ok-sum.ensures.2 ∙ ap (λ (k : ℚ). meeting_point k c.args.plus.now c.args.minus.now) (c.in_ok-k.ensures.2 ∙ ap (λ (d : ℚ). c.args.at_plus /ℚ d) c.neg.ensures)) ∙ sym (entry-suc (meeting_point (c.args.at_plus /ℚ neg_ℚ c.args.at_minus) c.args.plus.now c.args.minus.now) c.args.q) in (
+      all.none,
+      all.count,
+      (c.in_ok-append.ensures 0).2 ∙ ap₂ (λ (vs : List ℚ) (t : ℚ). vs ++ t ∷ []) (c.in_ok-vector.ensures.2 ∙ ap₂ (λ (d : ℚ) (v : List ℚ). map (λ x. x /ℚ d) (take c.args.q v)) (c.divisor-by.ensures ∙ ap (divisor c.args.q) (c.as_slice-z.ensures.items ∙ c.in_ok-sum.ensures.2 ∙ ap (λ (k : ℚ). meeting_point k c.args.plus.now c.args.minus.now) (c.in_ok-k.ensures.2 ∙ ap (λ (d : ℚ). c.args.at_plus /ℚ d) c.neg.ensures))) (c.as_slice-z.ensures.items ∙ c.in_ok-sum.ensures.2 ∙ ap (λ (k : ℚ). meeting_point k c.args.plus.now c.args.minus.now) (c.in_ok-k.ensures.2 ∙ ap (λ (d : ℚ). c.args.at_plus /ℚ d) c.neg.ensures)))
+          (c.kind_of.ensures ∙ ap (λ (t : ℚ). if is_zero t then zero_ℚ else one_ℚ) last),
+    )

@@ -1,4 +1,4 @@
-use Rattle.std.proofs.Common.{◌≡◌, ℕ, List, All, length, map, take, true}
+use Rattle.std.proofs.Common.{◌≡◌, List, All, length, map, take, true}
 use Rattle.exact_field.specs.Rational.{ℚ}
 use Rattle.log_rules.specs.Live.{value}
 use Rattle.log_live.specs.Adding.{Matches, pairs_with}

@@ -1,4 +1,4 @@
-use Rattle.std.proofs.Common.{Bool, List, map, sym, ◌∙◌, subst, IsTrue, ◌↔◌}
+use Rattle.std.proofs.Common.{Bool, List, sym, ◌∙◌, subst, IsTrue, ◌↔◌}
 use Rattle.incid_sets.specs.Marks.{ContainsAll, IsMeet}
 use Rattle.log_live.proofs.pairs.covers_pair.Goals as goal
 use Rattle.log_live.proofs.Covering.{one_of, third_one, contains_is}
