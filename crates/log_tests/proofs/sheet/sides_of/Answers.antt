@@ -54,7 +54,7 @@ push_bounds-requires-2 c =
     ∙ sym c.args.problem.now.col_count ∙ ap (λ (bs : List Bound). length bs) (sym c.as_slice-4.ensures.items)
 
 pub returns-clause-vectors : goal.returns-clause-vectors
-returns-clause-vectors c = subst (λ (us : List (List Spot)). All (IsVector c.args.problem.now.cols) us) (sym (c.in_ok-push_bounds-2.ensures.normals ∙ ap₂ (λ a b. a ++ b) (c.in_ok-push_bounds.ensures.normals ∙ ap₂ (λ a b. a ++ b) c.new.ensures (ap₂ all_side_spots (c.as_slice.ensures.items ∙ c.in_ok-rows.ensures ∙ ap (λ cs. map (spots_in Row Min cs) (numbers_from 1 c.args.problem.now.rows)) c.as_slice-cells.ensures.items) c.as_slice-2.ensures.items)) (ap₂ all_side_spots (c.as_slice-3.ensures.value ∙ c.in_ok-units.ensures) c.as_slice-4.ensures.items))) (sparse-sides c.args.problem.now )
+returns-clause-vectors c = subst (λ (us : List (List Spot)). All (IsVector c.args.problem.now.cols) us) (sym (c.in_ok-push_bounds-2.ensures.normals ∙ ap₂ (λ a b. a ++ b) (c.in_ok-push_bounds.ensures.normals ∙ ap₂ (λ a b. a ++ b) c.new.ensures (ap₂ all_side_spots (c.as_slice.ensures.items ∙ c.in_ok-rows.ensures ∙ ap (λ cs. map (spots_in Row Min cs) (numbers_from 1 c.args.problem.now.rows)) c.as_slice-cells.ensures.items) c.as_slice-2.ensures.items)) (ap₂ all_side_spots (c.as_slice-3.ensures.value ∙ c.in_ok-units.ensures) c.as_slice-4.ensures.items))) (sparse-sides c.args.problem.now)
 
 pub returns-clause-normals : goal.returns-clause-normals
 returns-clause-normals c = ap (map (dense c.args.problem.now.cols)) (c.in_ok-push_bounds-2.ensures.normals ∙ ap₂ (λ a b. a ++ b) (c.in_ok-push_bounds.ensures.normals ∙ ap₂ (λ a b. a ++ b) c.new.ensures (ap₂ all_side_spots (c.as_slice.ensures.items ∙ c.in_ok-rows.ensures ∙ ap (λ cs. map (spots_in Row Min cs) (numbers_from 1 c.args.problem.now.rows)) c.as_slice-cells.ensures.items) c.as_slice-2.ensures.items)) (ap₂ all_side_spots (c.as_slice-3.ensures.value ∙ c.in_ok-units.ensures) c.as_slice-4.ensures.items)) ∙ sides-made c.args.problem.now

@@ -41,7 +41,7 @@ use Rattle.log_tests.proofs.sheet.Sheet.of.Goals as goal
 pub of_rows-requires-clause-rows : goal.of_rows-requires-clause-rows
 of_rows-requires-clause-rows c =
     let long = ap (λ (vs : List (List ℚ)). length vs) c.in_ok-normals.ensures.normals in
-    let all = length-map (sides c.args.problem.now ) (λ s. s.normal) in
+    let all = length-map (sides c.args.problem.now) (λ s. s.normal) in
     let rows = length-map c.in_ok-normals.field-0.normals (dense c.args.problem.now.cols) in
     let few = few_sides c.args.problem.now in
     omega (arith, long, all, rows, few)
