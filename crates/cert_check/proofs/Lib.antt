@@ -1,3 +1,6 @@
+pub mod Ending
 pub mod KeptEntries
 pub mod OneEntry
+pub mod Passing
 pub mod Taking
+pub mod Walking

@@ -1,5 +1,5 @@
 -- What the checker keeps of the entries before one.
-use Rattle.std.specs.Prelude.{◌≡◌, ⊤, Bool, true, false, IsTrue, List, [], ◌∷◌, take, length, Contains, Option, None, Some, MatchOption}
+use Rattle.std.specs.Prelude.{◌≡◌, ⊤, All, Bool, true, false, IsTrue, List, [], ◌∷◌, take, length, Contains, Option, None, Some, MatchOption}
 use Rattle.exact_field.specs.Rational.{ℚ}
 use Rattle.frac128.specs.declared.vectors.Spot.{Spot}
 use Rattle.vlp_reader.specs.declared.problem.Problem.{Problem}
@@ -10,6 +10,13 @@ use Rattle.deriv_log.specs.declared.entry.Entry.TheVariants as entry
 use Rattle.log_rules.specs.Live.{Stated, state, duality_vector}
 use Rattle.log_rules.specs.Order.{Kind, has}
 use Rattle.log_rules.specs.Order as order
+use Rattle.log_rules.specs.Proves.{AllMeet, forth}
+use Rattle.log_rules.specs.declared.answer.Answer.{Answer}
+use Rattle.log_rules.specs.declared.answer.Answer.TheVariants.{NoVertex}
+use Rattle.deriv_log.specs.Formed.{IsLog}
+use Rattle.upper_image.specs.UpperImage.{signed}
+use Rattle.vlp_reader.specs.declared.problem.Dir.{Dir}
+use Rattle.cert_check.specs.Built.{is_built}
 use Rattle.log_tests.specs.Sheets.{IsSheetOf}
 use Rattle.cert_check.specs.Kinds.{AreKinds}
 use Rattle.cert_check.specs.declared.checker.Checker.{Checker}
@@ -62,3 +69,15 @@ answers before end.Solved = false
 abbrev pub FitsScale : Problem → Entry → Type 0
 FitsScale file (entry.Duality c weights picks inverse) = length c ≡ file.objs
 FitsScale file _ = ⊤
+
+-- ---- the end
+-- the entries are those of a log whose kinds are all built, and each meets its rules
+pub record HasPassed (file : Problem) (entries : List Entry) : Type 0 where
+  pub log : IsLog entries
+  pub built : All (λ e. IsTrue (is_built e)) entries
+  pub meet : AllMeet file entries
+
+-- the answer of a line and the first cut, in the coordinates of the file
+abbrev pub line_answer : Dir → List ℚ → FoundLine → FirstCut → Answer
+line_answer dir c line first = NoVertex c line.x line.d (forth dir line.ray line.back) (forth dir line.back line.ray)
+    (record { w = first.w; gamma = signed dir first.gamma; u = first.u; tight = [] })

@@ -1,5 +1,5 @@
 -- What the checker answers.
-use Rattle.std.specs.Prelude.{◌≡◌, List, Some, None}
+use Rattle.std.specs.Prelude.{◌≡◌, ℕ, List, Some, None}
 use Rattle.frac128.specs.Held.{is_held}
 use Rattle.vlp_reader.specs.declared.problem.Problem.{Problem}
 use Rattle.deriv_log.specs.declared.entry.Entry.{Entry}
@@ -7,6 +7,8 @@ use Rattle.log_rules.specs.Events.Failure.{wrong, left}
 use Rattle.log_rules.specs.Proves.{Proves}
 use Rattle.log_rules.specs.Right.{IsRight}
 use Rattle.log_rules.specs.declared.answer.Answer.{Answer}
+use Rattle.log_rules.specs.declared.stop.Stop.{Stop}
+use Rattle.log_rules.specs.declared.stop.Stop.TheVariants as Stopped
 use Rattle.cert_check.specs.Built.{log_failure}
 use Rattle.cert_check.specs.declared.fault.Refusal.{Refusal}
 use Rattle.cert_check.specs.declared.fault.Refusal.TheVariants.{Wrong, Left, NoMemory}
@@ -22,3 +24,9 @@ abbrev pub Refuses : Problem → List Entry → Refusal → Type 0
 Refuses file entries (Wrong entry rule) = log_failure is_held file entries ≡ Some (record { entry = entry; failure = wrong rule })
 Refuses file entries (Left entry step l) = log_failure is_held file entries ≡ Some (record { entry = entry; failure = left step l.op l.a l.b })
 Refuses file entries NoMemory = Unit {0}
+
+-- the refusal at an entry, where its check stops
+abbrev pub refusal_of : ℕ → Stop → Refusal
+refusal_of entry (Stopped.Wrong rule) = Wrong entry rule
+refusal_of entry (Stopped.Left step l) = Left entry step l
+refusal_of entry Stopped.NoMemory = NoMemory

@@ -4,13 +4,15 @@ ghost use Rattle.frac128.specs.Held.{is_held};
 ghost use Rattle.frac128.specs.declared.vectors.Spot.{Spot};
 ghost use Rattle.deriv_log.specs.Formed.{is_formed};
 ghost use Rattle.deriv_log.specs.declared.entry.Entry.{Entry};
-ghost use Rattle.log_rules.specs.Events.{kind_events, duality_events};
+ghost use Rattle.log_rules.specs.Events.{kind_events};
 ghost use Rattle.log_rules.specs.Live.{state};
 ghost use Rattle.log_rules.specs.Order.{kind, in_order};
 ghost use Rattle.log_rules.specs.Runs.{Runs, steps};
 ghost use Rattle.cert_check.specs.Built.{is_built, checked_events};
 ghost use Rattle.cert_check.specs.Kinds.{AreKinds};
-ghost use Rattle.cert_check.specs.Standing.{IsAt, answers, FitsScale};
+ghost use Rattle.cert_check.specs.Standing.{IsAt, HasPassed, answers, FitsScale, line_answer};
+ghost use Rattle.log_rules.specs.Proves.{Proves};
+ghost use Rattle.log_rules.specs.declared.answer.Answer.TheVariants.{Whole};
 ghost use Rattle.vlp_reader.specs.declared.problem.Problem.{Problem};
 ghost use Rattle.deriv_log.specs.declared.entry.EndKind.TheVariants as end;
 
@@ -20,12 +22,13 @@ use crate::found::{
 };
 use crate::kinds::Kinds;
 use deriv_log::{EndKind, Entry};
-use frac128::{Frac, Sparse, Vector};
-use log_rules::{Rule, Stop};
-use log_tests::{Sheet, check_cut, check_farkas, check_line, check_whole, pass};
+use exact_field::Field;
+use frac128::{Sparse, Vector};
+use log_rules::{Answer, Facet, Rule, Stop};
+use log_tests::{Sheet, check_cut, check_duality, check_farkas, check_line, check_whole, pass};
 use src_sink::{Items, NoMemory};
 use std::alloc::Global;
-use vlp_reader::Problem;
+use vlp_reader::{Dir, Problem};
 
 /// What is known of a log's entries so far.
 #[derive(Debug, Drop)]
@@ -55,17 +58,33 @@ fn is_built(entry: &Entry) -> bool
     )
 }
 
-/// TEMPORARY
-fn check_duality(
-    problem: &Problem,
-    c: &[Frac],
-    weights: &[Frac],
-    picks: &[u32],
-    inverse: &[Frac],
-) -> Result<(), Stop>
-    ensures { Runs is_held (duality_events problem.now c.now weights.now picks.now inverse.now) 0 (steps (duality_events problem.now c.now weights.now picks.now inverse.now)) (λ _. ⊤) result }
+/// The answer of a direction along which the image is everything.
+fn whole_answer(c: Vector, found: FoundWhole) -> Answer
+    ensures { result ≡ Whole c found.x found.ray }
 {
-    Err(Stop::NoMemory)
+    let FoundWhole { x, ray } = found;
+    Answer::Whole { c, x, ray }
+}
+
+/// The answer of a line and the first cut, in the coordinates of a file of this direction.
+fn line_answer(alloc: Global, dir: Dir, c: Vector, found: FoundLine, first: FirstCut) -> Answer
+    ensures { result ≡ line_answer dir c found first }
+{
+    let FoundLine { d, x, ray, back } = found;
+    let FirstCut { w, gamma, u } = first;
+    let (gamma, ray, back) = match dir {
+        Dir::Min => (gamma, ray, back),
+        Dir::Max => (gamma.neg(), back, ray),
+    };
+    let tight = Items::new(alloc);
+    Answer::NoVertex {
+        c,
+        x,
+        d,
+        ray,
+        back,
+        cut: Facet { w, gamma, u, tight },
+    }
 }
 
 impl Checker {
@@ -190,6 +209,44 @@ impl Checker {
         match self.keep(alloc, entry) {
             Ok(()) => Ok(()),
             Err(NoMemory) => Err(Stop::NoMemory),
+        }
+    }
+
+    /// The answer that a log without a failing event proves. No memory is taken.
+    pub fn finish(self, alloc: Global, problem: &Problem) -> Answer
+        requires { (entries : List Entry) × IsAt problem.now entries self × HasPassed problem.now entries }
+        ensures { (entries : List Entry) → IsAt problem.now entries self → HasPassed problem.now entries → Proves problem.now entries result }
+    {
+        let Checker {
+            sheet: _,
+            kinds: _,
+            c,
+            first,
+            farkas,
+            whole,
+            line,
+            ended,
+        } = self;
+        match ended {
+            Some(kind) => match kind {
+                EndKind::Infeasible => match farkas {
+                    Some(u) => Answer::Infeasible { u },
+                    None => unreachable!(),
+                },
+                EndKind::Whole => match whole {
+                    Some(found) => whole_answer(c, found),
+                    None => unreachable!(),
+                },
+                EndKind::NoVertex => match line {
+                    Some(found) => match first {
+                        Some(first) => line_answer(alloc, problem.dir, c, found, first),
+                        None => unreachable!(),
+                    },
+                    None => unreachable!(),
+                },
+                EndKind::Solved => unreachable!(),
+            },
+            None => unreachable!(),
         }
     }
 }

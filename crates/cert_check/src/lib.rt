@@ -7,6 +7,8 @@ mod checker;
 mod fault;
 mod found;
 mod kinds;
+mod verdict;
 
 pub use fault::Refusal;
 pub use log_rules::{Answer, Facet, Gen, Rule};
+pub use verdict::check;
