@@ -4,13 +4,9 @@ use Rattle.std.specs.Prelude.{IsFalse}
 use Rattle.exact_field.specs.Rational.{ℚ, zero_ℚ, ◌/ℚ◌, ◌≤ℚ◌, ◌<ℚ◌}
 use Rattle.exact_field.specs.declared.op.Left.{Left}
 use Rattle.polyhedra.specs.Sparse.{Entry}
-use Rattle.tableaux.specs.Table.{Table, at}
-use Rattle.tableaux.specs.Dictionary.{IsDictionary}
-use Rattle.lin_rows.specs.declared.fault.RowFault.{RowFault}
-use Rattle.lin_rows.specs.declared.fault.RowFault.TheVariants.{Left as Stuck, NoMemory}
+use Rattle.tableaux.specs.Table.{at}
 use Rattle.lin_rows.specs.Lines.{AreLines, sum_at}
-use Rattle.lin_rows.specs.Pivot.{table_of, IsPivotStep, IsPivotFault}
-use Rattle.lin_rows.specs.Eliminate.{IsElimFault}
+use Rattle.lin_rows.specs.Pivot.{table_of, IsPivotStep}
 use Rattle.lin_rows.proofs.Pivoted.{at_is}
 use Rattle.exact_simplex.specs.Phase.{AreColumns, IsPhaseEnd}
 use Rattle.exact_simplex.specs.Ratios.{IsEntering, IsLeaving, IsTestLeft}
@@ -56,14 +52,3 @@ module _ (n : ℕ) (ls : List (List Entry)) (h : AreLines n ls) where
           subst (λ (q : ℚ). IsFalse (holds q)) (ap₂ (λ x y. x /ℚ y) (sym at_j) (sym at_col)) ratio.5,
         ),
       )
-
--- a fault of a pivot in a dictionary of t is one over t
-pub fault_of : {F : Type 0} (value : F → ℚ) (holds : ℚ → Bool) (n : ℕ) (t d : Table) (basis : List ℕ) (row col : ℕ) (fault : RowFault F) → IsDictionary n t basis d →
-    IsPivotFault value holds n d basis row col fault → IsElimFault value holds n t fault
-fault_of value holds n t d basis row col (Stuck basis' row' col' step left) h stuck = (
-  d,
-  subst (λ (b : List ℕ). IsDictionary n t b d) (sym stuck.0) h,
-  subst (λ (r : ℕ). IsPivotStep value holds n d r col' step left) (sym stuck.1)
-      (subst (λ (c : ℕ). IsPivotStep value holds n d row c step left) (sym stuck.2) stuck.3),
-)
-fault_of value holds n t d basis row col NoMemory h stuck = tt

@@ -1,2 +1,7 @@
+pub mod Driving
+pub mod Ends
+pub mod Hint
 pub mod Phase
+pub mod Program
 pub mod Ratios
+pub mod Refused

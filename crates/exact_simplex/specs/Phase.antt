@@ -1,12 +1,15 @@
 -- What a phase of the simplex method starts from, what it keeps, and how it ends.
-use Rattle.std.specs.Prelude.{ℕ, ◌+◌, ◌<◌, ◌≤◌, ◌≡◌, ◌≢◌, All, List, [], ◌∷◌, length, slice_index_or, Option, None, Some}
-use Rattle.exact_field.specs.Rational.{zero_ℚ, ◌≤ℚ◌, ◌<ℚ◌}
+use Rattle.std.specs.Prelude.{ℕ, ◌+◌, ◌<◌, ◌≤◌, ◌≡◌, ◌≢◌, ◌⊎◌, All, Bool, List, [], ◌∷◌, length, slice_index_or, Option, None, Some}
+use Rattle.exact_field.specs.Rational.{ℚ, zero_ℚ, ◌≤ℚ◌, ◌<ℚ◌}
+use Rattle.exact_field.specs.declared.op.Left.{Left as Operation}
 use Rattle.polyhedra.specs.Sparse.{Entry}
 use Rattle.polyhedra.specs.Vectors.{AreWide}
 use Rattle.tableaux.specs.Table.{Table, row_of, at}
 use Rattle.tableaux.specs.Dictionary.{basic_column, IsDictionary}
 use Rattle.tableaux.specs.Lex.{IsLexPositive, entries_at}
-use Rattle.lin_rows.specs.Pivot.{AreTableau, table_of}
+use Rattle.lin_rows.specs.Pivot.{AreTableau, IsPivotStep, table_of}
+use Rattle.lin_rows.specs.declared.fault.RowFault.{RowFault}
+use Rattle.lin_rows.specs.declared.fault.RowFault.TheVariants.{Left, NoMemory}
 
 -- the columns stand in a table of this width
 abbrev pub AreColumns : ℕ → List ℕ → Type 0
@@ -47,3 +50,23 @@ abbrev pub IsPhaseEnd : ℕ → ℕ → ℕ → Table → Option ℕ → Type 0
 IsPhaseEnd equations cost unknowns d None = (j : ℕ) → 1 ≤ j → j ≤ unknowns → zero_ℚ ≤ℚ at d (cost + 1) j
 IsPhaseEnd equations cost unknowns d (Some c) =
     (1 ≤ c) × (c ≤ unknowns) × (at d (cost + 1) c <ℚ zero_ℚ) × ((i : ℕ) → i < equations → at d (i + 1) c ≤ℚ zero_ℚ)
+
+-- only unknowns have come in
+abbrev pub AreEntered : ℕ → List ℕ → List ℕ → Type 0
+AreEntered unknowns first basis = (i : ℕ) → 1 ≤ i → (basic_column basis i ≡ basic_column first i) ⊎ (basic_column basis i ≤ unknowns)
+
+-- .. and equations that were 0 at all unknowns are as they were
+pub record IsMoved (equations unknowns : ℕ) (start : Table) (first : List ℕ) (d : Table) (basis : List ℕ) : Type 0 where
+  pub entered : AreEntered unknowns first basis
+  pub rows : (i : ℕ) → i < equations → ((j : ℕ) → 1 ≤ j → j ≤ unknowns → at start (i + 1) j ≡ zero_ℚ) → row_of d (i + 1) ≡ row_of start (i + 1)
+
+-- the overflow of a step at this place
+abbrev pub IsGivenUp : {F : Type 0} → List ℕ → ℕ → ℕ → ℕ → Operation F → RowFault F → Type 0
+IsGivenUp basis row col step left fault = fault ≡ Left basis row col step left
+
+-- what is given up is a step of a pivot at an equation, in a dictionary that the phase has come to
+abbrev pub IsPhaseFault : {F : Type 0} → (F → ℚ) → (ℚ → Bool) → ℕ → ℕ → ℕ → Table → List ℕ → RowFault F → Type 0
+IsPhaseFault value holds n equations unknowns start first (Left basis row col step left) =
+    (d : Table) × StaysDictionary n start first d basis × IsEquationBasis n equations basis × AreEntered unknowns first basis
+    × (1 ≤ row) × (row ≤ equations) × (1 ≤ col) × (col ≤ n) × IsPivotStep value holds n d row col step left
+IsPhaseFault value holds n equations unknowns start first NoMemory = Unit {0}

@@ -1,6 +1,15 @@
-//! One phase of the simplex method over an exact field: the columns that better a cost row enter, and rows
+//! Linear programs over an exact field, by the two-phase simplex method: the columns that better a cost row enter, and rows
 //! leave by the lexicographically least quotients, so that no basis comes twice (Dantzig, Orden and Wolfe).
 #![tactic(auto)]
 
+mod answer;
+pub mod driving;
+pub mod hint;
+pub mod opening;
 pub mod phase;
 pub mod ratio;
+pub mod reading;
+mod solve;
+
+pub use answer::{LpEnd, LpFault};
+pub use solve::{solve_lp, solve_lp_from};

@@ -19,7 +19,7 @@ fn is_positive<F: Field>(x: F) -> bool
 }
 
 /// Whether a number is below 0.
-fn is_negative<F: Field>(x: F) -> bool
+pub fn is_negative<F: Field>(x: F) -> bool
     ensures { IsTrue result ↔ (F.value x <ℚ zero_ℚ) }
 {
     x < F::zero()
@@ -114,6 +114,7 @@ fn better<F: Field>(
     ensures found { IfOk result (λ r. MatchOption r ⊤ (λ r. r < length rows.now)) }
     ensures ok { (n : ℕ) → AreLines n (lines F.value rows.now) → IsLeaving (lines F.value rows.now) col columns.now i best → IfOk result (IsLeaving (lines F.value rows.now) col columns.now (i + 1)) }
     ensures left { (n : ℕ) → AreLines n (lines F.value rows.now) → IfErr result (λ test. IsTestLeft F.value F.holds (lines F.value rows.now) col columns.now test.row test.left) }
+    ensures row { IfErr result (λ test. test.row ≤ i) }
 {
     let p = entry_at(&rows[i], col);
     if !is_positive(p) {
@@ -143,6 +144,7 @@ pub fn leaving<F: Field>(
     requires lines { (n : ℕ) × AreLines n (lines F.value rows.now) }
     ensures ok { IfOk result (IsLeaving (lines F.value rows.now) col columns.now count) }
     ensures left { IfErr result (λ test. IsTestLeft F.value F.holds (lines F.value rows.now) col columns.now test.row test.left) }
+    ensures row { IfErr result (λ test. test.row < count) }
 {
     let mut best = None;
     for i in 0..count {

@@ -1,21 +1,25 @@
-use Rattle.std.proofs.Common.{◌≡◌, ◌≢◌, ◌∙◌, ◌+◌, ◌<◌, ◌≤◌, sym, ap, subst, arith, ℕ, List, length, None, Some}
+use Rattle.std.proofs.Common.{◌≡◌, ◌≢◌, ◌∙◌, ◌+◌, ◌<◌, ◌≤◌, sym, ap, subst, arith, ℕ, List, length, None, Some, slice_set}
 use Rattle.std.proofs.lemmas.List.{length-set}
-use Rattle.exact_field.specs.Rational.{zero_ℚ}
+use Rattle.exact_field.specs.Rational.{zero_ℚ, ◌<ℚ◌}
+use Rattle.exact_field.proofs.Inequalities.{lt-not-le}
+use Rattle.lin_rows.specs.declared.tableau.Tableau.{Tableau}
 use Rattle.tableaux.specs.Table.{Table, at, pivoted}
 use Rattle.lin_rows.specs.Lines.{lines, entries}
-use Rattle.lin_rows.specs.Pivot.{AreTableau, IsPivotStep, IsPivotFault, table_of}
-use Rattle.lin_rows.specs.Eliminate.{IsElimFault}
+use Rattle.lin_rows.specs.Pivot.{AreTableau, IsPivotFault, table_of}
 use Rattle.lin_rows.proofs.Errors.{err_holds}
 use Rattle.lin_rows.proofs.ManyLines.{length-lines}
 use Rattle.lin_rows.proofs.Pivoted.{length-table}
 use Rattle.exact_simplex.specs.Ratios.{IsLeaving, IsTestLeft}
-use Rattle.exact_simplex.proofs.PhaseReads.{entering_betters, entering_none, without_limit, test_step, fault_of}
+use Rattle.exact_simplex.specs.Phase.{IsMoved, IsPhaseFault}
+use Rattle.exact_simplex.proofs.Moved.{moved_more, given_up_fault, pivot_given_up}
+use Rattle.exact_simplex.proofs.PhaseReads.{entering_betters, entering_none, without_limit, test_step}
+use Rattle.tableaux.proofs.Eliminated.{exchanged}
 use Rattle.exact_simplex.proofs.Testing.{own, rises}
 use Rattle.exact_simplex.proofs.Turn.{pivot_not_zero, turn_more, turn_falls}
 use Rattle.exact_simplex.proofs.phase.run_phase.Goals as goal
 
 pub returns-in-Err-clause-width : goal.returns-in-Err-clause-width
-returns-in-Err-clause-width g c = c.test_fault.ensures.width ∙ c.loop-col.invariant.width
+returns-in-Err-clause-width g c = c.given_up.ensures.width ∙ c.loop-col.invariant.width
 
 pub returns-in-Err-clause-left : goal.returns-in-Err-clause-left
 returns-in-Err-clause-left g c =
@@ -36,10 +40,8 @@ returns-in-Err-clause-left g c =
     let test = c.in-Err.test in
     let stuck = subst (λ (l : List _). IsTestLeft value holds l c.in-Some.col c.args.columns.now test.row test.left) (ap (lines value) c.deref-in-Some.ensures.value) c.in-Err.ensures.left in
     let step = test_step n ls h value holds c.in-Some.col test.row c.args.columns.now test.left betters.0 col_high c.requires.start.placed stuck in
-    let fault = c.test_fault.ensures.left (table_of n ls)
-    (subst (λ (w : ℕ). IsPivotStep value holds w (table_of n ls) (test.row + 1) c.in-Some.col 1 test.left) (sym kept.width) step) in
-    λ t wide first. fault_of value holds n t (table_of n ls) now.basis.items (test.row + 1) c.in-Some.col c.test_fault.result (kept.turn.dictionary t wide first)
-    (subst (λ (w : ℕ). IsPivotFault value holds w (table_of n ls) now.basis.items (test.row + 1) c.in-Some.col c.test_fault.result) kept.width fault)
+    given_up_fault value holds n c.args.equations c.args.unknowns (table_of n (lines value c.args.tableau.now.rows.items)) (table_of n ls) c.args.tableau.now.basis.items now.basis.items
+    test.row c.in-Some.col kept.turn.dictionary kept.turn.full kept.moved.entered c.in-Err.ensures.row betters.0 col_high 1 test.left c.given_up.result step c.given_up.ensures.fault
 
 pub returns-in-Ok-None-clause-end : goal.returns-in-Ok-None-clause-end
 returns-in-Ok-None-clause-end g c =
@@ -59,6 +61,23 @@ returns-in-Ok-None-clause-end g c =
     let leaving = subst (λ (o : _). IsLeaving (lines value c.deref-in-Some.result.now) c.in-Some.col c.args.columns.now c.args.equations o) c.in-Ok-None.field-0-is c.in-Ok-None.ensures.ok in
     let none = subst (λ (l : List _). IsLeaving l c.in-Some.col c.args.columns.now c.args.equations None) (ap (lines value) c.deref-in-Some.ensures.value) leaving in
     (betters.0, betters.1, betters.2, without_limit n ls h c.in-Some.col c.args.equations c.args.columns.now betters.0 col_high (omega (arith, c.requires.cost, inside, many)) none)
+
+pub returns-in-Ok-None-clause-still : goal.returns-in-Ok-None-clause-still
+returns-in-Ok-None-clause-still g c =
+    let value = g.F.Field.value in
+    let n : ℕ = c.args.tableau.now.width in
+    let now = c.loop-col.tableau in
+    let ls = lines value now.rows.items in
+    let kept = c.loop-col.invariant in
+    let cells = c.deref.result.now in
+    let inside : c.args.cost < length now.rows.items = omega (arith, c.requires.inside, kept.many) in
+    let h = kept.turn.tableau.lines in
+    let many = length-lines value now.rows.items in
+    let es = own value now.rows.items n c.in-Some.col c.args.columns.now h c.args.cost inside cells c.index.result.now c.deref.ensures.value c.index.ensures in
+    let rise = rises value now.rows.items n c.in-Some.col c.args.columns.now h c.args.cost inside cells c.index.result.now c.deref.ensures.value c.index.ensures in
+    let betters = entering_betters n ls h c.args.cost c.args.unknowns c.in-Some.col (entries value cells) (omega (arith, inside, many)) c.requires.unknowns es (c.in-Some.ensures n rise) in
+    λ end. absurd (lt-not-le (at (table_of n (lines value c.args.tableau.now.rows.items)) (c.args.cost + 1) c.in-Some.col) zero_ℚ
+    (subst (λ (t : Tableau _). at (table_of n (lines value t.rows.items)) (c.args.cost + 1) c.in-Some.col <ℚ zero_ℚ) (kept.still end) betters.2) (end c.in-Some.col betters.0 betters.1))
 
 pub pivot-requires-clause-low : goal.pivot-requires-clause-low
 pivot-requires-clause-low g c =
@@ -168,6 +187,20 @@ loop-col-preserved g c =
         kept.turn.tableau.one_each,
         length-lines value now.rows.items,
       );
+      still = λ end. absurd (lt-not-le (at start (c.args.cost + 1) col) zero_ℚ
+          (subst (λ (t : Tableau _). at (table_of n (lines value t.rows.items)) (c.args.cost + 1) col <ℚ zero_ℚ) (kept.still end) betters.2) (end col betters.0 betters.1));
+      moved =
+          let own_dictionary = kept.turn.dictionary start c.requires.start.own.wide c.requires.start.own in
+          let size : length first.rows.items ≡ length (table_of n ls) = sym (length-lines value first.rows.items) ∙ sym (length-table n (lines value first.rows.items) c.requires.turn.tableau.lines)
+          ∙ sym own_dictionary.one_each in
+          let many : length now.basis.items ≡ length (table_of n ls) = kept.turn.tableau.one_each ∙ sym (length-table n ls h) in
+          let room : c.args.equations ≤ length (table_of n ls) = omega (arith, c.requires.cost, c.requires.inside, size) in
+          subst (λ (b : List ℕ). IsMoved c.args.equations c.args.unknowns start first.basis.items (table_of n (lines value after.rows.items)) b) (sym ok.basis)
+          (subst (λ (e : Table). IsMoved c.args.equations c.args.unknowns start first.basis.items e (slice_set now.basis.items row col)) (sym table)
+          (moved_more n c.args.equations c.args.unknowns start (table_of n ls) first.basis.items now.basis.items (slice_set now.basis.items row col) row col
+          own_dictionary.wide room kept.moved found.0 betters.0 betters.1
+          (pivot_not_zero n c.args.equations c.args.columns.now start first.basis.items c.requires.start ls now.basis.items kept.turn row col betters.0 col_high found)
+          (exchanged now.basis.items row col (omega (arith, found.0, room, many)))));
       turn = turn_more n c.args.equations c.args.columns.now start first.basis.items c.requires.start ls now.basis.items kept.turn row col betters.0 col_high found
           (lines value after.rows.items) after.basis.items table tableau ok.basis;
     }
@@ -183,9 +216,19 @@ returns-in_err-pivot-in-Ok-Some-clause-left g c =
     let row : ℕ = c.in-Ok-Some.row in
     let col : ℕ = c.in-Some.col in
     let fault = c.in_err-pivot-in-Ok-Some.field-0.0 in
+    let cells = c.deref.result.now in
+    let inside : c.args.cost < length now.rows.items = omega (arith, c.requires.inside, kept.many) in
+    let h = kept.turn.tableau.lines in
+    let rise = rises value now.rows.items n col c.args.columns.now h c.args.cost inside cells c.index.result.now c.deref.ensures.value c.index.ensures in
+    let found = c.in-Some.ensures n rise in
+    let within : col ≤ c.args.unknowns = found.1 in
+    let leaving = subst (λ (o : _). IsLeaving (lines value c.deref-in-Some.result.now) col c.args.columns.now c.args.equations o) c.in-Ok-Some.field-0-is c.in-Ok-Some.ensures.ok in
     let stuck = subst (λ (w : ℕ). IsPivotFault value holds w (table_of w ls) now.basis.items (row + 1) col fault) kept.width c.in_err-pivot-in-Ok-Some.ensures.left in
-    λ t wide first. err_holds c.from_residual.result fault (IsElimFault value holds n t) c.from_residual.ensures.1
-    (fault_of value holds n t (table_of n ls) now.basis.items (row + 1) col fault (kept.turn.dictionary t wide first) stuck)
+    let start : Table = table_of n (lines value c.args.tableau.now.rows.items) in
+    let first = c.args.tableau.now.basis.items in
+    err_holds c.from_residual.result fault (IsPhaseFault value holds n c.args.equations c.args.unknowns start first) c.from_residual.ensures.1
+    (pivot_given_up value holds n c.args.equations c.args.unknowns start (table_of n ls) first now.basis.items row col kept.turn.dictionary kept.turn.full kept.moved.entered leaving.0 found.0
+    (omega (arith, within, c.requires.unknowns)) fault stuck)
 
 pub returns-clause-end : goal.returns-clause-end
 returns-clause-end g c =

@@ -1,10 +1,10 @@
-use Rattle.std.proofs.Common.{◌≡◌, ◌+◌, ℕ, length}
+use Rattle.std.proofs.Common.{◌≡◌, ◌+◌, ℕ, length, None}
 use Rattle.tableaux.specs.Table.{row_of}
 use Rattle.tableaux.specs.Lex.{entries_at}
 use Rattle.tableaux.proofs.Remaining.{remaining, cost_at, all_lists}
 use Rattle.lin_rows.specs.Lines.{lines}
 use Rattle.lin_rows.specs.Pivot.{table_of}
-use Rattle.exact_simplex.specs.Phase.{IsTurn}
+use Rattle.exact_simplex.specs.Phase.{IsMoved, IsPhaseEnd, IsTurn}
 use Rattle.exact_simplex.proofs.phase.run_phase.Given as goal
 
 abbrev pub invariant-loop-col : goal.invariant-loop-col
@@ -16,6 +16,8 @@ invariant-loop-col g l =
       width : l.tableau.width ≡ before.width;
       many : length l.tableau.rows.items ≡ length before.rows.items;
       turn : IsTurn before.width l.equations l.columns start before.basis.items (lines value l.tableau.rows.items) l.tableau.basis.items;
+      still : IsPhaseEnd l.equations l.cost l.unknowns start None → l.tableau ≡ before;
+      moved : IsMoved l.equations l.unknowns start before.basis.items (table_of before.width (lines value l.tableau.rows.items)) l.tableau.basis.items;
     }
 
 abbrev pub decreases-loop-col : goal.decreases-loop-col

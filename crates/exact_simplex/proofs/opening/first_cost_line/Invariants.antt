@@ -1,0 +1,11 @@
+use Rattle.std.proofs.Common.{◌+◌}
+use Rattle.tableaux.specs.Table.{first_cost, right_column, row_of, table_of}
+use Rattle.lin_rows.specs.Lines.{entries}
+use Rattle.exact_simplex.specs.Program.{system_of}
+use Rattle.exact_simplex.proofs.SystemLines.{IsLineTo}
+use Rattle.exact_simplex.proofs.opening.first_cost_line.Given as goal
+
+abbrev pub invariant-loop-i : goal.invariant-loop-i
+invariant-loop-i g l =
+    let s = system_of g.F.Field.value l.system in
+    IsLineTo (right_column s) (l.system.cols + l.i) (row_of (table_of s) (first_cost s)) (entries g.F.Field.value l.line.items)

@@ -1,0 +1,79 @@
+use Rattle.std.proofs.Common.{◌≡◌, ◌∙◌, ◌+◌, ℕ, ap, ap₂, sym, subst, arith, slice_index_or}
+use Rattle.std.specs.Prelude.{IsFalse}
+use Rattle.exact_field.specs.Rational.{ℚ, one_ℚ, ◌*ℚ◌, ◌-ℚ◌}
+use Rattle.tableaux.specs.Table.{artificial_column, at, listed, first_cost, equation_count, table_of}
+use Rattle.lin_rows.proofs.Lists.{mapped_more}
+use Rattle.lin_rows.proofs.ManyLines.{length-lines}
+use Rattle.exact_simplex.specs.Program.{IsTableauOf, system_of, table_in}
+use Rattle.exact_simplex.proofs.Programs.{equation_count_is, right_column_is}
+use Rattle.exact_simplex.proofs.Readings.{sign_is, row_there, cost_read, less_one_fault}
+use Rattle.exact_simplex.proofs.reading.farkas.Goals as goal
+
+pub artificial_column-col-requires-clause-width : goal.artificial_column-col-requires-clause-width
+artificial_column-col-requires-clause-width g c =
+    let value = g.F.Field.value in
+    ap (λ t. t.width) c.loop-i.invariant.same ∙ c.requires.held.width ∙ right_column_is value c.args.system.now c.requires.lengths
+
+pub index-requires : goal.index-requires
+index-requires g c =
+    let value = g.F.Field.value in
+    let p = c.args.system.now in
+    let held = subst (IsTableauOf value (system_of value p)) (sym c.loop-i.invariant.same) c.requires.held in
+    omega (arith, row_there value p c.requires.lengths c.loop-i.tableau held p.rows (omega arith))
+
+pub given_up-requires-clause-basis : goal.given_up-requires-clause-basis
+given_up-requires-clause-basis g c =
+    let value = g.F.Field.value in
+    let held = subst (IsTableauOf value (system_of value c.args.system.now)) (sym c.loop-i.invariant.same) c.requires.held in
+    omega (arith, held.tableau.numbered, held.tableau.one_each)
+
+pub given_up-requires-clause-inside : goal.given_up-requires-clause-inside
+given_up-requires-clause-inside g c =
+    let value = g.F.Field.value in
+    let p = c.args.system.now in
+    let held = subst (IsTableauOf value (system_of value p)) (sym c.loop-i.invariant.same) c.requires.held in
+    omega (arith, row_there value p c.requires.lengths c.loop-i.tableau held p.rows (omega arith), held.tableau.numbered, length-lines value c.loop-i.tableau.rows.items)
+
+pub returns-in-Err-clause-left : goal.returns-in-Err-clause-left
+returns-in-Err-clause-left g c =
+    let value = g.F.Field.value in
+    let p = c.args.system.now in
+    let t = c.loop-i.tableau in
+    let held = subst (IsTableauOf value (system_of value p)) (sym c.loop-i.invariant.same) c.requires.held in
+    let entry = cost_read value p c.requires.lengths t held c.loop-i.i (omega arith) c.artificial_column-col.result c.artificial_column-col.ensures p.rows c.deref.result.now c.index.result.now
+    (value c.entry_at-entry.result) (omega arith) c.deref.ensures.value c.index.ensures c.entry_at-entry.ensures in
+    less_one_fault value p c.requires.lengths t held c.loop-i.i (omega arith) c.artificial_column-col.result c.artificial_column-col.ensures g.F.Field.holds c.in-Err.left c.given_up.result
+    (ap (λ x. x.op) c.in-Err.ensures.0) (ap (λ x. value x.a) c.in-Err.ensures.0 ∙ entry) (ap (λ x. value x.b) c.in-Err.ensures.0 ∙ c.one.ensures)
+    (subst (λ (q : ℚ). IsFalse (g.F.Field.holds q)) (ap₂ (λ x y. x -ℚ y) entry c.one.ensures) c.in-Err.ensures.1) c.given_up.ensures.fault
+
+pub loop-i-preserved : goal.loop-i-preserved
+loop-i-preserved g c =
+    let value = g.F.Field.value in
+    let p = c.args.system.now in
+    let s = system_of value p in
+    let t = c.loop-i.tableau in
+    let i : ℕ = c.loop-i.i in
+    let b = c.index-as_slice-i.result in
+    let held = subst (IsTableauOf value s) (sym c.loop-i.invariant.same) c.requires.held in
+    let row_is : p.rows + 1 ≡ first_cost s = omega (arith, equation_count_is value p c.requires.lengths) in
+    let entry = cost_read value p c.requires.lengths t held i (omega arith) c.artificial_column-col.result c.artificial_column-col.ensures p.rows c.deref.result.now c.index.result.now
+    (value c.entry_at-entry.result) (omega arith) c.deref.ensures.value c.index.ensures c.entry_at-entry.ensures
+    ∙ ap (λ r. at (table_in value s t) r (artificial_column s (i + 1))) row_is in
+    record {
+      same = c.loop-i.invariant.same;
+      read = mapped_more value c.loop-i.out c.push.new.self c.signed.result i
+          (λ k. at (table_of s) k (artificial_column s k) *ℚ (at (table_in value s t) (first_cost s) (artificial_column s k) -ℚ one_ℚ)) c.in_ok-push-in-Ok.ensures.ok c.loop-i.invariant.read
+          (c.signed.ensures
+          ∙ ap₂ (λ x y. x *ℚ y) (sign_is value p c.requires.lengths i b (omega arith) (c.index-as_slice-i.is ∙ ap (λ v. slice_index_or v i b) c.as_slice.ensures.items))
+          (c.in-Ok.ensures.0 ∙ ap₂ (λ x y. x -ℚ y) entry c.one.ensures));
+    }
+
+pub returns-clause-ok : goal.returns-clause-ok
+returns-clause-ok g c =
+    let value = g.F.Field.value in
+    let p = c.args.system.now in
+    let s = system_of value p in
+    let end : c.loop-i.i ≡ equation_count s = omega (arith, equation_count_is value p c.requires.lengths) in
+    c.loop-i.invariant.read
+    ∙ ap (λ n. listed n (λ k. at (table_of s) k (artificial_column s k) *ℚ (at (table_in value s c.loop-i.tableau) (first_cost s) (artificial_column s k) -ℚ one_ℚ))) end
+    ∙ ap (λ t. listed (equation_count s) (λ k. at (table_of s) k (artificial_column s k) *ℚ (at (table_in value s t) (first_cost s) (artificial_column s k) -ℚ one_ℚ))) c.loop-i.invariant.same

@@ -1,0 +1,63 @@
+//! Artificial columns with the value 0 go out of the basis.
+
+ghost use Rattle.std.specs.Prelude.{◌≡◌, ◌≢◌, ◌+◌, ◌<◌, ◌≤◌, ℕ, OnOk, IfErr};
+ghost use Rattle.lin_rows.specs.Lines.{Rises, entries};
+ghost use Rattle.exact_simplex.specs.Driving.{IsIdleTo, IsSupport};
+ghost use Rattle.exact_simplex.specs.Ends.{IsSystemFault};
+ghost use Rattle.exact_simplex.specs.Program.{HasLengths, IsFeasible, IsIdle, system_of};
+
+use exact_field::Field;
+use lin_rows::cells::{Cell, is_zero};
+use lin_rows::tableau::Tableau;
+use lin_rows::{RowFault, System};
+
+/// A column among the first `count` at which the row is not 0: the first.
+fn support<F: Field>(row: &[Cell<F>], count: u32) -> Option<u32>
+    ensures { (n : ℕ) → Rises n 0 (entries F.value row.now) → IsSupport (entries F.value row.now) count result }
+{
+    for i in 0..row.len() {
+        let cell = row[i];
+        if cell.at <= count && !is_zero(cell.value) {
+            return Some(cell.at);
+        }
+    }
+    None
+}
+
+/// Drives the artificial column of equation `i`, counted from 0, out at the lowest unknown at which its row is not 0, if it
+/// has an artificial column and there is such an unknown.
+fn drive_row<F: Field>(
+    tableau: &mut Tableau<F>,
+    system: &System<F>,
+    i: u32,
+) -> Result<(), RowFault<F>>
+    requires lengths { HasLengths system.now }
+    requires inside { i < system.now.rows }
+    requires feasible { IsFeasible F.value (system_of F.value system.now) tableau.old }
+    requires idle { IsIdleTo F.value (system_of F.value system.now) i tableau.old }
+    ensures feasible { OnOk result (IsFeasible F.value (system_of F.value system.now) tableau.new) }
+    ensures idle { OnOk result (IsIdleTo F.value (system_of F.value system.now) (i + 1) tableau.new) }
+    ensures left { IfErr result (IsSystemFault F.value F.holds (system_of F.value system.now)) }
+{
+    if tableau.basis[i as usize] <= system.cols {
+        return Ok(());
+    }
+    match support(&tableau.rows[i as usize], system.cols) {
+        None => Ok(()),
+        Some(col) => tableau.pivot(i as usize, col),
+    }
+}
+
+/// Drives all artificial columns out, but for those of equations that are 0 at all unknowns.
+pub fn drive_out<F: Field>(tableau: &mut Tableau<F>, system: &System<F>) -> Result<(), RowFault<F>>
+    requires lengths { HasLengths system.now }
+    requires feasible { IsFeasible F.value (system_of F.value system.now) tableau.old }
+    ensures feasible { OnOk result (IsFeasible F.value (system_of F.value system.now) tableau.new) }
+    ensures idle { OnOk result (IsIdle F.value (system_of F.value system.now) tableau.new) }
+    ensures left { IfErr result (IsSystemFault F.value F.holds (system_of F.value system.now)) }
+{
+    for i in 0..system.rows {
+        drive_row(tableau, system, i)?;
+    }
+    Ok(())
+}

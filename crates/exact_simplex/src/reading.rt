@@ -1,0 +1,151 @@
+//! The ends of a linear program, read off its last dictionary.
+
+ghost use Rattle.std.specs.Prelude.{◌≡◌, ◌+◌, ◌<◌, ◌≤◌, ℕ, map, take, length, IfOk, IfErr, OnOk};
+ghost use Rattle.exact_field.specs.Rational.{zero_ℚ, ◌*ℚ◌, ◌<ℚ◌, ◌≤ℚ◌};
+ghost use Rattle.tableaux.specs.Dictionary.{basic_column, first_multipliers, multipliers, ray, solution};
+ghost use Rattle.tableaux.specs.Simplex.{IsBest};
+ghost use Rattle.tableaux.specs.Table.{artificial_sign, at, equation_count, first_cost, right_column, second_cost, unknown_count};
+ghost use Rattle.exact_simplex.specs.Ends.{IsCertified, IsReadOff, IsSystemFault};
+ghost use Rattle.exact_simplex.specs.Hint.{IsOptimalEnd};
+ghost use Rattle.exact_simplex.specs.Program.{HasLengths, IsFeasible, IsIdle, IsPrimal, IsTableauOf, system_of, table_in};
+
+use crate::answer::LpEnd;
+use crate::opening::artificial_column;
+use crate::phase::given_up;
+use crate::ratio::is_negative;
+use exact_field::Field;
+use lin_rows::build::{column_values, ray};
+use lin_rows::cells::entry_at;
+use lin_rows::tableau::Tableau;
+use lin_rows::{RowFault, System};
+use src_sink::{Items, NoMemory};
+use std::mem::replace;
+
+/// A number with the sign that the artificial column has at an equation with this right side.
+fn signed<F: Field>(right: F, x: F) -> F
+    ensures { F.value result ≡ artificial_sign (F.value right) *ℚ F.value x }
+{
+    if is_negative(right) { x.neg() } else { x }
+}
+
+/// The multipliers of the cost row of phase two.
+fn dual<F: Field>(tableau: &Tableau<F>, system: &System<F>) -> Result<Items<F>, NoMemory>
+    requires lengths { HasLengths system.now }
+    requires held { IsTableauOf F.value (system_of F.value system.now) tableau.now }
+    ensures { IfOk result (λ v. map F.value v ≡ multipliers (system_of F.value system.now) (table_in F.value (system_of F.value system.now) tableau.now)) }
+{
+    let mut out = Items::new(tableau.alloc);
+    for i in 0..system.rows {
+        let col = artificial_column(tableau, system, i);
+        let entry = entry_at(&tableau.rows[system.rows as usize + 1], col);
+        out.push(signed(system.b.as_slice()[i as usize], entry))?;
+    }
+    Ok(out)
+}
+
+/// The multipliers of the cost row of phase one.
+fn farkas<F: Field>(tableau: &mut Tableau<F>, system: &System<F>) -> Result<Items<F>, RowFault<F>>
+    requires lengths { HasLengths system.now }
+    requires held { IsTableauOf F.value (system_of F.value system.now) tableau.old }
+    ensures ok { IfOk result (λ v. map F.value v ≡ first_multipliers (system_of F.value system.now) (table_in F.value (system_of F.value system.now) tableau.old)) }
+    ensures same { OnOk result (tableau.new ≡ tableau.old) }
+    ensures left { IfErr result (IsSystemFault F.value F.holds (system_of F.value system.now)) }
+{
+    let mut out = Items::new(tableau.alloc);
+    for i in 0..system.rows {
+        let col = artificial_column(tableau, system, i);
+        let entry = entry_at(&tableau.rows[system.rows as usize], col);
+        match entry.sub(F::one()) {
+            Err(left) => return Err(given_up(tableau, system.rows as usize, col, 3, left)),
+            Ok(value) => out.push(signed(system.b.as_slice()[i as usize], value))?,
+        }
+    }
+    Ok(out)
+}
+
+/// The columns of the equations.
+fn columns_of<F: Field>(tableau: &mut Tableau<F>, system: &System<F>) -> Items<u32>
+    requires held { IsTableauOf F.value (system_of F.value system.now) tableau.old }
+    ensures { result ≡ take system.now.rows tableau.old.basis.items }
+{
+    let mut basis = replace(&mut tableau.basis, Vec::new(tableau.alloc));
+    basis.truncate(system.rows as usize);
+    Items::from_vec(basis)
+}
+
+/// The solution.
+fn solution_at<F: Field>(tableau: &Tableau<F>, system: &System<F>) -> Result<Items<F>, NoMemory>
+    requires lengths { HasLengths system.now }
+    requires held { IsTableauOf F.value (system_of F.value system.now) tableau.now }
+    ensures { IfOk result (λ x. map F.value x ≡ solution (system_of F.value system.now) tableau.now.basis.items (table_in F.value (system_of F.value system.now) tableau.now)) }
+{
+    let values = column_values(
+        tableau.alloc,
+        &tableau.rows,
+        &tableau.basis,
+        system.cols,
+        tableau.width,
+    )?;
+    Ok(Items::from_vec(values))
+}
+
+/// The infeasible end, where no unknown betters the first cost, which stays below 0.
+pub fn infeasible<F: Field>(
+    tableau: &mut Tableau<F>,
+    system: &System<F>,
+) -> Result<LpEnd<F>, RowFault<F>>
+    requires lengths { HasLengths system.now }
+    requires primal { IsPrimal F.value (system_of F.value system.now) tableau.old }
+    requires best { IsBest (system_of F.value system.now) (first_cost (system_of F.value system.now)) (table_in F.value (system_of F.value system.now) tableau.old) }
+    requires below { at (table_in F.value (system_of F.value system.now) tableau.old) (first_cost (system_of F.value system.now)) (right_column (system_of F.value system.now)) <ℚ zero_ℚ }
+    ensures certified { IfOk result (IsCertified F.value (system_of F.value system.now)) }
+    ensures read_off { IfOk result (IsReadOff F.value (system_of F.value system.now)) }
+    ensures left { IfErr result (IsSystemFault F.value F.holds (system_of F.value system.now)) }
+{
+    let farkas = farkas(tableau, system)?;
+    let basis = columns_of(tableau, system);
+    Ok(LpEnd::Infeasible { farkas, basis })
+}
+
+/// The optimal end, where no unknown betters the second cost.
+pub fn optimal<F: Field>(tableau: &mut Tableau<F>, system: &System<F>) -> Result<LpEnd<F>, NoMemory>
+    requires lengths { HasLengths system.now }
+    requires feasible { IsFeasible F.value (system_of F.value system.now) tableau.old }
+    requires best { IsBest (system_of F.value system.now) (second_cost (system_of F.value system.now)) (table_in F.value (system_of F.value system.now) tableau.old) }
+    ensures certified { IfOk result (IsCertified F.value (system_of F.value system.now)) }
+    ensures read_off { IfOk result (IsReadOff F.value (system_of F.value system.now)) }
+    ensures basis { IfOk result (IsOptimalEnd (λ basis. basis ≡ take system.now.rows tableau.old.basis.items)) }
+{
+    let x = solution_at(tableau, system)?;
+    let dual = dual(tableau, system)?;
+    let basis = columns_of(tableau, system);
+    Ok(LpEnd::Optimal { x, dual, basis })
+}
+
+/// The unbounded end, where this unknown betters the second cost without limit.
+pub fn unbounded<F: Field>(
+    tableau: &mut Tableau<F>,
+    system: &System<F>,
+    col: u32,
+) -> Result<LpEnd<F>, NoMemory>
+    requires lengths { HasLengths system.now }
+    requires feasible { IsFeasible F.value (system_of F.value system.now) tableau.old }
+    requires idle { IsIdle F.value (system_of F.value system.now) tableau.old }
+    requires low { 1 ≤ col }
+    requires high { col ≤ unknown_count (system_of F.value system.now) }
+    requires betters { at (table_in F.value (system_of F.value system.now) tableau.old) (second_cost (system_of F.value system.now)) col <ℚ zero_ℚ }
+    requires unlimited { (i : ℕ) → 1 ≤ i → i ≤ equation_count (system_of F.value system.now) → at (table_in F.value (system_of F.value system.now) tableau.old) i col ≤ℚ zero_ℚ }
+    ensures certified { IfOk result (IsCertified F.value (system_of F.value system.now)) }
+    ensures read_off { IfOk result (IsReadOff F.value (system_of F.value system.now)) }
+{
+    let x = solution_at(tableau, system)?;
+    let ray = ray(
+        tableau.alloc,
+        &tableau.rows,
+        &tableau.basis,
+        system.cols,
+        col,
+    )?;
+    let basis = columns_of(tableau, system);
+    Ok(LpEnd::Unbounded { x, ray, basis })
+}
