@@ -1,19 +1,13 @@
 -- Cuts that are named by their numbers, and the events of the entry `start` by what code holds.
-use Rattle.std.proofs.Common.{◌≡◌, ℕ, suc, ◌+◌, ◌-◌, ◌*◌, ◌<◌, ◌≤◌, List, [], ◌∷◌, ◌++◌, refl, sym, ap, ap₂, ◌∙◌, subst, arith, Bool, true, false, ◌&&◌, ◌==◌, length, drop, map, slice_index_or, All, if◌then◌else◌, ◌^◌}
-use Rattle.std.specs.List.{list_all, flat_map, enumerate_from}
+use Rattle.std.proofs.Common.{◌≡◌, ℕ, suc, ◌+◌, ◌-◌, ◌*◌, ◌<◌, ◌≤◌, List, [], ◌∷◌, refl, sym, ap, ◌∙◌, subst, arith, Bool, true, false, ◌&&◌, ◌==◌, length, drop, map, slice_index_or, ◌^◌}
+use Rattle.std.specs.List.{list_all, enumerate_from}
 use Rattle.std.proofs.lemmas.List.{length-map}
-use Rattle.exact_field.specs.Order.{same_ℚ}
-use Rattle.exact_field.specs.Rational.{ℚ, zero_ℚ, one_ℚ, lt_ℚ}
-use Rattle.exact_field.specs.Vector.{dot}
-use Rattle.frac128.specs.Sparse.{is_zero}
-use Rattle.polyhedra.specs.DoubleDescription.{magnitude, leading}
+use Rattle.exact_field.specs.Rational.{ℚ}
 use Rattle.upper_image.specs.Spots.{pieces}
 use Rattle.vlp_reader.specs.declared.problem.Problem.{Problem}
-use Rattle.log_rules.specs.Events.{Event, dot_steps, start_events, rises, all_within}
-use Rattle.log_rules.specs.Events.Event.{test}
+use Rattle.log_rules.specs.Events.{dot_steps, start_events, all_within}
 use Rattle.log_rules.specs.Live.{State, Stated, cut_at}
 use Rattle.log_rules.specs.Runs.{steps}
-use Rattle.log_rules.specs.declared.rule.Rule.TheVariants as rule
 use Rattle.log_rules.proofs.Failures.{steps-append}
 use Rattle.log_tests.specs.Cuts.{stated, named_from}
 use Rattle.log_tests.specs.Parts.{tight_events, tights_events, corner_events, corners_events, all_corners}

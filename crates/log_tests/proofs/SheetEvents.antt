@@ -1,16 +1,16 @@
 -- The events of an entry, as code goes through them by the rows and the columns of a sheet.
 use Rattle.std.proofs.Common.{◌≡◌, ◌≢◌, ℕ, zero, suc, ◌+◌, ◌-◌, ◌<◌, ◌≤◌, List, [], ◌∷◌, ◌++◌, refl, sym, ap, ap₂, ◌∙◌, subst, arith, Bool, true, false, length, map, if◌then◌else◌, slice_index_or, All, nat_eq, replicate, take, ◌==◌}
-use Rattle.std.specs.Prelude.{⊤, Some}
+use Rattle.std.specs.Prelude.{Some}
 use Rattle.std.specs.List.{flat_map, zip}
 use Rattle.std.proofs.Math.ListN.{set}
 use Rattle.std.specs.Ordering.{as_partial_cmp, partial_le}
 use Rattle.std.specs.declared.cmp.Ordering.TheVariants.{Less, Equal, Greater}
 use Rattle.std.proofs.lemmas.Bool.{eq-eqb, ne_eqb}
 use Rattle.std.proofs.lemmas.List.{length-map, map-append, take_more, append_assoc}
-use Rattle.std.proofs.lemmas.List.Elements.{All-nil, All-head, All-tail}
+use Rattle.std.proofs.lemmas.List.Elements.{All-head, All-tail}
 use Rattle.std.proofs.lemmas.List.Folds.{flat_map-map}
 use Rattle.exact_field.specs.Order.{same_ℚ, cmp_ℚ}
-use Rattle.exact_field.specs.Rational.{ℚ, zero_ℚ, one_ℚ, le_ℚ, lt_ℚ, neg_ℚ, ◌-ℚ◌, ◌+ℚ◌}
+use Rattle.exact_field.specs.Rational.{ℚ, zero_ℚ, one_ℚ, le_ℚ, lt_ℚ, neg_ℚ, ◌-ℚ◌}
 use Rattle.exact_field.specs.Vector.{dot, entry}
 use Rattle.exact_field.specs.declared.op.Op.TheVariants as op
 use Rattle.frac128.specs.Sparse.{is_zero}
@@ -18,8 +18,8 @@ use Rattle.frac128.specs.declared.vectors.Spot.{Spot}
 use Rattle.polyhedra.specs.Sparse.{value_at, values_from}
 use Rattle.polyhedra.specs.Vectors.{plus, values}
 use Rattle.upper_image.specs.Spots.{IsVector, dense, product, entry_of}
-use Rattle.upper_image.specs.UpperImage.{normals, objective, objectives, objective_column, rest}
-use Rattle.upper_image.proofs.Widths.{wide_sides, length-objective, length-numbers, entry-made, length-dense}
+use Rattle.upper_image.specs.UpperImage.{objective, objectives, objective_column, rest}
+use Rattle.upper_image.proofs.Widths.{wide_sides, length-objective, length-numbers, entry-made}
 use Rattle.log_rules.proofs.ByEntries.{same_entries, entry-suc}
 use Rattle.log_rules.specs.Events.{Event, dot_steps, product_steps, places_within, in_feasible, in_recession, in_cone, above, balance, values_positive, farkas_events, cut_events, follows_given}
 use Rattle.log_rules.specs.Live.{duality_vector}

@@ -1,5 +1,5 @@
 -- How many steps the events of an entry have at most.
-use Rattle.std.proofs.Common.{◌≡◌, ℕ, suc, ◌+◌, ◌*◌, ◌≤◌, ◌<◌, ◌^◌, List, [], ◌∷◌, ◌++◌, refl, sym, ap, ◌∙◌, subst, arith, Bool, true, false, ◌||◌, length, if◌then◌else◌, All, map, zip, length-append, None, zero, ◌-◌, take, drop, slice_index_or}
+use Rattle.std.proofs.Common.{◌≡◌, ℕ, suc, ◌+◌, ◌*◌, ◌≤◌, ◌<◌, ◌^◌, List, [], ◌∷◌, ◌++◌, ◌∙◌, arith, Bool, true, false, ◌||◌, length, if◌then◌else◌, All, map, zip, length-append, None, zero, ◌-◌, take, drop, slice_index_or}
 use Rattle.std.specs.List.{flat_map, list_all, enumerate_from}
 use Rattle.std.proofs.lemmas.List.{length-map, length-take}
 use Rattle.std.specs.Prelude.{Option, Some, ◌==◌}
@@ -19,7 +19,7 @@ use Rattle.std.specs.Prelude.{nat_le, nat_lt, ◌&&◌}
 use Rattle.upper_image.specs.OrderingCone.{dual_of}
 use Rattle.upper_image.specs.Spots.{column, pieces, dense, product}
 use Rattle.upper_image.specs.UpperImage.{objective, objective_column, rest}
-use Rattle.upper_image.proofs.Widths.{wide_sides, length-numbers, length-objective, length-dense, length-rest}
+use Rattle.upper_image.proofs.Widths.{wide_sides, length-numbers, length-objective, length-rest}
 use Rattle.vlp_reader.specs.Cones.{cone_fits, each_has}
 use Rattle.vlp_reader.specs.Sides.{sides, side_column, side_bounds, numbers_from, sides_from, sides_of, row_vector, unit}
 use Rattle.vlp_reader.specs.declared.problem.Bound.{Bound}
@@ -36,7 +36,7 @@ use Rattle.deriv_log.specs.declared.entry.Entry.{Entry}
 use Rattle.log_rules.specs.Runs.{steps}
 use Rattle.log_rules.specs.declared.rule.Rule.{Rule}
 use Rattle.log_rules.specs.declared.rule.Rule.TheVariants as rule
-use Rattle.log_tests.specs.Parts.{product_events, entry_events, side_events, difference_events, unit_events, units_events, row_events, weight_events, quotient_events}
+use Rattle.log_tests.specs.Parts.{product_events, entry_events, unit_events, units_events, row_events, weight_events, quotient_events}
 use Rattle.log_rules.proofs.Failures.{steps-append}
 
 -- ---- sums

@@ -20,7 +20,7 @@ pub use duality::check_duality;
 pub use image::{above, in_feasible, in_recession};
 pub use line::{check_line, check_whole};
 pub use sheet::{Matrix, Sheet};
-pub use steps::{Steps, pass};
+pub use steps::{Steps, is_nonnegative, is_positive, is_zero, pass};
 
 #[cfg(test)]
 mod tests;
