@@ -1,5 +1,5 @@
 -- Where the outside is honest, a run ends with an answer, unless memory is wanting.
-use Rattle.std.proofs.Common.{◌≡◌, ℕ, ◌≤◌, ◌<◌, List, length, Option, Some, None, [], ap, ◌∙◌, true, false, true≢false, ◌⊎◌, inl, inr, refl, subst, sym, arith}
+use Rattle.std.proofs.Common.{◌≡◌, ℕ, ◌≤◌, ◌<◌, List, length, Option, Some, None, ap, ◌∙◌, true, false, true≢false, ◌⊎◌, inl, inr, refl, subst, sym, arith}
 use Rattle.std.specs.Option.{is_some}
 use Rattle.src_sink.specs.Ends.{TakesCount}
 use Rattle.src_sink.proofs.Known.{Consumes-to_end, TakesCount-known}

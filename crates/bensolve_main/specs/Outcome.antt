@@ -1,6 +1,6 @@
 -- What a status of `check FILE LOG` says: of the bytes that were read, in the order of the work, and of the
 -- bytes that were written.
-use Rattle.std.specs.Prelude.{◌≡◌, ℕ, ◌<◌, ◌≤◌, ◌⊎◌, true, false, List, [], length, take, Option, Some, None}
+use Rattle.std.specs.Prelude.{◌≡◌, ℕ, ◌<◌, ◌≤◌, ◌⊎◌, true, false, List, length, take, Option, Some, None}
 use Rattle.src_sink.specs.Outside.{Consumes, Appends, IsAtEnd, Rose}
 use Rattle.src_sink.specs.Ends.{TakesCount}
 use Rattle.vlp_reader.specs.FirstFault.{FirstFault, Reads}

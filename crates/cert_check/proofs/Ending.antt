@@ -1,13 +1,13 @@
 -- The answer that the entries of a log give.
-use Rattle.std.proofs.Common.{◌≡◌, ℕ, suc, List, [], ◌∷◌, ◌++◌, take, length, refl, sym, ap, ◌∙◌, subst, arith, Bool, true, false, true≢false, not, ◌||◌, ◌==◌, append_assoc, IsTrue, Contains, Option, None, Some, All}
+use Rattle.std.proofs.Common.{◌≡◌, ℕ, suc, List, [], ◌∷◌, ◌++◌, take, length, refl, sym, ap, ◌∙◌, subst, arith, true, false, true≢false, not, ◌==◌, append_assoc, IsTrue, Contains, Option, None, Some}
 use Rattle.std.specs.Prelude.{MatchOption}
 use Rattle.std.specs.Option.{is_some}
 use Rattle.exact_field.specs.Rational.{ℚ}
 use Rattle.frac128.specs.declared.vectors.Spot.{Spot}
 use Rattle.polyhedra.proofs.Members.{member_of}
-use Rattle.polyhedra.proofs.Tests.{both_true, or_left, or_right}
+use Rattle.polyhedra.proofs.Tests.{both_true, or_right}
 use Rattle.vlp_reader.specs.declared.problem.Problem.{Problem}
-use Rattle.deriv_log.specs.Formed.{IsLog, is_end, ends_once}
+use Rattle.deriv_log.specs.Formed.{is_end, ends_once}
 use Rattle.deriv_log.specs.declared.entry.EndKind.{EndKind}
 use Rattle.deriv_log.specs.declared.entry.EndKind.TheVariants as ending
 use Rattle.deriv_log.specs.declared.entry.Entry.{Entry}
@@ -16,7 +16,7 @@ use Rattle.log_rules.specs.Live.{Stated, State, state, after, duality_vector}
 use Rattle.log_rules.specs.Meets.{Meets}
 use Rattle.log_rules.specs.Order.{Kind, has, kind, place, in_order, implies, needs_cut, ends_at_facet}
 use Rattle.log_rules.specs.Order as order
-use Rattle.log_rules.specs.Proves.{AllMeet, Proves, forth, facet_of}
+use Rattle.log_rules.specs.Proves.{Proves, forth}
 use Rattle.log_rules.specs.declared.answer.Answer.TheVariants as answer
 use Rattle.log_rules.proofs.Entries.{StandsAt, stands_at, has_more, order_of, state-push}
 use Rattle.log_rules.proofs.NumbersStay.{cuts_continue}

@@ -1,5 +1,5 @@
 -- One entry: its sparse vectors, what its order asks for, and the events of an end.
-use Rattle.std.proofs.Common.{◌≡◌, ℕ, ◌<◌, List, [], ◌∷◌, length, refl, sym, ◌∙◌, ap, subst, Bool, true, false, true≢false, IsTrue, slice_index_or, ◌&&◌, ◌==◌, ◌++◌, None}
+use Rattle.std.proofs.Common.{◌≡◌, ℕ, ◌<◌, List, [], ◌∷◌, length, refl, sym, ◌∙◌, ap, subst, Bool, true, true≢false, IsTrue, slice_index_or, ◌&&◌, ◌==◌, ◌++◌, None}
 use Rattle.std.specs.List.{list_all}
 use Rattle.exact_field.specs.Rational.{ℚ, one_ℚ}
 use Rattle.exact_field.specs.Order.{same_ℚ}

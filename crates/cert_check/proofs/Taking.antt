@@ -1,5 +1,5 @@
 -- The events of an entry behind the tests of its kind and order.
-use Rattle.std.proofs.Common.{◌≡◌, ℕ, List, [], ◌∷◌, refl, sym, ap₂, ◌∙◌, subst, Bool, true, None, arith, IsTrue}
+use Rattle.std.proofs.Common.{◌≡◌, List, [], ◌∷◌, refl, sym, ap₂, ◌∙◌, subst, Bool, true, None}
 use Rattle.frac128.specs.Held.{is_held}
 use Rattle.vlp_reader.specs.declared.problem.Problem.{Problem}
 use Rattle.deriv_log.specs.declared.entry.Entry.{Entry}
@@ -7,12 +7,12 @@ use Rattle.log_rules.specs.Events.{Event, first_failure, kind_events}
 use Rattle.log_rules.specs.Events.Event.{test}
 use Rattle.log_rules.specs.Live.{state}
 use Rattle.log_rules.specs.Order.{kind, in_order}
-use Rattle.log_rules.specs.Runs.{Stops, steps}
+use Rattle.log_rules.specs.Runs.{Stops}
 use Rattle.log_rules.specs.declared.rule.Rule.{Rule}
 use Rattle.log_rules.specs.declared.rule.Rule.TheVariants as rule
 use Rattle.log_rules.specs.declared.stop.Stop.{Stop}
 use Rattle.log_rules.proofs.Failures.{stops-then}
-use Rattle.log_tests.proofs.Going.{Passed, Stopped, stopped-behind}
+use Rattle.log_tests.proofs.Going.{Passed, stopped-behind}
 use Rattle.cert_check.specs.Built.{is_built, checked_events}
 
 module _ (file : Problem) (before : List Entry) (e : Entry) where

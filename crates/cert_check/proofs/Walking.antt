@@ -1,5 +1,5 @@
 -- The walk through the entries of a log.
-use Rattle.std.proofs.Common.{◌≡◌, ℕ, zero, suc, ◌+◌, ◌<◌, ◌≤◌, List, [], ◌∷◌, ◌++◌, length, take, drop, get_or, refl, sym, ap, ap₂, ◌∙◌, subst, arith, Option, None, Some}
+use Rattle.std.proofs.Common.{◌≡◌, ℕ, zero, suc, ◌+◌, ◌<◌, ◌≤◌, List, [], ◌∷◌, ◌++◌, length, take, drop, get_or, refl, sym, ap, ap₂, ◌∙◌, arith, Option, None, Some}
 use Rattle.std.proofs.lemmas.List.{take_more, length-take}
 use Rattle.frac128.specs.Held.{is_held}
 use Rattle.vlp_reader.specs.declared.problem.Problem.{Problem}
@@ -40,8 +40,10 @@ module _ (file : Problem) (list : List Entry) (i : ℕ) where
     pub walks_on : first_failure is_held 1 (checked_events file (take i list) e) ≡ None → left_over ≡ first_failing is_held file (take (i + 1) list) (drop (i + 1) list)
     walks_on none =
         ap (first_failing is_held file (take i list)) here
-        ∙ ap (λ (f : Option Failure). elim f as (λ _. Option Failing) [ Some failure ↦ Some (record { entry = suc (length (take i list)); failure = failure })
-          | None ↦ first_failing is_held file (take i list ++ e ∷ []) (drop (i + 1) list) ]) none
+        ∙ ap (λ (f : Option Failure). elim f as (λ _. Option Failing) [
+          | Some failure ↦ Some (record { entry = suc (length (take i list)); failure = failure })
+          | None ↦ first_failing is_held file (take i list ++ e ∷ []) (drop (i + 1) list)
+        ]) none
         ∙ ap (λ before. first_failing is_held file before (drop (i + 1) list)) (sym taken_more)
 
     -- an entry with one
@@ -50,8 +52,10 @@ module _ (file : Problem) (list : List Entry) (i : ℕ) where
         let many = length-take i list in
         let number : suc (length (take i list)) ≡ i + 1 = omega (arith, many, low) in
         ap (first_failing is_held file (take i list)) here
-        ∙ ap (λ (g : Option Failure). elim g as (λ _. Option Failing) [ Some failure ↦ Some (record { entry = suc (length (take i list)); failure = failure })
-          | None ↦ first_failing is_held file (take i list ++ e ∷ []) (drop (i + 1) list) ]) some
+        ∙ ap (λ (g : Option Failure). elim g as (λ _. Option Failing) [
+          | Some failure ↦ Some (record { entry = suc (length (take i list)); failure = failure })
+          | None ↦ first_failing is_held file (take i list ++ e ∷ []) (drop (i + 1) list)
+        ]) some
         ∙ ap (λ (k : ℕ). Some (record { entry = k; failure = f })) number
 
     pub stops_here : (stop : Stop) → first_failing is_held file [] list ≡ left_over → Stops is_held (checked_events file (take i list) e) 0 stop →

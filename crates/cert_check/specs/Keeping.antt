@@ -1,5 +1,5 @@
 -- What one more entry changes of what the checker keeps. For the clauses of the code alone.
-use Rattle.std.specs.Prelude.{List, [], ◌∷◌, Option, None, Some}
+use Rattle.std.specs.Prelude.{List, [], ◌∷◌, Option, Some}
 use Rattle.exact_field.specs.Rational.{ℚ}
 use Rattle.frac128.specs.declared.vectors.Spot.{Spot}
 use Rattle.deriv_log.specs.declared.entry.EndKind.{EndKind}

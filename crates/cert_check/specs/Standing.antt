@@ -1,5 +1,5 @@
 -- What the checker keeps of the entries before one.
-use Rattle.std.specs.Prelude.{◌≡◌, ⊤, All, Bool, true, false, IsTrue, List, [], ◌∷◌, take, length, Contains, Option, None, Some, MatchOption}
+use Rattle.std.specs.Prelude.{◌≡◌, ⊤, All, Bool, false, IsTrue, List, [], ◌∷◌, take, length, Contains, Option, None, Some, MatchOption}
 use Rattle.exact_field.specs.Rational.{ℚ}
 use Rattle.frac128.specs.declared.vectors.Spot.{Spot}
 use Rattle.vlp_reader.specs.declared.problem.Problem.{Problem}

@@ -1,4 +1,4 @@
-use Rattle.std.proofs.Common.{◌≡◌, ◌∙◌, codes, decimal}
+use Rattle.std.proofs.Common.{◌∙◌, codes, decimal}
 use Rattle.frac128.specs.Text.{frac_text}
 use Rattle.bensolve_main.specs.Text.{operation_name}
 use Rattle.bensolve_main.proofs.Texts.{step_text}

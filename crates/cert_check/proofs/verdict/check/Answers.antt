@@ -1,9 +1,9 @@
-use Rattle.std.proofs.Common.{◌≡◌, ◌∙◌, None, ap, sym, subst, List, [], ◌∷◌, ◌++◌, take, length, get_or, ◌<◌, ◌≤◌, ◌+◌}
+use Rattle.std.proofs.Common.{◌≡◌, ◌∙◌, None, sym, subst, List, [], take, ◌+◌}
 use Rattle.std.proofs.lemmas.List.{take_all}
 use Rattle.frac128.specs.Held.{is_held}
 use Rattle.deriv_log.specs.declared.entry.Entry.{Entry}
 use Rattle.log_rules.proofs.ProvedIsRight.{proved_is_right}
-use Rattle.cert_check.specs.Standing.{IsAt, HasPassed}
+use Rattle.cert_check.specs.Standing.{IsAt}
 use Rattle.cert_check.specs.Verdict.{Refuses, refusal_of}
 use Rattle.cert_check.specs.Built.{first_failing}
 use Rattle.cert_check.specs.declared.fault.Refusal.{Refusal}
@@ -33,8 +33,7 @@ pub finish-requires : goal.finish-requires
 finish-requires c =
     let list = c.as_slice-list.result.now in
     let whole = take_all c.loop-i.i list c.loop-i-test.false in
-    let items = c.as_slice-list.ensures.items in
-    (
+    let items = c.as_slice-list.ensures.items in (
       c.args.entries.now,
       subst (λ (es : List Entry). IsAt c.args.problem.now es c.loop-i.checker) (whole ∙ items) c.loop-i.invariant.0,
       has_passed c.args.problem.now c.args.entries.now c.requires

@@ -1,4 +1,4 @@
-use Rattle.std.proofs.Common.{◌≡◌, ◌∙◌, ap, sym, Some, subst}
+use Rattle.std.proofs.Common.{◌∙◌, ap, sym, Some, subst}
 use Rattle.log_rules.specs.Proves.{Proves}
 use Rattle.log_rules.specs.declared.answer.Answer.{Answer}
 use Rattle.cert_check.proofs.Ending.{no_end, no_first, whole_proved, no_vertex_proved, farkas_missing, whole_missing, line_missing}

@@ -1,4 +1,4 @@
-use Rattle.std.proofs.Common.{◌≡◌, ◌∙◌, sym, rules, true, refl, arith, ◌+◌}
+use Rattle.std.proofs.Common.{◌≡◌, ◌∙◌, sym, rules, true, arith}
 use Rattle.log_rules.specs.Order.{kind, in_order}
 use Rattle.log_rules.specs.declared.rule.Rule.TheVariants as rule
 use Rattle.log_tests.proofs.Going.{test-passed}

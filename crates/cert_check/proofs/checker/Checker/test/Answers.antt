@@ -1,9 +1,9 @@
-use Rattle.std.proofs.Common.{◌≡◌, ◌∙◌, sym, ap, subst, refl, arith, List, length, IsTrue}
+use Rattle.std.proofs.Common.{◌∙◌, sym, ap, subst, refl, arith, List, length, IsTrue}
 use Rattle.std.specs.Prelude.{⊤}
 use Rattle.frac128.specs.Held.{is_held}
 use Rattle.frac128.specs.Sparse.{IsSparse}
 use Rattle.deriv_log.specs.declared.entry.Entry.{Entry}
-use Rattle.deriv_log.specs.declared.entry.Entry.TheVariants.{Version, Cut, Whole, Line, End}
+use Rattle.deriv_log.specs.declared.entry.Entry.TheVariants.{Cut, Whole, Line, End}
 use Rattle.log_rules.specs.Events.{Event, kind_events}
 use Rattle.log_rules.specs.Live.{state, duality_vector}
 use Rattle.log_rules.specs.Order.{kind, in_order, has}
