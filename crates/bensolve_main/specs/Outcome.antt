@@ -15,7 +15,8 @@ use Rattle.deriv_log.specs.declared.entry.Entry.{Entry}
 use Rattle.deriv_log.specs.declared.fault.LogFault.{LogFault as ALogFault}
 use Rattle.log_rules.specs.declared.rule.Rule.{Rule}
 use Rattle.vlp_reader.specs.declared.fault.FileFault.{FileFault as AFileFault}
-use Rattle.bensolve_main.specs.Text.{report_text, fault_text}
+use Rattle.log_rules.specs.Report.{report_text}
+use Rattle.bensolve_main.specs.Text.{fault_text}
 use Rattle.bensolve_main.specs.declared.status.LogRefusal.TheVariants.{Text, Wrong}
 use Rattle.bensolve_main.specs.declared.status.Status.{Status}
 use Rattle.bensolve_main.specs.declared.status.Status.TheVariants.{Done, Words, FileFault, NoMemory, ReadFault, WriteFault, Refused, TooLong}

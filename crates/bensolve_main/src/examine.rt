@@ -6,6 +6,7 @@ use crate::status::{LogRefusal, Status};
 use crate::text;
 use cert_check::{Refusal, check};
 use deriv_log::{LogEnd, read_log};
+use sol_writer::report;
 use src_sink::{Bytes, MOST_ITEMS, ReadEnd, Source, read_all};
 use std::alloc::Global;
 use vlp_reader::{Problem, VlpEnd, read_vlp};
@@ -47,7 +48,7 @@ fn examine_log(alloc: Global, file: &Problem, bytes: &[u8]) -> Result<Reply, Sta
         }
         Err(Refusal::NoMemory) => return Err(Status::NoMemory),
     };
-    let text = text::report(alloc, file, &answer)?;
+    let text = report(alloc, file, &answer)?;
     Ok(Reply {
         status: Status::Done,
         text,

@@ -12,23 +12,24 @@ use Rattle.exact_field.proofs.Inequalities.{le_refl_ℚ, lt-not-le, mul-le-mul_n
 use Rattle.exact_field.proofs.Sums.{dot_nil, sum-map_same, sum-map_scaled_right, sum-map_zero, sum_swapped, sum-map_le}
 use Rattle.frac128.specs.Sparse.{sparse_dot}
 use Rattle.frac128.specs.declared.vectors.Spot.{Spot}
-use Rattle.vlp_reader.specs.Sides.{Side, sides, side_column, numbers_from}
+use Rattle.polyhedra.specs.Inequality.{Inequality}
+use Rattle.vlp_reader.specs.Sides.{sides, side_column, numbers_from}
 use Rattle.vlp_reader.specs.declared.problem.Problem.{Problem}
 use Rattle.cert_check.specs.Right.{FarkasShowsEmpty}
 
 -- the side that every point meets
-abbrev trivial : Side
+abbrev trivial : Inequality
 trivial = record { normal = []; bound = zero_ℚ }
 
 -- the side number k, from 1, and the trivial one past the end
-abbrev side_at : List Side → ℕ → Side
+abbrev side_at : List Inequality → ℕ → Inequality
 side_at ss k = get_or ss (k - 1) trivial
 
 -- what multipliers give a number of each side
-abbrev combined : List Side → (Side → ℚ) → List Spot → ℚ
+abbrev combined : List Inequality → (Inequality → ℚ) → List Spot → ℚ
 combined ss f u = sum_ℚ (map (λ s. f (side_at ss s.at) *ℚ s.value) u)
 
-combined_is : (ss : List Side) (f : Side → ℚ) (u : List Spot) → f trivial ≡ zero_ℚ → sparse_dot (map f ss) u ≡ combined ss f u
+combined_is : (ss : List Inequality) (f : Inequality → ℚ) (u : List Spot) → f trivial ≡ zero_ℚ → sparse_dot (map f ss) u ≡ combined ss f u
 combined_is ss f [] none = refl
 combined_is ss f (s ∷ u) none =
     let read : entry (map f ss) s.at ≡ f (side_at ss s.at) =
@@ -36,12 +37,12 @@ combined_is ss f (s ∷ u) none =
     ap (λ (q : ℚ). q *ℚ s.value +ℚ sparse_dot (map f ss) u) read ∙ ap (λ (q : ℚ). f (side_at ss s.at) *ℚ s.value +ℚ q) (combined_is ss f u none)
 
 -- a point that meets all sides meets the side at each place
-met_at : (x : List ℚ) (ss : List Side) (k : ℕ) → All (λ s. s.bound ≤ℚ dot s.normal x) ss → (get_or ss k trivial).bound ≤ℚ dot (get_or ss k trivial).normal x
+met_at : (x : List ℚ) (ss : List Inequality) (k : ℕ) → All (λ s. s.bound ≤ℚ dot s.normal x) ss → (get_or ss k trivial).bound ≤ℚ dot (get_or ss k trivial).normal x
 met_at x [] k h = le_refl_ℚ zero_ℚ
-met_at x (s ∷ ss) zero h = All-head (λ (t : Side). t.bound ≤ℚ dot t.normal x) s ss h
-met_at x (s ∷ ss) (suc k) h = met_at x ss k (All-tail (λ (t : Side). t.bound ≤ℚ dot t.normal x) s ss h)
+met_at x (s ∷ ss) zero h = All-head (λ (t : Inequality). t.bound ≤ℚ dot t.normal x) s ss h
+met_at x (s ∷ ss) (suc k) h = met_at x ss k (All-tail (λ (t : Inequality). t.bound ≤ℚ dot t.normal x) s ss h)
 
-terms_rise : (x : List ℚ) (ss : List Side) (u : List Spot) → All (λ s. s.bound ≤ℚ dot s.normal x) ss → All (λ s. zero_ℚ ≤ℚ s.value) u
+terms_rise : (x : List ℚ) (ss : List Inequality) (u : List Spot) → All (λ s. s.bound ≤ℚ dot s.normal x) ss → All (λ s. zero_ℚ ≤ℚ s.value) u
     → All (λ s. (side_at ss s.at).bound *ℚ s.value ≤ℚ dot (side_at ss s.at).normal x *ℚ s.value) u
 terms_rise x ss [] met positive = All-nil (λ (s : Spot). (side_at ss s.at).bound *ℚ s.value ≤ℚ dot (side_at ss s.at).normal x *ℚ s.value)
 terms_rise x ss (s ∷ u) met positive =
@@ -87,7 +88,7 @@ at_point v x k n same =
     (λ j. ring rationals (entry v j ∷ entry x j ∷ k ∷ []) (v0 ⊗ v1 ⊗ v2) (v0 ⊗ v2 ⊗ v1) refl) (numbers_from 1 n)
 
 -- the combination of the products with a point, column by column
-by_columns : (ss : List Side) (u : List Spot) (x : List ℚ) (n : ℕ) → length x ≡ n
+by_columns : (ss : List Inequality) (u : List Spot) (x : List ℚ) (n : ℕ) → length x ≡ n
     → combined ss (λ s. dot s.normal x) u ≡ sum_ℚ (map (λ j. combined ss (λ s. entry s.normal j) u *ℚ entry x j) (numbers_from 1 n))
 by_columns ss u x n same =
     sum-map_same (λ s. dot (side_at ss s.at).normal x *ℚ s.value) (λ s. sum_ℚ (map (λ j. entry (side_at ss s.at).normal j *ℚ s.value *ℚ entry x j) (numbers_from 1 n)))

@@ -6,7 +6,8 @@ use Rattle.std.proofs.lemmas.List.{length-map}
 use Rattle.exact_field.specs.Rational.{zero_ℚ, lt_ℚ}
 use Rattle.frac128.specs.Sparse.{is_zero, sparse_dot}
 use Rattle.frac128.specs.declared.vectors.Spot.{Spot}
-use Rattle.vlp_reader.specs.Sides.{Side, sides, side_column, side_bounds, numbers_from}
+use Rattle.polyhedra.specs.Inequality.{Inequality}
+use Rattle.vlp_reader.specs.Sides.{sides, side_column, side_bounds, numbers_from}
 use Rattle.vlp_reader.specs.declared.problem.Problem.{Problem}
 use Rattle.cert_check.specs.Rules.{tests, failing, farkas_tests}
 use Rattle.cert_check.specs.Table.{IsTableOf, side_of}
@@ -33,7 +34,7 @@ first_of_four a b c d = if a then (if b then (if c then (if d then None else Som
 
 -- the table is as long as the list of sides
 same_length : (file : Problem) (table : List BoundSide) → IsTableOf file table → length table ≡ length (sides file)
-same_length file table is = sym (length-map table (side_of file)) ∙ ap (λ (ss : List Side). length ss) is
+same_length file table is = sym (length-map table (side_of file)) ∙ ap (λ (ss : List Inequality). length ss) is
 
 by_four : (file : Problem) (u : List Spot) → failing (farkas_tests file u) ≡ first_of_four (names_all (length (sides file)) u) (all_positive u) (all_balanced file u) (bound_positive file u)
 unfolding first_of_four

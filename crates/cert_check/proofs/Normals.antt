@@ -10,7 +10,8 @@ use Rattle.exact_field.proofs.Rationals.{neg-zero_ℚ}
 use Rattle.exact_field.proofs.RationalLaws.{whole-neg}
 use Rattle.vlp_reader.specs.Cells.{coefficient}
 use Rattle.cert_check.specs.SmallProblem.{is_small}
-use Rattle.vlp_reader.specs.Sides.{Side, numbers_from, row_vector, unit, at_most, at_least}
+use Rattle.polyhedra.specs.Inequality.{Inequality}
+use Rattle.vlp_reader.specs.Sides.{numbers_from, row_vector, unit, at_most, at_least}
 use Rattle.vlp_reader.specs.declared.problem.Problem.{Problem}
 use Rattle.cert_check.specs.Table.{vector_of, side_of}
 use Rattle.cert_check.specs.declared.sides.BoundSide.{BoundSide}
@@ -67,16 +68,16 @@ pub entry-upper : (file : Problem) (s : BoundSide) (col : ℕ) (a : ℤ) → s.i
     → whole (to_z w128 (of_z w128 (pos 0 -ℤ to_z w128 (of_z w128 a)))) ≡ entry (side_of file s).normal col
 entry-upper file s col a upper is small =
     rw (negated-kept a small)
-    (sym (whole-neg a) ∙ ap neg_ℚ is ∙ sym (entry-negated (vector_of file s.axis s.number) col) ∙ ap (λ (t : Side). entry t.normal col) (upper-side file s upper))
+    (sym (whole-neg a) ∙ ap neg_ℚ is ∙ sym (entry-negated (vector_of file s.axis s.number) col) ∙ ap (λ (t : Inequality). entry t.normal col) (upper-side file s upper))
 
 pub bound-upper : (file : Problem) (s : BoundSide) (a : ℤ) → s.is_upper ≡ true → a ≡ s.bound.num → IsTrue (is_small s.bound)
     → whole (to_z w128 (of_z w128 (pos 0 -ℤ to_z w128 (of_z w128 a)))) ≡ (side_of file s).bound
 bound-upper file s a upper is small =
     rw (negated-kept a (rw is (small_below s.bound small)))
-    (sym (whole-neg a) ∙ ap (λ (n : ℤ). neg_ℚ (whole n)) is ∙ ap neg_ℚ (small_is_whole s.bound small) ∙ ap (λ (t : Side). t.bound) (upper-side file s upper))
+    (sym (whole-neg a) ∙ ap (λ (n : ℤ). neg_ℚ (whole n)) is ∙ ap neg_ℚ (small_is_whole s.bound small) ∙ ap (λ (t : Inequality). t.bound) (upper-side file s upper))
 
 pub bound-lower : (file : Problem) (s : BoundSide) (a : ℤ) → s.is_upper ≡ false → a ≡ s.bound.num → IsTrue (is_small s.bound)
     → whole (to_z w128 (of_z w128 a)) ≡ (side_of file s).bound
 bound-lower file s a lower is small =
     let below : unsigned_abs a < 1000000000 = rw is (small_below s.bound small) in
-    rw (kept a (omega arith)) (ap whole is ∙ small_is_whole s.bound small ∙ ap (λ (t : Side). t.bound) (lower-side file s lower))
+    rw (kept a (omega arith)) (ap whole is ∙ small_is_whole s.bound small ∙ ap (λ (t : Inequality). t.bound) (lower-side file s lower))

@@ -15,7 +15,8 @@ use Rattle.exact_field.proofs.Rationals.{add_comm_ℚ, add_assoc_ℚ}
 use Rattle.frac128.specs.Sparse.{sparse_dot, rises_above, is_zero}
 use Rattle.frac128.specs.declared.vectors.Spot.{Spot}
 use Rattle.cert_check.specs.SmallProblem.{IsSmall, is_small}
-use Rattle.vlp_reader.specs.Sides.{Side, sides, at_most, at_least}
+use Rattle.polyhedra.specs.Inequality.{Inequality}
+use Rattle.vlp_reader.specs.Sides.{sides, at_most, at_least}
 use Rattle.vlp_reader.specs.declared.problem.Problem.{Problem}
 use Rattle.cert_check.specs.SmallProblem.{is_small_spot, is_small_sparse}
 use Rattle.cert_check.specs.Table.{IsTableOf, side_of, vector_of}
@@ -43,10 +44,10 @@ sparse_dot-more v u i s total a within is small before here =
     ∙ ap (λ (us : List Spot). sparse_dot v us) (sym (take_more u i s within))
 
 -- a list made from all sides, at the place of an entry of the table
-side-at : (f : Side → ℚ) (file : Problem) (table : List BoundSide) (at : ℕ) (t : BoundSide) → IsTableOf file table → at - 1 < length table → t ≡ get_or table (at - 1) t
+side-at : (f : Inequality → ℚ) (file : Problem) (table : List BoundSide) (at : ℕ) (t : BoundSide) → IsTableOf file table → at - 1 < length table → t ≡ get_or table (at - 1) t
     → entry (map f (sides file)) at ≡ f (side_of file t)
 side-at f file table at t is within found =
-    ap (λ (ss : List Side). slice_index_or (map f ss) (at - 1) zero_ℚ) (sym is)
+    ap (λ (ss : List Inequality). slice_index_or (map f ss) (at - 1) zero_ℚ) (sym is)
     ∙ get_or-map f (map (side_of file) table) (at - 1) (side_of file t) zero_ℚ (simp length-map within)
     ∙ ap f (get_or-map (side_of file) table (at - 1) t (side_of file t) within)
     ∙ ap (λ (r : BoundSide). f (side_of file r)) (sym found)
@@ -103,10 +104,10 @@ small_own file t h = small_by t.is_upper (vector_of file t.axis t.number) t.boun
 -- the sides that entries of the table stand for have small bounds
 pub bound-small : (file : Problem) (table : List BoundSide) (k : ℕ) (t : BoundSide) → IsSmall file → IsTableOf file table → k < length table → t ≡ get_or table k t → IsTrue (is_small t.bound)
 bound-small file table k t small is within found =
-    let of_sides : All (λ s. IsTrue (is_small s.bound)) (map (side_of file) table) = subst (λ (ss : List Side). All (λ s. IsTrue (is_small s.bound)) ss) (sym is) (small_sides file small) in
-    let at : IsTrue (is_small (get_or (map (side_of file) table) k (side_of file t)).bound) = All-get_or (λ (s : Side). IsTrue (is_small s.bound)) (map (side_of file) table) k (side_of file t) (simp length-map within) of_sides in
+    let of_sides : All (λ s. IsTrue (is_small s.bound)) (map (side_of file) table) = subst (λ (ss : List Inequality). All (λ s. IsTrue (is_small s.bound)) ss) (sym is) (small_sides file small) in
+    let at : IsTrue (is_small (get_or (map (side_of file) table) k (side_of file t)).bound) = All-get_or (λ (s : Inequality). IsTrue (is_small s.bound)) (map (side_of file) table) k (side_of file t) (simp length-map within) of_sides in
     small_own file t
-    (subst (λ (s : Side). IsTrue (is_small s.bound))
+    (subst (λ (s : Inequality). IsTrue (is_small s.bound))
     (get_or-map (side_of file) table k t (side_of file t) within ∙ ap (side_of file) (sym found)) at)
 
 -- what is known of the place number i of the multipliers
@@ -135,7 +136,7 @@ pub record IsSumUpTo (v : List ℚ) (u : List Spot) (i : ℕ) (total : ℤ) : Ty
   pub bound : unsigned_abs total ≤ i * 1000000000000000000
 
 -- one more place, where the numbers are those that an `i128` keeps
-pub sum_step : (f : Side → ℚ) (file : Problem) (table ts : List BoundSide) (u : List Spot) (i : ℕ) (s : Spot) (t : BoundSide) (total a b sum : ℤ)
+pub sum_step : (f : Inequality → ℚ) (file : Problem) (table ts : List BoundSide) (u : List Spot) (i : ℕ) (s : Spot) (t : BoundSide) (total a b sum : ℤ)
     → IsTableOf file table → ts ≡ table → AtPlace u (length table) i s → t ≡ get_or ts (s.at - 1) t
     → IsSumUpTo (map f (sides file)) u i total → whole a ≡ f (side_of file t) → unsigned_abs a < 1000000000 → b ≡ s.value.num
     → sum ≡ total +ℤ to_z w128 (of_z w128 a) *ℤ to_z w128 (of_z w128 b) → i < 2 ^ 32

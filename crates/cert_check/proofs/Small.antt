@@ -12,7 +12,8 @@ use Rattle.exact_field.proofs.Rationals.{neg-num, neg-den, neg-neg_ℚ}
 use Rattle.frac128.proofs.Whole.{is_whole}
 use Rattle.vlp_reader.specs.Cells.{coefficient}
 use Rattle.cert_check.specs.SmallProblem.{IsSmall, is_small, is_small_bound, is_small_problem}
-use Rattle.vlp_reader.specs.Sides.{Side, sides, sides_of, sides_from, at_least, at_most, row_vector, unit}
+use Rattle.polyhedra.specs.Inequality.{Inequality}
+use Rattle.vlp_reader.specs.Sides.{sides, sides_of, sides_from, at_least, at_most, row_vector, unit}
 use Rattle.vlp_reader.specs.declared.problem.Problem.{Problem}
 use Rattle.vlp_reader.specs.declared.problem.Bound.{Bound}
 use Rattle.vlp_reader.specs.declared.problem.Bound.TheVariants.{Unsaid, Free, Lower, Upper, Double, Fixed}
@@ -61,30 +62,30 @@ small_negation q h = small_negated (neg_ℚ q) (subst (λ (p : ℚ). IsTrue (is_
 
 -- the bounds of the sides of small bounds are small
 small_upper : (v : List ℚ) (high : ℚ) → IsTrue (is_small high) → All (λ s. IsTrue (is_small s.bound)) (at_most v high ∷ [])
-small_upper v high h = All-cons (λ (s : Side). IsTrue (is_small s.bound)) (at_most v high) [] (small_negation high h) (All-nil (λ (s : Side). IsTrue (is_small s.bound)))
+small_upper v high h = All-cons (λ (s : Inequality). IsTrue (is_small s.bound)) (at_most v high) [] (small_negation high h) (All-nil (λ (s : Inequality). IsTrue (is_small s.bound)))
 
 small_sides_of : (v : List ℚ) (b : Bound) → IsTrue (is_small_bound b) → All (λ s. IsTrue (is_small s.bound)) (sides_of v b)
-small_sides_of v Unsaid h = All-nil (λ (s : Side). IsTrue (is_small s.bound))
-small_sides_of v Free h = All-nil (λ (s : Side). IsTrue (is_small s.bound))
-small_sides_of v (Lower low) h = All-cons (λ (s : Side). IsTrue (is_small s.bound)) (at_least v low) [] h (All-nil (λ (s : Side). IsTrue (is_small s.bound)))
+small_sides_of v Unsaid h = All-nil (λ (s : Inequality). IsTrue (is_small s.bound))
+small_sides_of v Free h = All-nil (λ (s : Inequality). IsTrue (is_small s.bound))
+small_sides_of v (Lower low) h = All-cons (λ (s : Inequality). IsTrue (is_small s.bound)) (at_least v low) [] h (All-nil (λ (s : Inequality). IsTrue (is_small s.bound)))
 small_sides_of v (Upper high) h = small_upper v high h
 small_sides_of v (Double low high) h =
     let parts = both (is_small low) (is_small high) h in
-    All-cons (λ (s : Side). IsTrue (is_small s.bound)) (at_least v low) (at_most v high ∷ []) parts.0
+    All-cons (λ (s : Inequality). IsTrue (is_small s.bound)) (at_least v low) (at_most v high ∷ []) parts.0
     (small_upper v high parts.1)
 small_sides_of v (Fixed value) h =
-    All-cons (λ (s : Side). IsTrue (is_small s.bound)) (at_least v value) (at_most v value ∷ []) h (small_upper v value h)
+    All-cons (λ (s : Inequality). IsTrue (is_small s.bound)) (at_least v value) (at_most v value ∷ []) h (small_upper v value h)
 
 small_sides_from : (v : ℕ → List ℚ) (k : ℕ) (bounds : List Bound) → All (λ b. IsTrue (is_small_bound b)) bounds → All (λ s. IsTrue (is_small s.bound)) (sides_from v k bounds)
-small_sides_from v k [] h = All-nil (λ (s : Side). IsTrue (is_small s.bound))
+small_sides_from v k [] h = All-nil (λ (s : Inequality). IsTrue (is_small s.bound))
 small_sides_from v k (b ∷ bounds) h =
-    All-append (λ (s : Side). IsTrue (is_small s.bound)) (sides_of (v k) b) (sides_from v (suc k) bounds)
+    All-append (λ (s : Inequality). IsTrue (is_small s.bound)) (sides_of (v k) b) (sides_from v (suc k) bounds)
     (small_sides_of (v k) b (All-head (λ (c : Bound). IsTrue (is_small_bound c)) b bounds h))
     (small_sides_from v (suc k) bounds (All-tail (λ (c : Bound). IsTrue (is_small_bound c)) b bounds h))
 
 pub small_sides : (file : Problem) → IsSmall file → All (λ s. IsTrue (is_small s.bound)) (sides file)
 small_sides file h =
-    All-append (λ (s : Side). IsTrue (is_small s.bound)) (sides_from (row_vector file) 1 file.row_bounds) (sides_from (unit file.cols) 1 file.col_bounds)
+    All-append (λ (s : Inequality). IsTrue (is_small s.bound)) (sides_from (row_vector file) 1 file.row_bounds) (sides_from (unit file.cols) 1 file.col_bounds)
     (small_sides_from (row_vector file) 1 file.row_bounds h.row_bounds) (small_sides_from (unit file.cols) 1 file.col_bounds h.col_bounds)
 
 -- the test, of each entry and each bound

@@ -1,7 +1,11 @@
 pub mod Covering
 pub mod KeptNext
 pub mod MadePairs
+pub mod MarkedSoFar
 pub mod NextLists
+pub mod NormedCorners
 pub mod NotZero
+pub mod Reading
 pub mod SignTests
+pub mod StartState
 pub mod StepLists

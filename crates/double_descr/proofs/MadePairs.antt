@@ -9,7 +9,7 @@ use Rattle.exact_field.specs.Vector.{dot}
 use Rattle.incid_sets.specs.Marks.{IsMeet}
 use Rattle.polyhedra.specs.DoubleDescription.{is_zero, normed, made, meeting}
 use Rattle.polyhedra.specs.Generators.{IsTightAtBoth}
-use Rattle.polyhedra.specs.LiveList.{staying, dropped, Numbered, LivePair, vectors, numbered, products, without_numbers, is_uncovered_live}
+use Rattle.polyhedra.specs.LiveList.{staying, dropped, Numbered, LivePair, vectors, numbers, numbered, products, without_numbers, is_uncovered_live}
 use Rattle.polyhedra.proofs.Generators.{tight_at_meeting}
 use Rattle.polyhedra.proofs.Members.{member_of, Contains-map}
 use Rattle.double_descr.specs.Steps.{values, between}
@@ -19,19 +19,23 @@ use Rattle.double_descr.specs.Making.{IsAddition, with_negatives, candidates_of,
 use Rattle.double_descr.specs.declared.generator.Generator.{Generator}
 use Rattle.double_descr.specs.declared.made.Made.{Made}
 use Rattle.double_descr.specs.declared.fault.DdFault.{DdFault}
-use Rattle.double_descr.specs.declared.fault.DdFault.TheVariants.{Left as Stuck, NoMemory}
+use Rattle.double_descr.specs.declared.fault.DdFault.TheVariants.{Elim, Left as Stuck, NoMemory}
 use Rattle.double_descr.proofs.Covering.{meet_is_tight, tight_with}
 use Rattle.polyhedra.proofs.Tests.{test_of_zero}
 
 -- ---- numbered vectors
-length-numbered : (k : ℕ) (vs : List (List ℚ)) → length (numbered k vs) ≡ length vs
+pub length-numbered : (k : ℕ) (vs : List (List ℚ)) → length (numbered k vs) ≡ length vs
 length-numbered k [] = refl
 length-numbered k (v ∷ vs) = ap suc (length-numbered (suc k) vs)
 
-numbered_push : (k : ℕ) (vs : List (List ℚ)) (v : List ℚ) → numbered k (vs ++ v ∷ []) ≡ numbered k vs ++ record { number = k + length vs; vector = v } ∷ []
+pub numbered_push : (k : ℕ) (vs : List (List ℚ)) (v : List ℚ) → numbered k (vs ++ v ∷ []) ≡ numbered k vs ++ record { number = k + length vs; vector = v } ∷ []
 numbered_push k [] v = ap (λ n. record { number = n; vector = v } ∷ []) (let e : k ≡ k + 0 = omega arith in e)
 numbered_push k (w ∷ vs) v = ap (λ l. record { number = k; vector = w } ∷ l) (numbered_push (suc k) vs v
     ∙ ap (λ n. numbered (suc k) vs ++ record { number = n; vector = v } ∷ []) (let e : suc k + length vs ≡ k + suc (length vs) = omega arith in e))
+
+pub numbers_are : {F : Type 0} (value : F → ℚ) (gens : List (Generator F)) → map (λ (g : Generator F). g.number) gens ≡ numbers (live_of value gens)
+numbers_are value [] = refl
+numbers_are value (g ∷ gens) = ap (λ r. g.number ∷ r) (numbers_are value gens)
 
 module _ {F : Type 0} (value : F → ℚ) (holds : ℚ → Bool) (n : ℕ) (rows : List (List ℚ)) (row : List ℚ) (gens : List (Generator F)) (vals : List F) (kept : List Numbered) (next : ℕ)
     (ctx : IsAddition value n rows row gens vals) where
@@ -128,6 +132,7 @@ module _ {F : Type 0} (value : F → ℚ) (holds : ℚ → Bool) (n : ℕ) (rows
     pub tried_fault : IsMadeSoFar value holds rows row (live_of value gens) kept next (pair_of value p m ∷ todo) old → (fault : DdFault F) →
         IsPairFault value holds (is_uncovered_live rows (live_of value gens) (pair_of value p m)) (block_of value p m a b) fault →
         IsAddFault value holds (pair_blocks rows (live_of value gens) row) fault
+    tried_fault h (Elim fault) k = absurd k
     tried_fault h NoMemory k = tt
     tried_fault h (Stuck first second step left) k = record {
       before = map (pair_block row) h.done;
@@ -170,16 +175,6 @@ module _ {F : Type 0} (value : F → ℚ) (n : ℕ) (rows : List (List ℚ)) (ro
 
   pub bound_of : (p : Generator F) → Contains gens p → length p.tight ≡ length rows
   bound_of p c = ap length (member_of (HasTightSet value rows) gens p ctx.tight c) ∙ length-map rows (λ r. is_zero (dot r (values value p.vector.items)))
-
-  pub value_of : (j : ℕ) (x : F) (g : Generator F) → j < length vals → j < length gens → x ≡ get_or vals j x → g ≡ get_or gens j g →
-      value x ≡ dot row (values value g.vector.items)
-  value_of j x g lv lg xe ge =
-      ap value xe ∙ sym (get_or-map value vals j x (value x) lv) ∙ ap (λ l. get_or l j (value x)) (ctx.at_row ∙ through gens)
-      ∙ get_or-map (λ (h : Generator F). dot row (values value h.vector.items)) gens j g (value x) lg ∙ sym (ap (λ (h : Generator F). dot row (values value h.vector.items)) ge)
-    where
-      through : (gs : List (Generator F)) → map (λ (h : Numbered). dot row h.vector) (live_of value gs) ≡ map (λ (h : Generator F). dot row (values value h.vector.items)) gs
-      through [] = refl
-      through (h ∷ gs) = ap (λ l. dot row (values value h.vector.items) ∷ l) (through gs)
 
   -- a meeting point is not 0
   pub norming_of : (p m : Generator F) (a b : ℚ) → Contains gens p → Contains gens m → a ≡ dot row (values value p.vector.items) → b ≡ dot row (values value m.vector.items) →
@@ -228,6 +223,7 @@ dropped_on row m rest rest' old new whole e n h = ap (λ l. l ++ dropped row res
 -- the first block that is given up
 pub fault_at : {F : Type 0} (value : F → ℚ) (holds : ℚ → Bool) (blocks before after : List Block) (block : Block) (fault : DdFault F) → blocks ≡ before ++ block ∷ after →
     All (AreHeld holds) before → IsFault value holds block fault → IsAddFault value holds blocks fault
+fault_at value holds blocks before after block (Elim fault) e h k = absurd k
 fault_at value holds blocks before after block NoMemory e h k = tt
 fault_at value holds blocks before after block (Stuck first second step left) e h k = record { before = before; block = block; after = after; split = e; held = h; here = k }
 

@@ -5,7 +5,7 @@ use Rattle.std.proofs.lemmas.List.Elements.{All-nil, All-append}
 use Rattle.exact_field.specs.Rational.{ℚ}
 use Rattle.exact_field.specs.Vector.{dot}
 use Rattle.polyhedra.specs.DoubleDescription.{made}
-use Rattle.polyhedra.specs.LiveList.{Numbered, LivePair, numbers, numbered, staying, dropped, step, without_numbers, is_uncovered_live, live_pairs}
+use Rattle.polyhedra.specs.LiveList.{Numbered, LivePair, numbered, staying, dropped, step, without_numbers, is_uncovered_live, live_pairs}
 use Rattle.polyhedra.specs.LiveSteps.{IsLive}
 use Rattle.double_descr.specs.State.{live_of, list_of, HasTightSet, IsNext}
 use Rattle.double_descr.specs.Adding.{AreHeld, IsAddFault, IsChange, value_block, pair_block, pair_blocks, add_blocks}
@@ -14,8 +14,8 @@ use Rattle.double_descr.specs.declared.generator.Generator.{Generator}
 use Rattle.double_descr.specs.declared.made.Made.{Made}
 use Rattle.double_descr.specs.declared.fault.Change.{Change}
 use Rattle.double_descr.specs.declared.fault.DdFault.{DdFault}
-use Rattle.double_descr.specs.declared.fault.DdFault.TheVariants.{Left as Stuck, NoMemory}
-use Rattle.double_descr.proofs.MadePairs.{candidates_are}
+use Rattle.double_descr.specs.declared.fault.DdFault.TheVariants.{Elim, Left as Stuck, NoMemory}
+use Rattle.double_descr.proofs.MadePairs.{candidates_are, numbers_are}
 
 module _ {F : Type 0} (value : F → ℚ) (holds : ℚ → Bool) (n : ℕ) (rows : List (List ℚ)) (row : List ℚ) (gens : List (Generator F)) (first : ℕ)
     (l : IsLive n rows (list_of value gens first)) (tight : All (HasTightSet value rows) gens) where
@@ -60,15 +60,12 @@ module _ {F : Type 0} (value : F → ℚ) (holds : ℚ → Bool) (n : ℕ) (rows
     pub next_is : (nums : List ℕ) → nums ≡ map (λ (g : Generator F). g.number) m.generators → (change : Change) →
         IsNext value (rows ++ row ∷ []) (step rows (list_of value gens first) row)
         (record { numbers = nums; generators = m.generators; next = first + length m.pairs; change = change })
-    next_is nums e change = record { is = list_is; numbers_are = e ∙ through m.generators; tight = h.tight }
-      where
-        through : (gs : List (Generator F)) → map (λ (g : Generator F). g.number) gs ≡ numbers (live_of value gs)
-        through [] = refl
-        through (g ∷ gs) = ap (λ r. g.number ∷ r) (through gs)
+    next_is nums e change = record { is = list_is; numbers_are = e ∙ numbers_are value m.generators; tight = h.tight }
 
   -- what is given up among the pairs comes behind all values
   pub behind_values : (fault : DdFault F) → All (AreHeld holds) (map (value_block row) (live_of value gens)) → IsAddFault value holds (pair_blocks rows (live_of value gens) row) fault →
       IsAddFault value holds (add_blocks rows (live_of value gens) row) fault
+  behind_values (Elim fault) v k = absurd k
   behind_values NoMemory v k = tt
   behind_values (Stuck a b step left) v k = record {
     before = map (value_block row) (live_of value gens) ++ k.before;

@@ -1,5 +1,5 @@
 -- Steps that are done and steps that are left.
-use Rattle.std.proofs.Common.{◌≡◌, ℕ, zero, suc, ◌+◌, ◌<◌, List, [], ◌∷◌, ◌++◌, length, drop, map, All, Bool, true, false, cond, refl, sym, ap, ap₂, ◌∙◌, subst, arith, ◌||◌, ◌⊎◌, inl, inr, slice_index_or, append_assoc, length-append}
+use Rattle.std.proofs.Common.{◌≡◌, ℕ, zero, suc, ◌+◌, ◌<◌, ◌≤◌, List, [], ◌∷◌, ◌++◌, length, drop, map, All, Bool, true, false, cond, refl, sym, ap, ap₂, ◌∙◌, subst, arith, ◌||◌, ◌⊎◌, inl, inr, slice_index_or, append_assoc, length-append}
 use Rattle.std.specs.Prelude.{IsFalse}
 use Rattle.std.proofs.lemmas.List.{append-nil, map-append}
 use Rattle.exact_field.specs.declared.op.Op.TheVariants.{Div}
@@ -153,6 +153,13 @@ pub finish : {T F : Type 0} (value : F → ℚ) (holds : ℚ → Bool) (steps : 
 finish value holds steps n (Ok z) P Right h k f = (at_last holds steps n h, f z k)
 finish value holds steps n (Err s) P Right h k f = h
 
+-- the number of a step is at most how many there are
+pub first_within : {F : Type 0} (value : F → ℚ) (holds : ℚ → Bool) (steps : List Step) (number : ℕ) (left : Left F) → IsFirst value holds steps number left → number ≤ length steps
+first_within value holds steps number left h =
+    let e : length steps ≡ length h.before + length (h.step ∷ h.after) = ap length h.split ∙ length-append h.before (h.step ∷ h.after) in
+    let k : number ≡ length h.before + 1 = h.numbered in
+    let l : length (h.step ∷ h.after) ≡ suc (length h.after) = refl in omega arith
+
 -- ---- the entry that leads
 pub leading_at : (v v' : List ℚ) (x : ℚ) → v ≡ x ∷ v' → is_zero x ≡ true → leading v' ≡ leading v
 leading_at v v' x e h = sym (ap leading e ∙ ap (λ b. cond b (leading v') x) h)
@@ -172,7 +179,3 @@ on_ok_map (Err e) P Q h f = tt
 pub if_err_map : {T E : Type 0} (r : Result T E) (P Q : E → Type 0) → IfErr r P → ((e : E) → P e → Q e) → IfErr r Q
 if_err_map (Ok x) P Q h f = tt
 if_err_map (Err e) P Q h f = f e h
-
-pub err_holds : {T E : Type 0} (r : Result T E) (s : E) (Q : E → Type 0) → IsErrAnd r (λ e. e ≡ s) → Q s → IfErr r Q
-err_holds (Ok x) s Q h q = tt
-err_holds (Err e) s Q h q = subst Q (sym h) q

@@ -7,7 +7,7 @@ use Rattle.double_descr.specs.Steps.{Step, IsHeld, IsFirst, product_steps, meeti
 use Rattle.double_descr.specs.Steps.{values}
 use Rattle.double_descr.specs.declared.generator.Generator.{Generator}
 use Rattle.double_descr.specs.declared.fault.DdFault.{DdFault}
-use Rattle.double_descr.specs.declared.fault.DdFault.TheVariants.{Left as Stuck, NoMemory}
+use Rattle.double_descr.specs.declared.fault.DdFault.TheVariants.{Elim, Left as Stuck, NoMemory}
 use Rattle.double_descr.specs.declared.fault.Change.{Change}
 use Rattle.double_descr.specs.declared.fault.Pair.{Pair}
 
@@ -41,6 +41,7 @@ AreHeld holds block = All (IsHeld holds) block.steps
 -- what is given up is the first step of the block that is not held
 abbrev pub IsFault : {F : Type 0} → (F → ℚ) → (ℚ → Bool) → Block → DdFault F → Type 0
 IsFault value holds block (Stuck first second step left) = (first ≡ block.first) × (second ≡ block.second) × IsFirst value holds block.steps step left
+IsFault value holds block (Elim fault) = ⊥
 IsFault value holds block NoMemory = Unit {0}
 
 -- the steps of the blocks before this one are held, and this is the first step of this block that is not
@@ -55,6 +56,7 @@ pub record IsFirstIn {F : Type 0} (value : F → ℚ) (holds : ℚ → Bool) (bl
 -- an addition was given up at the first of its steps that is not held, or for want of memory
 abbrev pub IsAddFault : {F : Type 0} → (F → ℚ) → (ℚ → Bool) → List Block → DdFault F → Type 0
 IsAddFault value holds blocks (Stuck first second step left) = IsFirstIn value holds blocks (Stuck first second step left)
+IsAddFault value holds blocks (Elim fault) = ⊥
 IsAddFault value holds blocks NoMemory = Unit {0}
 
 -- what the addition of a row changes: the dropped generators, the pairs, and the number of the first new generator

@@ -11,7 +11,7 @@ use Rattle.double_descr.specs.Adding.{Block, AreHeld, IsFault, block_of, pair_bl
 use Rattle.double_descr.specs.declared.generator.Generator.{Generator}
 use Rattle.double_descr.specs.declared.fault.Pair.{Pair}
 use Rattle.double_descr.specs.declared.fault.DdFault.{DdFault}
-use Rattle.double_descr.specs.declared.fault.DdFault.TheVariants.{Left as Stuck, NoMemory}
+use Rattle.double_descr.specs.declared.fault.DdFault.TheVariants.{Elim, Left as Stuck, NoMemory}
 use Rattle.double_descr.specs.declared.made.Made.{Made}
 use Rattle.incid_sets.specs.Marks.{IsMeet}
 
@@ -56,6 +56,7 @@ IsTried value holds false p m a b old new = (new.pairs ≡ old.pairs) × (new.ge
 -- a pair that is not covered was given up at a step
 abbrev pub IsPairFault : {F : Type 0} → (F → ℚ) → (ℚ → Bool) → Bool → Block → DdFault F → Type 0
 IsPairFault value holds uncovered block (Stuck first second step left) = (uncovered ≡ true) × IsFault value holds block (Stuck first second step left)
+IsPairFault value holds uncovered block (Elim fault) = ⊥
 IsPairFault value holds uncovered block NoMemory = Unit {0}
 
 -- the two numbers of a pair

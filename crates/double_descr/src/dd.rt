@@ -1,15 +1,24 @@
 //! A double description.
-ghost use Rattle.std.specs.Prelude.{◌≡◌, [], ◌∷◌, ◌++◌, All, IfErr, IfOk, OnErr, OnOk, length};
+ghost use Rattle.std.specs.Prelude.{◌≡◌, ◌<◌, ◌≤◌, List, [], ◌∷◌, ◌++◌, All, Contains, IfErr, IfOk, OnErr, OnOk, length, slice_index_or};
+ghost use Rattle.exact_field.specs.Rational.{ℚ};
+ghost use Rattle.polyhedra.specs.Cone.{HasFullRank};
 ghost use Rattle.polyhedra.specs.LiveList.{numbers, step};
 ghost use Rattle.polyhedra.specs.LiveSteps.{IsLive};
+ghost use Rattle.lin_rows.specs.Read.{numbers as table};
+ghost use Rattle.double_descr.specs.Starting.{IsStart, IsStartFault};
 ghost use Rattle.double_descr.specs.Adding.{AreHeld, IsAddFault, IsChange, add_blocks};
+ghost use Rattle.double_descr.specs.State.{tight_set};
 ghost use Rattle.double_descr.specs.Steps.{values};
 
 use crate::fault::{Change, DdFault};
-use crate::generator::Generator;
+use crate::generator::{Generator, place_of};
 use crate::next::{Next, next_list};
+use crate::parts::numbers_of;
+use crate::starting::{copied, normed_all};
 use exact_field::Field;
-use src_sink::Items;
+use incid_sets::Marks;
+use lin_rows::{Rows, corners};
+use src_sink::{Items, MOST_ITEMS};
 use std::alloc::Global;
 use std::marker::Model;
 
@@ -43,10 +52,34 @@ impl<F: Field> Model for Dd<F> {
 }
 
 impl<F: Field> Dd<F> {
+    /// The double description of as many rows as they have entries, which are independent. Generator `j` is positive at row
+    /// `j - 1` and 0 at the others. The cost is that of one elimination of the rows with the unit matrix beside them.
+    pub fn start(alloc: Global, rows: &Rows<F>) -> Result<Dd<F>, DdFault<F>>
+        requires square { length rows.now.list ≡ rows.now.width }
+        requires rank { HasFullRank rows.now.width (table F.value rows.now.list) }
+        ensures ok { IfOk result (λ dd. IsStart rows.now.width (table F.value rows.now.list) dd) }
+        ensures left { IfErr result (λ fault. IsStartFault F.value F.holds rows.now.width (table F.value rows.now.list) fault) }
+    {
+        let vectors = corners(alloc, rows)?;
+        let generators = normed_all(alloc, &vectors)?;
+        let numbers = numbers_of(alloc, generators.as_slice())?;
+        let lines = copied(alloc, rows)?;
+        let next = generators.len() as u32 + 1;
+        Ok(Dd {
+            width: rows.width(),
+            rows: lines,
+            numbers,
+            generators,
+            next,
+            alloc,
+        })
+    }
+
     /// The numbers of the live generators, rising.
     pub fn live(&self) -> &[u32]
         ensures live { result.now ≡ numbers self.now.list.live }
         ensures described { IsLive self.now.width self.now.rows self.now.list }
+        ensures bound { length result.now ≤ MOST_ITEMS }
     {
         self.numbers.as_slice()
     }
@@ -56,6 +89,33 @@ impl<F: Field> Dd<F> {
         ensures { result ≡ length self.now.rows }
     {
         self.rows.len() as u32
+    }
+
+    /// Row `k`.
+    pub fn row(&self, k: u32) -> &[F]
+        requires { k < length self.now.rows }
+        ensures { values F.value result.now ≡ slice_index_or self.now.rows k [] }
+    {
+        self.rows.as_slice()[k as usize].as_slice()
+    }
+
+    /// The entries of the live generator `g`, which is found by a binary search.
+    pub fn generator(&self, g: u32) -> &[F]
+        requires { Contains (numbers self.now.list.live) g }
+        ensures listed { Contains self.now.list.live (record { number = g; vector = values F.value result.now }) }
+        ensures only { (v : List ℚ) → Contains self.now.list.live (record { number = g; vector = v }) → values F.value result.now ≡ v }
+    {
+        let place = place_of(self.numbers.as_slice(), g);
+        self.generators.as_slice()[place].vector.as_slice()
+    }
+
+    /// The rows that are 0 at the live generator `g`, which is found by a binary search.
+    pub fn tight(&self, g: u32) -> &Marks
+        requires { Contains (numbers self.now.list.live) g }
+        ensures { (v : List ℚ) → Contains self.now.list.live (record { number = g; vector = v }) → result.now ≡ tight_set self.now.rows v }
+    {
+        let place = place_of(self.numbers.as_slice(), g);
+        &self.generators.as_slice()[place].tight
     }
 
     /// Adds a row of this width, as its next one. The generators at which it is negative are dropped, and each opposite pair that

@@ -1,6 +1,7 @@
 //! What an addition changes, and why a double description is given up.
 
 use exact_field::Left;
+use lin_rows::RowFault;
 use src_sink::{Items, NoMemory};
 
 /// Two generators, by number: at the new row the one is positive and the other negative.
@@ -26,6 +27,9 @@ pub struct Change {
 /// Why a double description was given up.
 #[derive(Debug, Drop)]
 pub enum DdFault<F: Drop> {
+    /// A step of a start whose result is not held: of the elimination, or of the norming of a generator. Of a norming the basis
+    /// is empty, the row 0, the column the place of the entry, from 1, and the step 1.
+    Elim(RowFault<F>),
     /// A step of an addition whose result is not held: of the value of the generator `first` at the new row, and then `second`
     /// is 0, or of the pair of both.
     Left {
@@ -50,5 +54,19 @@ impl<F: Drop> From<NoMemory> for DdFault<F> {
 
     fn from(_e: NoMemory) -> DdFault<F> {
         DdFault::NoMemory
+    }
+}
+
+impl<F: Drop> From<RowFault<F>> for DdFault<F> {
+    ghost use Rattle.std.specs.Prelude.{◌≡◌};
+    ghost use Rattle.double_descr.specs.Faults.{fault_of};
+
+    ghost from_gives = { λ r e. e ≡ fault_of r };
+
+    fn from(fault: RowFault<F>) -> DdFault<F> {
+        match fault {
+            RowFault::NoMemory => DdFault::NoMemory,
+            left => DdFault::Elim(left),
+        }
     }
 }

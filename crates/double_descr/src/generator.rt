@@ -1,5 +1,5 @@
 //! Live generators.
-ghost use Rattle.std.specs.Prelude.{◌≡◌, ◌≢◌, ◌+◌, ◌<◌, List, Bool, true, [], ◌∷◌, ◌++◌, IfErr, IfOk, length};
+ghost use Rattle.std.specs.Prelude.{◌≡◌, ◌≢◌, ◌+◌, ◌<◌, List, Bool, true, [], ◌∷◌, ◌++◌, AllPairs, Contains, IfErr, IfOk, length, slice_index};
 ghost use Rattle.exact_field.specs.Rational.{zero_ℚ, ◌<ℚ◌};
 ghost use Rattle.polyhedra.specs.DoubleDescription.{norming, normed};
 ghost use Rattle.incid_sets.specs.Marks.{IsMeet};
@@ -24,6 +24,19 @@ pub struct Generator<F: Drop> {
     pub vector: Vec<F>,
     /// The rows that are 0 at it.
     pub tight: Marks,
+}
+
+/// The place of a generator's number among rising numbers, by a binary search.
+pub fn place_of(numbers: &[u32], number: u32) -> usize
+    requires rises { AllPairs (λ a b. a < b) numbers.now }
+    requires listed { Contains numbers.now number }
+    ensures within { result < length numbers.now }
+    ensures is { slice_index numbers.now result ≡ number }
+{
+    match numbers.binary_search(&number) {
+        Ok(place) => place,
+        Err(_) => unreachable!(),
+    }
 }
 
 /// The common numbers of two sets of rows, and after them whether the next row is in the set.

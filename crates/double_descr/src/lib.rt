@@ -10,6 +10,7 @@ mod pairs;
 mod parts;
 mod points;
 mod signs;
+mod starting;
 mod steps;
 
 pub use dd::Dd;

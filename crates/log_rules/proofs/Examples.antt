@@ -16,7 +16,7 @@ use Rattle.deriv_log.specs.declared.entry.Entry.TheVariants as entry
 use Rattle.polyhedra.proofs.Members.{pairs-nil, pairs-cons}
 use Rattle.polyhedra.proofs.Tests.{both_true}
 use Rattle.log_rules.specs.Events.{log_failure}
-use Rattle.log_rules.specs.Examples.{n, wide, Parts, Says, Fails, small, small_cuts, small_front, last_ray, solved_end, large, large_log, plain, the_line, line_log, wide_cone, cone_log, dual_cone, dual_log, one, whole_log, bounded_log, empty, farkas_log, largest, largest_front, largest_log, LargestLog, WorkedLogs, pair}
+use Rattle.log_rules.specs.Examples.{n, wide, Parts, Says, Fails, small, small_cuts, small_front, last_ray, solved_end, large, large_log, plain, the_line, line_log, wide_cone, cone_log, cone_alone, cone_alone_log, dual_cone, dual_log, one, whole_log, bounded_log, empty, farkas_log, largest, largest_front, largest_log, LargestLog, WorkedLogs, pair}
 use Rattle.log_rules.specs.Live.{duality_vector}
 use Rattle.log_rules.specs.Proves.{Proves, live_at, named_facets}
 use Rattle.log_rules.specs.Right.{Rise, is_before, key, stated}
@@ -27,7 +27,7 @@ use Rattle.log_rules.specs.declared.answer.Facet.{Facet}
 
 -- ---- the files
 -- a file of these parts, from what a problem keeps
-record IsProblem (p : Parts) : Type 0 where
+pub record IsProblem (p : Parts) : Type 0 where
   pub rows_bounded : length p.row_bounds ≤ 100000
   pub some_column : 0 < length p.col_bounds
   pub cols_bounded : length p.col_bounds ≤ 100000
@@ -38,7 +38,7 @@ record IsProblem (p : Parts) : Type 0 where
   pub cone_vectors : IsTrue (cone_fits p.objs p.cone)
   pub duality_entries : IsTrue (duality_fits p.objs p.duality)
 
-abbrev file_of : (p : Parts) → IsProblem p → Problem
+abbrev pub file_of : (p : Parts) → IsProblem p → Problem
 file_of p h = record {
   dir = p.dir;
   rows = length p.row_bounds;
@@ -63,7 +63,7 @@ file_of p h = record {
   duality_entries = h.duality_entries;
 }
 
-file_says : (p : Parts) (h : IsProblem p) → Says (file_of p h) p
+pub file_says : (p : Parts) (h : IsProblem p) → Says (file_of p h) p
 file_says p h = record {
   dir = refl;
   rows = refl;
@@ -105,7 +105,7 @@ large_kept = record {
   duality_entries = refl;
 }
 
-line_kept : IsProblem (plain Orthant None (Free ∷ Lower (n 0) ∷ []))
+unfoldable pub line_kept : IsProblem (plain Orthant None (Free ∷ Lower (n 0) ∷ []))
 unfolding whole fraction gcd
 line_kept = record {
   rows_bounded = omega arith;
@@ -133,6 +133,20 @@ cone_kept = record {
   duality_entries = refl;
 }
 
+cone_alone_kept : IsProblem cone_alone
+unfolding whole fraction gcd
+cone_alone_kept = record {
+  rows_bounded = omega arith;
+  some_column = omega arith;
+  cols_bounded = omega arith;
+  some_objective = omega arith;
+  objs_bounded = omega arith;
+  a_cells = refl;
+  o_cells = refl;
+  cone_vectors = refl;
+  duality_entries = refl;
+}
+
 dual_kept : IsProblem (plain dual_cone None (Lower (n 0) ∷ Lower (n 0) ∷ []))
 unfolding whole fraction gcd
 dual_kept = record {
@@ -147,7 +161,7 @@ dual_kept = record {
   duality_entries = refl;
 }
 
-free_kept : IsProblem (one Unsaid)
+unfoldable pub free_kept : IsProblem (one Unsaid)
 unfolding whole fraction gcd
 free_kept = record {
   rows_bounded = omega arith;
@@ -161,7 +175,7 @@ free_kept = record {
   duality_entries = refl;
 }
 
-bounded_kept : IsProblem (one (Lower (fraction (pos 3) 2)))
+unfoldable pub bounded_kept : IsProblem (one (Lower (fraction (pos 3) 2)))
 unfolding whole fraction gcd
 bounded_kept = record {
   rows_bounded = omega arith;
@@ -175,7 +189,7 @@ bounded_kept = record {
   duality_entries = refl;
 }
 
-empty_kept : IsProblem empty
+unfoldable pub empty_kept : IsProblem empty
 unfolding whole fraction gcd
 empty_kept = record {
   rows_bounded = omega arith;
@@ -189,7 +203,7 @@ empty_kept = record {
   duality_entries = refl;
 }
 
-largest_kept : IsProblem largest
+unfoldable pub largest_kept : IsProblem largest
 unfolding whole fraction gcd
 largest_kept = record {
   rows_bounded = omega arith;
@@ -248,6 +262,10 @@ line_alone = record {
 by_generators : Fails (plain wide_cone (Some (n 2 ∷ n 2 ∷ [])) (Lower (n 0) ∷ Lower (n 0) ∷ [])) (cone_log) (7 ∷ 0 ∷ 9 ∷ [])
 unfolding cone_kept whole fraction ◌+ℚ◌ ◌*ℚ◌ neg_ℚ inverse_ℚ le_ℚ gcd
 by_generators = record { file = file_of (plain wide_cone (Some (n 2 ∷ n 2 ∷ [])) (Lower (n 0) ∷ Lower (n 0) ∷ [])) cone_kept; says = file_says (plain wide_cone (Some (n 2 ∷ n 2 ∷ [])) (Lower (n 0) ∷ Lower (n 0) ∷ [])) cone_kept; first = refl }
+
+generators : Fails cone_alone cone_alone_log ([])
+unfolding cone_alone_kept whole fraction ◌+ℚ◌ ◌*ℚ◌ neg_ℚ inverse_ℚ le_ℚ gcd
+generators = record { file = file_of cone_alone cone_alone_kept; says = file_says cone_alone cone_alone_kept; first = refl }
 
 by_rows : Fails (plain dual_cone None (Lower (n 0) ∷ Lower (n 0) ∷ [])) (dual_log) ([])
 unfolding dual_kept whole fraction ◌+ℚ◌ ◌*ℚ◌ neg_ℚ inverse_ℚ le_ℚ gcd
@@ -367,6 +385,7 @@ worked_logs = record {
     has_line = has_line;
     line_alone = line_alone;
     by_generators = by_generators;
+    generators = generators;
     by_rows = by_rows;
     everything = everything;
     bounded = bounded;

@@ -3,10 +3,10 @@ use Rattle.std.proofs.Common.{◌≡◌, suc, List, [], ◌∷◌, ◌++◌, ref
 use Rattle.std.proofs.lemmas.List.Elements.{All-nil, All-append, All-cons, All-weaker}
 use Rattle.polyhedra.specs.Exactness.{rows_of}
 use Rattle.polyhedra.specs.Inequality.{Inequality}
-use Rattle.polyhedra.specs.TightSets.{IsDoubleDescriptionPair}
 use Rattle.polyhedra.proofs.Members.{member_of}
 use Rattle.log_rules.specs.Laws.{Stands, RulesKeepDescription}
-use Rattle.log_rules.specs.Live.{Stated, State, state, after, vectors}
+use Rattle.polyhedra.specs.LiveSteps.{IsLive}
+use Rattle.log_rules.specs.Live.{Stated, State, state, after}
 use Rattle.log_rules.specs.Meets.{Meets}
 use Rattle.log_rules.specs.Order.{has, kind, place}
 use Rattle.log_rules.specs.Proves.{AllMeet}
@@ -28,12 +28,9 @@ pub record IsKept (file : Problem) (s : State) (started : Bool) : Type 0 where
 -- one more cut changes nothing of what stands
 pub stands-cut : (file : Problem) (s : State) (c : Stated) → All (Exists s.cuts) s.used → Stands file s → Stands file (record s { cuts = s.cuts ++ c ∷ [] })
 stands-cut file s c exist h = record {
-  described = subst (λ (es : List Inequality). IsDoubleDescriptionPair (suc file.objs) (rows_of file.objs es) (vectors s))
-      (sym (stated_stay s.cuts (c ∷ []) s.used (λ k m. member_of (Exists s.cuts) s.used k exist m))) h.described;
-  normed = h.normed;
+  is_live = subst (λ (es : List Inequality). IsLive (suc file.objs) (rows_of file.objs es) s.list)
+      (sym (stated_stay s.cuts (c ∷ []) s.used (λ k m. member_of (Exists s.cuts) s.used k exist m))) h.is_live;
   kinds = h.kinds;
-  rising = h.rising;
-  made = h.made;
 }
 
 module _ (file : Problem) where

@@ -14,7 +14,7 @@ use Rattle.log_rules.proofs.ConeHeld.{farkas-passes, cut-passes}
 use Rattle.log_rules.proofs.CornerHeld.{start-passes}
 use Rattle.log_rules.proofs.HeldTests.{none_fails}
 use Rattle.log_rules.proofs.InteriorHeld.{duality-passes}
-use Rattle.log_rules.proofs.Kept.{state-kept}
+use Rattle.log_rules.proofs.Kept.{state-rises}
 use Rattle.log_rules.proofs.PassedTests.{Passed}
 use Rattle.log_rules.proofs.ReachedHeld.{point-passes, ray-passes, whole-passes, line-passes}
 use Rattle.log_rules.proofs.TightHeld.{add-passes, facet-passes, end-passes}
@@ -26,8 +26,8 @@ kind-passes file before (Duality c weights picks inverse) h = duality-passes fil
 kind-passes file before (Cut n gamma u v) h = cut-passes file before n gamma u v h
 kind-passes file before (Start cuts point directions) h = start-passes file (state file.objs before) cuts point directions h
 kind-passes file before (Add cut pairs) h = add-passes file (state file.objs before) cut pairs h
-kind-passes file before (Point k x m) h = point-passes file before (state file.objs before) k x m (state-kept file.objs before) h
-kind-passes file before (Ray k x m) h = ray-passes file before (state file.objs before) k x m (state-kept file.objs before) h
+kind-passes file before (Point k x m) h = point-passes file before (state file.objs before) k x m (state-rises file.objs before) h
+kind-passes file before (Ray k x m) h = ray-passes file before (state file.objs before) k x m (state-rises file.objs before) h
 kind-passes file before (Farkas u) h = farkas-passes file u h
 kind-passes file before (Whole x ray m) h = whole-passes file (duality_vector before) x ray m h
 kind-passes file before (Line d x ray m back n) h = line-passes file d x ray m back n h

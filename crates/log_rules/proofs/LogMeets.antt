@@ -7,7 +7,7 @@ use Rattle.log_rules.proofs.Balanced.{farkas-meets, cut-meets}
 use Rattle.log_rules.proofs.Corner.{start-meets}
 use Rattle.log_rules.proofs.Entries.{state-push}
 use Rattle.log_rules.proofs.Interior.{duality-meets}
-use Rattle.log_rules.proofs.Kept.{state-kept}
+use Rattle.log_rules.proofs.Kept.{state-rises}
 use Rattle.log_rules.proofs.PassedTests.{Passed, passed_of}
 use Rattle.log_rules.proofs.Reached.{point-meets, ray-meets, whole-meets, line-meets}
 use Rattle.log_rules.proofs.TightTests.{add-meets, facet-meets, end-meets}
@@ -33,8 +33,8 @@ kind-meets file before (Duality c weights picks inverse) w h = duality-meets fil
 kind-meets file before (Cut n gamma u v) w h = cut-meets file before n gamma u v h
 kind-meets file before (Start cuts point directions) w h = start-meets file (state file.objs before) cuts point directions w.cuts_wide h
 kind-meets file before (Add cut pairs) w h = add-meets file (state file.objs before) cut pairs h
-kind-meets file before (Point k x m) w h = point-meets file before (state file.objs before) k x m (state-kept file.objs before) h
-kind-meets file before (Ray k x m) w h = ray-meets file before (state file.objs before) k x m (state-kept file.objs before) h
+kind-meets file before (Point k x m) w h = point-meets file before (state file.objs before) k x m (state-rises file.objs before) h
+kind-meets file before (Ray k x m) w h = ray-meets file before (state file.objs before) k x m (state-rises file.objs before) h
 kind-meets file before (Farkas u) w h = farkas-meets file u h
 kind-meets file before (Whole x ray m) w h = whole-meets file (duality_vector before) x ray m w.c_wide h
 kind-meets file before (Line d x ray m back n) w h = line-meets file d x ray m back n h

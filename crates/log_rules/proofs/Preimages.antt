@@ -1,12 +1,13 @@
 -- A live generator with a pre-image: what the entry that gives it shows.
-use Rattle.std.proofs.Common.{◌≡◌, ◌≢◌, ℕ, ◌≤◌, List, [], ◌∷◌, ◌++◌, refl, sym, ap, ◌∙◌, subst, arith, Bool, true, false, nat_eq, IsTrue, Option, Some, None, ◌⊎◌, inl, inr, length, All, Contains, slice_index_or}
+use Rattle.std.proofs.Common.{◌≡◌, ◌≢◌, ℕ, ◌<◌, List, [], ◌∷◌, ◌++◌, refl, sym, ap, ◌∙◌, subst, arith, Bool, true, false, nat_eq, IsTrue, Option, Some, None, ◌⊎◌, inl, inr, length, All, Contains, slice_index_or}
 use Rattle.std.specs.List.{cons_option}
 use Rattle.std.proofs.lemmas.List.Elements.{All-head, Contains-append_right}
 use Rattle.polyhedra.proofs.Lists.{Contains-here}
 use Rattle.polyhedra.proofs.Members.{member_of}
 use Rattle.upper_image.specs.Shows.{ShowsFeasible, ShowsRecession, ShowsAbove}
 use Rattle.log_rules.specs.Laws.{Stands}
-use Rattle.log_rules.specs.Live.{Member, State, state, preimage_in, preimages, in_use}
+use Rattle.polyhedra.specs.LiveList.{Numbered}
+use Rattle.log_rules.specs.Live.{State, state, y_of, t_of, preimage_in, preimages, in_use}
 use Rattle.log_rules.specs.Meets.{Meets, IsOpen}
 use Rattle.log_rules.specs.Order.{has}
 use Rattle.log_rules.specs.Proves.{AllMeet}
@@ -112,51 +113,51 @@ pub record ShowsDirection (file : Problem) (d : List ℚ) (x : List Spot) : Type
   pub recedes : ShowsRecession file x
   pub above : ShowsAbove file d x multipliers
 
-pub record ShowsMember (file : Problem) (g : Member) (x : List Spot) : Type 0 where
-  pub point : g.t ≡ one_ℚ → ShowsPoint file g.y x
-  pub direction : g.t ≡ zero_ℚ → ShowsDirection file g.y x
+pub record ShowsGenerator (file : Problem) (g : Numbered) (x : List Spot) : Type 0 where
+  pub point : t_of file.objs g ≡ one_ℚ → ShowsPoint file (y_of file.objs g) x
+  pub direction : t_of file.objs g ≡ zero_ℚ → ShowsDirection file (y_of file.objs g) x
 
 module _ (file : Problem) where
-  width : (s : State) → Stands file s → (g : Member) → Contains s.live g → length g.y ≡ file.objs
-  width s h g c = elim (one_of file.objs (in_use s) s.live h.described h.normed g c) [ inl a ↦ a.1 | inr a ↦ a.1 ]
+  width : (s : State) → Stands file s → (g : Numbered) → Contains s.list.live g → length (y_of file.objs g) ≡ file.objs
+  width s h g c = elim (one_of file.objs (in_use s) s.list h.is_live g c) [ inl a ↦ a.wide | inr a ↦ a.wide ]
 
   -- a live generator of this number, at the entry or later, is the one that the entry speaks of
-  the_one : (before rest : List Entry) (s : IsTrue (has order.start before)) (g : Member) (t : ℚ) (p : Member) → AllMeet file (before ++ rest) →
-      Contains (state file.objs (before ++ rest)).live g → IsOpen before (state file.objs before) g.number t p → p ≡ g
+  the_one : (before rest : List Entry) (s : IsTrue (has order.start before)) (g : Numbered) (t : ℚ) (p : Numbered) → AllMeet file (before ++ rest) →
+      Contains (state file.objs (before ++ rest)).list.live g → IsOpen file.objs before (state file.objs before) g.number t p → p ≡ g
   the_one before rest started g t p meet c spoken =
       let stands : Stands file (state file.objs before) = rules_keep_description file before (meets_front file before rest meet) started in
       let n = spoken.number in
-      let most = (member_of (λ (x : Member). (1 ≤ x.number) × (x.number ≤ (state file.objs before).made)) (state file.objs before).live p stands.made spoken.live).1 in
-      same_number (state file.objs before).live stands.rising p g spoken.live
-      (numbers_stay file before rest meet started g c (omega (arith, n, most))) spoken.number
+      let list = (state file.objs before).list in
+      let most = member_of (λ (x : Numbered). x.number < list.next) list.live p stands.rising.below spoken.is_live in
+      same_number list.live stands.rising.rises p g spoken.is_live (numbers_stay file before rest meet started g c (omega (arith, n, most))) spoken.number
 
   -- what the entry meets, told of the generator
-  shown_by : (before rest : List Entry) (g : Member) (e : Entry) (x : List Spot) → Shows g.number e x → AllMeet file (before ++ e ∷ rest) →
-      Contains (state file.objs (before ++ e ∷ rest)).live g → ShowsMember file g x
+  shown_by : (before rest : List Entry) (g : Numbered) (e : Entry) (x : List Spot) → Shows g.number e x → AllMeet file (before ++ e ∷ rest) →
+      Contains (state file.objs (before ++ e ∷ rest)).list.live g → ShowsGenerator file g x
   shown_by before rest g _ _ (by_point x m) meet c =
       let met : Meets file before (Point g.number x m) = meet before (Point g.number x m) rest refl in
       let started = (order_of before order.point met.order).start in
       let p = met.rules.point in
       let stands : Stands file (state file.objs before) = rules_keep_description file before (meets_front file before (Point g.number x m ∷ rest) meet) started in
-      let of_p : ShowsMember file p x = record {
-        point = λ t. record { multipliers = m; wide = width (state file.objs before) stands p met.rules.index.live; feasible = met.rules.feasible; above = met.rules.above };
+      let of_p : ShowsGenerator file p x = record {
+        point = λ t. record { multipliers = m; wide = width (state file.objs before) stands p met.rules.index.is_live; feasible = met.rules.feasible; above = met.rules.above };
         direction = λ t. absurd (one_not_zero (sym met.rules.index.level ∙ t));
       } in
-      subst (λ (v : Member). ShowsMember file v x) (the_one before (Point g.number x m ∷ rest) started g one_ℚ p meet c met.rules.index) of_p
+      subst (λ (v : Numbered). ShowsGenerator file v x) (the_one before (Point g.number x m ∷ rest) started g one_ℚ p meet c met.rules.index) of_p
   shown_by before rest g _ _ (by_ray x m) meet c =
       let met : Meets file before (Ray g.number x m) = meet before (Ray g.number x m) rest refl in
       let started = (order_of before order.ray met.order).start in
       let p = met.rules.direction in
       let stands : Stands file (state file.objs before) = rules_keep_description file before (meets_front file before (Ray g.number x m ∷ rest) meet) started in
-      let of_p : ShowsMember file p x = record {
+      let of_p : ShowsGenerator file p x = record {
         point = λ t. absurd (one_not_zero (sym t ∙ met.rules.index.level));
-        direction = λ t. record { multipliers = m; wide = width (state file.objs before) stands p met.rules.index.live; recedes = met.rules.recedes; above = met.rules.above };
+        direction = λ t. record { multipliers = m; wide = width (state file.objs before) stands p met.rules.index.is_live; recedes = met.rules.recedes; above = met.rules.above };
       } in
-      subst (λ (v : Member). ShowsMember file v x) (the_one before (Ray g.number x m ∷ rest) started g zero_ℚ p meet c met.rules.index) of_p
+      subst (λ (v : Numbered). ShowsGenerator file v x) (the_one before (Ray g.number x m ∷ rest) started g zero_ℚ p meet c met.rules.index) of_p
 
-  pub member_shown : (entries : List Entry) → AllMeet file entries → (g : Member) → Contains (state file.objs entries).live g →
-      preimages entries g.number ≢ [] → ShowsMember file g (preimage entries g.number)
-  member_shown entries meet g c h =
+  pub generator_shown : (entries : List Entry) → AllMeet file entries → (g : Numbered) → Contains (state file.objs entries).list.live g →
+      preimages entries g.number ≢ [] → ShowsGenerator file g (preimage entries g.number)
+  generator_shown entries meet g c h =
       let s : IsShown g.number entries = shown g.number entries h in
       shown_by s.before s.rest g s.entry (preimage entries g.number) s.shows (subst (λ (es : List Entry). AllMeet file es) s.same meet)
-      (subst (λ (es : List Entry). Contains (state file.objs es).live g) s.same c)
+      (subst (λ (es : List Entry). Contains (state file.objs es).list.live g) s.same c)

@@ -16,7 +16,8 @@ use Rattle.upper_image.proofs.Shown.{cone_shown}
 use Rattle.upper_image.proofs.Solid.{duality_fits}
 use Rattle.upper_image.proofs.WorkingImage.{rest_wide, working_image_convex, cut_valid, point_shown, ray_shown}
 use Rattle.log_rules.specs.Laws.{listed, named_cuts}
-use Rattle.log_rules.specs.Live.{Stated, Member, State, state, cut_at, named, duality_vector, preimages, in_use, vectors}
+use Rattle.polyhedra.specs.LiveList.{Numbered}
+use Rattle.log_rules.specs.Live.{Stated, State, state, y_of, t_of, cut_at, named, duality_vector, preimages, in_use, live_vectors}
 use Rattle.log_rules.specs.Meets.{MeetsSolved}
 use Rattle.log_rules.specs.Proves.{Proves, AllMeet, GivesSolution, facet_of}
 use Rattle.log_rules.specs.Right.{stated, tight_numbers, IsSolution}
@@ -25,7 +26,7 @@ use Rattle.log_rules.proofs.CutsStay.{Exists, cut_of}
 use Rattle.log_rules.proofs.CutsValid.{IsStatedBy, cuts_stated, cuts_sparse}
 use Rattle.log_rules.proofs.DualityStays.{HasDuality, has_duality, duality_met}
 use Rattle.log_rules.proofs.NamedCuts.{named_stand}
-use Rattle.log_rules.proofs.Preimages.{ShowsMember, preimage, preimage_sparse, member_shown}
+use Rattle.log_rules.proofs.Preimages.{ShowsGenerator, preimage, preimage_sparse, generator_shown}
 use Rattle.log_rules.proofs.SolvedIsSolved.{solved_met, solved}
 use Rattle.log_rules.proofs.Sound.{AreSound}
 use Rattle.log_rules.proofs.SparseEntries.{AreSparse, log_sparse}
@@ -58,39 +59,39 @@ module _ (file : Problem) (entries : List Entry) (meet : AllMeet file entries) (
 
   exact : IsExact file.objs (IsInWorkingImage file) (IsWorkingDirection file) (duality_vector entries) (map (turned file.dir) ys) (map (turned file.dir) ds)
       (map (working file) (map stated facets))
-  exact = exactness (IsInWorkingImage file) (IsWorkingDirection file) file.objs (duality_vector entries) (in_use s) (vectors s)
+  exact = exactness (IsInWorkingImage file) (IsWorkingDirection file) file.objs (duality_vector entries) (in_use s) (live_vectors s)
       (map (turned file.dir) ys) (map (turned file.dir) ds) (map (working file) (map stated facets))
-      (solved_alike file.objs (IsInWorkingImage file) (IsWorkingDirection file) (duality_vector entries) (in_use s) (vectors s)
-      (listed s one_ℚ) (map (turned file.dir) ys) (listed s zero_ℚ) (map (turned file.dir) ds) (named_cuts s entries) (map (working file) (map stated facets))
+      (solved_alike file.objs (IsInWorkingImage file) (IsWorkingDirection file) (duality_vector entries) (in_use s) (live_vectors s)
+      (listed file.objs s one_ℚ) (map (turned file.dir) ys) (listed file.objs s zero_ℚ) (map (turned file.dir) ds) (named_cuts s entries) (map (working file) (map stated facets))
       (same_listed file entries one_ℚ points given.points_are) (same_listed file entries zero_ℚ directions given.directions_are)
       (same_facets file entries ys ds facets given.facets_are) (solved file (are_sound file) entries meet met))
 
   -- ---- what shows the points, the directions and the facets
-  member : (g : Member) → Contains s.live g → ShowsMember file g (preimage entries g.number)
-  member g c = member_shown file entries meet g c (member_of (λ (x : Member). preimages entries x.number ≢ []) s.live g met.reached c)
+  member : (g : Numbered) → Contains s.list.live g → ShowsGenerator file g (preimage entries g.number)
+  member g c = generator_shown file entries meet g c (member_of (λ (x : Numbered). preimages entries x.number ≢ []) s.list.live g met.reached c)
 
-  sparse_of : (g : Member) → Contains s.live g → IsSparse (preimage entries g.number)
-  sparse_of g c = preimage_sparse entries g.number sparse (member_of (λ (x : Member). preimages entries x.number ≢ []) s.live g met.reached c)
+  sparse_of : (g : Numbered) → Contains s.list.live g → IsSparse (preimage entries g.number)
+  sparse_of g c = preimage_sparse entries g.number sparse (member_of (λ (x : Numbered). preimages entries x.number ≢ []) s.list.live g met.reached c)
 
   above_of : (y : List ℚ) (x m : List Spot) → length y ≡ file.objs → ShowsAbove file y x m →
       IsInOrderingCone file (rest file (turned file.dir (turned file.dir y)) (dense file.cols x))
   above_of y x m w h = subst (λ (v : List ℚ). IsInOrderingCone file (rest file v (dense file.cols x))) (sym (turned-twice file.dir y))
       (cone_shown file.objs file.cone (rest file y (dense file.cols x)) m (rest_wide file y (dense file.cols x) w) h)
 
-  point_shown_by : (g : Member) → Contains s.live g → g.t ≡ one_ℚ → HasPreimage file (turned file.dir g.y) (preimage entries g.number)
+  point_shown_by : (g : Numbered) → Contains s.list.live g → t_of file.objs g ≡ one_ℚ → HasPreimage file (turned file.dir (y_of file.objs g)) (preimage entries g.number)
   point_shown_by g c e =
       let h = (member g c).point e in
       record {
         vector = record { sparse = sparse_of g c; places = h.feasible.index };
-        shown = record { wide = length-turned file.dir g.y ∙ h.wide; feasible = h.feasible.side; above = above_of g.y (preimage entries g.number) h.multipliers h.wide h.above };
+        shown = record { wide = length-turned file.dir (y_of file.objs g) ∙ h.wide; feasible = h.feasible.side; above = above_of (y_of file.objs g) (preimage entries g.number) h.multipliers h.wide h.above };
       }
 
-  direction_shown_by : (g : Member) → Contains s.live g → g.t ≡ zero_ℚ → HasDirectionPreimage file (turned file.dir g.y) (preimage entries g.number)
+  direction_shown_by : (g : Numbered) → Contains s.list.live g → t_of file.objs g ≡ zero_ℚ → HasDirectionPreimage file (turned file.dir (y_of file.objs g)) (preimage entries g.number)
   direction_shown_by g c e =
       let h = (member g c).direction e in
       record {
         vector = record { sparse = sparse_of g c; places = h.recedes.index };
-        shown = record { wide = length-turned file.dir g.y ∙ h.wide; recedes = h.recedes.side; above = above_of g.y (preimage entries g.number) h.multipliers h.wide h.above };
+        shown = record { wide = length-turned file.dir (y_of file.objs g) ∙ h.wide; recedes = h.recedes.side; above = above_of (y_of file.objs g) (preimage entries g.number) h.multipliers h.wide h.above };
       }
 
   cut_shown_by : (k : ℕ) → Exists s.cuts k → IsShownFacet file (facet_of file ys ds (cut_at s.cuts k))

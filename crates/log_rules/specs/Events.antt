@@ -12,7 +12,8 @@ use Rattle.upper_image.specs.OrderingCone.{dual_of}
 use Rattle.upper_image.specs.Shows.{picked}
 use Rattle.upper_image.specs.Spots.{pieces, dense, product, column}
 use Rattle.upper_image.specs.UpperImage.{objective, objective_column, rest}
-use Rattle.log_rules.specs.Live.{Stated, Member, State, state, vector, value, find, cut_at, cut_row, rows_in_use, required_pairs, duality_vector, preimages, named, contains}
+use Rattle.polyhedra.specs.LiveList.{Numbered}
+use Rattle.log_rules.specs.Live.{Stated, State, state, y_of, t_of, value, find, cut_at, cut_row, rows_in_use, required_pairs, duality_vector, preimages, named, contains}
 use Rattle.log_rules.specs.Order.{in_order}
 use Rattle.frac128.specs.Sparse.{is_zero}
 use Rattle.frac128.specs.declared.vectors.Spot.{Spot}
@@ -202,9 +203,9 @@ start_events file s cuts point directions =
 
 -- ---- add
 -- the value of a cut at a generator: a sum and, for a point, the difference with gamma
-abbrev pub value_steps : Stated → Member → List Event
-value_steps cut g =
-    dot_steps cut.w g.y ++ (if is_zero g.t then [] else step op.Sub (dot cut.w g.y) cut.gamma ∷ [])
+abbrev pub value_steps : ℕ → Stated → Numbered → List Event
+value_steps q cut g =
+    dot_steps cut.w (y_of q g) ++ (if is_zero (t_of q g) then [] else step op.Sub (dot cut.w (y_of q g)) cut.gamma ∷ [])
 
 -- the same pairs in the same order
 abbrev pub same_pairs : List LogPair → List LogPair → Bool
@@ -226,16 +227,16 @@ abbrev pub divisor : ℕ → List ℚ → ℚ
 divisor q z = if is_zero (entry z (suc q)) then magnitude (leading (take q z)) else entry z (suc q)
 
 -- a new generator: the quotient k, the entries, and the quotients that norm y
-abbrev pub pair_steps : ℕ → List ℚ → Member → Member → List Event
+abbrev pub pair_steps : ℕ → List ℚ → Numbered → Numbered → List Event
 pair_steps q row plus minus =
     let k = value row plus /ℚ neg_ℚ (value row minus) in
-    let z = meeting_point k (vector plus) (vector minus) in
+    let z = meeting_point k plus.vector minus.vector in
     step op.Div (value row plus) (neg_ℚ (value row minus))
-    ∷ meeting_steps k (vector plus) (vector minus)
+    ∷ meeting_steps k plus.vector minus.vector
     ++ map (λ x. step op.Div x (divisor q z)) (take q z)
 
 -- the steps of a pair of numbers; none where they name no live generators
-abbrev pub pair_of : ℕ → List ℚ → List Member → LogPair → List Event
+abbrev pub pair_of : ℕ → List ℚ → List Numbered → LogPair → List Event
 pair_of q row live pair =
     elim (find live pair.plus) [
       | Some plus ↦ elim (find live pair.minus) [ Some minus ↦ pair_steps q row plus minus | None ↦ [] ]
@@ -245,25 +246,27 @@ pair_of q row live pair =
 abbrev pub add_events : Problem → State → ℕ → List LogPair → List Event
 add_events file s cut pairs =
     test rule.Index (nat_le 1 cut && nat_le cut (length s.cuts) && not (contains s.used cut))
-    ∷ flat_map (value_steps (cut_at s.cuts cut)) s.live
-    ++ test rule.Pairs (same_pairs pairs (required_pairs (rows_in_use file.objs s) s.live (cut_row s cut)))
-    ∷ flat_map (pair_of file.objs (cut_row s cut) s.live) pairs
+    ∷ flat_map (value_steps file.objs (cut_at s.cuts cut)) s.list.live
+    ++ test rule.Pairs (same_pairs pairs (required_pairs (rows_in_use file.objs s) s.list.live (cut_row s cut)))
+    ∷ flat_map (pair_of file.objs (cut_row s cut) s.list.live) pairs
 
 -- ---- point and ray
 -- the live generator number k has this t and no pre-image
-abbrev pub is_open : List Entry → List Member → ℕ → ℚ → Bool
-is_open before live k t =
-    list_any (λ g. g.number == k && same_ℚ g.t t) live && length (preimages before k) == 0
+abbrev pub is_open : ℕ → List Entry → List Numbered → ℕ → ℚ → Bool
+is_open q before live k t =
+    list_any (λ g. g.number == k && same_ℚ (t_of q g) t) live && length (preimages before k) == 0
 
 -- the y of the live generator number k
-abbrev pub y_of : List Member → ℕ → List ℚ
-y_of live k = elim (find live k) [ Some g ↦ g.y | None ↦ [] ]
+abbrev pub y_at : ℕ → List Numbered → ℕ → List ℚ
+y_at q live k = elim (find live k) [ Some g ↦ y_of q g | None ↦ [] ]
 
 abbrev pub point_events : Problem → List Entry → State → ℕ → List Spot → List Spot → List Event
-point_events file before s k x m = test rule.Index (is_open before s.live k one_ℚ) ∷ in_feasible file x ++ above file (y_of s.live k) x m
+point_events file before s k x m =
+    test rule.Index (is_open file.objs before s.list.live k one_ℚ) ∷ in_feasible file x ++ above file (y_at file.objs s.list.live k) x m
 
 abbrev pub ray_events : Problem → List Entry → State → ℕ → List Spot → List Spot → List Event
-ray_events file before s k x m = test rule.Index (is_open before s.live k zero_ℚ) ∷ in_recession file x ++ above file (y_of s.live k) x m
+ray_events file before s k x m =
+    test rule.Index (is_open file.objs before s.list.live k zero_ℚ) ∷ in_recession file x ++ above file (y_at file.objs s.list.live k) x m
 
 -- ---- farkas, whole, line
 abbrev pub farkas_events : Problem → List Spot → List Event
@@ -287,18 +290,18 @@ line_events file d x ray m back n =
 
 -- ---- facet and end
 -- whether each live generator that is tight at row a is tight at row b
-abbrev pub lies_in : List Member → List ℚ → List ℚ → Bool
+abbrev pub lies_in : List Numbered → List ℚ → List ℚ → Bool
 lies_in live a b = list_all (λ g. not (is_zero (value a g)) || is_zero (value b g)) live
 
 -- the row's tight generators do not lie in those of row 0, nor properly in those of a row in use
 abbrev pub is_largest : ℕ → State → List ℚ → Bool
 is_largest q s row =
-    not (lies_in s.live row (level q))
-    && list_all (λ other. not (lies_in s.live row other) || lies_in s.live other row) (rows_in_use q s)
+    not (lies_in s.list.live row (level q))
+    && list_all (λ other. not (lies_in s.list.live row other) || lies_in s.list.live other row) (rows_in_use q s)
 
 -- the row has the tight generators of a named facet
 abbrev pub is_taken : State → List ℕ → List ℚ → Bool
-is_taken s names row = list_any (λ k. lies_in s.live row (cut_row s k) && lies_in s.live (cut_row s k) row) names
+is_taken s names row = list_any (λ k. lies_in s.list.live row (cut_row s k) && lies_in s.list.live (cut_row s k) row) names
 
 abbrev pub facet_events : Problem → List Entry → State → ℕ → List Event
 facet_events file before s cut =
@@ -307,7 +310,7 @@ facet_events file before s cut =
 
 -- the row's tight generators lie in those of row 0 or of a named facet
 abbrev pub is_accounted : ℕ → State → List ℕ → List ℚ → Bool
-is_accounted q s names row = lies_in s.live row (level q) || list_any (λ k. lies_in s.live row (cut_row s k)) names
+is_accounted q s names row = lies_in s.list.live row (level q) || list_any (λ k. lies_in s.list.live row (cut_row s k)) names
 
 abbrev pub end_events : Problem → List Entry → State → EndKind → List Event
 end_events file before s kind.Infeasible = test rule.Missing (order.has order.farkas before) ∷ []
@@ -315,7 +318,7 @@ end_events file before s kind.Whole = test rule.Missing (order.has order.whole b
 end_events file before s kind.NoVertex = test rule.Missing (order.has order.line before) ∷ []
 end_events file before s kind.Solved =
     test rule.Missing (order.has order.start before
-    && list_all (λ g. not (length (preimages before g.number) == 0)) s.live
+    && list_all (λ g. not (length (preimages before g.number) == 0)) s.list.live
     && list_all (λ k. is_accounted file.objs s (named before) (cut_row s k)) s.used) ∷ []
 
 -- ---- all kinds

@@ -8,7 +8,7 @@ use Rattle.vlp_reader.specs.declared.problem.Cell.{Cell}
 use Rattle.vlp_reader.specs.declared.problem.Dir.{Dir}
 use Rattle.vlp_reader.specs.declared.problem.Dir.TheVariants.{Min, Max}
 use Rattle.vlp_reader.specs.declared.problem.Bound.{Bound}
-use Rattle.vlp_reader.specs.declared.problem.Bound.TheVariants.{Unsaid, Free, Lower, Upper}
+use Rattle.vlp_reader.specs.declared.problem.Bound.TheVariants.{Unsaid, Free, Lower, Upper, Fixed}
 use Rattle.vlp_reader.specs.declared.problem.Cone.{Cone}
 use Rattle.vlp_reader.specs.declared.problem.Cone.TheVariants.{Orthant, Gens, Dual}
 use Rattle.deriv_log.specs.declared.entry.LogPair.{LogPair}
@@ -195,6 +195,23 @@ cone_log =
     ∷ entry.Ray 2 [] (at 1 (n 1) ∷ [])
     ∷ solved_end
 
+-- the same cone with both variables fixed at 0: the image is the cone itself, and each direction is a multiple of a generator
+abbrev pub cone_alone : Parts
+cone_alone = plain wide_cone (Some (n 2 ∷ n 2 ∷ [])) (Fixed (n 0) ∷ Fixed (n 0) ∷ [])
+
+abbrev pub cone_alone_log : List Entry
+cone_alone_log =
+    entry.Version 1
+    ∷ entry.Duality (n 1 ∷ n 1 ∷ []) (third ∷ third ∷ []) (1 ∷ 2 ∷ [])
+    (fraction (negsuc 0) 3 ∷ fraction (pos 2) 3 ∷ fraction (pos 2) 3 ∷ fraction (negsuc 0) 3 ∷ [])
+    ∷ entry.Cut (n 2 ∷ minus_one ∷ []) (n 0) (at 1 (n 2) ∷ at 4 (n 1) ∷ []) []
+    ∷ entry.Cut (minus_one ∷ n 2 ∷ []) (n 0) (at 2 (n 1) ∷ at 3 (n 2) ∷ []) []
+    ∷ entry.Start (1 ∷ 2 ∷ []) (n 0 ∷ n 0 ∷ []) (n 1 ∷ half ∷ n 1 ∷ n 2 ∷ [])
+    ∷ entry.Point 1 [] []
+    ∷ entry.Ray 2 [] (at 2 half ∷ [])
+    ∷ entry.Ray 3 [] (at 1 (n 1) ∷ [])
+    ∷ entry.Facet 1 ∷ entry.Facet 2 ∷ solved_end
+
 -- the orthant by rows, in dual form
 abbrev pub dual_cone : Cone
 dual_cone = Dual ((n 1 ∷ n 0 ∷ []) ∷ (n 0 ∷ n 1 ∷ []) ∷ [])
@@ -248,7 +265,7 @@ empty = record {
 abbrev pub farkas_log : ℚ → List Entry
 farkas_log u = entry.Version 1 ∷ entry.Farkas (at 1 (n 1) ∷ at 2 u ∷ []) ∷ entry.End kind.Infeasible ∷ []
 
--- an operation that is not held; a line, and one without a cut before it; cones by generators and by rows; everything; one objective; no solution; a cut before the
+-- an operation that is not held; a line, and one without a cut before it; a direction by a wrong generator; cones by generators and by rows; everything; one objective; no solution; a cut before the
 -- duality vector, a second version and none
 pub record OtherLogs : Type 0 where
   pub overflow : Fails large large_log (3 ∷ 1 ∷ 11 ∷ wide ∷ wide ∷ [])
@@ -256,6 +273,7 @@ pub record OtherLogs : Type 0 where
   pub line_alone : Fails (plain Orthant None (Free ∷ Lower (n 0) ∷ []))
       (entry.Version 1 ∷ entry.Duality (n 1 ∷ n 1 ∷ []) [] [] [] ∷ the_line ∷ entry.End kind.NoVertex ∷ []) (3 ∷ 0 ∷ 2 ∷ [])
   pub by_generators : Fails (plain wide_cone (Some (n 2 ∷ n 2 ∷ [])) (Lower (n 0) ∷ Lower (n 0) ∷ [])) cone_log (7 ∷ 0 ∷ 9 ∷ [])
+  pub generators : Passes cone_alone cone_alone_log
   pub by_rows : Passes (plain dual_cone None (Lower (n 0) ∷ Lower (n 0) ∷ [])) dual_log
   pub everything : Passes (one Unsaid) whole_log
   pub bounded : Passes (one (Lower (fraction (pos 3) 2))) (bounded_log (fraction (pos 3) 2))

@@ -1,17 +1,18 @@
 -- What is proved of the rules: against events, of what stands, and of answers.
-use Rattle.polyhedra.specs.DoubleDescription.{IsNormed}
 use Rattle.polyhedra.specs.Exactness.{IsSolved}
-use Rattle.polyhedra.specs.Hull.{IsInHull, IsValidAt, IsVertex}
+use Rattle.polyhedra.specs.Hull.{IsInHull, IsValidAt, IsVertex, IsExtremeDirection, IsNormedDirection}
 use Rattle.polyhedra.specs.Inequality.{Inequality}
-use Rattle.polyhedra.specs.LowerImage.{completed}
-use Rattle.polyhedra.specs.TightSets.{IsDoubleDescriptionPair}
-use Rattle.upper_image.specs.UpperImage.{IsInWorkingImage, IsWorkingDirection, IsInImage, IsDirection, IsValidFor, front, IsInLowerImageOf}
+use Rattle.polyhedra.specs.LowerImage.{completed, IsRecession}
+use Rattle.polyhedra.specs.Vectors.{zeros}
+use Rattle.upper_image.specs.UpperImage.{IsInWorkingImage, IsWorkingDirection, IsInImage, IsDirection, IsValidFor, front, IsInLowerImageOf, signed}
 use Rattle.log_rules.specs.Events.{log_failure}
-use Rattle.log_rules.specs.Live.{Member, State, state, cut_at, inequality, in_use, rows_in_use, vectors, named}
+use Rattle.polyhedra.specs.LiveList.{Numbered}
+use Rattle.polyhedra.specs.LiveSteps.{IsLive}
+use Rattle.log_rules.specs.Live.{State, state, live_vectors, y_of, t_of, cut_at, inequality, in_use, rows_in_use, named}
 use Rattle.log_rules.specs.Proves.{AllMeet, Proves}
 use Rattle.log_rules.specs.Right.{IsRight, stated, IsSolution}
-use Rattle.std.specs.Prelude.{◌≡◌, ◌⊎◌, ◌++◌, suc, ◌≤◌, ◌<◌, true, List, [], map, filter, All, AllPairs, Contains, IsTrue, Bool, None, ◌↔◌, ◌-◌, ◌∷◌, length}
-use Rattle.exact_field.specs.Rational.{ℚ, zero_ℚ, one_ℚ}
+use Rattle.std.specs.Prelude.{ℕ, ◌≡◌, ◌⊎◌, ◌++◌, suc, ◌<◌, true, List, [], map, filter, All, Contains, IsTrue, Bool, None, ◌↔◌, ◌-◌, ◌∷◌, length}
+use Rattle.exact_field.specs.Rational.{ℚ, zero_ℚ, one_ℚ, neg_ℚ}
 use Rattle.exact_field.specs.Order.{same_ℚ}
 use Rattle.vlp_reader.specs.declared.problem.Problem.{Problem}
 use Rattle.log_rules.specs.declared.answer.Answer.{Answer}
@@ -31,13 +32,11 @@ abbrev pub MeetsGiveEvents : Type 0
 MeetsGiveEvents = (file : Problem) (entries : List Entry) → AllMeet file entries → log_failure (λ _. true) file entries ≡ None
 
 -- ---- what stands
--- the live generators describe the cone of the rows in use; each is normed, and a point or a direction; their numbers rise
+-- the live generators describe the cone of the rows in use, each normed, by rising numbers; and each is a point or a direction
 pub record Stands (file : Problem) (s : State) : Type 0 where
-  pub described : IsDoubleDescriptionPair (suc file.objs) (rows_in_use file.objs s) (vectors s)
-  pub normed : All IsNormed (vectors s)
-  pub kinds : All (λ g. (g.t ≡ one_ℚ) ⊎ (g.t ≡ zero_ℚ)) s.live
-  pub rising : AllPairs (λ g g'. g.number < g'.number) s.live
-  pub made : All (λ g. (1 ≤ g.number) × (g.number ≤ s.made)) s.live
+  pub is_live : IsLive (suc file.objs) (rows_in_use file.objs s) s.list
+  pub open is_live use *
+  pub kinds : All (λ g. (t_of file.objs g ≡ one_ℚ) ⊎ (t_of file.objs g ≡ zero_ℚ)) s.list.live
 
 -- so it is after entries that meet their rules, with a `start` among them
 abbrev pub RulesKeepDescription : Type 0
@@ -47,8 +46,8 @@ RulesKeepDescription = (file : Problem) (entries : List Entry) → AllMeet file 
 -- a number stays with its generator: a live one whose number was made before was live before
 abbrev pub NumbersStay : Type 0
 NumbersStay = (file : Problem) (before rest : List Entry) → AllMeet file (before ++ rest) → IsTrue (order.has order.start before) →
-    (g : Member) → Contains (state file.objs (before ++ rest)).live g → g.number ≤ (state file.objs before).made →
-    Contains (state file.objs before).live g
+    (g : Numbered) → Contains (state file.objs (before ++ rest)).list.live g → g.number < (state file.objs before).list.next →
+    Contains (state file.objs before).list.live g
 
 -- what is listed of a solved log is reached, and what is cut off is not in the image
 pub record IsReached (file : Problem) (entries : List Entry) (c : List ℚ) (points directions : List Gen) (facets : List Facet) : Type 0 where
@@ -63,9 +62,9 @@ SolvedIsReached = (file : Problem) (entries : List Entry) (c : List ℚ) (points
     Proves file entries (Solved c points directions facets) → IsReached file entries c points directions facets
 
 -- ---- exactness
--- the vectors of the live generators with this t
-abbrev pub listed : State → ℚ → List (List ℚ)
-listed s t = map (λ g. g.y) (filter (λ g. same_ℚ g.t t) s.live)
+-- the y of the live generators (y, t) with this t
+abbrev pub listed : ℕ → State → ℚ → List (List ℚ)
+listed q s t = map (y_of q) (filter (λ g. same_ℚ (t_of q g) t) s.list.live)
 
 -- the inequalities that are named as facets
 abbrev pub named_cuts : State → List Entry → List Inequality
@@ -76,7 +75,7 @@ abbrev pub SolvedIsSolved : Type 0
 SolvedIsSolved = (file : Problem) (entries : List Entry) (c : List ℚ) (points directions : List Gen) (facets : List Facet) →
     Proves file entries (Solved c points directions facets) →
     let s = state file.objs entries in
-    IsSolved file.objs (IsInWorkingImage file) (IsWorkingDirection file) c (in_use s) (vectors s) (listed s one_ℚ) (listed s zero_ℚ)
+    IsSolved file.objs (IsInWorkingImage file) (IsWorkingDirection file) c (in_use s) (live_vectors s) (listed file.objs s one_ℚ) (listed file.objs s zero_ℚ)
     (named_cuts s entries)
 
 -- what a log proves is right
@@ -96,8 +95,16 @@ RightSolutionsAgree = (file : Problem) (c : List ℚ) (points points' directions
     (map (λ g. g.y) points ≡ map (λ g. g.y) points') × (map (λ g. g.y) directions ≡ map (λ g. g.y) directions')
     × (map stated facets ≡ map stated facets') × (map (λ f. f.tight) facets ≡ map (λ f. f.tight) facets')
 
--- the facets of a right solution, each by all entries of its normal but the last and its bound, are the vertices of the lower image
-abbrev pub FacetsAreLowerVertices : Type 0
-FacetsAreLowerVertices = (file : Problem) (c : List ℚ) (points directions : List Gen) (facets : List Facet) →
-    IsSolution file c points directions facets → (w : List ℚ) (bound : ℚ) → length w ≡ file.objs - 1 →
-    Contains (map stated facets) (completed (front c) w bound) ↔ IsVertex (IsInLowerImageOf file c) (w ++ bound ∷ [])
+-- the facets, each by all entries of its normal but the last and its bound, are the vertices of the lower image; and where that is not
+-- empty it has one normed extreme direction, in which the bound says less
+pub record DescribeLowerImage (file : Problem) (c : List ℚ) (facets : List Facet) : Type 0 where
+  pub vertices : (w : List ℚ) (bound : ℚ) → length w ≡ file.objs - 1 →
+      Contains (map stated facets) (completed (front c) w bound) ↔ IsVertex (IsInLowerImageOf file c) (w ++ bound ∷ [])
+  pub direction : (v : List ℚ) → IsInLowerImageOf file c v → (d : List ℚ) →
+      (IsExtremeDirection file.objs (IsRecession file.objs (IsInLowerImageOf file c)) d × IsNormedDirection d)
+      ↔ (d ≡ zeros (file.objs - 1) ++ signed file.dir (neg_ℚ one_ℚ) ∷ [])
+
+-- so it is for a right solution
+abbrev pub FacetsDescribeLowerImage : Type 0
+FacetsDescribeLowerImage = (file : Problem) (c : List ℚ) (points directions : List Gen) (facets : List Facet) →
+    IsSolution file c points directions facets → DescribeLowerImage file c facets

@@ -1,12 +1,12 @@
 -- What stands after some entries: the cuts, those in use, and the live generators.
 use Rattle.polyhedra.specs.Exactness.{homogenised, row_of, rows_of}
 use Rattle.polyhedra.specs.Inequality.{Inequality}
-use Rattle.polyhedra.specs.LiveList.{Numbered, LiveList, pairs, new_vectors}
+use Rattle.polyhedra.specs.LiveList.{Numbered, LiveList, vectors, pairs, starting, step}
 use Rattle.upper_image.specs.Spots.{pieces}
-use Rattle.std.specs.Prelude.{ℕ, suc, ◌+◌, ◌-◌, ◌==◌, Bool, true, false, List, [], ◌∷◌, ◌++◌, map, length, take, filter, fold, slice_index_or}
+use Rattle.std.specs.Prelude.{ℕ, suc, ◌-◌, ◌==◌, Bool, true, false, List, [], ◌∷◌, ◌++◌, map, take, fold, slice_index_or}
 use Rattle.std.specs.List.{list_any, filter_map}
 use Rattle.std.specs.Prelude.{Option, None, Some}
-use Rattle.exact_field.specs.Rational.{ℚ, zero_ℚ, one_ℚ, le_ℚ}
+use Rattle.exact_field.specs.Rational.{ℚ, zero_ℚ, one_ℚ}
 use Rattle.exact_field.specs.Vector.{dot, entry}
 use Rattle.frac128.specs.declared.vectors.Spot.{Spot}
 use Rattle.deriv_log.specs.declared.entry.LogPair.{LogPair}
@@ -29,46 +29,28 @@ abbrev pub cut_at : List Stated → ℕ → Stated
 cut_at cuts k = slice_index_or cuts (k - 1) record { w = []; gamma = zero_ℚ; u = [] }
 
 -- ---- generators
--- a generator with its number: a point (y, 1) or a direction (y, 0)
-pub record Member : Type 0 where
-  pub number : ℕ
-  pub y : List ℚ
-  pub t : ℚ
+-- where there are q objectives, a generator is (y, t): a point (y, 1) or a direction (y, 0)
+abbrev pub y_of : ℕ → Numbered → List ℚ
+y_of q g = take q g.vector
 
--- its vector (y, t)
-abbrev pub vector : Member → List ℚ
-vector g = homogenised g.y g.t
+abbrev pub t_of : ℕ → Numbered → ℚ
+t_of q g = entry g.vector (suc q)
 
 -- the value of a row at it
-abbrev pub value : List ℚ → Member → ℚ
-value row g = dot row (vector g)
-
--- a vector of q + 1 entries with a number
-abbrev pub member : ℕ → ℕ → List ℚ → Member
-member q k z = record { number = k; y = take q z; t = entry z (suc q) }
-
--- vectors of q + 1 entries, numbered from k on
-abbrev pub numbered : ℕ → ℕ → List (List ℚ) → List Member
-numbered q k [] = []
-numbered q k (z ∷ zs) = member q k z ∷ numbered q (suc k) zs
+abbrev pub value : List ℚ → Numbered → ℚ
+value row g = dot row g.vector
 
 -- a generator of this number, if there is one
-abbrev pub find : List Member → ℕ → Option Member
+abbrev pub find : List Numbered → ℕ → Option Numbered
 find [] k = None
 find (g ∷ live) k = elim (g.number == k) [ true ↦ Some g | false ↦ find live k ]
 
--- the vector of the generator of this number
-abbrev pub vector_of : List Member → ℕ → List ℚ
-vector_of live k = elim (find live k) [ Some g ↦ vector g | None ↦ [] ]
-
 -- ---- what stands
--- the cuts in their order, the numbers of those in use in the order in which they came into use, the live generators by rising
--- number, and how many generators were ever made
+-- the cuts in their order, the numbers of those in use in the order in which they came into use, and the live generators
 pub record State : Type 0 where
   pub cuts : List Stated
   pub used : List ℕ
-  pub live : List Member
-  pub made : ℕ
+  pub list : LiveList
 
 -- the inequalities in use
 abbrev pub in_use : State → List Inequality
@@ -83,52 +65,34 @@ abbrev pub cut_row : State → ℕ → List ℚ
 cut_row s k = row_of (inequality (cut_at s.cuts k))
 
 -- the vectors of the live generators
-abbrev pub vectors : State → List (List ℚ)
-vectors s = map vector s.live
+abbrev pub live_vectors : State → List (List ℚ)
+live_vectors s = vectors s.list.live
 
 -- ---- a new row
--- the live generators as a numbered live list
-abbrev pub numbered_vector : Member → Numbered
-numbered_vector g = record { number = g.number; vector = vector g }
-
-abbrev pub live_list : State → LiveList
-live_list s = record { live = map numbered_vector s.live; next = suc s.made }
-
 -- two numbers as a pair of the log
 abbrev pub log_pair : ℕ × ℕ → LogPair
 log_pair pair = record { plus = pair.0; minus = pair.1 }
 
 -- the pairs of a live generator with a positive and one with a negative value that no third one covers, by rising plus and then by
 -- rising minus
-abbrev pub required_pairs : List (List ℚ) → List Member → List ℚ → List LogPair
-required_pairs rows live row = map log_pair (pairs rows (map numbered_vector live) row)
+abbrev pub required_pairs : List (List ℚ) → List Numbered → List ℚ → List LogPair
+required_pairs rows live row = map log_pair (pairs rows live row)
 
--- the vectors that these pairs make: where the row is 0 between the two, normed
-abbrev pub made_vectors : ℕ → State → List ℚ → List (List ℚ)
-made_vectors q s row = new_vectors (rows_in_use q s) (map numbered_vector s.live) row
+-- the vectors of the first generators: the point, then the directions
+abbrev pub first_vectors : ℕ → List ℚ → List ℚ → List (List ℚ)
+first_vectors q point directions = homogenised point one_ℚ ∷ map (λ d. homogenised d zero_ℚ) (pieces q q directions)
 
--- the first generators: the point, then the directions
-abbrev pub first_live : ℕ → List ℚ → List ℚ → List Member
-first_live q point directions = numbered q 1 (homogenised point one_ℚ ∷ map (λ d. homogenised d zero_ℚ) (pieces q q directions))
-
--- the next live generators: those whose value is at least 0, and one for each pair that is required, whatever pairs the log names
-abbrev pub next_live : ℕ → State → List ℚ → List Member
-next_live q s row = filter (λ g. le_ℚ zero_ℚ (value row g)) s.live ++ numbered q (suc s.made) (made_vectors q s row)
-
--- what stands after one more entry, where there are q objectives
+-- what stands after one more entry, where there are q objectives; a step makes the new generators of the pairs that are required,
+-- whatever pairs the log names
 abbrev pub after : ℕ → State → Entry → State
 after q s (Cut w gamma u _) = record s { cuts = s.cuts ++ record { w = w; gamma = gamma; u = u } ∷ [] }
-after q s (Start cuts point directions) = record s { used = cuts; live = first_live q point directions; made = suc q }
-after q s (Add cut _) = record s {
-  used = s.used ++ cut ∷ [];
-  live = next_live q s (cut_row s cut);
-  made = s.made + length (made_vectors q s (cut_row s cut));
-}
+after q s (Start cuts point directions) = record s { used = cuts; list = starting 1 (first_vectors q point directions) }
+after q s (Add cut _) = record s { used = s.used ++ cut ∷ []; list = step (rows_in_use q s) s.list (cut_row s cut) }
 after q s _ = s
 
 -- nothing
 abbrev pub nothing : State
-nothing = record { cuts = []; used = []; live = []; made = 0 }
+nothing = record { cuts = []; used = []; list = starting 1 [] }
 
 -- what stands after these entries
 abbrev pub state : ℕ → List Entry → State

@@ -6,7 +6,8 @@ use Rattle.polyhedra.specs.Vectors.{zeros, combination}
 use Rattle.upper_image.specs.Shows.{ShowsFeasible, ShowsRecession, ShowsAbove, ShowsFitting, ShowsCut}
 use Rattle.upper_image.specs.Spots.{pieces, dense, product}
 use Rattle.upper_image.specs.UpperImage.{normals}
-use Rattle.log_rules.specs.Live.{Member, State, state, vectors, inequality, cut_at, cut_row, in_use, rows_in_use, required_pairs, duality_vector, preimages, named}
+use Rattle.polyhedra.specs.LiveList.{Numbered}
+use Rattle.log_rules.specs.Live.{State, state, live_vectors, y_of, t_of, inequality, cut_at, cut_row, in_use, rows_in_use, required_pairs, duality_vector, preimages, named}
 use Rattle.log_rules.specs.Order.{in_order}
 use Rattle.std.specs.Prelude.{◌≡◌, ◌≢◌, ℕ, ◌*◌, ◌<◌, ◌≤◌, IsTrue, List, [], map, length, All, AllPairs, Contains}
 use Rattle.exact_field.specs.Rational.{ℚ, zero_ℚ, one_ℚ, neg_ℚ, ◌<ℚ◌}
@@ -32,27 +33,27 @@ pub record MeetsStart (file : Problem) (s : State) (cuts : List ℕ) (point dire
 pub record MeetsAdd (file : Problem) (s : State) (cut : ℕ) (pairs : List LogPair) : Type 0 where
   pub exists : (1 ≤ cut) × (cut ≤ length s.cuts)
   pub unused : Contains s.used cut → ⊥
-  pub exactly : pairs ≡ required_pairs (rows_in_use file.objs s) s.live (cut_row s cut)
+  pub exactly : pairs ≡ required_pairs (rows_in_use file.objs s) s.list.live (cut_row s cut)
 
 -- ---- point and ray: a pre-image of a live generator that has none
 -- g is the live generator number k, has this t, and has no pre-image
-pub record IsOpen (before : List Entry) (s : State) (k : ℕ) (t : ℚ) (g : Member) : Type 0 where
-  pub live : Contains s.live g
+pub record IsOpen (q : ℕ) (before : List Entry) (s : State) (k : ℕ) (t : ℚ) (g : Numbered) : Type 0 where
+  pub is_live : Contains s.list.live g
   pub number : g.number ≡ k
-  pub level : g.t ≡ t
+  pub level : t_of q g ≡ t
   pub fresh : preimages before k ≡ []
 
 pub record MeetsPoint (file : Problem) (before : List Entry) (s : State) (k : ℕ) (x m : List Spot) : Type 0 where
-  pub point : Member
-  pub index : IsOpen before s k one_ℚ point
+  pub point : Numbered
+  pub index : IsOpen file.objs before s k one_ℚ point
   pub feasible : ShowsFeasible file x
-  pub above : ShowsAbove file point.y x m
+  pub above : ShowsAbove file (y_of file.objs point) x m
 
 pub record MeetsRay (file : Problem) (before : List Entry) (s : State) (k : ℕ) (x m : List Spot) : Type 0 where
-  pub direction : Member
-  pub index : IsOpen before s k zero_ℚ direction
+  pub direction : Numbered
+  pub index : IsOpen file.objs before s k zero_ℚ direction
   pub recedes : ShowsRecession file x
-  pub above : ShowsAbove file direction.y x m
+  pub above : ShowsAbove file (y_of file.objs direction) x m
 
 -- ---- farkas, whole, line
 -- multipliers of the sides that show that they contradict each other
@@ -82,15 +83,15 @@ pub record MeetsLine (file : Problem) (d : List ℚ) (x ray m back n : List Spot
 pub record MeetsFacet (file : Problem) (before : List Entry) (s : State) (cut : ℕ) : Type 0 where
   pub used : Contains s.used cut
   pub unnamed : Contains (named before) cut → ⊥
-  pub largest : IsNamed file.objs (in_use s) (vectors s) (inequality (cut_at s.cuts cut))
-  pub other : All (λ k. TightLiesIn (vectors s) (cut_row s cut) (cut_row s k) → TightLiesIn (vectors s) (cut_row s k) (cut_row s cut) → ⊥)
+  pub largest : IsNamed file.objs (in_use s) (live_vectors s) (inequality (cut_at s.cuts cut))
+  pub other : All (λ k. TightLiesIn (live_vectors s) (cut_row s cut) (cut_row s k) → TightLiesIn (live_vectors s) (cut_row s k) (cut_row s cut) → ⊥)
       (named before)
 
 -- ---- end: what the answer needs stands before it
 pub record MeetsSolved (file : Problem) (before : List Entry) (s : State) : Type 0 where
   pub started : IsTrue (order.has order.start before)
-  pub reached : All (λ g. preimages before g.number ≢ []) s.live
-  pub accounted : All (IsAccounted file.objs (map (λ k. inequality (cut_at s.cuts k)) (named before)) (vectors s)) (in_use s)
+  pub reached : All (λ g. preimages before g.number ≢ []) s.list.live
+  pub accounted : All (IsAccounted file.objs (map (λ k. inequality (cut_at s.cuts k)) (named before)) (live_vectors s)) (in_use s)
 
 abbrev pub MeetsEnd : Problem → List Entry → EndKind → Type 0
 MeetsEnd file before kind.Infeasible = IsTrue (order.has order.farkas before)

@@ -4,7 +4,8 @@ use Rattle.exact_field.specs.Rational.{ℚ, zero_ℚ, one_ℚ}
 use Rattle.exact_field.specs.Order.{same_ℚ}
 use Rattle.polyhedra.specs.Exactness.{SameMembers}
 use Rattle.upper_image.specs.UpperImage.{signed, turned}
-use Rattle.log_rules.specs.Live.{Stated, Member, state, cut_at, duality_vector, preimages, named}
+use Rattle.polyhedra.specs.LiveList.{Numbered}
+use Rattle.log_rules.specs.Live.{Stated, state, y_of, t_of, cut_at, duality_vector, preimages, named}
 use Rattle.log_rules.specs.Meets.{Meets}
 use Rattle.log_rules.specs.Right.{stated, key, tight_numbers, Rise}
 use Rattle.frac128.specs.declared.vectors.Spot.{Spot}
@@ -26,12 +27,12 @@ AllMeet file entries = (before : List Entry) (e : Entry) (after : List Entry) �
 
 -- ---- the parts of the answer, in the coordinates of the file
 -- a live generator with its pre-image
-abbrev pub shown : Problem → List Entry → Member → Gen
-shown file entries g = record { y = turned file.dir g.y; pre = slice_index_or (preimages entries g.number) 0 [] }
+abbrev pub shown : Problem → List Entry → Numbered → Gen
+shown file entries g = record { y = turned file.dir (y_of file.objs g); pre = slice_index_or (preimages entries g.number) 0 [] }
 
 -- the live generators of this t, in the order of their numbers
 abbrev pub live_at : Problem → List Entry → ℚ → List Gen
-live_at file entries t = map (shown file entries) (filter (λ g. same_ℚ g.t t) (state file.objs entries).live)
+live_at file entries t = map (shown file entries) (filter (λ g. same_ℚ (t_of file.objs g) t) (state file.objs entries).list.live)
 
 -- a cut as a facet of the file, with the numbers of its tight points and directions
 abbrev pub facet_of : Problem → List (List ℚ) → List (List ℚ) → Stated → Facet

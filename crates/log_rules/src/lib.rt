@@ -3,7 +3,8 @@
 #![tactic(auto)]
 
 ghost use Rattle.log_rules.specs.Examples.{WorkedLogs};
-ghost use Rattle.log_rules.specs.Laws.{EventsGiveMeets, MeetsGiveEvents, RulesKeepDescription, NumbersStay, SolvedIsReached, SolvedIsSolved, ProvedIsRight, RightSolutionsAgree, FacetsAreLowerVertices, OneAnswer};
+ghost use Rattle.log_rules.specs.ReportExamples.{WorkedReports};
+ghost use Rattle.log_rules.specs.Laws.{EventsGiveMeets, MeetsGiveEvents, RulesKeepDescription, NumbersStay, SolvedIsReached, SolvedIsSolved, ProvedIsRight, RightSolutionsAgree, FacetsDescribeLowerImage, OneAnswer};
 
 mod answer;
 mod rule;
@@ -58,12 +59,17 @@ pub fn right_solutions_agree()
     ensures { RightSolutionsAgree }
 {}
 
-/// The facets of a right solution are the vertices of the lower image.
-pub fn facets_are_lower_vertices()
-    ensures { FacetsAreLowerVertices }
+/// The facets of a right solution are the vertices of the lower image, which has one extreme direction.
+pub fn facets_describe_lower_image()
+    ensures { FacetsDescribeLowerImage }
 {}
 
 /// Worked logs, of each kind of answer, and with faults.
 pub fn worked_logs()
     ensures { WorkedLogs }
+{}
+
+/// Worked reports, of each kind of answer.
+pub fn worked_reports()
+    ensures { WorkedReports }
 {}

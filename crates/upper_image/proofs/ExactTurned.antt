@@ -1,5 +1,6 @@
 -- Exactness in working coordinates is exactness in the file's.
-use Rattle.std.proofs.Common.{◌≡◌, ◌↔◌, List, [], sym, ap, ◌∙◌, subst, map, Contains}
+use Rattle.std.proofs.Common.{◌≡◌, ◌↔◌, List, [], sym, ap, ◌∙◌, subst, arith, map, Contains}
+use Rattle.std.proofs.lemmas.List.{length-map}
 use Rattle.exact_field.specs.Rational.{ℚ}
 use Rattle.polyhedra.specs.Exactness.{IsExact}
 use Rattle.polyhedra.specs.Hull.{IsInHull, IsVertex, IsExtremeDirection, IsNormedDirection, IsFacet}
@@ -59,4 +60,5 @@ exact_in_file file c points directions facets exact = record {
   extreme = extreme_of file c points directions facets exact;
   facets_are = facets_of file c points directions facets exact;
   hull = hull_of file c points directions facets exact;
+  some_point = let many = length-map points (turned file.dir) in let some = exact.some_point in omega (arith, many, some);
 }

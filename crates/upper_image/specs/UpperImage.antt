@@ -1,6 +1,6 @@
 -- The upper image of a file in working coordinates and in those of the file, its recession cone, pre-images, dual vectors, valid
 -- inequalities, and the lower image.
-use Rattle.std.specs.Prelude.{◌≡◌, ◌-◌, ℕ, List, map, length, take, Contains, ◌↔◌, []}
+use Rattle.std.specs.Prelude.{◌≡◌, ◌-◌, ◌<◌, ℕ, List, map, length, take, Contains, ◌↔◌, []}
 use Rattle.exact_field.specs.Rational.{ℚ, one_ℚ, ◌+ℚ◌, ◌-ℚ◌, ◌*ℚ◌, neg_ℚ}
 use Rattle.exact_field.specs.Vector.{dot, entry}
 use Rattle.polyhedra.specs.Farkas.{IsDualVector}
@@ -98,12 +98,13 @@ pub record IsDualVectorOf (file : Problem) (e : Inequality) (u : List ℚ) : Typ
 
 -- ---- exactness
 -- the points are exactly the vertices of the image, the directions exactly its normed extreme directions, the inequalities exactly
--- its facets, normed at c, and the hull of points and directions is the image
+-- its facets, normed at c, the hull of points and directions is the image, and there is a point
 pub record IsExactFor (file : Problem) (c : List ℚ) (points directions : List (List ℚ)) (facets : List Inequality) : Type 0 where
   pub vertices : (y : List ℚ) → Contains points y ↔ IsVertex (IsInImage file) y
   pub extreme : (d : List ℚ) → Contains directions d ↔ (IsExtremeDirection file.objs (IsDirection file) d × IsNormedDirection d)
   pub facets_are : (e : Inequality) → Contains facets e ↔ IsFacet file.objs (IsInWorkingImage file) c (working file e)
   pub hull : (y : List ℚ) → IsInImage file y ↔ IsInHull file.objs points directions [] y
+  pub some_point : 0 < length points
 
 -- ---- geometric duality
 -- a vector without its last entry

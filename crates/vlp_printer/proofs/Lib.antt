@@ -1,4 +1,14 @@
+pub mod Apart
 pub mod Lists
 pub mod PlacesNeeded
+pub mod PlainWords
+pub mod PrintedLines
+pub mod PrintedStatements
+pub mod PrintedText
+pub mod PrintedValues
+pub mod ReadDigits
+pub mod ReadNumbers
+pub mod RoundTrip
 pub mod Short
 pub mod WordByWord
+pub mod WordNumbers

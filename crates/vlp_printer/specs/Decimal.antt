@@ -2,6 +2,7 @@
 use Rattle.std.specs.Prelude.{ℕ, suc, zero, ◌+◌, ◌/◌, ◌%◌, ◌^◌, ◌==◌, Bool, ◌&&◌, ◌||◌, nat_lt, if◌then◌else◌, unsigned_abs, ℤ, pos, ◌*ℤ◌, List, [], ◌++◌, codes, decimal, Option, None, Some, is_some}
 use Rattle.std.specs.Fmt.{signed_decimal}
 use Rattle.exact_field.specs.Rational.{ℚ}
+use Rattle.frac128.specs.Held.{is_held}
 use Rattle.vlp_printer.specs.declared.decimal.Decimal.{Decimal}
 
 -- the first of the powers of ten from 10^k on, n of them, that a denominator divides
@@ -25,9 +26,9 @@ abbrev pub decimal_at : ℚ → Option ℕ → Option Decimal
 decimal_at q None = None
 decimal_at q (Some k) = if is_short (mantissa q k) then Some (record { mantissa = mantissa q k; places = k }) else None
 
--- the form in which a number is written, where the grammar of files has a word for it
+-- the form in which a number is written, where it is one that a fraction holds and the grammar of files has a word for it
 abbrev pub decimal_of : ℚ → Option Decimal
-decimal_of q = decimal_at q (places q)
+decimal_of q = if is_held q then decimal_at q (places q) else None
 
 abbrev pub is_decimal : ℚ → Bool
 is_decimal q = is_some (decimal_of q)

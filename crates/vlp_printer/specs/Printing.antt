@@ -1,11 +1,16 @@
 -- The text of a problem.
-use Rattle.std.specs.Prelude.{◌≡◌, ℕ, ◌-◌, not, find, if◌then◌else◌, List, [], ◌∷◌, ◌++◌, length, map, sum_by, count_by, slice_index_or, codes, decimal, Option, None, Some}
+use Rattle.std.specs.Prelude.{◌≡◌, ℕ, ◌-◌, true, false, not, find, if◌then◌else◌, List, [], ◌∷◌, ◌++◌, length, map, sum_by, count_by, slice_index_or, codes, decimal, Option, None, Some, Ok}
 use Rattle.std.specs.List.{flat_map}
 use Rattle.exact_field.specs.Rational.{ℚ}
 use Rattle.exact_field.specs.Vector.{entry}
 use Rattle.frac128.specs.Sparse.{is_zero}
 use Rattle.src_sink.specs.Texts.{line_text}
+use Rattle.vlp_reader.specs.FirstFault.{Reads}
+use Rattle.vlp_reader.specs.Grammar.{are_within_limits}
+use Rattle.vlp_reader.specs.Number.{number_of}
 use Rattle.vlp_reader.specs.Sides.{numbers_from, is_unsaid}
+use Rattle.vlp_reader.specs.declared.sizes.ConeSizes.{ConeSizes}
+use Rattle.vlp_reader.specs.declared.sizes.Sizes.{Sizes}
 use Rattle.vlp_reader.specs.declared.problem.Bound.{Bound}
 use Rattle.vlp_reader.specs.declared.problem.Bound.TheVariants.{Unsaid, Free, Lower, Upper, Double, Fixed}
 use Rattle.vlp_reader.specs.declared.problem.Cell.{Cell}
@@ -55,6 +60,24 @@ abbrev pub cone_words : Cone → List (List ℕ)
 cone_words Orthant = []
 cone_words (Gens vectors) = codes "cone" ∷ decimal (length vectors) ∷ decimal (entry_count vectors) ∷ []
 cone_words (Dual vectors) = codes "dualcone" ∷ decimal (length vectors) ∷ decimal (entry_count vectors) ∷ []
+
+-- the sizes that the problem line says
+abbrev pub printed_cone : Cone → Option ConeSizes
+printed_cone Orthant = None
+printed_cone (Gens vectors) = Some (record { dual = false; vectors = length vectors; entries = entry_count vectors })
+printed_cone (Dual vectors) = Some (record { dual = true; vectors = length vectors; entries = entry_count vectors })
+
+abbrev pub printed_sizes : Problem → Sizes
+printed_sizes problem =
+    record {
+      dir = problem.dir;
+      rows = problem.rows;
+      cols = problem.cols;
+      entries = length problem.a;
+      objs = problem.objs;
+      obj_entries = length problem.o;
+      cone = printed_cone problem.cone;
+    }
 
 abbrev pub heading_words : Problem → List (List ℕ)
 heading_words problem =
@@ -110,12 +133,26 @@ problem_text problem =
     ++ (duality_text (duality_entries problem.duality) ++ (vectors_text (cone_vectors problem.cone)
     ++ (bounds_text (codes "i") problem.row_bounds ++ (bounds_text (codes "j") problem.col_bounds ++ line_text (codes "e" ∷ [])))))))
 
--- why a problem is not printed: its first number, in the order of printing, that has no decimal form; or want of memory
+-- a number is the value of no word that the grammar accepts as a number
+abbrev pub HasNoWord : ℚ → Type 0
+HasNoWord q = (word : List ℕ) → number_of word ≡ Ok q → ⊥
+
+-- the sizes of a problem are within the limits that the grammar sets
+abbrev pub IsWithinLimits : Problem → Type 0
+IsWithinLimits problem = are_within_limits (printed_sizes problem) ≡ true
+
+-- the first number of a problem, in the order of printing, that has no decimal form; no word has it as its value
+pub record IsFirstWithoutWord (problem : Problem) (q : ℚ) : Type 0 where
+  pub first : find (λ p. not (is_decimal p)) (printed_numbers problem) ≡ Some q
+  pub no_word : HasNoWord q
+
+-- why a problem is not printed: this number of it has no word, or want of memory
 abbrev pub RefusesText : Problem → PrintFault → Type 0
-RefusesText problem (NotDecimal q) = find (λ p. not (is_decimal p)) (printed_numbers problem) ≡ Some q
+RefusesText problem (NotDecimal q) = IsFirstWithoutWord problem q
 RefusesText problem NoMemory = Unit {0}
 
--- what is printed: the text of the problem, all of whose numbers have a decimal form
+-- what is printed: the text of the problem, all of whose numbers have a decimal form; within the limits it reads as this problem
 pub record Prints (problem : Problem) (text : List ℕ) : Type 0 where
   pub decimal : find (λ p. not (is_decimal p)) (printed_numbers problem) ≡ None
   pub same : text ≡ problem_text problem
+  pub round_trip : IsWithinLimits problem → Reads text problem

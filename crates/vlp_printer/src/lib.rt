@@ -3,6 +3,7 @@
 
 mod decimal;
 mod fault;
+pub mod laws;
 mod numbers;
 mod print;
 #[cfg(test)]

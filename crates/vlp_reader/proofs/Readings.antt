@@ -28,7 +28,7 @@ get_or-seam : {A : Type 0} (xs ys : List A) (y d : A) → get_or (xs ++ y ∷ ys
 get_or-seam [] ys y d = refl
 get_or-seam (x ∷ xs) ys y d = get_or-seam xs ys y d
 
-any-push : (xs : List (List ℕ)) (x : List ℕ) → list_any ends xs ≡ false → list_any ends (xs ++ x ∷ []) ≡ ends x
+pub any-push : (xs : List (List ℕ)) (x : List ℕ) → list_any ends xs ≡ false → list_any ends (xs ++ x ∷ []) ≡ ends x
 any-push [] x h = or_false (ends x)
   where
     or_false : (b : Bool) → (b || false) ≡ b
@@ -39,13 +39,13 @@ any-push (first ∷ xs) x h =
     ap (λ b. b || list_any ends (xs ++ x ∷ [])) parts.0 ∙ any-push xs x parts.1
 
 -- ---- lines
-looked_at-append : (xs ys : List (List ℕ)) → list_any ends xs ≡ false → looked_at (xs ++ ys) ≡ xs ++ looked_at ys
+pub looked_at-append : (xs ys : List (List ℕ)) → list_any ends xs ≡ false → looked_at (xs ++ ys) ≡ xs ++ looked_at ys
 looked_at-append [] ys h = refl
 looked_at-append (x ∷ xs) ys h =
     let parts = or_parts (ends x) (list_any ends xs) h in
     ap (λ l. x ∷ l) (cond-false (ends x) [] (looked_at (xs ++ ys)) parts.0 ∙ looked_at-append xs ys parts.1)
 
-looked_at-end : (line : List ℕ) (lines : List (List ℕ)) → ends line ≡ true → looked_at (line ∷ lines) ≡ line ∷ []
+pub looked_at-end : (line : List ℕ) (lines : List (List ℕ)) → ends line ≡ true → looked_at (line ∷ lines) ≡ line ∷ []
 looked_at-end line lines h = ap (λ l. line ∷ l) (cond-true (ends line) [] (looked_at lines) h)
 
 fault_at-front : (xs ys : List (List ℕ)) (k : ℕ) → k < length xs → fault_at (xs ++ ys) k ≡ fault_at xs k
@@ -67,13 +67,13 @@ le_cases zero (suc m) h = inl (omega arith)
 le_cases (suc k) zero h = absurd (omega arith)
 le_cases (suc k) (suc m) h = elim (le_cases k m (omega arith)) [ inl l ↦ inl (omega arith) | inr e ↦ inr (ap suc e) ]
 
-passes-push : (xs : List (List ℕ)) (x : List ℕ) → Passes xs (length xs) → line_fault (map statement_on xs) x ≡ None → Passes (xs ++ x ∷ []) (length (xs ++ x ∷ []))
+pub passes-push : (xs : List (List ℕ)) (x : List ℕ) → Passes xs (length xs) → line_fault (map statement_on xs) x ≡ None → Passes (xs ++ x ∷ []) (length (xs ++ x ∷ []))
 passes-push xs x pass fault k h = elim (le_cases k (length xs) (omega (arith, length-append xs (x ∷ [])))) [
   | inl less ↦ passes-front xs (x ∷ []) pass k less
   | inr same ↦ ap (fault_at (xs ++ x ∷ [])) same ∙ fault_at-seam xs [] x ∙ fault
 ]
 
-map-push : (xs : List (List ℕ)) (x : List ℕ) → map statement_on (xs ++ x ∷ []) ≡ map statement_on xs ++ statement_on x ∷ []
+pub map-push : (xs : List (List ℕ)) (x : List ℕ) → map statement_on (xs ++ x ∷ []) ≡ map statement_on xs ++ statement_on x ∷ []
 map-push xs x = map-append statement_on xs (x ∷ [])
 
 length-push : (xs : List (List ℕ)) (x : List ℕ) → length (xs ++ x ∷ []) ≡ length xs + 1

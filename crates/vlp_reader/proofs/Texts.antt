@@ -1,23 +1,15 @@
 -- The first line of a text, and the first word of a line.
-use Rattle.std.proofs.Common.{◌≡◌, refl, ℕ, ◌+◌, ◌<◌, ◌≤◌, Bool, true, false, not, ◌||◌, ◌==◌, nat_lt, List, [], ◌∷◌, length, get_or, map, filter, take, drop, slice_index, arith, ap, sym, ◌∙◌, subst, inl, inr}
-use Rattle.std.specs.List.{slice_split, position_or_len, before_first, after_first}
+use Rattle.std.proofs.Common.{◌≡◌, refl, ℕ, ◌+◌, ◌<◌, ◌≤◌, Bool, true, false, not, ◌==◌, nat_lt, List, [], ◌∷◌, length, get_or, map, filter, take, drop, slice_index, arith, ap, sym, ◌∙◌, subst, inl, inr}
+use Rattle.std.specs.List.{slice_split, join_with_byte, position_or_len, before_first, after_first}
 use Rattle.std.proofs.lemmas.Bool.{cond-true, cond-false, lt-ltb, ne_eqb, cases_Bool, ltb-true, ltb-false}
-use Rattle.std.proofs.lemmas.List.{drop_more, drop_all, take_all, length-take-le, length-drop}
-use Rattle.std.proofs.lemmas.List.Splits.{slice_split-cons_yes, slice_split_none, slice_split_first, length-slice_split}
+use Rattle.std.proofs.lemmas.List.{drop_more, drop_all, take_all, length-take-le}
+use Rattle.std.proofs.lemmas.List.Splits.{slice_split-cons_yes, slice_split_none, slice_split_first, length-slice_split, join_with_byte-slice_split}
 use Rattle.std.proofs.lemmas.List.Sums.{fails_before_first, prefix_len_stops, prefix_len-le-length}
 use Rattle.vlp_reader.specs.Lines.{is_line_feed, is_blank, whole_pieces, without_return, lines_of, words_of}
 
 not_false : (b : Bool) → not b ≡ false → b ≡ true
 not_false true h = refl
 not_false false h = sym h
-
-or_same : (b : Bool) → (b || b) ≡ b
-or_same true = refl
-or_same false = refl
-
--- a test for one of two bytes that are one
-pub same_test : (c : ℕ) → ◌≡◌ {A = ℕ → Bool} (λ b. b == c || b == c) (λ b. b == c)
-same_test c = λ i b. or_same (b == c) i
 
 -- where no byte passes, the text is one piece
 one_piece : (p : ℕ → Bool) (text : List ℕ) → position_or_len p text ≡ length text → slice_split p text ≡ text ∷ []
@@ -28,25 +20,23 @@ more_pieces piece [] h = absurd (omega arith)
 more_pieces piece (next ∷ pieces) h = refl
 
 -- a line that ends with a line feed
-pub first_line : (text : List ℕ) → position_or_len is_line_feed text < length text
-    → lines_of text ≡ without_return (before_first is_line_feed text) ∷ lines_of (after_first is_line_feed text)
-first_line text h =
-    let parts = slice_split is_line_feed (after_first is_line_feed text) in
-    let some : 0 < length parts = omega (arith, length-slice_split is_line_feed (after_first is_line_feed text)) in
-    ap (λ (l : List (List ℕ)). map without_return (whole_pieces l)) (slice_split_first is_line_feed text 0 h)
-    ∙ ap (map without_return) (more_pieces (before_first is_line_feed text) parts some)
+pub first_line : (text piece rest : List ℕ) → slice_split is_line_feed text ≡ piece ∷ slice_split is_line_feed rest → lines_of text ≡ without_return piece ∷ lines_of rest
+first_line text piece rest cut =
+    let some : 0 < length (slice_split is_line_feed rest) = omega (arith, length-slice_split is_line_feed rest) in
+    ap (λ (l : List (List ℕ)). map without_return (whole_pieces l)) cut ∙ ap (map without_return) (more_pieces piece (slice_split is_line_feed rest) some)
 
 -- one that the text ends
-pub last_line : (text : List ℕ) → 0 < length text → position_or_len is_line_feed text ≡ length text → lines_of text ≡ without_return text ∷ []
-last_line text some h =
-    ap (λ (l : List (List ℕ)). map without_return (whole_pieces l)) (one_piece is_line_feed text h)
-    ∙ ap (map without_return) (cond-false (length text == 0) [] (text ∷ []) (ne_eqb (length text) 0 (λ e. absurd (omega arith))))
+pub last_line : (text piece : List ℕ) → 0 < length text → slice_split is_line_feed text ≡ piece ∷ [] → lines_of text ≡ without_return piece ∷ []
+last_line text piece some cut =
+    let same : piece ≡ text = sym (ap (join_with_byte 10) cut) ∙ join_with_byte-slice_split 10 text in
+    ap (λ (l : List (List ℕ)). map without_return (whole_pieces l)) cut
+    ∙ ap (map without_return) (cond-false (length piece == 0) [] (piece ∷ []) (ne_eqb (length piece) 0 (λ e. absurd (omega (arith, e, ap length same)))))
 
 -- a blank in front
 pub skip_blank : (b : ℕ) (text : List ℕ) → is_blank b ≡ true → words_of (b ∷ text) ≡ words_of text
 skip_blank b text h = ap (filter (λ word. nat_lt 0 (length word))) (slice_split-cons_yes is_blank b text h)
 
-keep_first : (word : List ℕ) (words : List (List ℕ)) → 0 < length word → filter (λ w. nat_lt 0 (length w)) (word ∷ words) ≡ word ∷ filter (λ w. nat_lt 0 (length w)) words
+pub keep_first : (word : List ℕ) (words : List (List ℕ)) → 0 < length word → filter (λ w. nat_lt 0 (length w)) (word ∷ words) ≡ word ∷ filter (λ w. nat_lt 0 (length w)) words
 keep_first word words h = cond-true (nat_lt 0 (length word)) _ _ (lt-ltb 0 (length word) h)
 
 -- a text that begins with a word
@@ -75,23 +65,3 @@ first_word text end is some first =
           ∙ ap (λ (l : List ℕ). l ∷ []) (sym (take_all (position_or_len is_blank text) text (omega arith)))
           ∙ ap (λ (l : List ℕ). take (position_or_len is_blank text) text ∷ words_of l) (sym (drop_all (position_or_len is_blank text) text (omega arith)))
     ])
-
--- where a text goes on behind its first line
-pub data Next (text : List ℕ) (at next : ℕ) : Type 0 where
-  behind : at < length text → next ≡ at + 1 → Next text at next
-  nothing : length text ≤ at → next ≡ at → Next text at next
-
-pub next_line_is : (text : List ℕ) (at next : ℕ) → 0 < length text → at ≡ position_or_len is_line_feed text → Next text at next
-    → (lines_of text ≡ without_return (take at text) ∷ lines_of (drop next text)) × (length (drop next text) < length text)
-next_line_is text at next some place (behind lt is) = (
-  subst (λ (n : ℕ). lines_of text ≡ without_return (take at text) ∷ lines_of (drop n text)) (sym is)
-      (subst (λ (n : ℕ). lines_of text ≡ without_return (take n text) ∷ lines_of (drop (n + 1) text)) (sym place) (first_line text (omega arith))),
-  omega (arith, length-drop next text),
-)
-next_line_is text at next some place (nothing ge is) =
-    let most : position_or_len is_line_feed text ≤ length text = prefix_len-le-length (λ x. not (is_line_feed x)) text in (
-      last_line text some (omega arith)
-          ∙ ap (λ (l : List ℕ). without_return l ∷ []) (sym (take_all at text ge))
-          ∙ ap (λ (l : List ℕ). without_return (take at text) ∷ lines_of l) (sym (drop_all next text (omega arith))),
-      omega (arith, length-drop next text),
-    )

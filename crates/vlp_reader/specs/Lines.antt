@@ -1,6 +1,6 @@
 -- The lines of a file, and the words of a line.
-use Rattle.std.specs.Prelude.{ℕ, ◌-◌, ◌==◌, Bool, ◌||◌, nat_lt, if◌then◌else◌, List, [], ◌∷◌, ◌++◌, length, map, filter, take, slice_index}
-use Rattle.std.specs.List.{slice_split, join_with_byte}
+use Rattle.std.specs.Prelude.{ℕ, ◌-◌, ◌==◌, Bool, ◌||◌, nat_lt, if◌then◌else◌, List, [], ◌∷◌, length, map, filter, take, slice_index}
+use Rattle.std.specs.List.{slice_split}
 
 abbrev pub is_line_feed : ℕ → Bool
 is_line_feed b = b == 10
@@ -32,7 +32,3 @@ abbrev pub letter : List ℕ → ℕ
 letter [] = 0
 letter (b ∷ []) = b
 letter (b ∷ c ∷ bytes) = 0
-
--- the text of a line of these words
-abbrev pub line_text : List (List ℕ) → List ℕ
-line_text words = join_with_byte 32 words ++ 10 ∷ []

@@ -2,15 +2,11 @@
 use Rattle.std.specs.Prelude.{◌≡◌, ℕ, zero, suc, ◌==◌, if◌then◌else◌, Bool, true, false, List, [], ◌∷◌, ◌++◌, map, length, All}
 use Rattle.exact_field.specs.Rational.{ℚ, zero_ℚ, one_ℚ, neg_ℚ, ◌≤ℚ◌}
 use Rattle.exact_field.specs.Vector.{entry, dot}
+use Rattle.polyhedra.specs.Inequality.{Inequality}
 use Rattle.vlp_reader.specs.Cells.{coefficient}
 use Rattle.vlp_reader.specs.declared.problem.Problem.{Problem}
 use Rattle.vlp_reader.specs.declared.problem.Bound.{Bound}
 use Rattle.vlp_reader.specs.declared.problem.Bound.TheVariants.{Unsaid, Free, Lower, Upper, Double, Fixed}
-
--- the inequality "normal.x is at least bound"
-pub record Side : Type 0 where
-  pub normal : List ℚ
-  pub bound : ℚ
 
 -- the numbers from k on, n of them
 abbrev pub numbers_from : ℕ → ℕ → List ℕ
@@ -26,14 +22,14 @@ abbrev pub unit : ℕ → ℕ → List ℚ
 unit n k = map (λ j. if j == k then one_ℚ else zero_ℚ) (numbers_from 1 n)
 
 -- "v.x at least b", and "v.x at most b" as an inequality of the same form
-abbrev pub at_least : List ℚ → ℚ → Side
+abbrev pub at_least : List ℚ → ℚ → Inequality
 at_least v b = record { normal = v; bound = b }
 
-abbrev pub at_most : List ℚ → ℚ → Side
+abbrev pub at_most : List ℚ → ℚ → Inequality
 at_most v b = record { normal = map neg_ℚ v; bound = neg_ℚ b }
 
 -- the sides of one bound, the lower one first
-abbrev pub sides_of : List ℚ → Bound → List Side
+abbrev pub sides_of : List ℚ → Bound → List Inequality
 sides_of v Unsaid = []
 sides_of v Free = []
 sides_of v (Lower low) = at_least v low ∷ []
@@ -51,12 +47,12 @@ side_number (Double low high) = 2
 side_number (Fixed value) = 2
 
 -- the sides of bounds in their order, where v k is the vector of the bound number k
-abbrev pub sides_from : (ℕ → List ℚ) → ℕ → List Bound → List Side
+abbrev pub sides_from : (ℕ → List ℚ) → ℕ → List Bound → List Inequality
 sides_from v k [] = []
 sides_from v k (b ∷ bounds) = sides_of (v k) b ++ sides_from v (suc k) bounds
 
 -- the sides of a file, those of the rows first
-abbrev pub sides : Problem → List Side
+abbrev pub sides : Problem → List Inequality
 sides file = sides_from (row_vector file) 1 file.row_bounds ++ sides_from (unit file.cols) 1 file.col_bounds
 
 -- column j of the matrix of all normals, and the list of all bounds

@@ -1,7 +1,6 @@
 //! Why a file is refused.
 ghost use Rattle.std.specs.Prelude.{◌≡◌};
 ghost use Rattle.vlp_reader.specs.declared.fault.LineEnd.TheVariants as line;
-ghost use Rattle.vlp_reader.specs.declared.fault.VlpEnd.TheVariants.{NoMemory};
 
 use src_sink::NoMemory as WantOfMemory;
 use std::alloc::{AllocError, AllocFailed};
@@ -75,30 +74,6 @@ pub enum VlpEnd {
     Fault(FileFault),
     #[error("out of memory")]
     NoMemory,
-}
-
-impl From<WantOfMemory> for VlpEnd {
-    ghost from_gives = { λ _ e. e ≡ NoMemory };
-
-    fn from(_e: WantOfMemory) -> VlpEnd {
-        VlpEnd::NoMemory
-    }
-}
-
-impl From<AllocError> for VlpEnd {
-    ghost from_gives = { λ _ e. e ≡ NoMemory };
-
-    fn from(_e: AllocError) -> VlpEnd {
-        VlpEnd::NoMemory
-    }
-}
-
-impl<T: Drop> From<AllocFailed<T>> for VlpEnd {
-    ghost from_gives = { λ _ e. e ≡ NoMemory };
-
-    fn from(_e: AllocFailed<T>) -> VlpEnd {
-        VlpEnd::NoMemory
-    }
 }
 
 /// Why a line was not taken.

@@ -18,4 +18,5 @@ mod text;
 pub use fault::{FileFault, FileKind, VlpEnd};
 pub use problem::{Bound, Cell, Cone, Dir, Problem};
 pub use read::read_vlp;
-pub use statement::Axis;
+pub use sizes::{ConeSizes, Sizes};
+pub use statement::{Axis, Matrix, Statement};

@@ -104,13 +104,6 @@ impl<'a> Mantissa<'a> {
         self.whole.len() + self.decimals.len()
     }
 
-    /// How many bytes stand behind the point.
-    fn places(self) -> usize
-        ensures { result ≡ length self.entry.decimals.now }
-    {
-        self.decimals.len()
-    }
-
     /// Whether there is a digit, and nothing else.
     fn is_natural(self) -> bool
         ensures { result ≡ is_natural (self.entry.whole.now ++ self.entry.decimals.now) }
@@ -246,7 +239,7 @@ fn number_from(negative: bool, digits: Mantissa, exponent: i128) -> Result<Frac,
     let leading = digits.without_leading_zeros();
     let significant = leading.without_trailing_zeros();
     let zeros = leading.len() - significant.len();
-    let power = exponent - digits.places() as i128 + zeros as i128;
+    let power = exponent - digits.decimals.len() as i128 + zeros as i128;
     number_at(negative, significant, power)
 }
 

@@ -9,7 +9,7 @@ use crate::text::{natural, next_word};
 
 /// The sizes of a cone, and whether its vectors are those of the dual cone.
 #[derive(Clone, Copy, Debug)]
-pub(crate) struct ConeSizes {
+pub struct ConeSizes {
     pub dual: bool,
     pub vectors: u32,
     pub entries: u32,
@@ -17,7 +17,7 @@ pub(crate) struct ConeSizes {
 
 /// The sizes that the `p` line gives. The numbers of entries are those of the lines that give one.
 #[derive(Clone, Copy, Debug)]
-pub(crate) struct Sizes {
+pub struct Sizes {
     pub dir: Dir,
     pub rows: u32,
     pub cols: u32,

@@ -12,7 +12,7 @@ use frac128::Frac;
 
 /// The matrices whose entries lines give. The duality vector is one of a single column.
 #[derive(Clone, Copy, Debug)]
-pub(crate) enum Matrix {
+pub enum Matrix {
     Constraints,
     Objectives,
     ConeVectors,
@@ -29,7 +29,7 @@ pub enum Axis {
 /// What the words of a line say. Where a word should be a number, this is its value, or what is wrong
 /// with it.
 #[derive(Clone, Copy, Debug)]
-pub(crate) enum Statement {
+pub enum Statement {
     /// Nothing.
     Silent,
     /// The sizes of the problem.

@@ -4,6 +4,8 @@ ghost use Rattle.std.specs.List.{position_or_len};
 ghost use Rattle.vlp_reader.specs.Lines.{lines_of, words_of, is_blank, without_return as line_of, letter as letter_of};
 ghost use Rattle.vlp_reader.specs.Number.{natural as natural_of};
 
+use src_sink::first_piece;
+
 /// The place of the first of two bytes, or the length where neither stands in the text.
 pub(crate) fn place_of(text: &[u8], one: u8, other: u8) -> usize
     ensures value { result ≡ position_or_len (λ b. b == one || b == other) text.now }
@@ -35,9 +37,12 @@ pub(crate) fn next_line(text: &[u8]) -> Option<(&[u8], &[u8])>
     if text.is_empty() {
         return None;
     }
-    let at = place_of(text, b'\n', b'\n');
-    let next = if at < text.len() { at + 1 } else { at };
-    Some((without_return(&text[..at]), &text[next..]))
+    let (piece, behind) = first_piece(text, b'\n');
+    let line = without_return(piece);
+    match behind {
+        Some(rest) => Some((line, rest)),
+        None => Some((line, &[])),
+    }
 }
 
 /// The text from the first byte on that is no blank.

@@ -50,15 +50,16 @@ const NUMBERS: [(&[u8], i128, i128); 12] = [
 /// The problem of a text.
 pub(crate) fn read(alloc: Global, text: &[u8]) -> Result<Problem, VlpEnd> {
     let mut bytes = Items::new(alloc);
-    bytes.append(text)?;
+    bytes.append(text).map_err(|_| VlpEnd::NoMemory)?;
     read_vlp(alloc, bytes.as_slice())
 }
 
 /// The problem of one objective with the entry `number`.
 fn read_number(alloc: Global, number: &[u8]) -> Result<Problem, VlpEnd> {
     let mut bytes = Items::new(alloc);
-    bytes.append(b"p vlp min 0 1 0 1 1\no 1 1 ".as_slice())?;
-    bytes.append(number)?;
+    let start = b"p vlp min 0 1 0 1 1\no 1 1 ".as_slice();
+    bytes.append(start).map_err(|_| VlpEnd::NoMemory)?;
+    bytes.append(number).map_err(|_| VlpEnd::NoMemory)?;
     read_vlp(alloc, bytes.as_slice())
 }
 

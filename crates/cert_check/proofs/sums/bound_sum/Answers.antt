@@ -1,5 +1,5 @@
 use Rattle.std.proofs.Common.{◌<◌, ◌≤◌, ◌-◌, ◌^◌, ap, ◌∙◌, get_or, arith, length, List}
-use Rattle.vlp_reader.specs.Sides.{Side}
+use Rattle.polyhedra.specs.Inequality.{Inequality}
 use Rattle.cert_check.specs.declared.sides.BoundSide.{BoundSide}
 use Rattle.cert_check.proofs.PlaceSums.{AtPlace, at_place, sum_step, bound-small}
 use Rattle.cert_check.proofs.sums.bound_sum.Goals as goal
@@ -32,6 +32,6 @@ loop-spot-preserved c =
     let p = at_place c.args.u.now c.as_slice-spot-items.result.now (length c.args.table.now) c.loop-spot.spot-index c.spot-item.result c.as_slice-spot-items.ensures.items
     c.requires.multipliers c.requires.places c.loop-spot-test.true c.spot-item.is in
     let few : c.loop-spot.spot-index < 2 ^ 32 = omega arith in
-    sum_step (λ (s : Side). s.bound) c.args.problem.now c.args.table.now c.as_slice-sides.result.now c.args.u.now c.loop-spot.spot-index c.spot-item.result c.index-sides-spot.result
+    sum_step (λ (s : Inequality). s.bound) c.args.problem.now c.args.table.now c.as_slice-sides.result.now c.args.u.now c.loop-spot.spot-index c.spot-item.result c.index-sides-spot.result
     _ c.side_bound-bound.result c.num.result c.plus_product-total.result c.requires.sides c.as_slice-sides.ensures.items p c.index-sides-spot.is c.loop-spot.invariant
     (c.side_bound-bound.ensures.value c.args.problem.now) c.side_bound-bound.ensures.bound c.num.ensures.part c.plus_product-total.ensures few

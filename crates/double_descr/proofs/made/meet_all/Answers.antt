@@ -4,7 +4,7 @@ use Rattle.polyhedra.specs.LiveList.{Numbered}
 use Rattle.double_descr.specs.State.{live_of, numbered_of}
 use Rattle.double_descr.specs.Making.{IsMadeSoFar, candidates}
 use Rattle.double_descr.proofs.made.meet_all.Goals as goal
-use Rattle.double_descr.proofs.StepLists.{err_holds}
+use Rattle.lin_rows.proofs.Errors.{err_holds}
 
 pub try_plus-requires-clause-addition : goal.try_plus-requires-clause-addition
 try_plus-requires-clause-addition g c = (c.requires.addition.0, c.requires.addition.1, c.requires.addition.2, c.requires.addition.3, c.loop-i.invariant.bound ∙ c.requires.addition.4)

@@ -4,7 +4,7 @@ use Rattle.double_descr.specs.Making.{IsMadeSoFar, with_negatives}
 use Rattle.std.proofs.lemmas.List.{drop_all, length-map}
 use Rattle.polyhedra.specs.LiveList.{Numbered}
 use Rattle.double_descr.proofs.made.meet_with.Goals as goal
-use Rattle.double_descr.proofs.StepLists.{err_holds}
+use Rattle.lin_rows.proofs.Errors.{err_holds}
 
 pub loop-j-preserved : goal.loop-j-preserved
 loop-j-preserved g c = record {

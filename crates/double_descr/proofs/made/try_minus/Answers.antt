@@ -9,7 +9,7 @@ use Rattle.std.proofs.Common.{slice_index_or}
 use Rattle.std.proofs.lemmas.List.{get_or_default}
 use Rattle.double_descr.specs.declared.generator.Generator.{Generator}
 use Rattle.double_descr.proofs.made.try_minus.Goals as goal
-use Rattle.double_descr.proofs.MadePairs.{value_of, wide_of, bound_of, norming_of, negatives_at, tried, tried_fault}
+use Rattle.double_descr.proofs.MadePairs.{value_at_index, wide_of, bound_of, norming_of, negatives_at, tried, tried_fault}
 use Rattle.double_descr.proofs.StepLists.{drop_value, on_ok_map, if_err_map}
 use Rattle.polyhedra.proofs.Members.{member_of}
 
@@ -22,7 +22,7 @@ try_pair-requires-clause-same g c =
     let P : IsPlus value n rows row c.args.generators.now c.args.values.now c.args.plus.now c.args.at_plus = c.requires.plus.3 in
     let m = c.index-generators-j.result in
     let mc : Contains c.args.generators.now m = (c.args.j, c.requires.inside, sym c.index-generators-j.is) in
-    let be : value c.index-values-j.result ≡ dot row (values value m.vector.items) = value_of value n rows row c.args.generators.now c.args.values.now P.addition
+    let be : value c.index-values-j.result ≡ dot row (values value m.vector.items) = value_at_index value row c.args.generators.now c.args.values.now P.addition.at_row
     c.args.j c.index-values-j.result m (omega arith) c.requires.inside c.index-values-j.is c.index-generators-j.is in
     let down : value c.index-values-j.result <ℚ zero_ℚ = sym c.is_below.ensures ∙ c.if-not-is_below.false in
     wide_of value n rows row c.args.generators.now c.args.values.now P.addition c.args.plus.now P.listed
@@ -46,7 +46,7 @@ try_pair-requires-clause-bounds g c =
     let P : IsPlus value n rows row c.args.generators.now c.args.values.now c.args.plus.now c.args.at_plus = c.requires.plus.3 in
     let m = c.index-generators-j.result in
     let mc : Contains c.args.generators.now m = (c.args.j, c.requires.inside, sym c.index-generators-j.is) in
-    let be : value c.index-values-j.result ≡ dot row (values value m.vector.items) = value_of value n rows row c.args.generators.now c.args.values.now P.addition
+    let be : value c.index-values-j.result ≡ dot row (values value m.vector.items) = value_at_index value row c.args.generators.now c.args.values.now P.addition.at_row
     c.args.j c.index-values-j.result m (omega arith) c.requires.inside c.index-values-j.is c.index-generators-j.is in
     let down : value c.index-values-j.result <ℚ zero_ℚ = sym c.is_below.ensures ∙ c.if-not-is_below.false in
     bound_of value n rows row c.args.generators.now c.args.values.now P.addition c.args.plus.now P.listed
@@ -82,7 +82,7 @@ try_pair-requires-clause-not_zero g c =
     let P : IsPlus value n rows row c.args.generators.now c.args.values.now c.args.plus.now c.args.at_plus = c.requires.plus.3 in
     let m = c.index-generators-j.result in
     let mc : Contains c.args.generators.now m = (c.args.j, c.requires.inside, sym c.index-generators-j.is) in
-    let be : value c.index-values-j.result ≡ dot row (values value m.vector.items) = value_of value n rows row c.args.generators.now c.args.values.now P.addition
+    let be : value c.index-values-j.result ≡ dot row (values value m.vector.items) = value_at_index value row c.args.generators.now c.args.values.now P.addition.at_row
     c.args.j c.index-values-j.result m (omega arith) c.requires.inside c.index-values-j.is c.index-generators-j.is in
     let down : value c.index-values-j.result <ℚ zero_ℚ = sym c.is_below.ensures ∙ c.if-not-is_below.false in
     norming_of value n rows row c.args.generators.now c.args.values.now P.addition c.args.plus.now m (value c.args.at_plus) (value c.index-values-j.result)
@@ -93,7 +93,7 @@ returns-then-not-is_below-clause-ok g c = λ kept n next rows row left P h.
     let value = g.F.Field.value in
     let m : Generator _ = slice_index_or c.args.generators.now c.args.j c.args.plus.now in
     let ge : m ≡ slice_index_or c.args.generators.now c.args.j m = get_or_default c.args.generators.now c.args.j c.args.plus.now m c.requires.inside in
-    let be : value c.index-values-j.result ≡ dot row (values value m.vector.items) = value_of value n rows row c.args.generators.now c.args.values.now P.addition
+    let be : value c.index-values-j.result ≡ dot row (values value m.vector.items) = value_at_index value row c.args.generators.now c.args.values.now P.addition.at_row
     c.args.j c.index-values-j.result m (omega arith) c.requires.inside c.index-values-j.is ge in
     let e = drop_value (numbered_of value) c.args.generators.now c.args.j m c.requires.inside ge in
     subst (λ (l : List LivePair). IsMadeSoFar value g.F.Field.holds rows row (live_of value c.args.generators.now) kept next l c.args.so_far.now)
@@ -105,7 +105,7 @@ returns-clause-ok g c = λ kept n next rows row left P h.
     let value = g.F.Field.value in
     let m = c.index-generators-j.result in
     let mc : Contains c.args.generators.now m = (c.args.j, c.requires.inside, sym c.index-generators-j.is) in
-    let be : value c.index-values-j.result ≡ dot row (values value m.vector.items) = value_of value n rows row c.args.generators.now c.args.values.now P.addition
+    let be : value c.index-values-j.result ≡ dot row (values value m.vector.items) = value_at_index value row c.args.generators.now c.args.values.now P.addition.at_row
     c.args.j c.index-values-j.result m (omega arith) c.requires.inside c.index-values-j.is c.index-generators-j.is in
     let down : value c.index-values-j.result <ℚ zero_ℚ = sym c.is_below.ensures ∙ c.if-not-is_below.false in
     let e = drop_value (numbered_of value) c.args.generators.now c.args.j m c.requires.inside c.index-generators-j.is in
@@ -125,7 +125,7 @@ returns-clause-left g c = λ kept n next rows row left P h.
     let value = g.F.Field.value in
     let m = c.index-generators-j.result in
     let mc : Contains c.args.generators.now m = (c.args.j, c.requires.inside, sym c.index-generators-j.is) in
-    let be : value c.index-values-j.result ≡ dot row (values value m.vector.items) = value_of value n rows row c.args.generators.now c.args.values.now P.addition
+    let be : value c.index-values-j.result ≡ dot row (values value m.vector.items) = value_at_index value row c.args.generators.now c.args.values.now P.addition.at_row
     c.args.j c.index-values-j.result m (omega arith) c.requires.inside c.index-values-j.is c.index-generators-j.is in
     let down : value c.index-values-j.result <ℚ zero_ℚ = sym c.is_below.ensures ∙ c.if-not-is_below.false in
     let e = drop_value (numbered_of value) c.args.generators.now c.args.j m c.requires.inside c.index-generators-j.is in

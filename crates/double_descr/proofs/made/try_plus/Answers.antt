@@ -7,7 +7,7 @@ use Rattle.double_descr.specs.State.{live_of, numbered_of}
 use Rattle.double_descr.specs.Making.{IsAddition, IsMadeSoFar, candidates}
 use Rattle.double_descr.proofs.made.try_plus.Goals as goal
 use Rattle.double_descr.proofs.StepLists.{drop_value}
-use Rattle.double_descr.proofs.MadePairs.{value_of, candidates_at}
+use Rattle.double_descr.proofs.MadePairs.{value_at_index, candidates_at}
 
 pub meet_with-requires-clause-plus : goal.meet_with-requires-clause-plus
 meet_with-requires-clause-plus g c =
@@ -19,7 +19,7 @@ meet_with-requires-clause-plus g c =
     let p = c.index-generators-i.result in
     let pc : Contains c.args.generators.now p = (c.args.i, c.requires.inside, sym c.index-generators-i.is) in
     let e = drop_value (numbered_of value) c.args.generators.now c.args.i p c.requires.inside c.index-generators-i.is in
-    let ae : value c.index-values-i.result ≡ dot row (values value p.vector.items) = value_of value n rows row c.args.generators.now c.args.values.now P
+    let ae : value c.index-values-i.result ≡ dot row (values value p.vector.items) = value_at_index value row c.args.generators.now c.args.values.now P.at_row
     c.args.i c.index-values-i.result p (omega arith) c.requires.inside c.index-values-i.is c.index-generators-i.is in
     (n, rows, row, record { addition = P; listed = pc; valued = ae; positive = sym c.is_above.ensures ∙ c.if-not-is_above.false }, c.requires.addition.4)
 
@@ -29,7 +29,7 @@ returns-then-not-is_above-clause-ok g c = λ kept n next rows row P h.
     let p = c.index-generators-i.result in
     let pc : Contains c.args.generators.now p = (c.args.i, c.requires.inside, sym c.index-generators-i.is) in
     let e = drop_value (numbered_of value) c.args.generators.now c.args.i p c.requires.inside c.index-generators-i.is in
-    let ae : value c.index-values-i.result ≡ dot row (values value p.vector.items) = value_of value n rows row c.args.generators.now c.args.values.now P
+    let ae : value c.index-values-i.result ≡ dot row (values value p.vector.items) = value_at_index value row c.args.generators.now c.args.values.now P.at_row
     c.args.i c.index-values-i.result p (omega arith) c.requires.inside c.index-values-i.is c.index-generators-i.is in
     subst (λ (l : List LivePair). IsMadeSoFar value g.F.Field.holds rows row (live_of value c.args.generators.now) kept next l c.args.so_far.now)
     (candidates_at row (numbered_of value p) (drop c.args.i (live_of value c.args.generators.now)) (drop (c.args.i + 1) (live_of value c.args.generators.now)) (live_of value c.args.generators.now) e false
@@ -41,7 +41,7 @@ returns-clause-ok g c = λ kept n next rows row P h.
     let p = c.index-generators-i.result in
     let pc : Contains c.args.generators.now p = (c.args.i, c.requires.inside, sym c.index-generators-i.is) in
     let e = drop_value (numbered_of value) c.args.generators.now c.args.i p c.requires.inside c.index-generators-i.is in
-    let ae : value c.index-values-i.result ≡ dot row (values value p.vector.items) = value_of value n rows row c.args.generators.now c.args.values.now P
+    let ae : value c.index-values-i.result ≡ dot row (values value p.vector.items) = value_at_index value row c.args.generators.now c.args.values.now P.at_row
     c.args.i c.index-values-i.result p (omega arith) c.requires.inside c.index-values-i.is c.index-generators-i.is in
     c.meet_with.ensures.ok kept n next rows row (candidates row (drop (c.args.i + 1) (live_of value c.args.generators.now)) (live_of value c.args.generators.now))
     (record { addition = P; listed = pc; valued = ae; positive = sym c.is_above.ensures ∙ c.if-not-is_above.false })
@@ -55,7 +55,7 @@ returns-clause-left g c = λ kept n next rows row P h.
     let p = c.index-generators-i.result in
     let pc : Contains c.args.generators.now p = (c.args.i, c.requires.inside, sym c.index-generators-i.is) in
     let e = drop_value (numbered_of value) c.args.generators.now c.args.i p c.requires.inside c.index-generators-i.is in
-    let ae : value c.index-values-i.result ≡ dot row (values value p.vector.items) = value_of value n rows row c.args.generators.now c.args.values.now P
+    let ae : value c.index-values-i.result ≡ dot row (values value p.vector.items) = value_at_index value row c.args.generators.now c.args.values.now P.at_row
     c.args.i c.index-values-i.result p (omega arith) c.requires.inside c.index-values-i.is c.index-generators-i.is in
     c.meet_with.ensures.left kept n next rows row (candidates row (drop (c.args.i + 1) (live_of value c.args.generators.now)) (live_of value c.args.generators.now))
     (record { addition = P; listed = pc; valued = ae; positive = sym c.is_above.ensures ∙ c.if-not-is_above.false })

@@ -7,7 +7,7 @@ use Rattle.double_descr.specs.Making.{IsAddition, IsMadeSoFar, candidates}
 use Rattle.double_descr.specs.declared.generator.Generator.{Generator}
 use Rattle.double_descr.proofs.next.next_list.Goals as goal
 use Rattle.polyhedra.proofs.Members.{all_of_members, member_of, Contains-map}
-use Rattle.double_descr.proofs.StepLists.{err_holds}
+use Rattle.lin_rows.proofs.Errors.{err_holds}
 use Rattle.double_descr.proofs.NextLists.{addition, begun, behind_values, next_is, changed, all_held}
 
 pub values_at-requires-clause-same : goal.values_at-requires-clause-same

@@ -5,7 +5,8 @@ use Rattle.polyhedra.specs.LiveList.{Numbered}
 use Rattle.double_descr.specs.State.{live_of, numbered_of}
 use Rattle.double_descr.specs.Adding.{AreHeld, value_block}
 use Rattle.double_descr.proofs.parts.values_at.Goals as goal
-use Rattle.double_descr.proofs.StepLists.{drop_value, err_holds, write_on}
+use Rattle.lin_rows.proofs.Errors.{err_holds}
+use Rattle.double_descr.proofs.StepLists.{drop_value, write_on}
 use Rattle.double_descr.proofs.MadePairs.{fault_at, block_on}
 
 pub returns-in_err-value_at-clause-left : goal.returns-in_err-value_at-clause-left

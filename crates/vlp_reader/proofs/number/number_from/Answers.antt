@@ -1,4 +1,4 @@
-use Rattle.std.proofs.Common.{◌≡◌, ℤ, ℕ, List, pos, ◌++◌, ◌-◌, ◌^◌, ◌<◌, ◌≤◌, Err, ◌+ℤ◌, ◌-ℤ◌, length, ap, sym, ◌∙◌, arith, subst, true, to_z, of_z}
+use Rattle.std.proofs.Common.{◌≡◌, ℤ, ℕ, List, pos, ◌++◌, ◌-◌, ◌^◌, ◌<◌, ◌≤◌, Err, ◌+ℤ◌, ◌-ℤ◌, length, ap, sym, refl, ◌∙◌, arith, subst, true, to_z, of_z}
 use Rattle.std.specs.Int.{w128}
 use Rattle.std.specs.Prelude.{unsigned_abs}
 use Rattle.std.specs.Str.{all_ascii_digits}
@@ -39,9 +39,9 @@ returns c =
     let less = length-trailing (without_leading_zeros ds) in
     let digits : c.without_trailing_zeros-significant.result.whole.now ++ c.without_trailing_zeros-significant.result.decimals.now ≡ significant ds =
     c.without_trailing_zeros-significant.ensures ∙ ap without_trailing_zeros c.without_leading_zeros-leading.ensures in
-    let scale : to_z w128 (of_z w128 (to_z w128 (of_z w128 (to_z w128 (of_z w128 c.args.exponent) -ℤ to_z w128 c.places.result)) +ℤ to_z w128 (c.len.result - c.len-2.result))) ≡ power ds places c.args.exponent =
-    exact_power c.args.exponent c.places.result c.len.result c.len-2.result places (length (without_leading_zeros ds)) (length (significant ds)) c.requires c.places.type_inv c.len.type_inv c.places.ensures one two less in
+    let scale : to_z w128 (of_z w128 (to_z w128 (of_z w128 (to_z w128 (of_z w128 c.args.exponent) -ℤ to_z w128 places)) +ℤ to_z w128 (c.len.result - c.len-2.result))) ≡ power ds places c.args.exponent =
+    exact_power c.args.exponent places c.len.result c.len-2.result places (length (without_leading_zeros ds)) (length (significant ds)) c.requires (omega arith) c.len.type_inv refl one two less in
     c.number_at.ensures
-    ∙ ap (λ (l : List ℕ). number_at c.args.negative l (to_z w128 (of_z w128 (to_z w128 (of_z w128 (to_z w128 (of_z w128 c.args.exponent) -ℤ to_z w128 c.places.result)) +ℤ to_z w128 (c.len.result - c.len-2.result))))) digits
+    ∙ ap (λ (l : List ℕ). number_at c.args.negative l (to_z w128 (of_z w128 (to_z w128 (of_z w128 (to_z w128 (of_z w128 c.args.exponent) -ℤ to_z w128 places)) +ℤ to_z w128 (c.len.result - c.len-2.result))))) digits
     ∙ ap (number_at c.args.negative (significant ds)) scale
     ∙ sym (cond-true (is_natural ds) (number_at c.args.negative (significant ds) (power ds places c.args.exponent)) (Err BadNumber) natural)

@@ -1,23 +1,25 @@
-use Rattle.std.proofs.Common.{◌≡◌, ◌∷◌, ap, ◌∙◌, sym, length, drop, arith}
-use Rattle.std.specs.List.{position_or_len}
+use Rattle.std.proofs.Common.{[], ◌∷◌, ap, ◌∙◌, sym, subst, ◌<◌, IfSome, length, arith}
+use Rattle.src_sink.specs.Texts.{pieces_behind}
 use Rattle.std.proofs.lemmas.Bool.{eqb-false}
-use Rattle.std.proofs.lemmas.List.{take_rest}
-use Rattle.vlp_reader.specs.Lines.{lines_of, is_line_feed}
-use Rattle.vlp_reader.proofs.Texts.{same_test, next_line_is, behind, nothing}
+use Rattle.vlp_reader.specs.Lines.{lines_of}
+use Rattle.vlp_reader.proofs.Texts.{first_line, last_line}
 use Rattle.vlp_reader.proofs.text.next_line.Goals as goal
-use Rattle.vlp_reader.proofs.text.next_line.Goals.{then-at-text, else-at-text}
 
-pub returns : goal.returns
-returns c =
+pub returns-in-Some : goal.returns-in-Some
+returns-in-Some c =
+    let piece = c.first_piece.result.0.now in
+    let rest = c.in-Some.rest.now in (
+      first_line c.args.text.now piece rest (c.first_piece.ensures.pieces ∙ ap (λ b. piece ∷ pieces_behind 10 b) c.in-Some.is)
+          ∙ ap (λ l. l ∷ lines_of rest) (sym c.without_return-line.ensures),
+      subst (λ b. IfSome b (λ r. length r.now < length c.args.text.now)) c.in-Some.is c.first_piece.ensures.shorter,
+    )
+
+pub returns-in-None : goal.returns-in-None
+returns-in-None c =
     let text = c.args.text.now in
-    let at = c.place_of-at.result in
-    let next = c.if-at-text.next in
-    let some = eqb-false (length text) 0 (sym c.if-is_empty.ensures) in
-    let place : at ≡ position_or_len is_line_feed text = c.place_of-at.ensures.value ∙ ap (λ p. position_or_len p text) (same_test 10) in
-    let line = next_line_is text at next (omega arith) place (elim c.if-at-text.branch [
-      | then-at-text w ↦ behind w.if-at-text.true w.next-is
-      | else-at-text w ↦ nothing w.if-at-text.false w.next-is
-    ]) in (
-      line.0 ∙ ap (λ l. l ∷ lines_of (drop next text)) (sym c.without_return.ensures) ∙ ap (λ l. c.without_return.result.now ∷ lines_of l) (sym (take_rest text next)),
-      omega (arith, line.1, ap length (take_rest text next)),
+    let piece = c.first_piece.result.0.now in
+    let other = eqb-false (length text) 0 (sym c.if-is_empty.ensures) in (
+      last_line text piece (omega arith) (c.first_piece.ensures.pieces ∙ ap (λ b. piece ∷ pieces_behind 10 b) c.in-None.is)
+          ∙ ap (λ l. l ∷ lines_of []) (sym c.without_return-line.ensures),
+      omega arith,
     )

@@ -1,3 +1,4 @@
+use Rattle.lin_rows.proofs.Errors.{err_holds}
 use Rattle.std.proofs.Common.{◌≡◌, List, [], ◌∷◌, ◌++◌, length, map, All, sym, ap, ◌∙◌, subst}
 use Rattle.std.proofs.lemmas.List.{length-map}
 use Rattle.double_descr.specs.Steps.{values}
@@ -5,7 +6,7 @@ use Rattle.double_descr.specs.State.{State, list_of, live_of, HasTightSet, IsNex
 use Rattle.polyhedra.specs.LiveSteps.{IsLive}
 use Rattle.polyhedra.specs.LiveList.{step}
 use Rattle.double_descr.specs.declared.generator.Generator.{Generator}
-use Rattle.double_descr.specs.Adding.{AreHeld, IsChange, add_blocks}
+use Rattle.double_descr.specs.Adding.{AreHeld, IsAddFault, IsChange, add_blocks}
 use Rattle.double_descr.proofs.KeptNext.{live_at, kept_next, view_next}
 use Rattle.double_descr.proofs.dd.Dd.add.Goals as goal
 
@@ -74,3 +75,20 @@ returns-clause-held g c =
     let many : length rows ≡ c.len.result = length-map s.rows (values value) ∙ sym c.len.ensures.value in
     subst (λ (x : State). All (AreHeld g.F.Field.holds) (add_blocks x.rows x.list.live (values value row))) c.self.view_is
     (subst (λ (gs : List (Generator _)). All (AreHeld g.F.Field.holds) (add_blocks rows (live_of value gs) (values value row))) gens_is (c.in_ok-made.ensures.held rows l tight many))
+
+pub returns-in_err-made-clause-left : goal.returns-in_err-made-clause-left
+returns-in_err-made-clause-left g c =
+    let value = g.F.Field.value in
+    let holds = g.F.Field.holds in
+    let s = c.self.inside in
+    let row = c.args.row.now in
+    let rows = map (values value) s.rows in
+    let w : length row ≡ s.width = c.requires ∙ sym (ap (λ (x : State). x.width) c.self.view_is) in
+    let gens_is : c.as_slice.result.now ≡ s.generators = c.as_slice.ensures.items in
+    let l : IsLive (length row) rows (list_of value c.as_slice.result.now s.next) = subst (λ (gs : List (Generator _)). IsLive (length row) rows (list_of value gs s.next)) (sym gens_is)
+    (live_at value s.width s.rows s.numbers s.generators s.next c.self.invariant row w) in
+    let tight : All (HasTightSet value rows) c.as_slice.result.now = subst (λ (gs : List (Generator _)). All (HasTightSet value rows) gs) (sym gens_is) c.self.invariant.tight in
+    let many : length rows ≡ c.len.result = length-map s.rows (values value) ∙ sym c.len.ensures.value in
+    err_holds c.from_residual.result c.in_err-made.field-0.0 _ c.from_residual.ensures.1
+    (subst (λ (x : State). IsAddFault value holds (add_blocks x.rows x.list.live (values value row)) c.in_err-made.field-0.0) c.self.view_is
+    (subst (λ (gs : List (Generator _)). IsAddFault value holds (add_blocks rows (live_of value gs) (values value row)) c.in_err-made.field-0.0) gens_is (c.in_err-made.ensures.left rows l tight many)))

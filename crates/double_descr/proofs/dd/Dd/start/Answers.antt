@@ -1,0 +1,33 @@
+use Rattle.std.proofs.Common.{ℕ, ◌+◌, ◌<◌, List, map, sym, ap, ◌∙◌, subst}
+use Rattle.polyhedra.specs.Dependence.{AreCorners}
+use Rattle.lin_rows.specs.Read.{numbers as table}
+use Rattle.double_descr.specs.Starting.{IsStart}
+use Rattle.double_descr.specs.State.{IsKept, list_of}
+use Rattle.double_descr.specs.Steps.{values}
+use Rattle.double_descr.specs.declared.generator.Generator.{Generator}
+use Rattle.double_descr.proofs.StartState.{is_start, kept_start}
+use Rattle.double_descr.proofs.dd.Dd.start.Goals as goal
+
+pub invariant_of-result : goal.invariant_of-result
+invariant_of-result g c =
+    let value = g.F.Field.value in
+    let rows = c.args.rows.now in
+    let gens = c.in_ok-generators.generators in
+    let vectors = table value c.in_ok-vectors.vectors.list in
+    let wide : AreCorners c.in_ok-vectors.vectors.width (table value rows.list) vectors =
+    subst (λ (n : ℕ). AreCorners n (table value rows.list) vectors) (sym c.in_ok-vectors.ensures.width) c.in_ok-vectors.ensures.ok in
+    subst (λ (p : ℕ × (List (List _) × ℕ)). IsKept value p.0 p.1.0 c.in_ok-numbers.numbers gens p.1.1)
+    (λ i. (sym c.width.ensures i, (sym c.in_ok-lines.ensures i, sym c.len.ensures.value i + 1)))
+    (kept_start value rows.width rows.list vectors c.in_ok-vectors.ensures.ok gens c.in_ok-generators.ensures.live c.in_ok-numbers.numbers
+    (c.in_ok-numbers.ensures ∙ ap (map (λ (g : Generator _). g.number)) c.as_slice.ensures.items)
+    (c.in_ok-generators.ensures.tight (table value rows.list) wide) (subst (λ (n : ℕ). n < 4294967296) c.width.ensures c.width.type_inv))
+
+pub returns-clause-ok : goal.returns-clause-ok
+returns-clause-ok g c =
+    let value = g.F.Field.value in
+    let rows = c.args.rows.now in
+    let gens = c.in_ok-generators.generators in
+    let vectors = table value c.in_ok-vectors.vectors.list in
+    subst (λ (p : ℕ × (List (List _) × ℕ)). IsStart rows.width (table value rows.list) (record { width = p.0; rows = map (values value) p.1.0; list = list_of value gens p.1.1 }))
+    (λ i. (sym c.width.ensures i, (sym c.in_ok-lines.ensures i, sym c.len.ensures.value i + 1)))
+    (is_start value rows.width rows.list vectors c.in_ok-vectors.ensures.ok gens c.in_ok-generators.ensures.live)

@@ -1,0 +1,201 @@
+-- The coupling and the exchange: products of vectors without their last entries, and of rows with dual vectors.
+use Rattle.std.proofs.Common.{◌≡◌, ℕ, suc, ◌+◌, ◌-◌, ◌<◌, ◌≤◌, List, [], ◌∷◌, ◌++◌, length, take, drop, Bool, true, false, cond, refl, sym, ap, ap₂, ◌∙◌, subst, arith, length-append, slice_index_or, append_assoc, map, All, inl, inr, Result, Ok, Err}
+use Rattle.std.proofs.Math.Seq.{take-append_seam}
+use Rattle.exact_field.specs.Rational.{ℚ, zero_ℚ, one_ℚ, neg_ℚ, ◌+ℚ◌, ◌-ℚ◌, ◌*ℚ◌}
+use Rattle.exact_field.specs.Ring.{num, v0, v1, v2, v3, v4, v5, ◌⊕◌, ◌⊗◌, ◌⊝◌, ⊖}
+use Rattle.std.specs.Prelude.{pos, IsTrue, IsFalse, IfErr, IfOk, MatchResult, OnOk}
+use Rattle.std.specs.List.{take-map}
+use Rattle.std.proofs.lemmas.List.{get_or-map, length-map, length-take-le, map-append, get_or-take}
+use Rattle.exact_field.specs.declared.op.Op.TheVariants.{Add, Sub, Mul}
+use Rattle.exact_field.specs.declared.op.Left.{Left}
+use Rattle.lin_rows.specs.Sums.{AreHeld, IsDotLeft}
+use Rattle.double_descr.specs.Steps.{IsFirst, IsHeld}
+use Rattle.double_descr.proofs.StepLists.{at_last, drop_value, one_more, start, stopped, stopped_second, two_more}
+use Rattle.exact_field.specs.Vector.{dot, entry}
+use Rattle.exact_field.proofs.RingTool.{ring}
+use Rattle.exact_field.proofs.Rationals.{rationals}
+use Rattle.exact_field.proofs.Sums.{dot-append}
+use Rattle.polyhedra.specs.Exactness.{homogenised}
+use Rattle.polyhedra.proofs.Homogenised.{IsHomogenised, unhomogenised, dot-homogenised}
+use Rattle.polyhedra.proofs.Linear.{dot_comm}
+use Rattle.geo_duality.specs.Coupling.{IsCouplingLeft, IsProductHeld, front, last, last_steps, inequality_of, share, slack}
+use Rattle.geo_duality.specs.Exchange.{difference_steps, differences, dual_vector, entry_steps, exchanged}
+
+-- ---- a vector and its last entry
+pub front-homogenised : (xs : List ℚ) (x : ℚ) → front (homogenised xs x) ≡ xs
+front-homogenised xs x = ap (λ n. take n (xs ++ x ∷ [])) (let e : length (xs ++ x ∷ []) - 1 ≡ length xs = omega (arith, length-append xs (x ∷ [])) in e) ∙ take-append_seam xs (x ∷ [])
+
+pub last-homogenised : (xs : List ℚ) (x : ℚ) → last (homogenised xs x) ≡ x
+last-homogenised xs x = ap (λ n. entry (xs ++ x ∷ []) n) (let e : length (xs ++ x ∷ []) ≡ suc (length xs) = omega (arith, length-append xs (x ∷ [])) in e) ∙ seam xs
+  where
+    seam : (ys : List ℚ) → entry (ys ++ x ∷ []) (suc (length ys)) ≡ x
+    seam ys = ap (λ i. slice_index_or (ys ++ x ∷ []) i zero_ℚ) (let e : suc (length ys) - 1 ≡ length ys = omega arith in e) ∙ at ys
+      where
+        at : (zs : List ℚ) → slice_index_or (zs ++ x ∷ []) (length zs) zero_ℚ ≡ x
+        at [] = refl
+        at (z ∷ zs) = at zs
+
+-- a vector that is not empty is its front with its last entry
+pub front_and_last : (v : List ℚ) → 1 ≤ length v → v ≡ homogenised (front v) (last v)
+front_and_last v h =
+    let u : IsHomogenised (length v - 1) v = unhomogenised (length v - 1) v (omega arith) in
+    u.same ∙ sym (ap₂ homogenised (ap front u.same ∙ front-homogenised u.front u.last) (ap last u.same ∙ last-homogenised u.front u.last))
+
+pub length-front : (v : List ℚ) → 1 ≤ length v → length (front v) ≡ length v - 1
+length-front v h =
+    let u : IsHomogenised (length v - 1) v = unhomogenised (length v - 1) v (omega arith) in
+    ap length (ap front u.same ∙ front-homogenised u.front u.last) ∙ u.wide
+
+-- ---- the coupling is the slack
+pub coupling_is : (y star c : List ℚ) → 1 ≤ length y → length star ≡ length y →
+    dot (front y) (front star) +ℚ share y star c -ℚ last star ≡ slack (inequality_of star c) y
+coupling_is y star c some same =
+    ap (λ a. a -ℚ last star) (ap₂ (λ a b. a +ℚ b) (dot_comm (front y) (front star))
+    (ring rationals (last y ∷ one_ℚ ∷ dot (front c) (front star) ∷ []) (v0 ⊗ (v1 ⊝ v2)) ((v1 ⊕ ⊖ v2) ⊗ v0) refl)
+    ∙ sym (dot-homogenised (front star) (front y) (one_ℚ +ℚ neg_ℚ (dot (front c) (front star))) (last y)
+    (length-front star (let e : 1 ≤ length star = omega arith in e) ∙ ap (λ n. n - 1) same ∙ sym (length-front y some)))
+    ∙ ap (dot (inequality_of star c).normal) (sym (front_and_last y some)))
+
+-- ---- the exchanged row over a dual vector
+dot-differences : (k : ℚ) (ys cs ws : List ℚ) → length cs ≡ length ys → dot (differences k ys cs) ws ≡ dot ys ws -ℚ k *ℚ dot cs ws
+dot-differences k [] [] ws h = ring rationals (k ∷ []) (num (pos 0)) (num (pos 0) ⊝ v0 ⊗ num (pos 0)) refl
+dot-differences k [] (c ∷ cs) ws h = absurd (omega arith)
+dot-differences k (y ∷ ys) [] ws h = absurd (omega arith)
+dot-differences k (y ∷ ys) (c ∷ cs) [] h = ring rationals (k ∷ []) (num (pos 0)) (num (pos 0) ⊝ v0 ⊗ num (pos 0)) refl
+dot-differences k (y ∷ ys) (c ∷ cs) (w ∷ ws) h =
+    ap (λ a. (y -ℚ k *ℚ c) *ℚ w +ℚ a) (dot-differences k ys cs ws (omega arith))
+    ∙ ring rationals (y ∷ k ∷ c ∷ w ∷ dot ys ws ∷ dot cs ws ∷ []) ((v0 ⊝ v1 ⊗ v2) ⊗ v3 ⊕ (v4 ⊝ v1 ⊗ v5)) (v0 ⊗ v3 ⊕ v4 ⊝ v1 ⊗ (v2 ⊗ v3 ⊕ v5)) refl
+
+length-differences : (k : ℚ) (ys cs : List ℚ) → length cs ≡ length ys → length (differences k ys cs) ≡ length ys
+length-differences k [] cs h = refl
+length-differences k (y ∷ ys) [] h = absurd (omega arith)
+length-differences k (y ∷ ys) (c ∷ cs) h = ap suc (length-differences k ys cs (omega arith))
+
+pub exchanged_is : (y c : List ℚ) (t : Bool) (normal : List ℚ) (bound : ℚ) → 1 ≤ length y → length c ≡ length y → entry c (length c) ≡ one_ℚ → length normal ≡ length y →
+    dot (exchanged y t c) (dual_vector normal bound c) ≡ dot normal y -ℚ cond t bound zero_ℚ
+exchanged_is y c t normal bound some same one wide =
+    dot-append (differences (last y) (front y) (front c)) (front normal) (cond t (neg_ℚ one_ℚ) zero_ℚ ∷ last y ∷ []) (bound ∷ dot normal c ∷ [])
+    (length-differences (last y) (front y) (front c) (long c same ∙ sym (long y refl)) ∙ long y refl ∙ sym (long normal wide))
+    ∙ ap₂ (λ a b. a +ℚ (cond t (neg_ℚ one_ℚ) zero_ℚ *ℚ bound +ℚ (last y *ℚ b +ℚ zero_ℚ)))
+    (dot-differences (last y) (front y) (front c) (front normal) (long c same ∙ sym (long y refl))) over_c
+    ∙ go t
+    ∙ ap (λ a. a -ℚ cond t bound zero_ℚ) (sym over_y)
+  where
+    long : (v : List ℚ) → length v ≡ length y → length (front v) ≡ length y - 1
+    long v e = length-front v (let h : 1 ≤ length v = omega arith in h) ∙ ap (λ n. n - 1) e
+
+    over_c : dot normal c ≡ dot (front c) (front normal) +ℚ last normal *ℚ one_ℚ
+    over_c = ap₂ dot (front_and_last normal (omega arith)) (front_and_last c (omega arith) ∙ ap (homogenised (front c)) one)
+        ∙ dot-homogenised (front normal) (front c) (last normal) one_ℚ (long normal wide ∙ sym (long c same))
+        ∙ ap (λ a. a +ℚ last normal *ℚ one_ℚ) (dot_comm (front normal) (front c))
+
+    over_y : dot normal y ≡ dot (front y) (front normal) +ℚ last normal *ℚ last y
+    over_y = ap₂ dot (front_and_last normal (omega arith)) (front_and_last y some)
+        ∙ dot-homogenised (front normal) (front y) (last normal) (last y) (long normal wide ∙ sym (long y refl))
+        ∙ ap (λ a. a +ℚ last normal *ℚ last y) (dot_comm (front normal) (front y))
+
+    go : (b : Bool) → dot (front y) (front normal) -ℚ last y *ℚ dot (front c) (front normal)
+        +ℚ (cond b (neg_ℚ one_ℚ) zero_ℚ *ℚ bound +ℚ (last y *ℚ (dot (front c) (front normal) +ℚ last normal *ℚ one_ℚ) +ℚ zero_ℚ))
+        ≡ dot (front y) (front normal) +ℚ last normal *ℚ last y -ℚ cond b bound zero_ℚ
+    go true = ring rationals (dot (front y) (front normal) ∷ dot (front c) (front normal) ∷ last y ∷ last normal ∷ bound ∷ [])
+        ((v0 ⊝ v2 ⊗ v1) ⊕ (⊖ (num (pos 1)) ⊗ v4 ⊕ (v2 ⊗ (v1 ⊕ v3 ⊗ num (pos 1)) ⊕ num (pos 0)))) (v0 ⊕ v3 ⊗ v2 ⊝ v4) refl
+    go false = ring rationals (dot (front y) (front normal) ∷ dot (front c) (front normal) ∷ last y ∷ last normal ∷ bound ∷ [])
+        ((v0 ⊝ v2 ⊗ v1) ⊕ (num (pos 0) ⊗ v4 ⊕ (v2 ⊗ (v1 ⊕ v3 ⊗ num (pos 1)) ⊕ num (pos 0)))) (v0 ⊕ v3 ⊗ v2 ⊝ num (pos 0)) refl
+
+-- ---- lists of numbers that stand for such vectors
+module _ {F : Type 0} (value : F → ℚ) where
+  pub mapped_front : (xs : List F) (n : ℕ) → n ≡ length xs - 1 → map value (take n xs) ≡ front (map value xs)
+  mapped_front xs n e = sym (take-map value n xs) ∙ ap (λ k. take k (map value xs)) (e ∙ ap (λ k. k - 1) (sym (length-map xs value)))
+
+  pub mapped_last : (xs : List F) (n : ℕ) (x : F) → n < length xs → n ≡ length xs - 1 → x ≡ slice_index_or xs n x → value x ≡ last (map value xs)
+  mapped_last xs n x l e is = ap value is ∙ sym (get_or-map value xs n x zero_ℚ l)
+      ∙ ap (λ k. slice_index_or (map value xs) k zero_ℚ) (e ∙ ap (λ k. k - 1) (sym (length-map xs value)))
+
+  -- the row from its entries but the last two, and these
+  pub row_done : (row two three : List F) (h l : F) (front_row : List ℚ) (s k : ℚ) → two ≡ row ++ h ∷ [] → three ≡ two ++ l ∷ [] → map value row ≡ front_row →
+      value h ≡ s → value l ≡ k → map value three ≡ front_row ++ s ∷ k ∷ []
+  row_done row two three h l front_row s k e f r a b =
+      ap (map value) (f ∙ ap (λ xs. xs ++ l ∷ []) e ∙ append_assoc row (h ∷ []) (l ∷ []))
+      ∙ map-append value row (h ∷ l ∷ []) ∙ (λ i. r i ++ a i ∷ b i ∷ [])
+
+-- ---- an exchange, one entry at a time
+-- all entries but the last, from place i on
+pub front_from : {F : Type 0} (value : F → ℚ) (xs : List F) (i : ℕ) (x : F) → i < length xs - 1 → x ≡ slice_index_or xs i x →
+    drop i (front (map value xs)) ≡ value x ∷ drop (i + 1) (front (map value xs))
+front_from value xs i x l e =
+    let n : ℕ = length xs - 1 in
+    ap (drop i) (sym (mapped_front value xs n refl))
+    ∙ drop_value value (take n xs) i x (let m : length (take n xs) ≡ n = length-take-le n xs (omega arith) in omega arith) (e ∙ sym (get_or-take n xs i x l))
+    ∙ ap (λ f. value x ∷ drop (i + 1) f) (mapped_front value xs n refl)
+
+pub difference_at : (k k' y c : ℚ) (ys cs ys' cs' : List ℚ) → k' ≡ k → ys ≡ y ∷ ys' → cs ≡ c ∷ cs' →
+    (y -ℚ k' *ℚ c) ∷ differences k ys' cs' ≡ differences k ys cs
+difference_at k k' y c ys cs ys' cs' e f g = ap (λ a. (y -ℚ a *ℚ c) ∷ differences k ys' cs') e ∙ sym (ap₂ (differences k) f g)
+
+pub steps_at : (k k' y c : ℚ) (ys cs ys' cs' : List ℚ) → k' ≡ k → ys ≡ y ∷ ys' → cs ≡ c ∷ cs' →
+    difference_steps k ys cs ≡ entry_steps k' y c ++ difference_steps k ys' cs'
+steps_at k k' y c ys cs ys' cs' e f g = ap₂ (difference_steps k) f g ∙ ap (λ a. entry_steps a y c ++ difference_steps k ys' cs') (sym e)
+
+-- ---- the steps of a coupling
+module _ {F : Type 0} (value : F → ℚ) (holds : ℚ → Bool) (y star c : List ℚ) (left : Left F) where
+  pub in_direct : IsDotLeft value holds (front y) (front star) left → IsCouplingLeft value holds y star c left
+  in_direct h = inl h
+
+  pub in_weight : IsProductHeld holds y star → IsDotLeft value holds (front c) (front star) left → IsCouplingLeft value holds y star c left
+  in_weight h k = inr (inl (h, k))
+
+  module _ (direct : IsProductHeld holds y star) (weight : IsProductHeld holds c star) where
+    behind : (number : ℕ) → IsFirst value holds (last_steps y star c) number left → IsCouplingLeft value holds y star c left
+    behind number h = inr (inr (direct, weight, (number, h)))
+
+    pub in_rest : left.op ≡ Sub → value left.a ≡ one_ℚ → value left.b ≡ dot (front c) (front star) → IsFalse (holds (one_ℚ -ℚ dot (front c) (front star))) →
+        IsCouplingLeft value holds y star c left
+    in_rest o a b n = behind 1 (stopped value holds (last_steps y star c) _ _ 0 left (start holds (last_steps y star c)) n o a b)
+
+    module _ (rest_held : IsTrue (holds (one_ℚ -ℚ dot (front c) (front star)))) where
+      pub in_share : left.op ≡ Mul → value left.a ≡ last y → value left.b ≡ one_ℚ -ℚ dot (front c) (front star) → IsFalse (holds (share y star c)) →
+          IsCouplingLeft value holds y star c left
+      in_share o a b n = behind 2 (stopped_second value holds (last_steps y star c) _ _ 0 left
+          (one_more holds (last_steps y star c) _ _ 0 (start holds (last_steps y star c)) rest_held) n o a b)
+
+      module _ (share_held : IsTrue (holds (share y star c))) where
+        pub in_total : left.op ≡ Add → value left.a ≡ dot (front y) (front star) → value left.b ≡ share y star c →
+            IsFalse (holds (dot (front y) (front star) +ℚ share y star c)) → IsCouplingLeft value holds y star c left
+        in_total o a b n = behind 3 (stopped value holds (last_steps y star c) _ _ 2 left
+            (two_more holds (last_steps y star c) _ _ _ 0 (start holds (last_steps y star c)) rest_held share_held) n o a b)
+
+        pub in_slack : IsTrue (holds (dot (front y) (front star) +ℚ share y star c)) → left.op ≡ Sub →
+            value left.a ≡ dot (front y) (front star) +ℚ share y star c → value left.b ≡ last star →
+            IsFalse (holds (dot (front y) (front star) +ℚ share y star c -ℚ last star)) → IsCouplingLeft value holds y star c left
+        in_slack total_held o a b n = behind 4 (stopped_second value holds (last_steps y star c) _ _ 2 left
+            (one_more holds (last_steps y star c) _ _ 2
+            (two_more holds (last_steps y star c) _ _ _ 0 (start holds (last_steps y star c)) rest_held share_held) total_held) n o a b)
+
+pub held_all : (holds : ℚ → Bool) (y star c : List ℚ) → IsTrue (holds (one_ℚ -ℚ dot (front c) (front star))) → IsTrue (holds (share y star c)) →
+    IsTrue (holds (dot (front y) (front star) +ℚ share y star c)) → IsTrue (holds (dot (front y) (front star) +ℚ share y star c -ℚ last star)) →
+    All (IsHeld holds) (last_steps y star c)
+held_all holds y star c h k l m = at_last holds (last_steps y star c) 4
+    (two_more holds (last_steps y star c) _ _ [] 2 (two_more holds (last_steps y star c) _ _ _ 0 (start holds (last_steps y star c)) h k) l m)
+
+-- each step of a product of two lists is held, as of their numbers
+pub product_held : {F : Type 0} (value : F → ℚ) (holds : ℚ → Bool) (xs ys : List F) (n : ℕ) (a b : List ℚ) → 1 ≤ length xs → n ≡ length xs - 1 →
+    map value (take n xs) ≡ a → map value (take n ys) ≡ b → AreHeld holds (map value (take n xs)) (map value (take n ys)) (length (take n xs)) →
+    AreHeld holds a b (length (map value xs) - 1)
+product_held value holds xs ys n a b some e f g h =
+    subst (λ (p : List ℚ × (List ℚ × ℕ)). AreHeld holds p.0 p.1.0 p.1.1) (λ i. (f i, (g i, many i))) h
+  where
+    many : length (take n xs) ≡ length (map value xs) - 1
+    many = let l : length (take n xs) ≡ n = length-take-le n xs (omega arith) in let m : length (map value xs) ≡ length xs = length-map xs value in omega arith
+
+-- ---- a result, case by case
+pub when_ok : {T E : Type 0} (r : Result T E) (P : T → Type 0) (Q : E → Type 0) (R : T → Type 0) → MatchResult r P Q → ((x : T) → P x → R x) → IfOk r R
+when_ok (Ok x) P Q R h f = f x h
+when_ok (Err e) P Q R h f = tt
+
+pub when_done : {T E : Type 0} (r : Result T E) (P : T → Type 0) (Q : E → Type 0) (R : Type 0) → MatchResult r P Q → ((x : T) → P x → R) → OnOk r R
+when_done (Ok x) P Q R h f = f x h
+when_done (Err e) P Q R h f = tt
+
+pub when_err : {T E : Type 0} (r : Result T E) (P : T → Type 0) (Q : E → Type 0) (R : E → Type 0) → MatchResult r P Q → ((e : E) → Q e → R e) → IfErr r R
+when_err (Ok x) P Q R h f = tt
+when_err (Err e) P Q R h f = f e h

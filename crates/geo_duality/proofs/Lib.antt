@@ -1,0 +1,4 @@
+pub mod Dual
+pub mod FacetRows
+pub mod Firsts
+pub mod TightPlaces

@@ -1,0 +1,55 @@
+-- The coupling of a vector with a point of the lower image: the slack of the inequality for which that point stands.
+use Rattle.std.specs.Prelude.{ℕ, ◌-◌, List, [], ◌∷◌, length, take, Bool, All, ◌⊎◌}
+use Rattle.exact_field.specs.Rational.{ℚ, one_ℚ, ◌+ℚ◌, ◌-ℚ◌, ◌*ℚ◌}
+use Rattle.exact_field.specs.Vector.{dot, entry}
+use Rattle.exact_field.specs.declared.op.Op.TheVariants.{Add, Sub, Mul}
+use Rattle.exact_field.specs.declared.op.Left.{Left}
+use Rattle.polyhedra.specs.Inequality.{Inequality}
+use Rattle.polyhedra.specs.LowerImage.{completed}
+use Rattle.lin_rows.specs.Sums.{AreHeld, IsDotLeft}
+use Rattle.double_descr.specs.Steps.{Step, IsHeld, IsFirst}
+
+-- a vector without its last entry, and the last entry
+abbrev pub front : List ℚ → List ℚ
+front v = take (length v - 1) v
+
+abbrev pub last : List ℚ → ℚ
+last v = entry v (length v)
+
+-- the inequality for which a point of the lower image stands: all its entries but the last, completed to a normal that has the
+-- product 1 with c, and the last as bound
+abbrev pub inequality_of : List ℚ → List ℚ → Inequality
+inequality_of star c = completed (front c) (front star) (last star)
+
+-- by how much y meets an inequality
+abbrev pub slack : Inequality → List ℚ → ℚ
+slack e y = dot e.normal y -ℚ e.bound
+
+-- the steps behind both products: what the second leaves of 1, that times the last entry of y, the sum with the first, less the bound
+abbrev pub share : List ℚ → List ℚ → List ℚ → ℚ
+share y star c = last y *ℚ (one_ℚ -ℚ dot (front c) (front star))
+
+abbrev pub last_steps : List ℚ → List ℚ → List ℚ → List Step
+last_steps y star c =
+    record { op = Sub; a = one_ℚ; b = dot (front c) (front star) }
+    ∷ record { op = Mul; a = last y; b = one_ℚ -ℚ dot (front c) (front star) }
+    ∷ record { op = Add; a = dot (front y) (front star); b = share y star c }
+    ∷ record { op = Sub; a = dot (front y) (front star) +ℚ share y star c; b = last star } ∷ []
+
+-- each step of a product of two vectors without their last entries is held
+abbrev pub IsProductHeld : (ℚ → Bool) → List ℚ → List ℚ → Type 0
+IsProductHeld holds a b = AreHeld holds (front a) (front b) (length a - 1)
+
+-- each step is held
+pub record IsCouplingHeld (holds : ℚ → Bool) (y star c : List ℚ) : Type 0 where
+  pub direct : IsProductHeld holds y star
+  pub weight : IsProductHeld holds c star
+  pub rest : All (IsHeld holds) (last_steps y star c)
+
+-- the first step that is not held is one of the first product, or, where all of that are held, of the second, or, where all of both
+-- are held, one behind them
+abbrev pub IsCouplingLeft : {F : Type 0} → (F → ℚ) → (ℚ → Bool) → List ℚ → List ℚ → List ℚ → Left F → Type 0
+IsCouplingLeft value holds y star c left =
+    IsDotLeft value holds (front y) (front star) left
+    ⊎ ((IsProductHeld holds y star × IsDotLeft value holds (front c) (front star) left)
+    ⊎ (IsProductHeld holds y star × IsProductHeld holds c star × ((number : ℕ) × IsFirst value holds (last_steps y star c) number left)))

@@ -1,0 +1,3 @@
+pub mod Coupling
+pub mod Exchange
+pub mod Facets

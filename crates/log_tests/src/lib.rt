@@ -1,0 +1,18 @@
+//! The tests and steps of log entries that depend on the problem and on vectors alone. Each call goes
+//! through the events of its entry, or of a part of it, and stops at the first that fails.
+#![tactic(auto)]
+
+mod cone;
+mod cut;
+mod image;
+mod line;
+mod matrix;
+mod sheet;
+mod steps;
+
+pub use cone::{in_cone, in_dual_cone};
+pub use cut::{check_cut, check_farkas};
+pub use image::{above, in_feasible, in_recession};
+pub use line::{check_line, check_whole};
+pub use sheet::{Matrix, Sheet};
+pub use steps::{Steps, pass};
