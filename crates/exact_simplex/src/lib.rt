@@ -5,6 +5,7 @@
 mod answer;
 pub mod driving;
 pub mod hint;
+mod measure;
 pub mod opening;
 pub mod phase;
 pub mod ratio;
