@@ -168,16 +168,13 @@ fn better_column<F: Field>(cell: Cell<F>, greatest: &[u32], best: Option<Candida
 {
     let entries = greatest.get(cell.at as usize).copied().unwrap_or(0);
     let score = (512 + magnitude(cell.value)).saturating_sub(entries);
-    let own = Candidate { col: cell.at, score };
+    let own = Candidate {
+        col: cell.at,
+        score,
+    };
     match best {
         None => own,
-        Some(other) => {
-            if other.score < score {
-                own
-            } else {
-                other
-            }
-        }
+        Some(other) => { if other.score < score { own } else { other } }
     }
 }
 

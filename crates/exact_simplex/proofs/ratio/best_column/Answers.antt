@@ -1,9 +1,6 @@
-use Rattle.std.proofs.Common.{◌≡◌, ◌+◌, ℕ, List, sym, subst, arith, length, ◌<◌, ◌≤◌, nat_eq, take, Option, None, Some}
-use Rattle.std.proofs.lemmas.List.{take_all}
-use Rattle.exact_field.specs.Rational.{ℚ, zero_ℚ, ◌≤ℚ◌, ◌<ℚ◌}
+use Rattle.std.proofs.Common.{◌+◌, ℕ, sym, subst, arith, length, ◌<◌, Option}
+use Rattle.exact_field.specs.Rational.{zero_ℚ}
 use Rattle.exact_field.proofs.Inequalities.{le_refl_ℚ}
-use Rattle.lin_rows.specs.Lines.{entries, sum_at}
-use Rattle.lin_rows.proofs.Merging.{not_same}
 use Rattle.exact_simplex.specs.declared.ratio.Candidate.{Candidate}
 use Rattle.exact_simplex.proofs.Testing.{not_negative}
 use Rattle.exact_simplex.proofs.Choosing.{IsBestSo, candidate_found, candidate_kept, candidate_kept_else, candidate_ends}
