@@ -3,13 +3,13 @@
 #![tactic(auto)]
 
 mod answer;
-pub mod driving;
-pub mod hint;
+mod driving;
+mod hint;
 mod measure;
-pub mod opening;
-pub mod phase;
-pub mod ratio;
-pub mod reading;
+mod opening;
+mod phase;
+mod ratio;
+mod reading;
 mod solve;
 
 pub use answer::{LpEnd, LpFault};
