@@ -2,7 +2,7 @@
 use Rattle.std.proofs.Common.{◌≡◌, refl, ℕ, zero, suc, ◌+◌, ◌<◌, inl, inr, Bool, true, false, not, ◌&&◌, ◌||◌, ◌==◌, nat_lt, nat_le, if◌then◌else◌, List, [], ◌∷◌, ◌++◌, count_by, Option, None, Some, Result, zero-add, add-zero, arith, ap, sym, ◌∙◌}
 use Rattle.std.specs.List.{list_all, list_any, flat_map}
 use Rattle.std.specs.Option.{option_or}
-use Rattle.std.proofs.lemmas.Bool.{and_parts, and_from, cond-true, cond-false, lt-ltb, ltb-true, le-leb, eqb-true, cases_eq, or_from, false≢true, false_from_ne_true}
+use Rattle.std.proofs.lemmas.Bool.{or_parts, and_parts, and_from, cond-true, cond-false, lt-ltb, ltb-true, le-leb, eqb-true, cases_eq, or_from, false_from_ne_true}
 use Rattle.std.proofs.lemmas.Bool.Decides.{nat_tests}
 use Rattle.std.proofs.lemmas.List.{append_assoc, append-nil}
 use Rattle.std.proofs.lemmas.List.Folds.{list_all-append, list_any-append}
@@ -44,14 +44,10 @@ bound_free axis n bound (Entry m i j value) h = refl
 bound_free axis n bound (Limit other k limit) h = cond-false (same_axis axis other && n == k) (Some (bound_value limit)) None h
 bound_free axis n bound End h = refl
 
-or_both : (a b : Bool) → (a || b) ≡ false → (a ≡ false) × (b ≡ false)
-or_both true b h = (absurd (false≢true (sym h)), absurd (false≢true (sym h)))
-or_both false b h = (refl, h)
-
 none_given : {A : Type 0} (f : Statement → Option A) (p : Statement → Bool) → ((t : Statement) → p t ≡ false → f t ≡ None) → (ss : List Statement) → list_any p ss ≡ false → first_given f ss ≡ None
 none_given f p free [] h = refl
 none_given f p free (t ∷ ss) h =
-    let parts = or_both (p t) (list_any p ss) h in
+    let parts = or_parts (p t) (list_any p ss) h in
     ap (λ o. option_or o (first_given f ss)) (free t parts.0) ∙ none_given f p free ss parts.1
 
 pub entry_fresh : (m : Matrix) (i j : ℕ) (number : Result ℚ FileKind) (earlier : List Statement) → list_any (clashes (Entry m i j number)) earlier ≡ false → first_given (given_entry m i j) earlier ≡ None
@@ -71,6 +67,7 @@ apart-append earlier (x ∷ xs) ys =
     and_assoc true b c = refl
     and_assoc false b c = refl
 
+-- general; belongs beside option_or_none
 or_assoc : {A : Type 0} (o p q : Option A) → option_or o (option_or p q) ≡ option_or (option_or o p) q
 or_assoc None p q = refl
 or_assoc (Some x) p q = refl

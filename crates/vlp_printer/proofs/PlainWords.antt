@@ -15,6 +15,7 @@ abbrev pub is_plain : List ℕ → Bool
 is_plain word = nat_lt 0 (length word) && list_all (λ b. nat_lt 32 b) word
 
 -- ---- texts that are cut
+-- general: a weaker test
 all_weaker : (p q : ℕ → Bool) → ((b : ℕ) → p b ≡ true → q b ≡ true) → (xs : List ℕ) → list_all p xs ≡ true → list_all q xs ≡ true
 all_weaker p q weaker [] h = refl
 all_weaker p q weaker (x ∷ xs) h =

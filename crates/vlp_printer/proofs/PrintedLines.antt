@@ -5,7 +5,7 @@ use Rattle.std.specs.Fmt.{signed_decimal}
 use Rattle.std.specs.List.{list_all}
 use Rattle.std.specs.Option.{option_map}
 use Rattle.std.specs.Str.{all_ascii_digits}
-use Rattle.std.proofs.lemmas.Bool.{and_parts, and_from, cond-false, cond_both, lt-ltb, le-leb, ne_eqb, false≢true}
+use Rattle.std.proofs.lemmas.Bool.{not-true, and_parts, and_from, cond-false, cond_both, lt-ltb, le-leb, ne_eqb, false≢true}
 use Rattle.std.proofs.lemmas.Fmt.{length-decimal-le_wide}
 use Rattle.std.proofs.lemmas.List.{length-append}
 use Rattle.std.proofs.lemmas.List.Folds.{list_all-append}
@@ -119,10 +119,6 @@ line_of kind words s further form printed few =
           ∙ ap (λ o. kind_fault earlier o kind words) given ∙ cond-false (kind == 112) (Some Twice) _ (not-true (kind == 112) three.0)
           ∙ ap (λ o. formed o (statement_fault earlier sizes)) form;
     }
-  where
-    not-true : (b : Bool) → not b ≡ true → b ≡ false
-    not-true true h = sym h
-    not-true false h = refl
 
 -- the words of an entry
 entry_words : (i j : ℕ) (q : ℚ) → i < 2 ^ 32 → j < 2 ^ 32 → is_decimal q ≡ true → list_all is_printed (decimal i ∷ decimal j ∷ number_text q ∷ []) ≡ true

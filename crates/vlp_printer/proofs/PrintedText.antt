@@ -1,11 +1,10 @@
 -- The text of a problem is that of lines that say its statements, each of them within the problem's sizes.
 use Rattle.std.proofs.Common.{◌≡◌, refl, ◌⊎◌, inl, inr, ℕ, zero, suc, ◌+◌, ◌-◌, ◌<◌, ◌≤◌, Bool, true, false, not, ◌&&◌, nat_lt, nat_le, if◌then◌else◌, List, [], ◌∷◌, ◌++◌, length, get_or, map, codes, decimal, slice_index_or, Option, None, Some, Ok, Err, arith, ap, sym, ◌∙◌}
-use Rattle.std.specs.List.{list_all, flat_map, find}
-use Rattle.std.proofs.lemmas.Bool.{and_parts, and_from, cond-true, cond-false, lt-ltb, le-leb, leb-true, eqb-true, cases_Bool}
+use Rattle.std.specs.List.{list_all, flat_map}
+use Rattle.std.proofs.lemmas.Bool.{and_parts, and_from, lt-ltb, le-leb, leb-true, eqb-true}
 use Rattle.std.proofs.lemmas.Grind.{flat_map-append}
 use Rattle.std.proofs.lemmas.List.{append-nil}
 use Rattle.std.proofs.lemmas.List.Folds.{list_all-append, list_all-map}
-use Rattle.std.proofs.lemmas.Option.{none-some}
 use Rattle.exact_field.specs.Rational.{ℚ, zero_ℚ}
 use Rattle.exact_field.specs.Vector.{entry}
 use Rattle.frac128.specs.Sparse.{is_zero}
@@ -92,13 +91,7 @@ says_unless sizes true t ss h = says_none sizes
 says_unless sizes false t ss h = h refl
 
 -- ---- numbers with a decimal form
-no_other : {A : Type 0} (p : A → Bool) (xs : List A) → find (λ x. not (p x)) xs ≡ None → list_all p xs ≡ true
-no_other p [] h = refl
-no_other p (x ∷ xs) h = elim (cases_Bool (p x)) [
-  | inl here ↦ and_from (p x) (list_all p xs) here (no_other p xs (sym (cond-false (not (p x)) (Some x) (find (λ y. not (p y)) xs) (ap not here)) ∙ h))
-  | inr other ↦ absurd (none-some x (sym h ∙ cond-true (not (p x)) (Some x) (find (λ y. not (p y)) xs) (ap not other)))
-]
-
+-- general: a test that all elements pass, at one of them, and at the elements that each gives
 all_at : {A : Type 0} (p : A → Bool) (xs : List A) (k : ℕ) (d : A) → list_all p xs ≡ true → k < length xs → p (get_or xs k d) ≡ true
 all_at p [] k d h lt = absurd (omega arith)
 all_at p (x ∷ xs) zero d h lt = (and_parts (p x) (list_all p xs) h).0
@@ -118,15 +111,14 @@ pub record Decimals (problem : Problem) : Type 0 where
   pub row_bounds : list_all (λ b. list_all is_decimal (bound_numbers b)) problem.row_bounds ≡ true
   pub col_bounds : list_all (λ b. list_all is_decimal (bound_numbers b)) problem.col_bounds ≡ true
 
-pub decimals : (problem : Problem) → find (λ p. not (is_decimal p)) (printed_numbers problem) ≡ None → Decimals problem
+pub decimals : (problem : Problem) → list_all is_decimal (printed_numbers problem) ≡ true → Decimals problem
 decimals problem h =
     let values : List Cell → List ℚ = λ (cells : List Cell). map (λ (c : Cell). c.value) cells in
     let four = flat_map bound_numbers problem.row_bounds ++ flat_map bound_numbers problem.col_bounds in
     let three = flat_map (λ (v : List ℚ). v) (cone_vectors problem.cone) ++ four in
     let two = duality_entries problem.duality ++ three in
     let one = values problem.o ++ two in
-    let all : list_all is_decimal (values problem.a ++ one) ≡ true = no_other is_decimal (printed_numbers problem) h in
-    let p1 = and_parts (list_all is_decimal (values problem.a)) (list_all is_decimal one) (sym (list_all-append is_decimal (values problem.a) one) ∙ all) in
+    let p1 = and_parts (list_all is_decimal (values problem.a)) (list_all is_decimal one) (sym (list_all-append is_decimal (values problem.a) one) ∙ h) in
     let p2 = and_parts (list_all is_decimal (values problem.o)) (list_all is_decimal two) (sym (list_all-append is_decimal (values problem.o) two) ∙ p1.1) in
     let p3 = and_parts (list_all is_decimal (duality_entries problem.duality)) (list_all is_decimal three) (sym (list_all-append is_decimal (duality_entries problem.duality) three) ∙ p2.1) in
     let p4 = and_parts (list_all is_decimal (flat_map (λ (v : List ℚ). v) (cone_vectors problem.cone))) (list_all is_decimal four) (sym (list_all-append is_decimal (flat_map (λ (v : List ℚ). v) (cone_vectors problem.cone)) four) ∙ p3.1) in

@@ -8,7 +8,7 @@ use Rattle.std.specs.Str.Parse.{digits_value, digits_value_after, without_leadin
 use Rattle.std.proofs.Math.Nat.{pow-suc, mul_assoc, mul_comm}
 use Rattle.std.proofs.Math.Seq.{take-append_seam, drop-append-add, take_at}
 use Rattle.std.proofs.Math.ListN.{drop_of_length-le}
-use Rattle.std.proofs.lemmas.Bool.{and_parts, and_from, cond-true, cond-false, cond_both, lt-ltb, ne_eqb, eqb-true, or_from, or_right}
+use Rattle.std.proofs.lemmas.Bool.{or_parts, and_parts, and_from, cond-true, cond-false, cond_both, lt-ltb, ne_eqb, eqb-true, or_from, or_right}
 use Rattle.std.proofs.lemmas.Bool.Decides.{nat_tests}
 use Rattle.std.proofs.lemmas.Fmt.{decimal_is_IsNumeral_wide, decimal_by_steps_wide}
 use Rattle.std.proofs.lemmas.List.{append-nil, length-append}
@@ -81,29 +81,14 @@ trailing_value n (d ∷ ds) =
 unmet : (p : ℕ → Bool) (xs : List ℕ) → list_any p xs ≡ false → position_or_len p xs ≡ length xs
 unmet p [] h = refl
 unmet p (x ∷ xs) h =
-    let rest : list_any p xs ≡ false = parts_of (p x) (list_any p xs) h in
-    cond-true (not (p x)) (1 + position_or_len p xs) 0 (first_of_or (p x) (list_any p xs) h) ∙ ap (λ (n : ℕ). 1 + n) (unmet p xs rest) ∙ omega arith
-  where
-    parts_of : (a b : Bool) → (a || b) ≡ false → b ≡ false
-    parts_of true b h = cc
-    parts_of false b h = h
-
-    first_of_or : (a b : Bool) → (a || b) ≡ false → not a ≡ true
-    first_of_or true b h = cc
-    first_of_or false b h = refl
+    let parts = or_parts (p x) (list_any p xs) h in
+    cond-true (not (p x)) (1 + position_or_len p xs) 0 (ap not parts.0) ∙ ap (λ (n : ℕ). 1 + n) (unmet p xs parts.1) ∙ omega arith
 
 met : (p : ℕ → Bool) (xs : List ℕ) (y : ℕ) (ys : List ℕ) → list_any p xs ≡ false → p y ≡ true → position_or_len p (xs ++ y ∷ ys) ≡ length xs
 met p [] y ys h k = cond-false (not (p y)) (1 + position_or_len p ys) 0 (ap not k)
 met p (x ∷ xs) y ys h k =
-    cond-true (not (p x)) (1 + position_or_len p (xs ++ y ∷ ys)) 0 (first_of_or (p x) (list_any p xs) h) ∙ ap (λ (n : ℕ). 1 + n) (met p xs y ys (parts_of (p x) (list_any p xs) h) k) ∙ omega arith
-  where
-    parts_of : (a b : Bool) → (a || b) ≡ false → b ≡ false
-    parts_of true b h = cc
-    parts_of false b h = h
-
-    first_of_or : (a b : Bool) → (a || b) ≡ false → not a ≡ true
-    first_of_or true b h = cc
-    first_of_or false b h = refl
+    let parts = or_parts (p x) (list_any p xs) h in
+    cond-true (not (p x)) (1 + position_or_len p (xs ++ y ∷ ys)) 0 (ap not parts.0) ∙ ap (λ (n : ℕ). 1 + n) (met p xs y ys parts.1 k) ∙ omega arith
 
 before_all : (p : ℕ → Bool) (xs : List ℕ) → list_any p xs ≡ false → before_first p xs ≡ xs
 before_all p xs h = ap (λ (n : ℕ). take n xs) (unmet p xs h) ∙ ap (take (length xs)) (sym (append-nil xs)) ∙ take-append_seam xs []

@@ -1,5 +1,5 @@
 -- The text of a problem within the limits of the grammar reads as this problem.
-use Rattle.std.proofs.Common.{◌≡◌, refl, inl, inr, ℕ, suc, ◌+◌, ◌*◌, ◌<◌, ◌≤◌, Bool, true, not, ◌&&◌, ◌==◌, nat_lt, nat_le, if◌then◌else◌, List, [], ◌∷◌, ◌++◌, length, map, None, Some, Ok, Err, is_some, arith, ap, sym, ◌∙◌, subst}
+use Rattle.std.proofs.Common.{◌≡◌, All, refl, inl, inr, ℕ, suc, ◌+◌, ◌*◌, ◌<◌, ◌≤◌, Bool, true, not, ◌&&◌, ◌==◌, nat_lt, nat_le, if◌then◌else◌, List, [], ◌∷◌, ◌++◌, length, map, None, Some, Ok, Err, is_some, arith, ap, sym, ◌∙◌, subst}
 use Rattle.std.specs.List.{list_all, list_any, flat_map, find}
 use Rattle.std.specs.Option.{option_or}
 use Rattle.std.proofs.lemmas.Bool.{and_parts, and_from, cond-true, cond-false, leb-true, le-ltb, lt-ltb, not-true, eqb-true, cases_Bool, false≢true}
@@ -23,13 +23,14 @@ use Rattle.vlp_reader.proofs.CellPlaces.{rises_from_cells}
 use Rattle.vlp_reader.proofs.MoreStatements.{first_given-kept}
 use Rattle.vlp_reader.proofs.Readings.{passes-push, map-push}
 use Rattle.vlp_printer.specs.Decimal.{is_decimal}
-use Rattle.vlp_printer.specs.Printing.{cone_vectors, entry_count, heading_words, printed_cone, printed_numbers, printed_sizes, problem_text, Prints}
+use Rattle.vlp_printer.specs.Printing.{cone_vectors, entry_count, HasWord, heading_words, printed_cone, printed_numbers, printed_sizes, problem_text, Prints}
 use Rattle.vlp_printer.proofs.Apart.{clashes, apart, has_key, entry_fresh, bound_fresh}
 use Rattle.vlp_printer.proofs.PlainWords.{is_plain, words_back, lines_back}
 use Rattle.vlp_printer.proofs.PrintedLines.{is_printed, AreSmall, heading_line}
 use Rattle.vlp_printer.proofs.PrintedStatements.{part, part_key, kind, statements, statements_apart}
 use Rattle.vlp_printer.proofs.PrintedText.{proper, EachLine, decimals, body, body_said}
 use Rattle.vlp_printer.proofs.PrintedValues.{sizes_given, gives_back, counts_back}
+use Rattle.vlp_printer.proofs.WordNumbers.{all_words, all_decimal}
 
 -- ---- the tests of a statement
 passed : (b : Bool) (kind : FileKind) → b ≡ true → must b kind ≡ None
@@ -195,11 +196,11 @@ sizes_pass problem h =
     ∙ passed (are_within_limits (printed_sizes problem)) LimitPassed h
 
 -- ---- the whole file
-pub reads_back : (problem : Problem) → find (λ p. not (is_decimal p)) (printed_numbers problem) ≡ None → are_within_limits (printed_sizes problem) ≡ true → Reads (problem_text problem) problem
-reads_back problem d limits =
+pub reads_back : (problem : Problem) → All HasWord (printed_numbers problem) → are_within_limits (printed_sizes problem) ≡ true → Reads (problem_text problem) problem
+reads_back problem words limits =
     let sizes = printed_sizes problem in
     let heading = heading_line problem (small problem limits) in
-    let said = body_said problem (decimals problem d) in
+    let said = body_said problem (decimals problem (all_decimal (printed_numbers problem) words)) in
     let lines = heading_words problem ∷ said.lines in
     let texts : List (List ℕ) = map words_text lines in
     let text : problem_text problem ≡ flat_map line_text lines = ap (λ (l : List ℕ). line_text (heading_words problem) ++ l) said.same in
@@ -226,5 +227,6 @@ reads_back problem d limits =
     }
 
 pub prints_problem : (problem : Problem) (text : List ℕ) → find (λ p. not (is_decimal p)) (printed_numbers problem) ≡ None → text ≡ problem_text problem → Prints problem text
-prints_problem problem text d same =
-    record { decimal = d; same = same; round_trip = λ limits. subst (λ (t : List ℕ). Reads t problem) (sym same) (reads_back problem d limits) }
+prints_problem problem text decimal same =
+    let words = all_words (printed_numbers problem) decimal in
+    record { words = words; same = same; round_trip = λ limits. subst (λ (t : List ℕ). Reads t problem) (sym same) (reads_back problem words limits) }

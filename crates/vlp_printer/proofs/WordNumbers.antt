@@ -1,14 +1,15 @@
 -- A number that a word has as its value has a decimal form.
-use Rattle.std.proofs.Common.{◌≡◌, refl, ℕ, zero, suc, ◌+◌, ◌*◌, ◌/◌, ◌%◌, ◌^◌, ◌<◌, ◌≤◌, inl, inr, Bool, true, false, not, ◌==◌, nat_lt, if◌then◌else◌, ℤ, pos, negsuc, ◌*ℤ◌, List, [], ◌∷◌, length, Option, None, Some, is_some, Result, Ok, Err, arith, ap, sym, ◌∙◌, subst}
+use Rattle.std.proofs.Common.{◌≡◌, All, refl, ℕ, zero, suc, ◌+◌, ◌*◌, ◌/◌, ◌%◌, ◌^◌, ◌<◌, ◌≤◌, inl, inr, Bool, true, false, not, ◌==◌, nat_lt, if◌then◌else◌, ℤ, pos, negsuc, ◌*ℤ◌, List, [], ◌∷◌, length, Option, None, Some, is_some, Result, Ok, Err, arith, ap, sym, ◌∙◌, subst}
 use Rattle.std.specs.Prelude.{unsigned_abs, int_le}
 use Rattle.std.specs.Int.{◌∣◌}
-use Rattle.std.specs.List.{find}
+use Rattle.std.specs.List.{find, list_all}
 use Rattle.std.specs.Str.{all_ascii_digits}
 use Rattle.std.specs.Str.Parse.{digits_value, starts_with_minus, without_leading_sign}
 use Rattle.std.proofs.Math.Nat.{pow-suc, mul_assoc, mul_comm, pow-le-pow_right, mul-mod_right, mul-div_cancel, div-mul-le_self, mul-le-mul_left, div-mul_cancel, dvd-mul_left}
 use Rattle.std.proofs.lemmas.Bool.{and_parts, and_from, cond-true, cond-false, lt-ltb, ltb-true, leb-true, ltb-false, eq-eqb, cases_Bool, or_left, or_right, not-true, not-false, false≢true}
 use Rattle.std.proofs.lemmas.Int.{unsigned_abs-mul}
 use Rattle.std.proofs.lemmas.Int.Digits.{digits_value-lt}
+use Rattle.std.proofs.lemmas.List.Elements.{All-nil, All-cons, All-head, All-tail}
 use Rattle.std.proofs.lemmas.Nat.{le-div}
 use Rattle.std.proofs.lemmas.Nat.Gcd.{mod-eq-zero_of_dvd}
 use Rattle.std.proofs.lemmas.Option.{none-some, same_Some}
@@ -22,9 +23,9 @@ use Rattle.vlp_reader.specs.declared.fault.FileKind.{FileKind}
 use Rattle.vlp_reader.specs.declared.fault.FileKind.TheVariants.{BadNumber, NumberWide, Digits}
 use Rattle.vlp_reader.proofs.Digits.{are_digits, digits-leading, digits-trailing, digits-natural}
 use Rattle.vlp_reader.proofs.Powers.{power_positive}
-use Rattle.vlp_reader.specs.declared.problem.Problem.{Problem}
-use Rattle.vlp_printer.specs.Printing.{HasNoWord, IsFirstWithoutWord, printed_numbers}
-use Rattle.vlp_printer.specs.Decimal.{places, places_from, mantissa, is_short, decimal_at, is_decimal}
+use Rattle.vlp_printer.specs.Printing.{HasWord, IsFirstWithoutWord}
+use Rattle.vlp_printer.proofs.ReadNumbers.{number_back}
+use Rattle.vlp_printer.specs.Decimal.{places, places_from, mantissa, is_short, decimal_at, is_decimal, number_text}
 
 -- ---- the first power of ten that a denominator divides
 some_power : (den k n i : ℕ) → k ≤ i → i < k + n → (10 ^ i % den == 0) ≡ true → (j : ℕ) × (places_from den k n ≡ Some j) × (j ≤ i)
@@ -154,15 +155,44 @@ from_decimal negative digits n (Some e) q h = elim (cases_Bool (is_natural digit
 pub word_decimal : (word : List ℕ) (q : ℚ) → number_of word ≡ Ok q → is_decimal q ≡ true
 word_decimal word q h = from_decimal (starts_with_minus word) (mantissa_digits word) (length (decimals word)) (exponent_of (without_leading_sign word)) q h
 
-pub no_word : (q : ℚ) → is_decimal q ≡ false → HasNoWord q
-no_word q h word is = false≢true (sym h ∙ word_decimal word q is)
+pub no_word : (q : ℚ) → is_decimal q ≡ false → ¬ HasWord q
+no_word q h w = false≢true (sym h ∙ word_decimal w.0 q w.1)
 
-found_fails : (xs : List ℚ) (q : ℚ) → find (λ p. not (is_decimal p)) xs ≡ Some q → is_decimal q ≡ false
-found_fails [] q h = absurd (none-some q h)
-found_fails (x ∷ xs) q h = elim (cases_Bool (not (is_decimal x))) [
-  | inl here ↦ subst (λ (p : ℚ). is_decimal p ≡ false) (same_Some x q (sym (cond-true (not (is_decimal x)) (Some x) (find (λ p. not (is_decimal p)) xs) here) ∙ h)) (not-true (is_decimal x) here)
-  | inr later ↦ found_fails xs q (sym (cond-false (not (is_decimal x)) (Some x) (find (λ p. not (is_decimal p)) xs) later) ∙ h)
+-- ---- the numbers of a problem
+abbrev wide : ℚ → Bool
+wide q = not (is_decimal q)
+
+own_word : (q : ℚ) → is_decimal q ≡ true → HasWord q
+own_word q h = (number_text q, number_back q h)
+
+-- none without a decimal form is among them
+pub all_words : (numbers : List ℚ) → find wide numbers ≡ None → All HasWord numbers
+all_words [] h = All-nil HasWord
+all_words (x ∷ numbers) h = elim (cases_Bool (wide x)) [
+  | inl here ↦ absurd (none-some x (sym h ∙ cond-true (wide x) (Some x) (find wide numbers) here))
+  | inr later ↦ All-cons HasWord x numbers (own_word x (not-false (is_decimal x) later)) (all_words numbers (sym (cond-false (wide x) (Some x) (find wide numbers) later) ∙ h))
 ]
 
-pub first_without_word : (problem : Problem) (q : ℚ) → find (λ p. not (is_decimal p)) (printed_numbers problem) ≡ Some q → IsFirstWithoutWord problem q
-first_without_word problem q h = record { first = h; no_word = no_word q (found_fails (printed_numbers problem) q h) }
+pub all_decimal : (numbers : List ℚ) → All HasWord numbers → list_all is_decimal numbers ≡ true
+all_decimal [] h = refl
+all_decimal (x ∷ numbers) h =
+    let w = All-head HasWord x numbers h in
+    and_from (is_decimal x) (list_all is_decimal numbers) (word_decimal w.0 x w.1) (all_decimal numbers (All-tail HasWord x numbers h))
+
+-- or one is the first
+pub first_without_word : (numbers : List ℚ) (q : ℚ) → find wide numbers ≡ Some q → IsFirstWithoutWord numbers q
+first_without_word [] q h = absurd (none-some q h)
+first_without_word (x ∷ numbers) q h = elim (cases_Bool (wide x)) [
+  | inl here ↦
+      let same : x ≡ q = same_Some x q (sym (cond-true (wide x) (Some x) (find wide numbers) here) ∙ h) in
+      record { before = []; behind = numbers; place = ap (λ (p : ℚ). p ∷ numbers) same; words = All-nil HasWord; no_word = no_word q (ap is_decimal (sym same) ∙ not-true (is_decimal x) here) }
+  | inr later ↦
+      let rest = first_without_word numbers q (sym (cond-false (wide x) (Some x) (find wide numbers) later) ∙ h) in
+      record {
+        before = x ∷ rest.before;
+        behind = rest.behind;
+        place = ap (λ (l : List ℚ). x ∷ l) rest.place;
+        words = All-cons HasWord x rest.before (own_word x (not-false (is_decimal x) later)) rest.words;
+        no_word = rest.no_word;
+      }
+]

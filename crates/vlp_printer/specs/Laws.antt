@@ -1,15 +1,15 @@
 -- The laws of printing and reading.
-use Rattle.std.specs.Prelude.{◌≡◌, true, false, not, find, None, Ok}
+use Rattle.std.specs.Prelude.{◌≡◌, true, false, Ok, All}
 use Rattle.exact_field.specs.Rational.{ℚ}
 use Rattle.vlp_reader.specs.FirstFault.{Reads}
 use Rattle.vlp_reader.specs.Number.{number_of}
 use Rattle.vlp_reader.specs.declared.problem.Problem.{Problem}
 use Rattle.vlp_printer.specs.Decimal.{is_decimal, number_text}
-use Rattle.vlp_printer.specs.Printing.{HasNoWord, IsWithinLimits, printed_numbers, problem_text}
+use Rattle.vlp_printer.specs.Printing.{HasWord, IsWithinLimits, printed_numbers, problem_text}
 
 pub record PrintingLaws : Type 0 where
   -- a number with a decimal form is the value of its word, and one without is the value of none
   pub word : (q : ℚ) → is_decimal q ≡ true → number_of (number_text q) ≡ Ok q
-  pub no_word : (q : ℚ) → is_decimal q ≡ false → HasNoWord q
-  -- the text of a problem within the limits, all of whose numbers have a decimal form, reads as this problem
-  pub round_trip : (problem : Problem) → find (λ p. not (is_decimal p)) (printed_numbers problem) ≡ None → IsWithinLimits problem → Reads (problem_text problem) problem
+  pub no_word : (q : ℚ) → is_decimal q ≡ false → ¬ HasWord q
+  -- the text of a problem within the limits, all of whose numbers have a word, reads as this problem
+  pub round_trip : (problem : Problem) → All HasWord (printed_numbers problem) → IsWithinLimits problem → Reads (problem_text problem) problem

@@ -1,5 +1,5 @@
 -- The text of a problem.
-use Rattle.std.specs.Prelude.{◌≡◌, ℕ, ◌-◌, true, false, not, find, if◌then◌else◌, List, [], ◌∷◌, ◌++◌, length, map, sum_by, count_by, slice_index_or, codes, decimal, Option, None, Some, Ok}
+use Rattle.std.specs.Prelude.{◌≡◌, ℕ, ◌-◌, true, false, not, if◌then◌else◌, List, [], ◌∷◌, ◌++◌, length, map, sum_by, count_by, slice_index_or, codes, decimal, Option, None, Some, Ok, All}
 use Rattle.std.specs.List.{flat_map}
 use Rattle.exact_field.specs.Rational.{ℚ}
 use Rattle.exact_field.specs.Vector.{entry}
@@ -19,7 +19,7 @@ use Rattle.vlp_reader.specs.declared.problem.Cone.TheVariants.{Orthant, Gens, Du
 use Rattle.vlp_reader.specs.declared.problem.Dir.{Dir}
 use Rattle.vlp_reader.specs.declared.problem.Dir.TheVariants.{Min, Max}
 use Rattle.vlp_reader.specs.declared.problem.Problem.{Problem}
-use Rattle.vlp_printer.specs.Decimal.{is_decimal, number_text}
+use Rattle.vlp_printer.specs.Decimal.{number_text}
 use Rattle.vlp_printer.specs.declared.fault.PrintFault.{PrintFault}
 use Rattle.vlp_printer.specs.declared.fault.PrintFault.TheVariants.{NotDecimal, NoMemory}
 
@@ -133,26 +133,29 @@ problem_text problem =
     ++ (duality_text (duality_entries problem.duality) ++ (vectors_text (cone_vectors problem.cone)
     ++ (bounds_text (codes "i") problem.row_bounds ++ (bounds_text (codes "j") problem.col_bounds ++ line_text (codes "e" ∷ [])))))))
 
--- a number is the value of no word that the grammar accepts as a number
-abbrev pub HasNoWord : ℚ → Type 0
-HasNoWord q = (word : List ℕ) → number_of word ≡ Ok q → ⊥
+-- some word that the grammar accepts as a number has this value
+abbrev pub HasWord : ℚ → Type 0
+HasWord q = (word : List ℕ) × (number_of word ≡ Ok q)
 
 -- the sizes of a problem are within the limits that the grammar sets
 abbrev pub IsWithinLimits : Problem → Type 0
 IsWithinLimits problem = are_within_limits (printed_sizes problem) ≡ true
 
--- the first number of a problem, in the order of printing, that has no decimal form; no word has it as its value
-pub record IsFirstWithoutWord (problem : Problem) (q : ℚ) : Type 0 where
-  pub first : find (λ p. not (is_decimal p)) (printed_numbers problem) ≡ Some q
-  pub no_word : HasNoWord q
+-- a number is the first of these that is the value of no word
+pub record IsFirstWithoutWord (numbers : List ℚ) (q : ℚ) : Type 0 where
+  pub before : List ℚ
+  pub behind : List ℚ
+  pub place : numbers ≡ before ++ q ∷ behind
+  pub words : All HasWord before
+  pub no_word : ¬ HasWord q
 
--- why a problem is not printed: this number of it has no word, or want of memory
+-- why a problem is not printed: its first number, in the order of printing, that has no word; or want of memory
 abbrev pub RefusesText : Problem → PrintFault → Type 0
-RefusesText problem (NotDecimal q) = IsFirstWithoutWord problem q
+RefusesText problem (NotDecimal q) = IsFirstWithoutWord (printed_numbers problem) q
 RefusesText problem NoMemory = Unit {0}
 
--- what is printed: the text of the problem, all of whose numbers have a decimal form; within the limits it reads as this problem
+-- what is printed: the text of the problem, all of whose numbers have a word; within the limits it reads as this problem
 pub record Prints (problem : Problem) (text : List ℕ) : Type 0 where
-  pub decimal : find (λ p. not (is_decimal p)) (printed_numbers problem) ≡ None
+  pub words : All HasWord (printed_numbers problem)
   pub same : text ≡ problem_text problem
   pub round_trip : IsWithinLimits problem → Reads text problem
