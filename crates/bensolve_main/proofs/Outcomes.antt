@@ -6,7 +6,7 @@ use Rattle.vlp_reader.specs.declared.problem.Problem.{Problem}
 use Rattle.bensolve_main.specs.Outcome.{Sources, ReadWhole, GoodFile, LogVerdict, Told, Output, Written, Tells, Outcome, problem_limit, log_limit}
 use Rattle.bensolve_main.specs.declared.examine.Reply.{Reply}
 use Rattle.bensolve_main.specs.declared.status.Status.{Status}
-use Rattle.bensolve_main.specs.declared.status.Status.TheVariants.{Done, Words, FileFault, NoMemory, ReadFault, WriteFault, Refused, TooLong}
+use Rattle.bensolve_main.specs.declared.status.Status.TheVariants.{Done, Words, FileFault, Left, NoMemory, ReadFault, WriteFault, Refused, TooLong}
 
 pub read_whole : (old new : Option (List ℕ)) (limit : ℕ) (bytes seen : List ℕ) → seen ≡ bytes → Consumes old new bytes → IsAtEnd new → length bytes ≤ limit → ReadWhole old new limit seen
 read_whole old new limit bytes seen same consumed at_end within =
@@ -22,6 +22,7 @@ told : (file : Problem) (v w : Sources) (bytes : List ℕ) (status : Status) (te
 told file v w bytes Done text good read verdict = record { file = file; good = good; bytes = bytes; read = read; verdict = verdict }
 told file v w bytes Words text good read verdict = absurd verdict
 told file v w bytes (FileFault f) text good read verdict = absurd verdict
+told file v w bytes (Left entry step l) text good read verdict = record { file = file; good = good; bytes = bytes; read = read; verdict = verdict }
 told file v w bytes NoMemory text good read verdict = absurd verdict
 told file v w bytes (ReadFault log) text good read verdict = absurd verdict
 told file v w bytes (WriteFault log sent) text good read verdict = absurd verdict
@@ -38,6 +39,7 @@ written : (status : Status) (text : List ℕ) (v w : Sources) (a b : Output) →
 written Done text v w a b told done = record { text = text; told = told; written = done }
 written Words text v w a b told done = absurd told
 written (FileFault f) text v w a b told done = record { text = text; told = told; written = done }
+written (Left entry step l) text v w a b told done = record { text = text; told = told; written = done }
 written NoMemory text v w a b told done = absurd told
 written (ReadFault log) text v w a b told done = absurd told
 written (WriteFault log sent) text v w a b told done = absurd told

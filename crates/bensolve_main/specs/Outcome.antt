@@ -1,15 +1,19 @@
 -- What a status of `check FILE LOG` says: of the bytes that were read, in the order of the work, and of the
 -- bytes that were written.
-use Rattle.std.specs.Prelude.{◌≡◌, ℕ, ◌<◌, ◌≤◌, ◌⊎◌, true, false, List, [], length, take, Option, Some, None}
+use Rattle.std.specs.Prelude.{◌≡◌, ℕ, ◌<◌, ◌≤◌, ◌⊎◌, true, false, List, length, take, Option, Some, None}
 use Rattle.src_sink.specs.Outside.{Consumes, Appends, IsAtEnd, Rose}
 use Rattle.src_sink.specs.Ends.{TakesCount}
 use Rattle.vlp_reader.specs.FirstFault.{FirstFault, Reads}
 use Rattle.vlp_reader.specs.declared.problem.Problem.{Problem}
 use Rattle.deriv_log.specs.FirstFault.{FirstFault as FirstLogFault}
 use Rattle.deriv_log.specs.Laws.{IsTextOf}
-use Rattle.cert_check.specs.Proves.{Proves}
-use Rattle.cert_check.specs.Right.{Right}
-use Rattle.cert_check.specs.Rules.{first_wrong}
+use Rattle.exact_field.specs.declared.op.Left.{Left as AStep}
+use Rattle.frac128.specs.Held.{is_held}
+use Rattle.frac128.specs.declared.frac.Frac.{Frac}
+use Rattle.log_rules.specs.Events.Failure.{wrong, left}
+use Rattle.log_rules.specs.Proves.{Proves}
+use Rattle.log_rules.specs.Right.{IsRight}
+use Rattle.cert_check.specs.Built.{log_failure}
 use Rattle.log_rules.specs.declared.answer.Answer.{Answer}
 use Rattle.deriv_log.specs.declared.entry.Entry.{Entry}
 use Rattle.deriv_log.specs.declared.fault.LogFault.{LogFault as ALogFault}
@@ -19,7 +23,7 @@ use Rattle.log_rules.specs.Report.{report_text}
 use Rattle.bensolve_main.specs.Text.{fault_text}
 use Rattle.bensolve_main.specs.declared.status.LogRefusal.TheVariants.{Text, Wrong}
 use Rattle.bensolve_main.specs.declared.status.Status.{Status}
-use Rattle.bensolve_main.specs.declared.status.Status.TheVariants.{Done, Words, FileFault, NoMemory, ReadFault, WriteFault, Refused, TooLong}
+use Rattle.bensolve_main.specs.declared.status.Status.TheVariants.{Done, Words, FileFault, Left, NoMemory, ReadFault, WriteFault, Refused, TooLong}
 
 -- the most bytes that are read of a problem, 16 MiB, and of a log, 256 MiB
 abbrev pub problem_limit : ℕ
@@ -63,13 +67,14 @@ pub record GoodFile (file : Problem) (v w : Sources) : Type 0 where
   pub read : ReadWhole v.problem w.problem problem_limit bytes
   pub reads : Reads bytes file
 
--- the entries of a log prove an answer for the file, that answer is right, and this is its report
+-- no event of a log's entries fails, they prove an answer for the file, that answer is right, and this is its report
 pub record Proved (file : Problem) (bytes text : List ℕ) : Type 0 where
   pub entries : List Entry
   pub log : IsTextOf bytes entries
+  pub passes : log_failure is_held file entries ≡ None
   pub answer : Answer
   pub proves : Proves file entries answer
-  pub right : Right file answer
+  pub right : IsRight file answer
   pub report : text ≡ report_text file answer
 
 -- the bytes are the text of no log, and this is their first fault
@@ -77,18 +82,26 @@ pub record NoLog (f : ALogFault) (bytes text : List ℕ) : Type 0 where
   pub fault : FirstLogFault bytes f
   pub line : text ≡ fault_text (Refused (Text f))
 
--- the first test of a log's entries that fails is of this entry and rule
+-- the first event of a log's entries that fails is a test, of this entry and rule
 pub record FailsAt (entry : ℕ) (rule : Rule) (file : Problem) (bytes text : List ℕ) : Type 0 where
   pub entries : List Entry
   pub log : IsTextOf bytes entries
-  pub wrong : first_wrong file [] entries ≡ Some (entry, rule)
+  pub wrong : log_failure is_held file entries ≡ Some (record { entry = entry; failure = wrong rule })
   pub line : text ≡ fault_text (Refused (Wrong entry rule))
+
+-- the first event of a log's entries that fails is a step, of this entry and number and with these operands
+pub record StopsAt (entry step : ℕ) (l : AStep Frac) (file : Problem) (bytes text : List ℕ) : Type 0 where
+  pub entries : List Entry
+  pub log : IsTextOf bytes entries
+  pub stops : log_failure is_held file entries ≡ Some (record { entry = entry; failure = left step l.op l.a l.b })
+  pub line : text ≡ fault_text (Left entry step l)
 
 -- what a status says of the bytes of a log for a file, and the text that tells it
 abbrev pub LogVerdict : Problem → List ℕ → Status → List ℕ → Type 0
 LogVerdict file bytes Done text = Proved file bytes text
 LogVerdict file bytes Words text = ⊥
 LogVerdict file bytes (FileFault f) text = ⊥
+LogVerdict file bytes (Left entry step l) text = StopsAt entry step l file bytes text
 LogVerdict file bytes NoMemory text = ⊥
 LogVerdict file bytes (ReadFault log) text = ⊥
 LogVerdict file bytes (WriteFault log sent) text = ⊥
@@ -124,6 +137,7 @@ abbrev pub Told : Status → List ℕ → Sources → Sources → Type 0
 Told Done text v w = Checked Done text v w
 Told Words text v w = ⊥
 Told (FileFault f) text v w = BadFile f text v w
+Told (Left entry step l) text v w = Checked (Left entry step l) text v w
 Told NoMemory text v w = ⊥
 Told (ReadFault log) text v w = ⊥
 Told (WriteFault log sent) text v w = ⊥
@@ -147,6 +161,7 @@ abbrev pub Silent : Status → Sources → Sources → Type 0
 Silent Done v w = ⊥
 Silent Words v w = ⊥
 Silent (FileFault f) v w = ⊥
+Silent (Left entry step l) v w = ⊥
 Silent NoMemory v w = Unit {0}
 Silent (ReadFault false) v w = ProblemFailed v w
 Silent (ReadFault true) v w = LogFailed v w
@@ -200,6 +215,7 @@ abbrev pub Outcome : Status → Sources → Sources → Output → Output → Ty
 Outcome Done v w a b = ToldWhole Done v w a b
 Outcome Words v w a b = ⊥
 Outcome (FileFault f) v w a b = ToldWhole (FileFault f) v w a b
+Outcome (Left entry step l) v w a b = ToldWhole (Left entry step l) v w a b
 Outcome NoMemory v w a b = Unwritten a b
 Outcome (ReadFault log) v w a b = Silent (ReadFault log) v w × Unwritten a b
 Outcome (WriteFault false sent) v w a b = WriteFailed sent v w a b
@@ -208,7 +224,7 @@ Outcome (Refused why) v w a b = ToldWhole (Refused why) v w a b
 Outcome (TooLong log read) v w a b = ToldWhole (TooLong log read) v w a b
 
 -- the outside did not fail in this call, both texts were told, are a file's and a log's and lie within their limits, and no
--- test of the log's entries fails
+-- event of the log's entries fails
 pub record Honest (v w : Sources) (a b : Output) : Type 0 where
   pub bytes : List ℕ
   pub problem : v.problem ≡ Some bytes
@@ -222,5 +238,5 @@ pub record Honest (v w : Sources) (a b : Output) : Type 0 where
   pub log_within : length log_bytes ≤ log_limit
   pub entries : List Entry
   pub is_log : IsTextOf log_bytes entries
-  pub passes : (file : Problem) → Reads bytes file → first_wrong file [] entries ≡ None
+  pub passes : (file : Problem) → Reads bytes file → log_failure is_held file entries ≡ None
   pub out_steady : ¬ (Rose a.faults b.faults)

@@ -1,13 +1,16 @@
 //! Reading and checking: what is to be told of a problem and a log.
 ghost use Rattle.std.specs.Prelude.{◌≡◌, ◌≤◌, length, IfOk, IfErr};
 ghost use Rattle.bensolve_main.specs.Outcome.{LogVerdict, Told, Silent, sources};
+ghost use Rattle.bensolve_main.specs.Text.{fault_text};
 
 use crate::status::{LogRefusal, Status};
 use crate::text;
 use cert_check::{Refusal, check};
 use deriv_log::{LogEnd, read_log};
+use exact_field::Left;
+use frac128::Frac;
 use sol_writer::report;
-use src_sink::{Bytes, MOST_ITEMS, ReadEnd, Source, read_all};
+use src_sink::{Bytes, MOST_ITEMS, NoMemory, ReadEnd, Source, read_all};
 use std::alloc::Global;
 use vlp_reader::{Problem, VlpEnd, read_vlp};
 
@@ -22,6 +25,15 @@ const LOG_LIMIT: u64 = 268_435_456;
 pub(crate) struct Reply {
     pub(crate) status: Status,
     pub(crate) text: Bytes,
+}
+
+/// What is told of a step whose exact result is not held.
+fn step_reply(alloc: Global, entry: u32, step: u64, left: Left<Frac>) -> Result<Reply, NoMemory>
+    ensures { IfOk result (λ r. (r.status ≡ Status.Left entry step left) × (r.text ≡ fault_text (Status.Left entry step left))) }
+{
+    let text = text::step_line(alloc, entry, step, &left)?;
+    let status = Status::Left { entry, step, left };
+    Ok(Reply { status, text })
 }
 
 /// What the bytes of a log say for a problem. An `Err` is want of memory.
@@ -45,6 +57,9 @@ fn examine_log(alloc: Global, file: &Problem, bytes: &[u8]) -> Result<Reply, Sta
             let text = text::wrong_line(alloc, entry, rule)?;
             let status = Status::Refused(LogRefusal::Wrong { entry, rule });
             return Ok(Reply { status, text });
+        }
+        Err(Refusal::Left { entry, step, left }) => {
+            return Ok(step_reply(alloc, entry, step, left)?);
         }
         Err(Refusal::NoMemory) => return Err(Status::NoMemory),
     };

@@ -31,6 +31,25 @@ const CROSSED: &str = "p vlp min 0 1 0 1 1\no 1 1 1\nj 1 d 1 0\ne\n";
 /// The same with a bound that is no whole number.
 const FRACTION: &str = "p vlp min 0 1 0 1 1\no 1 1 1\nj 1 d 1 0.5\ne\n";
 
+/// One column that no line bounds: the image is everything.
+const UNSAID: &str = "p vlp min 0 1 0 1 1\no 1 1 1\ne\n";
+
+const WHOLE_LOG: &str = "version 1\nduality 1 1 0 0 0\nwhole 0 1 1 -1 0\nend whole\n";
+
+const WHOLE_REPORT: &str = "report 1\nanswer whole\nfree 0 1\nc 1\nwitnesses\nx 0\nr 1 1 -1\n";
+
+/// Two columns, the first of them free: the image has a line.
+const HALF_FREE: &str = "p vlp min 0 2 0 2 2\no 1 1 1\no 2 2 1\nj 1 f\nj 2 l 0\ne\n";
+
+const LINE_LOG: &str =
+    "version 1\nduality 2 1 1 0 0 0\ncut 2 0 1 0 1 1 1 0\nline 2 1 0 0 1 1 1 0 1 1 -1 0\nend novertex\n";
+
+const LINE_REPORT: &str =
+    "report 1\nanswer novertex\nfree 0 0\nc 1 1\nwitnesses\nx 0\nl 1 0\nr 1 1 1\nr 1 1 -1\nf 0 1 0\nu 1 1 1\n";
+
+/// x2 is at least 10^20 x1, and x1 at least 10^20.
+const LARGE: &str = "p vlp min 1 2 2 1 1\na 1 1 -1e20\na 1 2 1\no 1 2 1\ni 1 l 0\nj 1 l 1e20\ne\n";
+
 /// What the outside does: the bytes that a call moves, and the number of the call of each object that
 /// fails, 0 for none.
 #[derive(Clone, Copy)]
@@ -151,7 +170,15 @@ fn tells_each_refusal_by_its_line(rt: HostRuntime) -> Result<(), Fail> {
             "fault 9 entry 2 rule 7 Sign\n",
         ),
         (CROSSED, LOG, 0, REPORT),
-        (FRACTION, LOG, 9, "fault 9 entry 2 rule 16 NotBuilt\n"),
+        (FRACTION, LOG, 0, REPORT),
+        (UNSAID, WHOLE_LOG, 0, WHOLE_REPORT),
+        (HALF_FREE, LINE_LOG, 0, LINE_REPORT),
+        (
+            LARGE,
+            "version 1\nduality 1 1 0 0 0\ncut 1 1 0 2 1 1 2 100000000000000000000 0\nend whole\n",
+            5,
+            "fault 5 step 3 11 mul 100000000000000000000 100000000000000000000\n",
+        ),
         ("", LOG, 3, "fault 3 line 1 kind 1 NoProblem\n"),
         (
             "p vlp min 1 1 1 1 1\na 1 1 1e37\n",
@@ -169,14 +196,14 @@ fn tells_each_refusal_by_its_line(rt: HostRuntime) -> Result<(), Fail> {
         (
             FILE,
             "version 1\nfarkas 2 1 1/2 2 1/2\nend infeasible\n",
-            9,
-            "fault 9 entry 2 rule 16 NotBuilt\n",
+            0,
+            "report 1\nanswer infeasible\nfree 0 0\nwitnesses\nu 2 1 1/2 2 1/2\n",
         ),
         (
             FILE,
             "version 1\nduality 1 1 0 0 0\nend solved\n",
             9,
-            "fault 9 entry 2 rule 16 NotBuilt\n",
+            "fault 9 entry 3 rule 16 NotBuilt\n",
         ),
     ];
     for (file, log, code, text) in table {
@@ -299,6 +326,7 @@ fn is_answered(
             );
         }
         Status::FileFault(_) => assert!(rt; out.contents().starts_with(b"fault 3 ")),
+        Status::Left { .. } => assert!(rt; out.contents().starts_with(b"fault 5 ")),
         Status::Refused(_) => assert!(rt; out.contents().starts_with(b"fault 9 ")),
         _ => assert!(rt; false, "{status:?}"),
     }

@@ -1,10 +1,12 @@
 //! The fault lines that a run writes.
 ghost use Rattle.std.specs.Prelude.{◌≡◌, IfOk};
-ghost use Rattle.bensolve_main.specs.Text.{fault_text};
+ghost use Rattle.bensolve_main.specs.Text.{fault_text, operation_name};
 
 use crate::status::{LogRefusal, Status};
 use cert_check::Rule;
 use deriv_log::LogFault;
+use exact_field::{Left, Op};
+use frac128::{Frac, put_frac};
 use src_sink::{Bytes, NoMemory};
 use std::alloc::Global;
 use vlp_reader::FileFault;
@@ -42,6 +44,37 @@ pub(crate) fn wrong_line(alloc: Global, entry: u32, rule: Rule) -> Result<Bytes,
     let text = format!(in alloc; "fault 9 entry {entry} rule {number} {name}\n")?;
     let bytes = bytes_of(alloc, text.as_str())?;
     Ok(bytes)
+}
+
+/// The name of an operation.
+fn operation_name(op: Op) -> &'static str
+    ensures { result.now ≡ operation_name op }
+{
+    match op {
+        Op::Add => "add",
+        Op::Sub => "sub",
+        Op::Mul => "mul",
+        Op::Div => "div",
+    }
+}
+
+/// The fault line of a step whose exact result is not held.
+pub(crate) fn step_line(
+    alloc: Global,
+    entry: u32,
+    step: u64,
+    left: &Left<Frac>,
+) -> Result<Bytes, NoMemory>
+    ensures { IfOk result (λ text. text ≡ fault_text (Status.Left entry step left.now)) }
+{
+    let name = operation_name(left.op);
+    let head = format!(in alloc; "fault 5 step {entry} {step} {name} ")?;
+    let mut text = bytes_of(alloc, head.as_str())?;
+    put_frac(left.a, &mut text)?;
+    text.push(b' ')?;
+    put_frac(left.b, &mut text)?;
+    text.push(b'\n')?;
+    Ok(text)
 }
 
 /// The fault line of a source with more bytes than the limit.

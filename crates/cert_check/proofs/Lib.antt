@@ -1,11 +1,6 @@
-pub mod Booleans
-pub mod Small
-pub mod SideTable
-pub mod Normals
-pub mod PlaceSums
-pub mod Signs
-pub mod Balance
-pub mod FarkasTests
-pub mod SmallMultipliers
-pub mod Soundness
-pub mod Duality
+pub mod Ending
+pub mod KeptEntries
+pub mod OneEntry
+pub mod Passing
+pub mod Taking
+pub mod Walking

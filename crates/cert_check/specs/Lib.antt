@@ -1,7 +1,5 @@
-pub mod Earlier
-pub mod Proves
-pub mod Right
-pub mod Rules
-pub mod SmallProblem
-pub mod Table
+pub mod Built
+pub mod Keeping
+pub mod Kinds
+pub mod Standing
 pub mod Verdict

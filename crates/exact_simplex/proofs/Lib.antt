@@ -1,4 +1,5 @@
 pub mod Beginning
+pub mod Choosing
 pub mod Comparing
 pub mod Driven
 pub mod DrivingTurns

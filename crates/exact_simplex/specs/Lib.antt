@@ -1,3 +1,4 @@
+pub mod Candidates
 pub mod Driving
 pub mod Ends
 pub mod Hint

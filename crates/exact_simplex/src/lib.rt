@@ -3,12 +3,13 @@
 #![tactic(auto)]
 
 mod answer;
-pub mod driving;
-pub mod hint;
-pub mod opening;
-pub mod phase;
-pub mod ratio;
-pub mod reading;
+mod driving;
+mod hint;
+mod measure;
+mod opening;
+mod phase;
+mod ratio;
+mod reading;
 mod solve;
 
 pub use answer::{LpEnd, LpFault};

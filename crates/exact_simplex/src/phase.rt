@@ -8,6 +8,7 @@ ghost use Rattle.exact_simplex.specs.Ends.{IsSystemFault};
 ghost use Rattle.exact_simplex.specs.Phase.{IsGivenUp, IsMoved, IsPhaseEnd, IsPhaseFault, IsStart, IsTurn};
 ghost use Rattle.exact_simplex.specs.Program.{HasLengths, IsIdle, IsPrimal, IsTableauOf, system_of, table_in};
 
+use crate::measure::magnitudes;
 use crate::ratio::{entering, leaving};
 use exact_field::{Field, Left};
 use lin_rows::tableau::Tableau;
@@ -61,7 +62,14 @@ pub fn run_phase<F: Field>(
     ensures end { IfOk result (IsPhaseEnd equations cost unknowns (table_of tableau.old.width (lines F.value tableau.new.rows.items))) }
     ensures left { IfErr result (IsPhaseFault F.value F.holds tableau.old.width equations unknowns (table_of tableau.old.width (lines F.value tableau.old.rows.items)) tableau.old.basis.items) }
 {
-    while let Some(col) = entering(&tableau.rows[cost], unknowns) {
+    let mut greatest = magnitudes(tableau.alloc, unknowns)?;
+    while let Some(col) = entering(
+        &tableau.rows[cost],
+        unknowns,
+        &tableau.rows,
+        equations,
+        &mut greatest,
+    ) {
         match leaving(&tableau.rows, equations, col, columns) {
             Err(test) => return Err(given_up(tableau, test.row, col, 1, test.left)),
             Ok(None) => return Ok(Some(col)),

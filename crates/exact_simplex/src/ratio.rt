@@ -4,9 +4,11 @@ ghost use Rattle.std.specs.Prelude.{◌≡◌, ◌≢◌, ◌+◌, ◌<◌, ◌�
 ghost use Rattle.exact_field.specs.Order.{cmp_ℚ};
 ghost use Rattle.exact_field.specs.Rational.{zero_ℚ, ◌/ℚ◌, ◌<ℚ◌};
 ghost use Rattle.lin_rows.specs.Lines.{AreLines, entries, lines, Rises, sum_at};
+ghost use Rattle.exact_simplex.specs.Candidates.{IsBetterColumn, IsEnteringCandidate};
 ghost use Rattle.exact_simplex.specs.Ratios.{IsEither, IsEitherAt, IsEntering, IsLeaving, IsTestLeft, IsTestOf, ratios};
 ghost use Rattle.tableaux.specs.Lex.{lex_less};
 
+use crate::measure::{magnitude, measure};
 use exact_field::{Field, Left};
 use lin_rows::cells::{Cell, entry_at};
 use std::cmp::Ordering;
@@ -153,15 +155,58 @@ pub fn leaving<F: Field>(
     Ok(best)
 }
 
-/// A column among the first `count` at which the row is negative: the first.
-pub fn entering<F: Field>(row: &[Cell<F>], count: u32) -> Option<u32>
-    ensures { (n : ℕ) → Rises n 0 (entries F.value row.now) → IsEntering (entries F.value row.now) count result }
+/// A column that may enter, and how well it serves.
+#[derive(Clone, Copy)]
+struct Candidate {
+    col: u32,
+    score: u32,
+}
+
+/// The better of a column and the best so far: that whose cost is the greater in magnitude beside its greatest entry.
+fn better_column<F: Field>(cell: Cell<F>, greatest: &[u32], best: Option<Candidate>) -> Candidate
+    ensures { IsBetterColumn cell.at best result }
 {
+    let entries = greatest.get(cell.at as usize).copied().unwrap_or(0);
+    let score = (512 + magnitude(cell.value)).saturating_sub(entries);
+    let own = Candidate {
+        col: cell.at,
+        score,
+    };
+    match best {
+        None => own,
+        Some(other) => { if other.score < score { own } else { other } }
+    }
+}
+
+/// A column among the first `count` at which the row is negative: of those that serve best the first.
+fn best_column<F: Field>(row: &[Cell<F>], count: u32, greatest: &[u32]) -> Option<Candidate>
+    ensures { (n : ℕ) → Rises n 0 (entries F.value row.now) → IsEnteringCandidate (entries F.value row.now) count result }
+{
+    let mut best = None;
     for i in 0..row.len() {
         let cell = row[i];
         if cell.at <= count && is_negative(cell.value) {
-            return Some(cell.at);
+            best = Some(better_column(cell, greatest, best));
         }
     }
-    None
+    best
+}
+
+/// A column among the first `count` at which the cost row is negative. `greatest` has the memory for the magnitudes of the
+/// columns in the first `equations` rows.
+pub fn entering<F: Field>(
+    row: &[Cell<F>],
+    count: u32,
+    rows: &[Vec<Cell<F>>],
+    equations: usize,
+    greatest: &mut [u32],
+) -> Option<u32>
+    requires { equations ≤ length rows.now }
+    ensures { (n : ℕ) → Rises n 0 (entries F.value row.now) → IsEntering (entries F.value row.now) count result }
+{
+    measure(rows, equations, greatest);
+    match best_column(row, count, greatest) {
+        None => None,
+        Some(best) => Some(best.col),
+    }
 }

@@ -1,16 +1,13 @@
 -- The coupling and the exchange: products of vectors without their last entries, and of rows with dual vectors.
-use Rattle.std.proofs.Common.{◌≡◌, ℕ, suc, ◌+◌, ◌-◌, ◌<◌, ◌≤◌, List, [], ◌∷◌, ◌++◌, length, take, drop, Bool, true, false, cond, refl, sym, ap, ap₂, ◌∙◌, subst, arith, length-append, slice_index_or, append_assoc, map, All, inl, inr, Result, Ok, Err}
+use Rattle.std.proofs.Common.{◌≡◌, ℕ, suc, ◌+◌, ◌-◌, ◌<◌, ◌≤◌, List, [], ◌∷◌, ◌++◌, length, take, drop, Bool, true, false, cond, refl, sym, ap, ap₂, ◌∙◌, subst, arith, length-append, slice_index_or, append_assoc, map, Result, Ok, Err}
 use Rattle.std.proofs.Math.Seq.{take-append_seam}
 use Rattle.exact_field.specs.Rational.{ℚ, zero_ℚ, one_ℚ, neg_ℚ, ◌+ℚ◌, ◌-ℚ◌, ◌*ℚ◌}
 use Rattle.exact_field.specs.Ring.{num, v0, v1, v2, v3, v4, v5, ◌⊕◌, ◌⊗◌, ◌⊝◌, ⊖}
-use Rattle.std.specs.Prelude.{pos, IsTrue, IsFalse, IfErr, IfOk, MatchResult, OnOk}
+use Rattle.std.specs.Prelude.{pos, IfErr, IfOk, MatchResult, OnOk}
 use Rattle.std.specs.List.{take-map}
 use Rattle.std.proofs.lemmas.List.{get_or-map, length-map, length-take-le, map-append, get_or-take}
-use Rattle.exact_field.specs.declared.op.Op.TheVariants.{Add, Sub, Mul}
-use Rattle.exact_field.specs.declared.op.Left.{Left}
-use Rattle.lin_rows.specs.Sums.{AreHeld, IsDotLeft}
-use Rattle.double_descr.specs.Steps.{IsFirst, IsHeld}
-use Rattle.double_descr.proofs.StepLists.{at_last, drop_value, one_more, start, stopped, stopped_second, two_more}
+use Rattle.lin_rows.specs.Sums.{AreHeld}
+use Rattle.double_descr.proofs.StepLists.{drop_value}
 use Rattle.exact_field.specs.Vector.{dot, entry}
 use Rattle.exact_field.proofs.RingTool.{ring}
 use Rattle.exact_field.proofs.Rationals.{rationals}
@@ -18,7 +15,7 @@ use Rattle.exact_field.proofs.Sums.{dot-append}
 use Rattle.polyhedra.specs.Exactness.{homogenised}
 use Rattle.polyhedra.proofs.Homogenised.{IsHomogenised, unhomogenised, dot-homogenised}
 use Rattle.polyhedra.proofs.Linear.{dot_comm}
-use Rattle.geo_duality.specs.Coupling.{IsCouplingLeft, IsProductHeld, front, last, last_steps, inequality_of, share, slack}
+use Rattle.geo_duality.specs.Coupling.{front, last, inequality_of, joined, slack}
 use Rattle.geo_duality.specs.Exchange.{difference_steps, differences, dual_vector, entry_steps, exchanged}
 
 -- ---- a vector and its last entry
@@ -48,7 +45,7 @@ length-front v h =
 
 -- ---- the coupling is the slack
 pub coupling_is : (y star c : List ℚ) → 1 ≤ length y → length star ≡ length y →
-    dot (front y) (front star) +ℚ share y star c -ℚ last star ≡ slack (inequality_of star c) y
+    joined (dot (front y) (front star)) (dot (front c) (front star)) (last y) (last star) ≡ slack (inequality_of star c) y
 coupling_is y star c some same =
     ap (λ a. a -ℚ last star) (ap₂ (λ a b. a +ℚ b) (dot_comm (front y) (front star))
     (ring rationals (last y ∷ one_ℚ ∷ dot (front c) (front star) ∷ []) (v0 ⊗ (v1 ⊝ v2)) ((v1 ⊕ ⊖ v2) ⊗ v0) refl)
@@ -136,47 +133,6 @@ pub steps_at : (k k' y c : ℚ) (ys cs ys' cs' : List ℚ) → k' ≡ k → ys �
     difference_steps k ys cs ≡ entry_steps k' y c ++ difference_steps k ys' cs'
 steps_at k k' y c ys cs ys' cs' e f g = ap₂ (difference_steps k) f g ∙ ap (λ a. entry_steps a y c ++ difference_steps k ys' cs') (sym e)
 
--- ---- the steps of a coupling
-module _ {F : Type 0} (value : F → ℚ) (holds : ℚ → Bool) (y star c : List ℚ) (left : Left F) where
-  pub in_direct : IsDotLeft value holds (front y) (front star) left → IsCouplingLeft value holds y star c left
-  in_direct h = inl h
-
-  pub in_weight : IsProductHeld holds y star → IsDotLeft value holds (front c) (front star) left → IsCouplingLeft value holds y star c left
-  in_weight h k = inr (inl (h, k))
-
-  module _ (direct : IsProductHeld holds y star) (weight : IsProductHeld holds c star) where
-    behind : (number : ℕ) → IsFirst value holds (last_steps y star c) number left → IsCouplingLeft value holds y star c left
-    behind number h = inr (inr (direct, weight, (number, h)))
-
-    pub in_rest : left.op ≡ Sub → value left.a ≡ one_ℚ → value left.b ≡ dot (front c) (front star) → IsFalse (holds (one_ℚ -ℚ dot (front c) (front star))) →
-        IsCouplingLeft value holds y star c left
-    in_rest o a b n = behind 1 (stopped value holds (last_steps y star c) _ _ 0 left (start holds (last_steps y star c)) n o a b)
-
-    module _ (rest_held : IsTrue (holds (one_ℚ -ℚ dot (front c) (front star)))) where
-      pub in_share : left.op ≡ Mul → value left.a ≡ last y → value left.b ≡ one_ℚ -ℚ dot (front c) (front star) → IsFalse (holds (share y star c)) →
-          IsCouplingLeft value holds y star c left
-      in_share o a b n = behind 2 (stopped_second value holds (last_steps y star c) _ _ 0 left
-          (one_more holds (last_steps y star c) _ _ 0 (start holds (last_steps y star c)) rest_held) n o a b)
-
-      module _ (share_held : IsTrue (holds (share y star c))) where
-        pub in_total : left.op ≡ Add → value left.a ≡ dot (front y) (front star) → value left.b ≡ share y star c →
-            IsFalse (holds (dot (front y) (front star) +ℚ share y star c)) → IsCouplingLeft value holds y star c left
-        in_total o a b n = behind 3 (stopped value holds (last_steps y star c) _ _ 2 left
-            (two_more holds (last_steps y star c) _ _ _ 0 (start holds (last_steps y star c)) rest_held share_held) n o a b)
-
-        pub in_slack : IsTrue (holds (dot (front y) (front star) +ℚ share y star c)) → left.op ≡ Sub →
-            value left.a ≡ dot (front y) (front star) +ℚ share y star c → value left.b ≡ last star →
-            IsFalse (holds (dot (front y) (front star) +ℚ share y star c -ℚ last star)) → IsCouplingLeft value holds y star c left
-        in_slack total_held o a b n = behind 4 (stopped_second value holds (last_steps y star c) _ _ 2 left
-            (one_more holds (last_steps y star c) _ _ 2
-            (two_more holds (last_steps y star c) _ _ _ 0 (start holds (last_steps y star c)) rest_held share_held) total_held) n o a b)
-
-pub held_all : (holds : ℚ → Bool) (y star c : List ℚ) → IsTrue (holds (one_ℚ -ℚ dot (front c) (front star))) → IsTrue (holds (share y star c)) →
-    IsTrue (holds (dot (front y) (front star) +ℚ share y star c)) → IsTrue (holds (dot (front y) (front star) +ℚ share y star c -ℚ last star)) →
-    All (IsHeld holds) (last_steps y star c)
-held_all holds y star c h k l m = at_last holds (last_steps y star c) 4
-    (two_more holds (last_steps y star c) _ _ [] 2 (two_more holds (last_steps y star c) _ _ _ 0 (start holds (last_steps y star c)) h k) l m)
-
 -- each step of a product of two lists is held, as of their numbers
 pub product_held : {F : Type 0} (value : F → ℚ) (holds : ℚ → Bool) (xs ys : List F) (n : ℕ) (a b : List ℚ) → 1 ≤ length xs → n ≡ length xs - 1 →
     map value (take n xs) ≡ a → map value (take n ys) ≡ b → AreHeld holds (map value (take n xs)) (map value (take n ys)) (length (take n xs)) →
@@ -199,3 +155,7 @@ when_done (Err e) P Q R h f = tt
 pub when_err : {T E : Type 0} (r : Result T E) (P : T → Type 0) (Q : E → Type 0) (R : E → Type 0) → MatchResult r P Q → ((e : E) → Q e → R e) → IfErr r R
 when_err (Ok x) P Q R h f = tt
 when_err (Err e) P Q R h f = f e h
+
+pub if_ok_map : {T E : Type 0} (r : Result T E) (P Q : T → Type 0) → IfOk r P → ((x : T) → P x → Q x) → IfOk r Q
+if_ok_map (Ok x) P Q h f = f x h
+if_ok_map (Err e) P Q h f = tt

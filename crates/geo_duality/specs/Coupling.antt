@@ -25,16 +25,20 @@ inequality_of star c = completed (front c) (front star) (last star)
 abbrev pub slack : Inequality → List ℚ → ℚ
 slack e y = dot e.normal y -ℚ e.bound
 
--- the steps behind both products: what the second leaves of 1, that times the last entry of y, the sum with the first, less the bound
-abbrev pub share : List ℚ → List ℚ → List ℚ → ℚ
-share y star c = last y *ℚ (one_ℚ -ℚ dot (front c) (front star))
+-- what is made of both products: what the second leaves of 1, that times the last entry of y, the sum with the first, less the bound
+abbrev pub joined : ℚ → ℚ → ℚ → ℚ → ℚ
+joined direct weight height bound = direct +ℚ height *ℚ (one_ℚ -ℚ weight) -ℚ bound
 
+abbrev pub joining_steps : ℚ → ℚ → ℚ → ℚ → List Step
+joining_steps direct weight height bound =
+    record { op = Sub; a = one_ℚ; b = weight }
+    ∷ record { op = Mul; a = height; b = one_ℚ -ℚ weight }
+    ∷ record { op = Add; a = direct; b = height *ℚ (one_ℚ -ℚ weight) }
+    ∷ record { op = Sub; a = direct +ℚ height *ℚ (one_ℚ -ℚ weight); b = bound } ∷ []
+
+-- the steps behind both products
 abbrev pub last_steps : List ℚ → List ℚ → List ℚ → List Step
-last_steps y star c =
-    record { op = Sub; a = one_ℚ; b = dot (front c) (front star) }
-    ∷ record { op = Mul; a = last y; b = one_ℚ -ℚ dot (front c) (front star) }
-    ∷ record { op = Add; a = dot (front y) (front star); b = share y star c }
-    ∷ record { op = Sub; a = dot (front y) (front star) +ℚ share y star c; b = last star } ∷ []
+last_steps y star c = joining_steps (dot (front y) (front star)) (dot (front c) (front star)) (last y) (last star)
 
 -- each step of a product of two vectors without their last entries is held
 abbrev pub IsProductHeld : (ℚ → Bool) → List ℚ → List ℚ → Type 0

@@ -1,3 +1,5 @@
 pub mod Columns
 pub mod Finding
 pub mod OneMore
+pub mod ValuesAt
+pub mod Covering

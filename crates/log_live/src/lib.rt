@@ -2,8 +2,14 @@
 #![tactic(auto)]
 
 mod generator;
+mod made;
 mod marks;
+mod pairs;
 mod tight;
+mod values;
 
 pub use generator::{Generator, find};
+pub use made::{divided, meeting};
+pub use pairs::is_uncovered;
 pub use tight::TightSets;
+pub use values::values_at;

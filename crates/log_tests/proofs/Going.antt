@@ -19,7 +19,7 @@ use Rattle.log_rules.specs.Runs.{Runs, Stops, steps}
 use Rattle.log_rules.specs.declared.stop.Stop.{Stop}
 use Rattle.log_rules.specs.declared.stop.Stop.TheVariants.{Wrong, Left, NoMemory}
 use Rattle.log_rules.proofs.Failures.{behind, steps-append, stops-then, runs-then}
-use Rattle.log_rules.proofs.Through.{IsThrough, through-start, through-stop, through-end, through-as}
+use Rattle.log_rules.proofs.Through.{IsThrough, through-start, through-stop, through-as}
 
 -- ---- pieces
 -- the events were gone through without a failure, from `start` steps to `now`

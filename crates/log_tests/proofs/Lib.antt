@@ -4,3 +4,5 @@ pub mod Columns
 pub mod SheetEvents
 pub mod StepBounds
 pub mod Matrices
+pub mod RisingNumbers
+pub mod NamedCuts

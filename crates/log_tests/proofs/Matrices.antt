@@ -5,7 +5,7 @@ use Rattle.std.proofs.lemmas.Bool.{eq-eqb, ne_eqb, eqb-true, ltb-true, lt-ltb, l
 use Rattle.std.proofs.lemmas.Bool.Decides.{eqb_tells}
 use Rattle.std.proofs.lemmas.List.{length-map, length-take, take_more, map-append, append_assoc}
 use Rattle.std.proofs.lemmas.Grind.{flat_map-append}
-use Rattle.std.specs.List.{flat_map, zip}
+use Rattle.std.specs.List.{flat_map}
 use Rattle.polyhedra.proofs.Tests.{or_right}
 use Rattle.std.proofs.lemmas.List.Elements.{All-nil, All-cons, All-head, All-tail, All-append, All-map, All-from_recursion}
 use Rattle.std.specs.List.{AllByRecursion}
@@ -13,7 +13,7 @@ use Rattle.exact_field.specs.Rational.{ℚ, zero_ℚ, one_ℚ, whole, neg_ℚ}
 use Rattle.exact_field.specs.Vector.{entry}
 use Rattle.exact_field.proofs.Rationals.{neg-zero_ℚ}
 use Rattle.frac128.specs.Held.{size-neg}
-use Rattle.frac128.specs.Sparse.{IsSparse, is_zero, rises_above}
+use Rattle.frac128.specs.Sparse.{is_zero, rises_above}
 use Rattle.frac128.specs.declared.vectors.Spot.{Spot}
 use Rattle.polyhedra.specs.Sparse.{value_at, values_from}
 use Rattle.upper_image.specs.Spots.{IsVector, dense, column, entry_of}
@@ -31,7 +31,6 @@ use Rattle.vlp_reader.specs.declared.statement.Axis.{Axis}
 use Rattle.vlp_reader.specs.declared.statement.Axis.TheVariants.{Row, Column}
 use Rattle.log_tests.specs.declared.sheet.Sheet.{Sheet}
 use Rattle.log_tests.specs.Sheets.{IsSheetOf, StandFor, key_of, place_of, spot_of, spots_in, row_cells, cells_from, turned_spot, side_spots, side_values, all_side_spots, unit_spots}
-use Rattle.log_tests.proofs.Products.{zero_is}
 
 -- ---- lists by number
 pub none-lists : {X : Type 0} (n k : ℕ) → replicate n [] ≡ map (λ (_ : ℕ). let none : List X = [] in none) (numbers_from k n)

@@ -1,7 +1,7 @@
 -- Sums of products, as code takes them: place by place of two vectors, or at the places of a sparse one.
 use Rattle.std.proofs.Common.{◌≡◌, ℕ, zero, suc, ◌+◌, ◌-◌, ◌<◌, ◌≤◌, List, [], ◌∷◌, ◌++◌, refl, sym, ap, ap₂, ◌∙◌, subst, arith, Bool, true, false, ◌||◌, None, length, map, if◌then◌else◌, drop, slice_index_or, IsTrue, All, nat_le, nat_lt, not, ◌&&◌}
 use Rattle.std.specs.Prelude.{Ok, ℤ, pos, negsuc, unsigned_abs, ◌*ℤ◌, int_le, int_lt}
-use Rattle.std.specs.List.{zip, list_all}
+use Rattle.std.specs.List.{zip}
 use Rattle.std.specs.Int.{◌∣◌}
 use Rattle.std.proofs.lemmas.Bool.{eqb-true, le-leb, ltb-true, and_parts}
 use Rattle.std.proofs.lemmas.List.Elements.{All-weaker}
@@ -9,7 +9,7 @@ use Rattle.std.proofs.Math.Nat.{dvd-zero, dvd_refl, eq-one_of_dvd-one}
 use Rattle.exact_field.proofs.Integers.{not-le_ℤ, mul-one_ℤ, mul-zero_ℤ, mul_comm_ℤ}
 use Rattle.exact_field.proofs.RationalLaws.{le_represented, represents_parts, represents_whole}
 use Rattle.exact_field.specs.Rational.{ℚ, zero_ℚ, le_ℚ, lt_ℚ, whole, same_parts, ◌+ℚ◌, ◌*ℚ◌}
-use Rattle.exact_field.specs.Vector.{dot, entry, sum_ℚ}
+use Rattle.exact_field.specs.Vector.{dot, entry}
 use Rattle.exact_field.specs.declared.op.Op.TheVariants as op
 use Rattle.exact_field.proofs.Rationals.{add-zero_ℚ, zero-add_ℚ, add_assoc_ℚ, zero-mul_ℚ, mul-zero_ℚ}
 use Rattle.frac128.specs.Held.{is_held}

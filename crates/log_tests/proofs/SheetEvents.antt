@@ -1,16 +1,16 @@
 -- The events of an entry, as code goes through them by the rows and the columns of a sheet.
 use Rattle.std.proofs.Common.{◌≡◌, ◌≢◌, ℕ, zero, suc, ◌+◌, ◌-◌, ◌<◌, ◌≤◌, List, [], ◌∷◌, ◌++◌, refl, sym, ap, ap₂, ◌∙◌, subst, arith, Bool, true, false, length, map, if◌then◌else◌, slice_index_or, All, nat_eq, replicate, take, ◌==◌}
-use Rattle.std.specs.Prelude.{⊤, Some}
+use Rattle.std.specs.Prelude.{Some}
 use Rattle.std.specs.List.{flat_map, zip}
 use Rattle.std.proofs.Math.ListN.{set}
 use Rattle.std.specs.Ordering.{as_partial_cmp, partial_le}
 use Rattle.std.specs.declared.cmp.Ordering.TheVariants.{Less, Equal, Greater}
 use Rattle.std.proofs.lemmas.Bool.{eq-eqb, ne_eqb}
 use Rattle.std.proofs.lemmas.List.{length-map, map-append, take_more, append_assoc}
-use Rattle.std.proofs.lemmas.List.Elements.{All-nil, All-head, All-tail}
+use Rattle.std.proofs.lemmas.List.Elements.{All-head, All-tail}
 use Rattle.std.proofs.lemmas.List.Folds.{flat_map-map}
 use Rattle.exact_field.specs.Order.{same_ℚ, cmp_ℚ}
-use Rattle.exact_field.specs.Rational.{ℚ, zero_ℚ, one_ℚ, le_ℚ, lt_ℚ, neg_ℚ, ◌-ℚ◌, ◌+ℚ◌}
+use Rattle.exact_field.specs.Rational.{ℚ, zero_ℚ, one_ℚ, le_ℚ, lt_ℚ, neg_ℚ, ◌-ℚ◌}
 use Rattle.exact_field.specs.Vector.{dot, entry}
 use Rattle.exact_field.specs.declared.op.Op.TheVariants as op
 use Rattle.frac128.specs.Sparse.{is_zero}
@@ -18,10 +18,10 @@ use Rattle.frac128.specs.declared.vectors.Spot.{Spot}
 use Rattle.polyhedra.specs.Sparse.{value_at, values_from}
 use Rattle.polyhedra.specs.Vectors.{plus, values}
 use Rattle.upper_image.specs.Spots.{IsVector, dense, product, entry_of}
-use Rattle.upper_image.specs.UpperImage.{normals, objective, objectives, objective_column, rest}
-use Rattle.upper_image.proofs.Widths.{wide_sides, length-objective, length-numbers, entry-made, length-dense}
+use Rattle.upper_image.specs.UpperImage.{objective, objectives, objective_column, rest}
+use Rattle.upper_image.proofs.Widths.{wide_sides, length-objective, length-numbers, entry-made}
 use Rattle.log_rules.proofs.ByEntries.{same_entries, entry-suc}
-use Rattle.log_rules.specs.Events.{Event, dot_steps, product_steps, places_within, in_feasible, in_recession, in_cone, above, balance, values_positive, farkas_events, cut_events}
+use Rattle.log_rules.specs.Events.{Event, dot_steps, product_steps, places_within, in_feasible, in_recession, in_cone, above, balance, values_positive, farkas_events, cut_events, follows_given}
 use Rattle.log_rules.specs.Live.{duality_vector}
 use Rattle.deriv_log.specs.declared.entry.Entry.{Entry}
 use Rattle.upper_image.specs.OrderingCone.{dual_of}
@@ -29,7 +29,11 @@ use Rattle.log_rules.specs.Events.Event.{test, step}
 use Rattle.log_rules.specs.declared.rule.Rule.TheVariants as rule
 use Rattle.vlp_reader.specs.Sides.{sides, side_column, side_bounds, numbers_from}
 use Rattle.vlp_reader.specs.declared.problem.Problem.{Problem}
-use Rattle.log_tests.specs.Parts.{side_events, sides_events, recession_events, difference_events, rest_events, balance_events, balances_events, vanishing_events, contradiction_events, positive_events, bound_events, scaled_events}
+use Rattle.log_tests.specs.Parts.{side_events, sides_events, recession_events, difference_events, rest_events, balance_events, balances_events, vanishing_events, contradiction_events, positive_events, bound_events, scaled_events, follow_events, quotient_events}
+use Rattle.polyhedra.proofs.Tests.{not_true}
+use Rattle.polyhedra.proofs.Laws.{le_refl}
+use Rattle.vlp_reader.specs.declared.problem.Cone.{Cone}
+use Rattle.vlp_reader.specs.declared.problem.Cone.TheVariants.{Orthant, Gens, Dual}
 use Rattle.log_tests.specs.Sheets.{IsSheetOf}
 use Rattle.log_tests.specs.declared.sheet.Sheet.{Sheet}
 
@@ -275,3 +279,12 @@ cut-sheet file sheet before c w gamma u v h given =
 pub line-parts : (a b : Event) (F R A B C : List Event) → ((((a ∷ b ∷ F) ++ R) ++ A) ++ B) ++ C ≡ a ∷ b ∷ (F ++ (R ++ (A ++ (B ++ C))))
 line-parts a b F R A B C =
     append_assoc (((a ∷ b ∷ F) ++ R) ++ A) B C ∙ append_assoc ((a ∷ b ∷ F) ++ R) A (B ++ C) ∙ append_assoc (a ∷ b ∷ F) R (A ++ (B ++ C))
+
+-- ---- duality
+pub follow-as : (f c : List ℚ) (cone : Cone) → length f ≡ length c → follow_events f c ≡ follows_given (length c) cone (Some f) c
+follow-as f c Orthant h = ap (λ (n : ℕ). test rule.Scaled (lt_ℚ zero_ℚ (entry f n)) ∷ flat_map (λ i. quotient_events (entry f n) (entry f i) (entry c i)) (numbers_from 1 n)) h
+follow-as f c (Gens vs) h = ap (λ (n : ℕ). test rule.Scaled (lt_ℚ zero_ℚ (entry f n)) ∷ flat_map (λ i. quotient_events (entry f n) (entry f i) (entry c i)) (numbers_from 1 n)) h
+follow-as f c (Dual vs) h = ap (λ (n : ℕ). test rule.Scaled (lt_ℚ zero_ℚ (entry f n)) ∷ flat_map (λ i. quotient_events (entry f n) (entry f i) (entry c i)) (numbers_from 1 n)) h
+
+pub positive-other : (d : ℚ) → lt_ℚ zero_ℚ d ≡ true → d ≢ zero_ℚ
+positive-other d h e = not_true (le_ℚ zero_ℚ zero_ℚ) (ap (λ (z : ℚ). lt_ℚ zero_ℚ z) (sym e) ∙ h) (le_refl zero_ℚ)

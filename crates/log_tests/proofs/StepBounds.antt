@@ -1,22 +1,25 @@
 -- How many steps the events of an entry have at most.
-use Rattle.std.proofs.Common.{◌≡◌, ℕ, suc, ◌+◌, ◌*◌, ◌≤◌, ◌<◌, ◌^◌, List, [], ◌∷◌, ◌++◌, refl, sym, ap, ◌∙◌, subst, arith, Bool, true, false, ◌||◌, length, if◌then◌else◌, All, map, zip, length-append, None}
-use Rattle.std.specs.List.{flat_map, enumerate_from}
-use Rattle.std.proofs.lemmas.List.{length-map}
-use Rattle.std.proofs.lemmas.List.Elements.{All-head, All-tail}
+use Rattle.std.proofs.Common.{◌≡◌, ℕ, suc, ◌+◌, ◌*◌, ◌≤◌, ◌<◌, ◌^◌, List, [], ◌∷◌, ◌++◌, ◌∙◌, arith, Bool, true, false, ◌||◌, length, if◌then◌else◌, All, map, zip, length-append, None, zero, ◌-◌, take, drop, slice_index_or}
+use Rattle.std.specs.List.{flat_map, list_all, enumerate_from}
+use Rattle.std.proofs.lemmas.List.{length-map, length-take}
+use Rattle.std.specs.Prelude.{Option, Some, ◌==◌}
+use Rattle.log_tests.proofs.RisingNumbers.{length-numbered, length-pieces}
+use Rattle.upper_image.specs.Shows.{picked}
+use Rattle.std.proofs.lemmas.List.Elements.{All-nil, All-cons, All-head, All-tail}
 use Rattle.exact_field.specs.Rational.{ℚ, zero_ℚ, ◌+ℚ◌, ◌*ℚ◌, neg_ℚ}
 use Rattle.exact_field.specs.Vector.{dot, entry}
 use Rattle.exact_field.specs.declared.op.Op.TheVariants as op
 use Rattle.frac128.specs.Sparse.{is_zero}
 use Rattle.frac128.specs.declared.vectors.Spot.{Spot}
 use Rattle.polyhedra.proofs.Tests.{both_true}
-use Rattle.std.proofs.lemmas.Bool.{leb-true}
+use Rattle.std.proofs.lemmas.Bool.{leb-true, eqb-true}
 use Rattle.exact_field.specs.Order.{same_ℚ}
 use Rattle.exact_field.specs.Rational.{lt_ℚ, le_ℚ, one_ℚ}
 use Rattle.std.specs.Prelude.{nat_le, nat_lt, ◌&&◌}
 use Rattle.upper_image.specs.OrderingCone.{dual_of}
-use Rattle.upper_image.specs.Spots.{column, dense, product}
+use Rattle.upper_image.specs.Spots.{column, pieces, dense, product}
 use Rattle.upper_image.specs.UpperImage.{objective, objective_column, rest}
-use Rattle.upper_image.proofs.Widths.{wide_sides, length-numbers, length-objective, length-dense, length-rest}
+use Rattle.upper_image.proofs.Widths.{wide_sides, length-numbers, length-objective, length-rest}
 use Rattle.vlp_reader.specs.Cones.{cone_fits, each_has}
 use Rattle.vlp_reader.specs.Sides.{sides, side_column, side_bounds, numbers_from, sides_from, sides_of, row_vector, unit}
 use Rattle.vlp_reader.specs.declared.problem.Bound.{Bound}
@@ -26,14 +29,14 @@ use Rattle.vlp_reader.specs.declared.problem.Cone.{Cone}
 use Rattle.vlp_reader.specs.declared.problem.Cone.TheVariants.{Orthant, Gens, Dual}
 use Rattle.frac128.specs.Held.{is_held}
 use Rattle.log_tests.proofs.Going.{places-passed}
-use Rattle.log_rules.specs.Events.{Event, first_failure, sum_from, dot_steps, product_steps, in_cone, in_feasible, in_recession, above, balance, farkas_events, cut_events, whole_events, line_events}
+use Rattle.log_rules.specs.Events.{Event, first_failure, sum_from, dot_steps, product_steps, in_cone, in_feasible, in_recession, above, balance, farkas_events, cut_events, whole_events, line_events, duality_events, follows_given, interior, inverse_steps, has_lengths, rises, all_within}
 use Rattle.log_rules.specs.Events.Event.{test, step}
 use Rattle.log_rules.specs.Live.{duality_vector}
 use Rattle.deriv_log.specs.declared.entry.Entry.{Entry}
 use Rattle.log_rules.specs.Runs.{steps}
 use Rattle.log_rules.specs.declared.rule.Rule.{Rule}
 use Rattle.log_rules.specs.declared.rule.Rule.TheVariants as rule
-use Rattle.log_tests.specs.Parts.{product_events, entry_events, side_events, difference_events}
+use Rattle.log_tests.specs.Parts.{product_events, entry_events, unit_events, units_events, row_events, weight_events, quotient_events}
 use Rattle.log_rules.proofs.Failures.{steps-append}
 
 -- ---- sums
@@ -259,3 +262,81 @@ steps-line file d x ray m back n h =
 pub recession-places : (taken : ℕ) (file : Problem) (x : List Spot) → first_failure is_held (suc taken) (in_recession file x) ≡ None → All (λ s. s.at ≤ file.cols) x
 recession-places taken file x h =
     places-passed taken file.cols x (flat_map (λ s. product_steps s.normal x ++ test rule.Side (le_ℚ zero_ℚ (product s.normal x)) ∷ []) (sides file)) h
+
+-- ---- duality
+pub short_pieces : (n q : ℕ) (xs : List ℚ) → All (λ p. length p ≤ q) (pieces n q xs)
+short_pieces zero q xs = All-nil (λ p. length p ≤ q)
+short_pieces (suc n) q xs = All-cons (λ p. length p ≤ q) (take q xs) (pieces n q (drop q xs)) (let l = length-take q xs in omega (arith, l)) (short_pieces n q (drop q xs))
+
+pub short_numbered : (k q : ℕ) (ps : List (List ℚ)) → All (λ p. length p ≤ q) ps → All (λ p. length p.1 ≤ q) (enumerate_from k ps)
+short_numbered k q [] h = All-nil (λ p. length p.1 ≤ q)
+short_numbered k q (p ∷ ps) h =
+    All-cons (λ a. length a.1 ≤ q) (k, p) (enumerate_from (k + 1) ps) (All-head (λ u. length u ≤ q) p ps h) (short_numbered (k + 1) q ps (All-tail (λ u. length u ≤ q) p ps h))
+
+steps-unit : (row : List ℚ) (own : Bool) (v : List ℚ) → length row ≤ 100000 → steps (unit_events row own v) ≤ 200000
+steps-unit row own v h = steps-tested (dot_steps v row) _ _ 200000 (let l = steps-dot_right v row in omega (arith, l, h))
+
+steps-inverse : (q : ℕ) (vs : List (List ℚ)) (picks : List ℕ) (inverse : List ℚ) → q ≤ 100000 → length picks ≡ q → steps (inverse_steps q vs picks inverse) ≤ 2000000000000000
+steps-inverse q vs picks inverse few h =
+    let outer = steps-each (λ a. units_events (picked vs picks) a.0 a.1) (λ a. length a.1 ≤ q) 20000000000 (λ a short.
+    row_of (steps-all (λ b. unit_events a.1 (a.0 == b.0) b.1) 200000 (λ b. steps-unit a.1 (a.0 == b.0) b.1 (omega (arith, short, few))) (enumerate_from 1 (picked vs picks))))
+    (enumerate_from 1 (pieces q q inverse)) (short_numbered 1 q (pieces q q inverse) (short_pieces q q inverse)) in
+    let many = length-numbered 1 (pieces q q inverse) in
+    let rows = length-pieces q q inverse in
+    omega (arith, outer, many, rows, few)
+  where
+    row_of : {n : ℕ} → n ≤ length (enumerate_from 1 (picked vs picks)) * 200000 → n ≤ 20000000000
+    row_of {n} l =
+        let many = length-numbered 1 (picked vs picks) in
+        let all = length-map picks (λ k. slice_index_or vs (k - 1) []) in
+        omega (arith, l, many, all, h, few)
+
+steps-row : (c v : List ℚ) → length c ≤ 100000 → steps (row_events c v) ≤ 200000
+steps-row c v h = go (list_all is_zero v)
+  where
+    go : (b : Bool) → steps (if b then [] else dot_steps v c ++ test rule.Interior (lt_ℚ zero_ℚ (dot v c)) ∷ []) ≤ 200000
+    go true = omega arith
+    go false = steps-tested (dot_steps v c) _ _ 200000 (let l = steps-dot_right v c in omega (arith, l, h))
+
+steps-interior : (q : ℕ) (cone : Cone) (c weights : List ℚ) (picks : List ℕ) (inverse : List ℚ) → q ≤ 100000 → length c ≡ q → cone_fits q cone ≡ true →
+    has_lengths q cone weights picks inverse ≡ true → steps (interior q cone c weights picks inverse) ≤ 2000020000000000
+steps-interior q Orthant c weights picks inverse few h fits l = omega arith
+steps-interior q (Dual vs) c weights picks inverse few h fits l =
+    let rows = steps-all (row_events c) 200000 (λ v. steps-row c v (omega (arith, h, few))) vs in
+    let short = few_vectors q vs fits in
+    omega (arith, rows, short)
+steps-interior q (Gens vs) c weights picks inverse few h fits l =
+    let short = few_vectors q vs fits in
+    let a = both_true (length weights == length vs && length picks == q) (length inverse == q * q) l in
+    let b = both_true (length weights == length vs) (length picks == q) a.0 in
+    let sums = steps-all (λ i. weight_events vs weights (entry c i) i) 200000 (λ i. steps-tested (dot_steps (column vs i) weights) _ _ 200000 (column_of i (steps-dot (column vs i) weights) short)) (numbers_from 1 q) in
+    let long = length-numbers 1 q in
+    let inv = steps-inverse q vs picks inverse few (eqb-true (length picks) q b.1) in
+    let both = steps-append (flat_map (λ i. weight_events vs weights (entry c i) i) (numbers_from 1 q)) (test rule.Index (rises picks && all_within (length vs) picks) ∷ inverse_steps q vs picks inverse) in
+    omega (arith, sums, long, inv, both, few)
+  where
+    column_of : (i : ℕ) {n : ℕ} → n ≤ 2 * length (column vs i) → length vs ≤ 100000 → n ≤ 200000
+    column_of i {n} e s = let wide = length-map vs (λ v. entry v i) in omega (arith, e, wide, s)
+
+steps-quotients : (q : ℕ) (f c : List ℚ) → q ≤ 100000 → steps (flat_map (λ i. quotient_events (entry f q) (entry f i) (entry c i)) (numbers_from 1 q)) ≤ 100000
+steps-quotients q f c few =
+    let all = steps-all (λ i. quotient_events (entry f q) (entry f i) (entry c i)) 1 (λ i. omega arith) (numbers_from 1 q) in
+    let long = length-numbers 1 q in
+    omega (arith, all, long, few)
+
+steps-follow : (q : ℕ) (cone : Cone) (f : Option (List ℚ)) (c : List ℚ) → q ≤ 100000 → steps (follows_given q cone f c) ≤ 100000
+steps-follow q Orthant None c few = omega arith
+steps-follow q (Gens vs) None c few = omega arith
+steps-follow q (Dual vs) None c few = omega arith
+steps-follow q Orthant (Some f) c few = steps-quotients q f c few
+steps-follow q (Gens vs) (Some f) c few = steps-quotients q f c few
+steps-follow q (Dual vs) (Some f) c few = steps-quotients q f c few
+
+pub steps-duality : (file : Problem) (c weights : List ℚ) (picks : List ℕ) (inverse : List ℚ) → length c ≡ file.objs →
+    has_lengths file.objs file.cone weights picks inverse ≡ true → steps (duality_events file c weights picks inverse) < 2 ^ 63
+steps-duality file c weights picks inverse h l =
+    let few = file.objs_bounded in
+    let a = steps-follow file.objs file.cone file.duality c few in
+    let b = steps-interior file.objs file.cone c weights picks inverse few h file.cone_vectors l in
+    let both = steps-append (follows_given file.objs file.cone file.duality c) (interior file.objs file.cone c weights picks inverse) in
+    omega (arith, a, b, both)

@@ -132,7 +132,11 @@ pub fn check_farkas(alloc: Global, problem: &Problem, sheet: &Sheet, u: &[Spot])
     places_within(bounds.len(), u)?;
     values_positive(u)?;
     let values = spread(alloc, bounds.len(), u)?;
-    all_vanish(&mut counter, sheet.sides.columns.as_slice(), values.as_slice())?;
+    all_vanish(
+        &mut counter,
+        sheet.sides.columns.as_slice(),
+        values.as_slice(),
+    )?;
     has_positive_bound(&mut counter, bounds, u)
 }
 
@@ -155,7 +159,7 @@ pub fn check_cut(
     requires cone_multipliers { IsSparse v.now }
     ensures { (before : List Entry) → duality_vector before ≡ c.now
         → Runs is_held (cut_events problem.now before w.now gamma u.now v.now) 0
-            (steps (cut_events problem.now before w.now gamma u.now v.now)) (λ _. ⊤) result }
+        (steps (cut_events problem.now before w.now gamma u.now v.now)) (λ _. ⊤) result }
 {
     let mut counter = Steps { taken: 0 };
     let bounds = sheet.bounds.as_slice();

@@ -29,7 +29,7 @@ fn negated(alloc: Global, v: &[Frac]) -> Result<Vec<Frac>, Stop>
 }
 
 /// The first entry that is not 0, or 0 where there is none.
-fn leading(v: &[Frac]) -> Frac
+pub fn leading(v: &[Frac]) -> Frac
     ensures { result ≡ leading v.now }
 {
     for x in v {
@@ -64,7 +64,15 @@ pub fn check_whole(
     in_feasible(alloc, &mut counter, problem, sheet, x)?;
     in_recession(alloc, &mut counter, problem, sheet, ray)?;
     let target = negated(alloc, c)?;
-    above(alloc, &mut counter, problem, sheet, target.as_slice(), ray, m)
+    above(
+        alloc,
+        &mut counter,
+        problem,
+        sheet,
+        target.as_slice(),
+        ray,
+        m,
+    )
 }
 
 /// The tests of a `line` entry: `x` is feasible, and the image reaches `d` along `ray` and minus `d` along
@@ -97,5 +105,13 @@ pub fn check_line(
     above(alloc, &mut counter, problem, sheet, d, ray, m)?;
     in_recession(alloc, &mut counter, problem, sheet, back)?;
     let opposite = negated(alloc, d)?;
-    above(alloc, &mut counter, problem, sheet, opposite.as_slice(), back, n)
+    above(
+        alloc,
+        &mut counter,
+        problem,
+        sheet,
+        opposite.as_slice(),
+        back,
+        n,
+    )
 }

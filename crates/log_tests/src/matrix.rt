@@ -147,7 +147,13 @@ impl Sides {
     ghost use Rattle.std.specs.List.{flat_map};
 
     /// Appends an inequality "at least" or, turned round, one "at most".
-    fn push(&mut self, alloc: Global, dir: Dir, vector: &[Spot], bound: Frac) -> Result<(), NoMemory>
+    fn push(
+        &mut self,
+        alloc: Global,
+        dir: Dir,
+        vector: &[Spot],
+        bound: Frac,
+    ) -> Result<(), NoMemory>
         ensures normals { OnOk result (self.new.normals ≡ self.old.normals ++ map (turned_spot dir) vector.now ∷ []) }
         ensures bounds { OnOk result (self.new.bounds ≡ self.old.bounds ++ signed dir bound ∷ []) }
     {
@@ -178,7 +184,12 @@ impl Sides {
     }
 
     /// Appends those of all bounds, each with its vector.
-    pub fn push_bounds(&mut self, alloc: Global, vectors: &[Sparse], bounds: &[Bound]) -> Result<(), NoMemory>
+    pub fn push_bounds(
+        &mut self,
+        alloc: Global,
+        vectors: &[Sparse],
+        bounds: &[Bound],
+    ) -> Result<(), NoMemory>
         requires { length vectors.now ≡ length bounds.now }
         ensures normals { OnOk result (self.new.normals ≡ self.old.normals ++ all_side_spots vectors.now bounds.now) }
         ensures bounds { OnOk result (self.new.bounds ≡ self.old.bounds ++ flat_map side_values bounds.now) }

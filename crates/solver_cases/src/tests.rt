@@ -1,4 +1,5 @@
 //! One table a subject.
 mod double;
+mod duality;
 mod programs;
 mod rows;

@@ -226,7 +226,7 @@ returns-in_err-pivot-in-Ok-Some-clause-left g c =
     let stuck = subst (λ (w : ℕ). IsPivotFault value holds w (table_of w ls) now.basis.items (row + 1) col fault) kept.width c.in_err-pivot-in-Ok-Some.ensures.left in
     let start : Table = table_of n (lines value c.args.tableau.now.rows.items) in
     let first = c.args.tableau.now.basis.items in
-    err_holds c.from_residual.result fault (IsPhaseFault value holds n c.args.equations c.args.unknowns start first) c.from_residual.ensures.1
+    err_holds c.from_residual-in_err-pivot-in-Ok-Some.result fault (IsPhaseFault value holds n c.args.equations c.args.unknowns start first) c.from_residual-in_err-pivot-in-Ok-Some.ensures.1
     (pivot_given_up value holds n c.args.equations c.args.unknowns start (table_of n ls) first now.basis.items row col kept.turn.dictionary kept.turn.full kept.moved.entered leaving.0 found.0
     (omega (arith, within, c.requires.unknowns)) fault stuck)
 

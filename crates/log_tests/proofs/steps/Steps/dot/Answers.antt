@@ -1,10 +1,5 @@
-use Rattle.std.proofs.Common.{rules, sym, subst, arith, ◌∙◌, length, ◌<◌, ◌≡◌}
+use Rattle.std.proofs.Common.{rules, arith, ◌∙◌, length, ◌<◌}
 use Rattle.std.specs.List.{zip}
-use Rattle.std.specs.Prelude.{Ok}
-use Rattle.exact_field.specs.Rational.{ℚ}
-use Rattle.frac128.specs.Held.{is_held}
-use Rattle.log_rules.specs.Events.{dot_steps}
-use Rattle.log_rules.specs.Runs.{Runs}
 use Rattle.log_tests.proofs.Products.{summed-start, summed-more, summed-room, summed-stop, summed-end, products-zip}
 use Rattle.log_tests.proofs.Going.{zip-at, length-zip}
 use Rattle.log_tests.proofs.steps.Steps.dot.Goals as goal

@@ -1,0 +1,208 @@
+-- The answer that the entries of a log give.
+use Rattle.std.proofs.Common.{◌≡◌, ℕ, suc, List, [], ◌∷◌, ◌++◌, take, length, refl, sym, ap, ◌∙◌, subst, arith, true, false, true≢false, not, ◌==◌, append_assoc, IsTrue, Contains, Option, None, Some}
+use Rattle.std.specs.Prelude.{MatchOption}
+use Rattle.std.specs.Option.{is_some}
+use Rattle.exact_field.specs.Rational.{ℚ}
+use Rattle.frac128.specs.declared.vectors.Spot.{Spot}
+use Rattle.polyhedra.proofs.Members.{member_of}
+use Rattle.polyhedra.proofs.Tests.{both_true, or_right}
+use Rattle.vlp_reader.specs.declared.problem.Problem.{Problem}
+use Rattle.deriv_log.specs.Formed.{is_end, ends_once}
+use Rattle.deriv_log.specs.declared.entry.EndKind.{EndKind}
+use Rattle.deriv_log.specs.declared.entry.EndKind.TheVariants as ending
+use Rattle.deriv_log.specs.declared.entry.Entry.{Entry}
+use Rattle.deriv_log.specs.declared.entry.Entry.TheVariants.{Version, Duality, Cut, Start, Add, Point, Ray, Farkas, Whole, Line, Facet, End}
+use Rattle.log_rules.specs.Live.{Stated, State, state, after, duality_vector}
+use Rattle.log_rules.specs.Meets.{Meets}
+use Rattle.log_rules.specs.Order.{Kind, has, kind, place, in_order, implies, needs_cut, ends_at_facet}
+use Rattle.log_rules.specs.Order as order
+use Rattle.log_rules.specs.Proves.{Proves, forth}
+use Rattle.log_rules.specs.declared.answer.Answer.TheVariants as answer
+use Rattle.log_rules.proofs.Entries.{StandsAt, stands_at, has_more, order_of, state-push}
+use Rattle.log_rules.proofs.NumbersStay.{cuts_continue}
+use Rattle.log_rules.proofs.PassedTests.{some_passes}
+use Rattle.vlp_reader.specs.declared.problem.Dir.{Dir}
+use Rattle.vlp_reader.specs.declared.problem.Dir.TheVariants.{Min, Max}
+use Rattle.cert_check.specs.Built.{is_built}
+use Rattle.cert_check.specs.Standing.{IsAt, IsFound, IsWholeOf, IsLineOf, HasPassed, listed_cut, stated_cut, line_answer}
+use Rattle.cert_check.specs.declared.checker.Checker.{Checker}
+use Rattle.cert_check.specs.declared.found.FirstCut.{FirstCut}
+use Rattle.cert_check.specs.declared.found.FoundWhole.{FoundWhole}
+use Rattle.cert_check.specs.declared.found.FoundLine.{FoundLine}
+
+-- a log has an end
+end_is : (e : Entry) → is_end e ≡ true → has order.end (e ∷ []) ≡ true
+end_is (End k) h = refl
+end_is (Version n) h = absurd (true≢false (sym h))
+end_is (Duality c weights picks inverse) h = absurd (true≢false (sym h))
+end_is (Cut w gamma u v) h = absurd (true≢false (sym h))
+end_is (Start cuts point directions) h = absurd (true≢false (sym h))
+end_is (Add cut pairs) h = absurd (true≢false (sym h))
+end_is (Point k x m) h = absurd (true≢false (sym h))
+end_is (Ray k x m) h = absurd (true≢false (sym h))
+end_is (Farkas u) h = absurd (true≢false (sym h))
+end_is (Whole x ray m) h = absurd (true≢false (sym h))
+end_is (Line d x ray m back n) h = absurd (true≢false (sym h))
+end_is (Facet cut) h = absurd (true≢false (sym h))
+
+has_end : (entries : List Entry) → ends_once entries ≡ true → has order.end entries ≡ true
+has_end [] h = absurd (true≢false (sym h))
+has_end (e ∷ []) h = end_is e h
+has_end (e ∷ next ∷ entries) h = or_right _ (has order.end (next ∷ entries)) (has_end (next ∷ entries) (both_true _ (ends_once (next ∷ entries)) h).1)
+
+-- ---- cuts
+record IsCut (e : Entry) : Type 0 where
+  w : List ℚ
+  gamma : ℚ
+  u : List Spot
+  v : List Spot
+  same : e ≡ Cut w gamma u v
+
+cut_is : (e : Entry) → (place (kind e) == place order.cut) ≡ true → IsCut e
+cut_is (Cut w gamma u v) h = record { w = w; gamma = gamma; u = u; v = v; same = refl }
+cut_is (Version n) h = absurd (true≢false (sym h))
+cut_is (Duality c weights picks inverse) h = absurd (true≢false (sym h))
+cut_is (Start cuts point directions) h = absurd (true≢false (sym h))
+cut_is (Add cut pairs) h = absurd (true≢false (sym h))
+cut_is (Point k x m) h = absurd (true≢false (sym h))
+cut_is (Ray k x m) h = absurd (true≢false (sym h))
+cut_is (Farkas u) h = absurd (true≢false (sym h))
+cut_is (Whole x ray m) h = absurd (true≢false (sym h))
+cut_is (Line d x ray m back n) h = absurd (true≢false (sym h))
+cut_is (Facet cut) h = absurd (true≢false (sym h))
+cut_is (End k) h = absurd (true≢false (sym h))
+
+no_cons : {X : Type 0} (x : X) (xs : List X) → x ∷ xs ≡ [] → ⊥
+no_cons x xs h = let n : suc (length xs) ≡ 0 = ap (λ ys. length ys) h in omega (arith, n)
+
+not_empty : (cuts more : List Stated) (c : Stated) → take 1 ((cuts ++ c ∷ []) ++ more) ≡ [] → ⊥
+not_empty [] more c h = no_cons c [] h
+not_empty (d ∷ cuts) more c h = no_cons d [] h
+
+-- where a `cut` stands, there is a cut
+cuts_there : (q : ℕ) (entries : List Entry) → has order.cut entries ≡ true → take 1 (state q entries).cuts ≡ [] → ⊥
+cuts_there q entries h none =
+    let s = some_passes (λ e. place (kind e) == place order.cut) entries h in
+    let c : IsCut s.0 = cut_is s.0 s.2 in
+    let p : StandsAt entries s.0 = stands_at entries s.0 s.1 in
+    let front : List Entry = p.before ++ s.0 ∷ [] in
+    let split : entries ≡ front ++ p.rest = p.same ∙ sym (append_assoc p.before (s.0 ∷ []) p.rest) in
+    let after_it : (state q front).cuts ≡ (state q p.before).cuts ++ record { w = c.w; gamma = c.gamma; u = c.u } ∷ [] =
+    ap (λ (t : State). t.cuts) (state-push q p.before s.0) ∙ ap (λ (e : Entry). (after q (state q p.before) e).cuts) c.same in
+    let further = cuts_continue q front p.rest in
+    not_empty (state q p.before).cuts further.more (record { w = c.w; gamma = c.gamma; u = c.u })
+    (sym (ap (take 1) (ap (λ (es : List Entry). (state q es).cuts) split ∙ further.same ∙ ap (λ (cs : List Stated). cs ++ further.more) after_it)) ∙ none)
+
+-- a `line` has a `cut` before it
+cut_before : (before : List Entry) → IsTrue (in_order before order.line) → IsTrue (has order.cut before)
+cut_before before h = (both_true _ (implies (needs_cut order.line) (has order.cut before)) (both_true _ (implies (ends_at_facet order.line) (not (has order.facet before))) h).0).1
+
+forth_forth : (dir : Dir) (a b : List Spot) → forth dir (forth dir a b) (forth dir b a) ≡ a
+forth_forth Min a b = refl
+forth_forth Max a b = refl
+
+-- ---- what is found
+-- what is not there is not found
+pub not_found : {X : Type 0} (k : Kind) (entries : List Entry) (found : Option X) (Of : X → Type 0) → found ≡ None → IsFound k entries found Of → has k entries ≡ true → ⊥
+not_found k entries None Of e h t = true≢false (sym t ∙ h)
+not_found k entries (Some x) Of e h t = true≢false (ap (λ o. is_some o) e)
+
+pub found_is : {X : Type 0} (k : Kind) (entries : List Entry) (found : Option X) (Of : X → Type 0) (x : X) → found ≡ Some x → IsFound k entries found Of → Of x
+found_is k entries found Of x e h = subst (λ o. MatchOption o (has k entries ≡ false) Of) e h
+
+module _ (file : Problem) (entries : List Entry) (checker : Checker) (at : IsAt file entries checker) (passed : HasPassed file entries) where
+  ends : has order.end entries ≡ true
+  ends = has_end entries passed.log.ends
+
+  pub no_end : checker.ended ≡ None → ⊥
+  no_end e = not_found order.end entries checker.ended (λ k. Contains entries (End k)) e at.ended ends
+
+  stands : (k : EndKind) → checker.ended ≡ Some k → Contains entries (End k)
+  stands k e = found_is order.end entries checker.ended (λ j. Contains entries (End j)) k e at.ended
+
+  built : (e : Entry) → Contains entries e → IsTrue (is_built e)
+  built e c = member_of (λ d. IsTrue (is_built d)) entries e passed.built c
+
+  pub not_solved : checker.ended ≡ Some ending.Solved → ⊥
+  not_solved e = true≢false (sym (built (End ending.Solved) (stands ending.Solved e)))
+
+  -- what stands before the end stands in the log
+  before_end : (k : Kind) (e : Entry) → Contains entries e → ((before : List Entry) → Meets file before e → IsTrue (has k before)) → has k entries ≡ true
+  before_end k e c asked =
+      let p : StandsAt entries e = stands_at entries e c in
+      ap (has k) p.same ∙ has_more k p.before (e ∷ p.rest) (asked p.before (passed.meet p.before e p.rest p.same))
+
+  pub has_farkas : checker.ended ≡ Some ending.Infeasible → has order.farkas entries ≡ true
+  has_farkas e = before_end order.farkas (End ending.Infeasible) (stands ending.Infeasible e) (λ before m. m.rules)
+
+  pub has_whole : checker.ended ≡ Some ending.Whole → has order.whole entries ≡ true
+  has_whole e = before_end order.whole (End ending.Whole) (stands ending.Whole e) (λ before m. m.rules)
+
+  pub has_line : checker.ended ≡ Some ending.NoVertex → has order.line entries ≡ true
+  has_line e = before_end order.line (End ending.NoVertex) (stands ending.NoVertex e) (λ before m. m.rules)
+
+  -- a `whole` or a `line` has a `duality` before it
+  scale : (k : Kind) (e : Entry) → Contains entries e → ((before : List Entry) → Meets file before e → IsTrue (has order.duality before)) → checker.c ≡ duality_vector entries
+  scale k e c asked = (at.scale (before_end order.duality e c asked)).is
+
+  pub infeasible_proved : checker.ended ≡ Some ending.Infeasible → (u : List Spot) → checker.farkas ≡ Some u → Proves file entries (answer.Infeasible u)
+  infeasible_proved e u f = record {
+    log = passed.log;
+    meet = passed.meet;
+    gives = (stands ending.Infeasible e, found_is order.farkas entries checker.farkas (λ v. Contains entries (Farkas v)) u f at.farkas);
+  }
+
+  pub whole_proved : checker.ended ≡ Some ending.Whole → (w : FoundWhole) → checker.whole ≡ Some w → Proves file entries (answer.Whole checker.c w.x w.ray)
+  whole_proved e w f =
+      let m : IsWholeOf entries w = found_is order.whole entries checker.whole (IsWholeOf entries) w f at.whole in
+      record {
+        log = passed.log;
+        meet = passed.meet;
+        gives = (
+          stands ending.Whole e,
+          record { c_given = scale order.whole (Whole w.x w.ray m.0) m.1 (λ before k. (order_of before order.whole k.order).duality); m = m.0; stands = m.1 },
+        );
+      }
+
+  -- ---- a line
+  line_in : (l : FoundLine) → checker.line ≡ Some l → IsLineOf entries l
+  line_in l f = found_is order.line entries checker.line (IsLineOf entries) l f at.line
+
+  pub no_first : (l : FoundLine) → checker.line ≡ Some l → checker.first ≡ None → ⊥
+  no_first l f none =
+      let c = line_in l f in
+      let e : Entry = Line l.d l.x l.ray c.0 l.back c.1.0 in
+      cuts_there file.objs entries (before_end order.cut e c.1.1 (λ before k. cut_before before k.order)) (at.first ∙ ap listed_cut none)
+
+  pub no_vertex_proved : checker.ended ≡ Some ending.NoVertex → (l : FoundLine) → checker.line ≡ Some l → (first : FirstCut) → checker.first ≡ Some first →
+      Proves file entries (line_answer file.dir checker.c l first)
+  no_vertex_proved e l f first g =
+      let c = line_in l f in
+      record {
+        log = passed.log;
+        meet = passed.meet;
+        gives = (
+          stands ending.NoVertex e,
+          record {
+            c_given = scale order.line (Line l.d l.x l.ray c.0 l.back c.1.0) c.1.1 (λ before k. (order_of before order.line k.order).duality);
+            m = c.0;
+            n = c.1.0;
+            stands = subst (λ (r : List Spot). Contains entries (Line l.d l.x r c.0 (forth file.dir (forth file.dir l.back l.ray) (forth file.dir l.ray l.back)) c.1.0))
+                (sym (forth_forth file.dir l.ray l.back))
+                (subst (λ (b : List Spot). Contains entries (Line l.d l.x l.ray c.0 b c.1.0)) (sym (forth_forth file.dir l.back l.ray)) c.1.1);
+            first = stated_cut first;
+            cuts = at.first ∙ ap listed_cut g;
+            shown_cut = refl;
+          },
+        );
+      }
+
+  -- ---- what an end asks for is found
+  pub farkas_missing : checker.ended ≡ Some ending.Infeasible → checker.farkas ≡ None → ⊥
+  farkas_missing e none = not_found order.farkas entries checker.farkas (λ u. Contains entries (Farkas u)) none at.farkas (has_farkas e)
+
+  pub whole_missing : checker.ended ≡ Some ending.Whole → checker.whole ≡ None → ⊥
+  whole_missing e none = not_found order.whole entries checker.whole (IsWholeOf entries) none at.whole (has_whole e)
+
+  pub line_missing : checker.ended ≡ Some ending.NoVertex → checker.line ≡ None → ⊥
+  line_missing e none = not_found order.line entries checker.line (IsLineOf entries) none at.line (has_line e)

@@ -1,0 +1,134 @@
+//! What the entries of a log gave.
+ghost use Rattle.std.specs.Prelude.{◌≡◌, IfOk, OnOk};
+ghost use Rattle.cert_check.specs.Keeping.{next_scale, next_first, next_farkas, next_whole, next_line, next_end};
+ghost use Rattle.cert_check.specs.Standing.{listed_cut};
+
+use deriv_log::{EndKind, Entry};
+use frac128::{Frac, Sparse, Vector};
+use src_sink::{Items, NoMemory};
+use std::alloc::Global;
+
+/// The first cut.
+#[derive(Debug, Drop)]
+pub struct FirstCut {
+    pub w: Vector,
+    pub gamma: Frac,
+    pub u: Sparse,
+}
+
+/// A feasible point, and a direction along which the image is everything.
+#[derive(Debug, Drop)]
+pub struct FoundWhole {
+    pub x: Sparse,
+    pub ray: Sparse,
+}
+
+/// A feasible point, a line of the image, and the pre-images of both its directions.
+#[derive(Debug, Drop)]
+pub struct FoundLine {
+    pub d: Vector,
+    pub x: Sparse,
+    pub ray: Sparse,
+    pub back: Sparse,
+}
+
+/// A copy of a list.
+fn copied<T: Copy + Drop>(alloc: Global, items: &Items<T>) -> Result<Items<T>, NoMemory>
+    ensures { IfOk result (λ copy. copy ≡ items.now) }
+{
+    let mut copy = Items::new(alloc);
+    copy.append(items.as_slice())?;
+    Ok(copy)
+}
+
+/// Keeps the duality vector of the entry, if it has one.
+pub fn keep_scale(alloc: Global, c: &mut Vector, entry: &Entry) -> Result<(), NoMemory>
+    ensures { OnOk result (c.new ≡ next_scale c.old entry.now) }
+{
+    if let Entry::Duality { c: given, .. } = entry {
+        *c = copied(alloc, given)?;
+    }
+    Ok(())
+}
+
+/// Keeps the cut of the entry, if it is the first.
+pub fn keep_first(
+    alloc: Global,
+    first: &mut Option<FirstCut>,
+    entry: &Entry,
+) -> Result<(), NoMemory>
+    ensures { OnOk result (listed_cut first.new ≡ next_first (listed_cut first.old) entry.now) }
+{
+    if let Entry::Cut { w, gamma, u, .. } = entry {
+        if first.is_none() {
+            *first = Some(FirstCut {
+                w: copied(alloc, w)?,
+                gamma: *gamma,
+                u: copied(alloc, u)?,
+            });
+        }
+    }
+    Ok(())
+}
+
+/// Keeps the multipliers of the entry, if it is a `farkas`.
+pub fn keep_farkas(
+    alloc: Global,
+    farkas: &mut Option<Sparse>,
+    entry: &Entry,
+) -> Result<(), NoMemory>
+    ensures { OnOk result (farkas.new ≡ next_farkas farkas.old entry.now) }
+{
+    if let Entry::Farkas { u } = entry {
+        *farkas = Some(copied(alloc, u)?);
+    }
+    Ok(())
+}
+
+/// Keeps the point and the direction of the entry, if it is a `whole`.
+pub fn keep_whole(
+    alloc: Global,
+    whole: &mut Option<FoundWhole>,
+    entry: &Entry,
+) -> Result<(), NoMemory>
+    ensures { OnOk result (whole.new ≡ next_whole whole.old entry.now) }
+{
+    if let Entry::Whole { x, ray, .. } = entry {
+        *whole = Some(FoundWhole {
+            x: copied(alloc, x)?,
+            ray: copied(alloc, ray)?,
+        });
+    }
+    Ok(())
+}
+
+/// Keeps the line of the entry, if it is a `line`.
+pub fn keep_line(alloc: Global, line: &mut Option<FoundLine>, entry: &Entry) -> Result<(), NoMemory>
+    ensures { OnOk result (line.new ≡ next_line line.old entry.now) }
+{
+    if let Entry::Line {
+        d,
+        x,
+        ray,
+        back,
+        ..
+    } = entry
+    {
+        *line = Some(FoundLine {
+            d: copied(alloc, d)?,
+            x: copied(alloc, x)?,
+            ray: copied(alloc, ray)?,
+            back: copied(alloc, back)?,
+        });
+    }
+    Ok(())
+}
+
+/// Keeps the kind of the entry, if it is an end.
+pub fn keep_end(ended: &mut Option<EndKind>, entry: &Entry)
+    ensures { ended.new ≡ next_end ended.old entry.now }
+{
+    if let Entry::End(kind) = entry {
+        *ended = Some(*kind);
+    }
+}

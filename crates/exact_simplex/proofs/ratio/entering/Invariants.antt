@@ -1,7 +1,0 @@
-use Rattle.std.proofs.Common.{ℕ, ◌≤◌, take}
-use Rattle.exact_field.specs.Rational.{zero_ℚ, ◌≤ℚ◌}
-use Rattle.lin_rows.specs.Lines.{entries, sum_at}
-use Rattle.exact_simplex.proofs.ratio.entering.Given as goal
-
-abbrev pub invariant-loop-i : goal.invariant-loop-i
-invariant-loop-i g l = (j : ℕ) → j ≤ l.count → zero_ℚ ≤ℚ sum_at (entries g.F.Field.value (take l.i l.row)) j
