@@ -6,6 +6,8 @@ mod made;
 mod marks;
 mod matching;
 mod pairs;
+#[cfg(test)]
+mod tests;
 mod tight;
 mod values;
 
