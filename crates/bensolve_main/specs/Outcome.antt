@@ -2,7 +2,7 @@
 -- bytes that were written.
 use Rattle.std.specs.Prelude.{◌≡◌, ℕ, ◌<◌, ◌≤◌, ◌⊎◌, true, false, List, length, take, Option, Some, None}
 use Rattle.src_sink.specs.Outside.{Consumes, Appends, IsAtEnd, Rose}
-use Rattle.src_sink.specs.Ends.{TakesCount}
+use Rattle.src_sink.specs.Ends.{TakesAtMost, TakesCount}
 use Rattle.vlp_reader.specs.FirstFault.{FirstFault, Reads}
 use Rattle.vlp_reader.specs.declared.problem.Problem.{Problem}
 use Rattle.deriv_log.specs.FirstFault.{FirstFault as FirstLogFault}
@@ -145,14 +145,16 @@ Told (Refused why) text v w = Checked (Refused why) text v w
 Told (TooLong false read) text v w = LongProblem read text v w
 Told (TooLong true read) text v w = LongLog read text v w
 
--- the source of the log failed, behind a problem that reads as a file
+-- the source of the log failed, behind a problem that reads as a file, before the limit was passed
 pub record LogFailed (v w : Sources) : Type 0 where
   pub file : Problem
   pub good : GoodFile file v w
+  pub within : TakesAtMost v.log w.log log_limit
   pub rose : Rose v.log_faults w.log_faults
 
--- the source of the problem failed
+-- the source of the problem failed, before the limit was passed
 pub record ProblemFailed (v w : Sources) : Type 0 where
+  pub within : TakesAtMost v.problem w.problem problem_limit
   pub rose : Rose v.problem_faults w.problem_faults
   pub log : LogUntouched v w
 

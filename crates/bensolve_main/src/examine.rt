@@ -76,6 +76,7 @@ pub(crate) fn examine<S: Source, L: Source>(
     problem: &mut S,
     log_in: &mut L,
 ) -> Result<Reply, Status>
+    ensures counts { (S.faults problem.old ≤ S.faults problem.new) × (L.faults log_in.old ≤ L.faults log_in.new) }
     ensures told { IfOk result (λ r. Told r.status r.text
         (sources (S.left problem.old) (S.faults problem.old) (L.left log_in.old) (L.faults log_in.old))
         (sources (S.left problem.new) (S.faults problem.new) (L.left log_in.new) (L.faults log_in.new))) }

@@ -1,5 +1,5 @@
 //! The top call.
-ghost use Rattle.std.specs.Prelude.{◌≡◌, ◌↔◌, ◌⊎◌, None, IsSome, map, string_bytes};
+ghost use Rattle.std.specs.Prelude.{◌≡◌, ◌≤◌, ◌↔◌, ◌⊎◌, None, IsSome, map, string_bytes};
 ghost use Rattle.bensolve_main.specs.Shapes.{shape_of};
 ghost use Rattle.bensolve_main.specs.Outcome.{Outcome, Tells, Honest, sources, output};
 
@@ -40,6 +40,9 @@ pub fn run<S: Source, L: Source, T: Sink, K: Sink>(
         (output (T.held out.new) (T.faults out.new))
         → (result ≡ Status.Done) ⊎ (result ≡ Status.NoMemory) }
 
+    // No count of faults falls.
+    ensures counts { (S.faults problem.old ≤ S.faults problem.new) × (L.faults log_in.old ≤ L.faults log_in.new) × (T.faults out.old ≤ T.faults out.new) }
+
     // No command writes a log so far.
     ensures log_out { log_out.new ≡ log_out.old }
 {
@@ -56,7 +59,8 @@ fn run_check<S: Source, L: Source, T: Sink>(
     log_in: &mut L,
     out: &mut T,
 ) -> Status
-    ensures { Outcome result
+    ensures counts { (S.faults problem.old ≤ S.faults problem.new) × (L.faults log_in.old ≤ L.faults log_in.new) × (T.faults out.old ≤ T.faults out.new) }
+    ensures outcome { Outcome result
         (sources (S.left problem.old) (S.faults problem.old) (L.left log_in.old) (L.faults log_in.old))
         (sources (S.left problem.new) (S.faults problem.new) (L.left log_in.new) (L.faults log_in.new))
         (output (T.held out.old) (T.faults out.old))
@@ -70,6 +74,7 @@ fn run_check<S: Source, L: Source, T: Sink>(
 
 /// Writes the text of a reply, and answers its status, or that the output failed.
 fn tell<T: Sink>(out: &mut T, reply: Reply) -> Status
+    ensures counts { T.faults out.old ≤ T.faults out.new }
     ensures told { Tells result reply.status reply.text
         (output (T.held out.old) (T.faults out.old))
         (output (T.held out.new) (T.faults out.new)) }

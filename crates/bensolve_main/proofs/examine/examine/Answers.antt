@@ -18,6 +18,7 @@ returns-in-Err-Fault-read_all-clause-silent g c =
     record {
       file = c.in-Ok-read_vlp.file;
       good = good_file _ _ _ _ _ c.as_slice.ensures.items c.in-Ok.ensures.all c.in-Ok.ensures.end c.in-Ok.ensures.within c.in-Ok-read_vlp.ensures;
+      within = failed.1;
       rose = failed.0;
     }
 

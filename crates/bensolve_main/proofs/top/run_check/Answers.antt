@@ -1,5 +1,5 @@
 use Rattle.bensolve_main.proofs.Outcomes.{outcome_of_told}
 use Rattle.bensolve_main.proofs.top.run_check.Goals as goal
 
-pub returns-in-Ok : goal.returns-in-Ok
-returns-in-Ok g c = outcome_of_told _ _ _ _ _ _ _ c.in-Ok.ensures.told c.tell.ensures.told
+pub returns-in-Ok-clause-outcome : goal.returns-in-Ok-clause-outcome
+returns-in-Ok-clause-outcome g c = outcome_of_told _ _ _ _ _ _ _ c.in-Ok.ensures.told c.tell.ensures.told
