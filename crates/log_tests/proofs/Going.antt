@@ -111,55 +111,11 @@ room-behind {A} {s} {m} B n p h =
     omega (arith, both, h, count)
 
 -- ---- the items of a loop
--- an item within a list is the same whatever stands for those past its end
-pub any-default : {X : Type 0} (xs : List X) (i : ℕ) (d e : X) → i < length xs → slice_index_or xs i d ≡ slice_index_or xs i e
-any-default [] i d e h = absurd (omega (arith, h))
-any-default (x ∷ xs) zero d e h = refl
-any-default (x ∷ xs) (suc i) d e h = any-default xs i d e (omega (arith, h))
-
--- an item under another name
-pub item-as : {X : Type 0} (xs : List X) (i : ℕ) (x y : X) → y ≡ x → x ≡ slice_index_or xs i x → y ≡ slice_index_or xs i y
-item-as {X} xs i x y e h = subst (λ (z : X). z ≡ slice_index_or xs i z) (sym e) h
-
--- the item at a place of the numbers from 1 on
--- an item of a list of images, and a pair of items
-pub map-at : {X Y : Type 0} (f : X → Y) (xs : List X) (i : ℕ) (x : X) → i < length xs → x ≡ slice_index_or xs i x → f x ≡ slice_index_or (map f xs) i (f x)
-map-at f [] i x h p = absurd (omega (arith, h))
-map-at f (y ∷ xs) zero x h p = ap f p
-map-at f (y ∷ xs) (suc i) x h p = map-at f xs i x (omega (arith, h)) p
-
-pub length-zip : {X Y : Type 0} (xs : List X) (ys : List Y) → length xs ≡ length ys → length (zip xs ys) ≡ length xs
-length-zip [] ys h = refl
-length-zip (x ∷ xs) [] h = absurd (omega (arith, h))
-length-zip (x ∷ xs) (y ∷ ys) h = ap suc (length-zip xs ys (omega (arith, h)))
-
-pub zip-at : {X Y : Type 0} (i : ℕ) (xs : List X) (ys : List Y) (a : X) (b : Y) → i < length xs → length xs ≡ length ys → a ≡ slice_index_or xs i a →
-    b ≡ slice_index_or ys i b → (a, b) ≡ slice_index_or (zip xs ys) i (a, b)
-zip-at i [] ys a b h l p q = absurd (omega (arith, h))
-zip-at i (x ∷ xs) [] a b h l p q = absurd (omega (arith, l))
-zip-at zero (x ∷ xs) (y ∷ ys) a b h l p q = ap₂ (λ c d. (c, d)) p q
-zip-at (suc i) (x ∷ xs) (y ∷ ys) a b h l p q = zip-at i xs ys a b (omega (arith, h)) (omega (arith, l)) p q
-
--- the items from a place on
-pub drop-next : {X : Type 0} (i : ℕ) (xs : List X) (x : X) → i < length xs → x ≡ slice_index_or xs i x → drop i xs ≡ x ∷ drop (suc i) xs
-drop-next i [] x h p = absurd (omega (arith, h))
-drop-next zero (y ∷ xs) x h p = ap (λ c. c ∷ xs) (sym p)
-drop-next (suc i) (y ∷ xs) x h p = drop-next i xs x (omega (arith, h)) p
-
-pub drop-next-of : {X : Type 0} (xs : List X) (i j : ℕ) (x : X) → i + 1 ≡ j → i < length xs → x ≡ slice_index_or xs i x → drop i xs ≡ x ∷ drop j xs
-drop-next-of {X} xs i j x e h p =
-    let k : suc i ≡ j = omega (arith, e) in
-    subst (λ (n : ℕ). drop i xs ≡ x ∷ drop n xs) k (drop-next i xs x h p)
-
-pub drop-whole : {X : Type 0} (xs : List X) → drop (length xs) xs ≡ []
-drop-whole [] = refl
-drop-whole (x ∷ xs) = drop-whole xs
-
 -- the next entry of a vector, by its number
 pub next-entry : (v : List ℚ) (i : ℕ) (x : ℚ) → i < length v → x ≡ slice_index_or v i x → x ≡ entry v (i + 1)
 next-entry v i x h p =
     let same : i ≡ i + 1 - 1 = omega arith in
-    p ∙ any-default v i x zero_ℚ h ∙ ap (λ (k : ℕ). slice_index_or v k zero_ℚ) same
+    p ∙ get_or_default v i x zero_ℚ h ∙ ap (λ (k : ℕ). slice_index_or v k zero_ℚ) same
 
 pub number-at : (k n i : ℕ) → i < n → k + i ≡ slice_index_or (numbers_from k n) i (k + i)
 number-at k zero i h = absurd (omega (arith, h))

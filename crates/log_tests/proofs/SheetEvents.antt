@@ -34,8 +34,8 @@ use Rattle.polyhedra.proofs.Tests.{not_true}
 use Rattle.polyhedra.proofs.Laws.{le_refl}
 use Rattle.vlp_reader.specs.declared.problem.Cone.{Cone}
 use Rattle.vlp_reader.specs.declared.problem.Cone.TheVariants.{Orthant, Gens, Dual}
-use Rattle.log_tests.specs.Sheets.{IsSheetOf}
-use Rattle.log_tests.specs.declared.sheet.Sheet.{Sheet}
+use Rattle.vlp_matrices.specs.Sheets.{IsSheetOf}
+use Rattle.vlp_matrices.specs.declared.sheet.Sheet.{Sheet}
 
 -- ---- numbers
 -- the test that code makes by the order of fractions
@@ -183,16 +183,6 @@ pub differences-as : (n : ℕ) (A D : List ℚ) (R R' : List (List Spot)) (y : L
 differences-as n A D R R' y a d r =
     ap (λ (v : List ℚ). differences_of (map (dense (length v)) R) y v) a ∙ ap (λ (k : ℕ). differences_of (map (dense k) R) y D) d
     ∙ ap (λ (us : List (List Spot)). differences_of (map (dense n) us) y D) r
-
--- one more item of a list of images
-pub map-take_more : {X Y : Type 0} (f : X → Y) (xs : List X) (i : ℕ) (x : X) → i < length xs → x ≡ slice_index_or xs i x →
-    map f (take (i + 1) xs) ≡ map f (take i xs) ++ f x ∷ []
-map-take_more {X} {Y} f xs i x h p =
-    ap (map f) (take_more xs i x h) ∙ map-append f (take i xs) (slice_index_or xs i x ∷ []) ∙ ap (λ (z : X). map f (take i xs) ++ f z ∷ []) (sym p)
-
-pub take_whole : {X : Type 0} (xs : List X) → take (length xs) xs ≡ xs
-take_whole [] = refl
-take_whole {X} (x ∷ xs) = ap (λ (ys : List X). x ∷ ys) (take_whole xs)
 
 -- ---- columns
 length-side_column : (file : Problem) (j : ℕ) → length (side_column file j) ≡ length (sides file)

@@ -8,11 +8,11 @@ ghost use Rattle.frac128.specs.Sparse.{IsSparse};
 ghost use Rattle.log_rules.specs.Events.{in_feasible, in_recession, above};
 ghost use Rattle.log_rules.specs.Runs.{Runs, steps};
 ghost use Rattle.log_tests.specs.Parts.{side_events, sides_events, recession_events, difference_events, rest_events};
-ghost use Rattle.log_tests.specs.Sheets.{IsSheetOf};
+ghost use Rattle.vlp_matrices.specs.Sheets.{IsSheetOf};
 ghost use Rattle.upper_image.specs.Spots.{IsVector, dense};
 
 use crate::cone::{in_cone, places_within};
-use crate::sheet::Sheet;
+use vlp_matrices::Sheet;
 use crate::steps::{Steps, is_nonnegative, pass};
 use frac128::{Frac, Sparse, Spot};
 use log_rules::{Rule, Stop};
