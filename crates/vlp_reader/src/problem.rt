@@ -27,7 +27,7 @@ pub enum Bound {
 }
 
 /// The ordering cone.
-#[derive(Debug, Drop)]
+#[derive(Debug, PartialEq, Eq, Drop)]
 pub enum Cone {
     /// All vectors without a negative entry.
     Orthant,
@@ -47,7 +47,7 @@ pub struct Cell {
 
 /// A vector linear program: minimise or maximise `P x` with respect to a cone, subject to bounds on
 /// `B x` and on `x`.
-#[derive(Debug, Drop)]
+#[derive(Debug, PartialEq, Eq, Drop)]
 pub struct Problem {
     pub dir: Dir,
     /// The rows of B.

@@ -5,7 +5,7 @@ use src_sink::Items;
 use std::test::Fail;
 
 /// Texts with the line and the kind of their first fault.
-const FAULTS: [(&[u8], u32, FileKind); 34] = [
+const FAULTS: [(&[u8], u32, FileKind); 36] = [
     (b"", 1, FileKind::NoProblem),
     (b"c\n\n", 3, FileKind::NoProblem),
     (b"\nn 1 x\n", 2, FileKind::BadLine),
@@ -87,6 +87,16 @@ const FAULTS: [(&[u8], u32, FileKind); 34] = [
         b"p vlp min 1 1 0 1 0 cone 1 2\nk 1 0 1\n\ne\na 1 1 1\n",
         4,
         FileKind::CountWrong,
+    ),
+    (
+        b"p vlp min 2 2 4 2 4\na 1 1 2\na 1 2 1\na 2 1 1\no 1 1 1\no 1 2 -1\no 2 1 1\no 2 2 1\ni 1 l 6\ni 2 l 6\nj 1 l 0\nj 2 l 0\ne\n",
+        13,
+        FileKind::CountWrong,
+    ),
+    (
+        b"p vlp min 2 2 4 2 4\na 1 1 2\na 1 2 1\na 2 1 1\na 1 1 2\no 1 1 1\no 1 2 -1\no 2 1 1\no 2 2 1\ni 1 l 6\ni 2 l 6\nj 1 l 0\nj 2 l 0\ne\n",
+        5,
+        FileKind::Twice,
     ),
 ];
 
