@@ -1,2 +1,1 @@
-pub mod FullRank
 pub mod RowsOf

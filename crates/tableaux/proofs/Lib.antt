@@ -6,6 +6,7 @@ pub mod Eliminated
 pub mod Ends
 pub mod Entries
 pub mod Found
+pub mod FullRank
 pub mod Inverse
 pub mod Lexicographic
 pub mod Matrix

@@ -4,7 +4,7 @@ use Rattle.polyhedra.specs.Cone.{HasFullRank}
 use Rattle.lin_rows.specs.declared.answer.Indep.{Indep}
 use Rattle.lin_rows.specs.Answers.{IsIndep}
 use Rattle.lin_rows.specs.Read.{numbers}
-use Rattle.solver_bench.proofs.FullRank.{full_rank}
+use Rattle.tableaux.proofs.FullRank.{full_rank}
 use Rattle.solver_bench.proofs.cones.have_full_rank.Goals as goal
 
 pub returns-in-Ok-Basis : goal.returns-in-Ok-Basis

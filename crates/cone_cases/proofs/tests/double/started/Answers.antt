@@ -3,8 +3,8 @@ use Rattle.polyhedra.specs.Cone.{HasFullRank}
 use Rattle.lin_rows.specs.declared.answer.Indep.{Indep}
 use Rattle.lin_rows.specs.Answers.{IsIndep}
 use Rattle.lin_rows.specs.Read.{numbers}
-use Rattle.solver_cases.proofs.FullRank.{full_rank}
-use Rattle.solver_cases.proofs.tests.double.started.Goals as goal
+use Rattle.tableaux.proofs.FullRank.{full_rank}
+use Rattle.cone_cases.proofs.tests.double.started.Goals as goal
 
 pub start-requires-clause-rank : goal.start-requires-clause-rank
 start-requires-clause-rank g c =

@@ -1,5 +1,3 @@
 //! One table a subject.
 mod double;
 mod duality;
-mod programs;
-mod rows;

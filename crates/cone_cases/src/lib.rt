@@ -1,0 +1,5 @@
+//! Worked cases of double description, of duality and of sets, at `Frac` and at `Tiny`.
+#![tactic(auto)]
+
+#[cfg(test)]
+mod tests;

@@ -1,0 +1,3 @@
+//! One table a subject.
+mod programs;
+mod rows;
