@@ -1,5 +1,5 @@
 -- How many steps the events of an entry have at most.
-use Rattle.std.proofs.Common.{◌≡◌, ℕ, suc, ◌+◌, ◌*◌, ◌≤◌, ◌<◌, ◌^◌, List, [], ◌∷◌, ◌++◌, ◌∙◌, arith, Bool, true, false, ◌||◌, length, if◌then◌else◌, All, map, zip, length-append, None, zero, ◌-◌, take, drop, slice_index_or}
+use Rattle.std.proofs.Common.{◌≡◌, ℕ, suc, ◌+◌, ◌*◌, ◌≤◌, ◌<◌, ◌^◌, List, [], ◌∷◌, ◌++◌, ◌∙◌, arith, Bool, true, false, ◌||◌, length, if◌then◌else◌, All, map, zip, None, zero, ◌-◌, take, drop, slice_index_or}
 use Rattle.std.specs.List.{flat_map, list_all, enumerate_from}
 use Rattle.std.proofs.lemmas.List.{length-map, length-take}
 use Rattle.std.specs.Prelude.{Option, Some, ◌==◌}
@@ -21,9 +21,7 @@ use Rattle.upper_image.specs.Spots.{column, pieces, dense, product}
 use Rattle.upper_image.specs.UpperImage.{objective, objective_column, rest}
 use Rattle.upper_image.proofs.Widths.{wide_sides, length-numbers, length-objective, length-rest}
 use Rattle.vlp_reader.specs.Cones.{cone_fits, each_has}
-use Rattle.vlp_reader.specs.Sides.{sides, side_column, side_bounds, numbers_from, sides_from, sides_of, row_vector, unit}
-use Rattle.vlp_reader.specs.declared.problem.Bound.{Bound}
-use Rattle.vlp_reader.specs.declared.problem.Bound.TheVariants.{Unsaid, Free, Lower, Upper, Double, Fixed}
+use Rattle.vlp_reader.specs.Sides.{sides, side_column, side_bounds, numbers_from}
 use Rattle.vlp_reader.specs.declared.problem.Problem.{Problem}
 use Rattle.vlp_reader.specs.declared.problem.Cone.{Cone}
 use Rattle.vlp_reader.specs.declared.problem.Cone.TheVariants.{Orthant, Gens, Dual}
