@@ -1,5 +1,6 @@
--- More vectors than entries are dependent: one vector with a first entry that is not 0 clears that of the others.
-use Rattle.std.proofs.Common.{◌≡◌, ℕ, zero, suc, List, [], ◌∷◌, map, length, All, Contains, refl, sym, ap, ap₂, ◌∙◌, arith, ◌⊎◌, inl, inr, ◌<◌}
+-- More vectors than entries are dependent: one vector with a first entry that is not 0 clears that of the others. So fewer rows
+-- than entries are all tight at some vector but 0.
+use Rattle.std.proofs.Common.{◌≡◌, ℕ, zero, suc, List, [], ◌∷◌, map, length, All, Contains, refl, sym, ap, ap₂, ◌∙◌, subst, arith, ◌⊎◌, inl, inr, ◌<◌}
 use Rattle.std.proofs.lemmas.List.{length-map}
 use Rattle.std.proofs.lemmas.List.Elements.{All-nil, All-cons, All-head, All-tail, All-map}
 use Rattle.exact_field.specs.Rational.{ℚ, zero_ℚ, one_ℚ, ◌+ℚ◌, ◌*ℚ◌, neg_ℚ, inverse_ℚ}
@@ -11,7 +12,7 @@ use Rattle.polyhedra.specs.Dependence.{AreDependent, MoreAreDependent}
 use Rattle.polyhedra.proofs.Laws.{add_comm, add_zero, add_neg, mul_comm, mul_assoc, mul_one}
 use Rattle.polyhedra.proofs.Algebra.{zero_add, zero_mul, mul_zero, mul_neg, ring_rules}
 use Rattle.polyhedra.proofs.Linear.{dot-nil, dot_comm, dot-plus_left, dot-scaled_left, dot-zeros, dot-combination, length-plus, length-scaled, length-zeros, length-combination, same_wide}
-use Rattle.polyhedra.proofs.Lists.{wide-cons, wide-head, wide-tail, wide-map}
+use Rattle.polyhedra.proofs.Lists.{wide-cons, wide-head, wide-tail, wide-map, wide-nil, all_from_map}
 use Rattle.polyhedra.proofs.Members.{all_or_not, all_of_members, member_of}
 use Rattle.polyhedra.proofs.Generated.{generated_generator, generated_value}
 use Rattle.polyhedra.proofs.Farkas.{cleared, cleared_width, cleared_sum}
@@ -199,3 +200,67 @@ more_are_dependent (suc n) (v ∷ vs) wide l = go (same_or_not (first v) zero_�
         (length-plus (suc n) v u (wide-head (suc n) v vs wide) (member_of (λ w. length w ≡ suc n) vs u (wide-tail (suc n) v vs wide).wide c))
         (wide-tail (suc n) v vs wide))
         (λ k. other (sym (zero_add (first u)) ∙ ap (λ x. x +ℚ first u) (sym e) ∙ sym (first-plus v u) ∙ k)) again)
+
+-- ---- fewer rows than entries
+-- the entries of the rows, one list for each of n places
+columns : ℕ → List (List ℚ) → List (List ℚ)
+columns zero rows = []
+columns (suc n) rows = map first rows ∷ columns n (map rest rows)
+
+length-columns : (n : ℕ) (rows : List (List ℚ)) → length (columns n rows) ≡ n
+unfolding columns
+length-columns zero rows = refl
+length-columns (suc n) rows = ap suc (length-columns n (map rest rows))
+
+wide-columns : (n k : ℕ) (rows : List (List ℚ)) → length rows ≡ k → AreWide k (columns n rows)
+unfolding columns
+wide-columns zero k rows h = wide-nil k
+wide-columns (suc n) k rows h = wide-cons k (map first rows) (columns n (map rest rows)) (length-map rows first ∙ h)
+    (wide-columns n k (map rest rows) (length-map rows rest ∙ h))
+
+values_empty : (k : ℕ) (rows : List (List ℚ)) → length rows ≡ k → zeros k ≡ values rows []
+values_empty zero [] h = refl
+values_empty (suc k) [] h = absurd (omega arith)
+values_empty zero (r ∷ rows) h = absurd (omega arith)
+values_empty (suc k) (r ∷ rows) h = ap₂ (λ a b. a ∷ b) (sym (dot-nil r)) (values_empty k rows (omega arith))
+
+values_split : (m : ℚ) (ms : List ℚ) (rows : List (List ℚ)) → plus (scaled m (map first rows)) (values (map rest rows) ms) ≡ values rows (m ∷ ms)
+unfolding first rest
+values_split m ms [] = refl
+values_split m ms (r ∷ rows) = ap₂ (λ a b. a ∷ b)
+    (sym (split_value r (m ∷ ms) ∙ ap (λ x. x +ℚ dot (rest r) ms) (mul_comm (first r) m))) (values_split m ms rows)
+
+-- a combination of the columns has the values of the rows at its multipliers
+columns_value : (n k : ℕ) (ms : List ℚ) (rows : List (List ℚ)) → length ms ≡ n → length rows ≡ k → combination k ms (columns n rows) ≡ values rows ms
+unfolding columns
+columns_value zero k [] rows l h = values_empty k rows h
+columns_value (suc n) k [] rows l h = absurd (omega arith)
+columns_value zero k (m ∷ ms) rows l h = absurd (omega arith)
+columns_value (suc n) k (m ∷ ms) rows l h =
+    ap (λ v. plus (scaled m (map first rows)) v) (columns_value n k ms (map rest rows) (omega arith) (length-map rows rest ∙ h))
+    ∙ values_split m ms rows
+
+zeros_are : (n : ℕ) → All (λ m. m ≡ zero_ℚ) (zeros n)
+zeros_are zero = All-nil (λ m. m ≡ zero_ℚ)
+zeros_are (suc n) = All-cons (λ m. m ≡ zero_ℚ) zero_ℚ (zeros n) refl (zeros_are n)
+
+-- a vector of n entries other than 0 at which each row is 0
+pub record IsNullVector (n : ℕ) (rows : List (List ℚ)) (w : List ℚ) : Type 0 where
+  pub wide : length w ≡ n
+  pub other : w ≡ zeros n → ⊥
+  pub tight : All (λ r. dot r w ≡ zero_ℚ) rows
+
+pub null_vector : (n : ℕ) (rows : List (List ℚ)) → length rows < n → (w : List ℚ) × IsNullVector n rows w
+null_vector n rows l =
+    let k : ℕ = length rows in
+    let d : AreDependent k (columns n rows) =
+    more_are_dependent k (columns n rows) (wide-columns n k rows refl) (omega (arith, l, length-columns n rows)) in
+    let width : length d.multipliers ≡ n = d.one_each ∙ length-columns n rows in (
+      d.multipliers,
+      record {
+        wide = width;
+        other = λ e. d.not_all_zero (subst (λ (v : List ℚ). All (λ m. m ≡ zero_ℚ) v) (sym e) (zeros_are n));
+        tight = all_from_map (λ x. x ≡ zero_ℚ) (λ r. dot r d.multipliers) rows
+            (subst (λ (v : List ℚ). All (λ m. m ≡ zero_ℚ) v) (sym d.balanced ∙ columns_value n k d.multipliers rows width refl) (zeros_are k));
+      },
+    )

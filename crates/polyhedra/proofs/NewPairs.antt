@@ -42,13 +42,13 @@ covers_test rows a b g h = true-list_all (λ w. not (is_zero (dot w a)) || not (
     at_row r k (inl m) (inl t) = or_right (not (is_zero (dot r a)) || not (is_zero (dot r b))) (is_zero (dot r g))
         (test_of_zero (dot r g) (k (zero_of_test (dot r a) m) (zero_of_test (dot r b) t)))
 
-abbrev Free : List (List ℚ) → Pair → List ℚ → Type 0
+abbrev pub Free : List (List ℚ) → Pair → List ℚ → Type 0
 Free rows pair g = (g ≡ pair.plus_side → ⊥) → (g ≡ pair.minus_side → ⊥) → Covers rows pair.plus_side pair.minus_side g → ⊥
 
-abbrev free_test : List (List ℚ) → Pair → List ℚ → Bool
+abbrev pub free_test : List (List ℚ) → Pair → List ℚ → Bool
 free_test rows pair g = same_vector g pair.plus_side || same_vector g pair.minus_side || not (covers rows pair.plus_side pair.minus_side g)
 
-free_is : (rows : List (List ℚ)) (pair : Pair) (g : List ℚ) → free_test rows pair g ≡ true → Free rows pair g
+pub free_is : (rows : List (List ℚ)) (pair : Pair) (g : List ℚ) → free_test rows pair g ≡ true → Free rows pair g
 free_is rows pair g h x y z = go (either_true (same_vector g pair.plus_side || same_vector g pair.minus_side)
     (not (covers rows pair.plus_side pair.minus_side g)) h)
   where

@@ -1,10 +1,10 @@
 -- What holds of generators that describe a cone.
-use Rattle.std.specs.Prelude.{ℕ, List, ◌≡◌, ◌↔◌, length, All, AllPairs, Contains}
+use Rattle.std.specs.Prelude.{ℕ, ◌+◌, ◌<◌, List, ◌≡◌, ◌↔◌, length, filter, All, AllPairs, Contains, ◌&&◌, false}
 use Rattle.exact_field.specs.Rational.{ℚ, zero_ℚ, ◌≤ℚ◌, ◌<ℚ◌}
 use Rattle.exact_field.specs.Vector.{dot}
 use Rattle.polyhedra.specs.Cone.{IsGenerated, IsInCone, IsInDual}
 use Rattle.polyhedra.specs.TightSets.{IsTight, LiesIn, IsDoubleDescriptionPair}
-use Rattle.polyhedra.specs.DoubleDescription.{normed, meeting, IsNormed}
+use Rattle.polyhedra.specs.DoubleDescription.{is_zero, normed, meeting, IsNormed, Pair, is_uncovered}
 use Rattle.polyhedra.specs.Hull.{IsExtremeDirection}
 
 -- no generator is listed twice, and two with the same tight rows are one
@@ -25,6 +25,16 @@ pub record IsTightAtBoth (rows : List (List ℚ)) (row p m : List ℚ) : Type 0 
 abbrev pub TightAtMeeting : Type 0
 TightAtMeeting = (n : ℕ) (rows generators : List (List ℚ)) (row p m : List ℚ) → IsDoubleDescriptionPair n rows generators →
     Contains generators p → Contains generators m → zero_ℚ <ℚ dot row p → dot row m <ℚ zero_ℚ → IsTightAtBoth rows row p m
+
+-- the rows that are tight at both
+abbrev pub common_rows : List (List ℚ) → List ℚ → List ℚ → List (List ℚ)
+common_rows rows a b = filter (λ row. is_zero (dot row a) && is_zero (dot row b)) rows
+
+-- two different generators with fewer than n - 2 tight rows in common are covered by a third one: they are not adjacent
+abbrev pub FewAreCovered : Type 0
+FewAreCovered = (n : ℕ) (rows generators : List (List ℚ)) (pair : Pair) → IsDoubleDescriptionPair n rows generators →
+    Contains generators pair.plus_side → Contains generators pair.minus_side → (pair.plus_side ≡ pair.minus_side → ⊥) →
+    length (common_rows rows pair.plus_side pair.minus_side) + 2 < n → is_uncovered rows generators pair ≡ false
 
 -- normed generators that describe a cone are exactly its normed extreme directions
 abbrev pub DescribedAreExtreme : Type 0
