@@ -3,7 +3,8 @@ use Rattle.std.proofs.Common.{◌≡◌, refl, ℕ, zero, suc, ◌-◌, ◌<◌,
 use Rattle.std.specs.List.{list_all, list_any}
 use Rattle.std.proofs.lemmas.Bool.{and_parts, false≢true, cases_lt}
 use Rattle.std.proofs.lemmas.Option.{slice_get_past}
-use Rattle.deriv_log.specs.FirstFault.{LogLine, lines_of, is_end_line, has_ended, fault_of_line, fault_at, Pass, IsFirstFault, FirstFault}
+use Rattle.src_sink.specs.Texts.{TextLine, lines_of}
+use Rattle.deriv_log.specs.FirstFault.{is_end_line, has_ended, fault_of_line, fault_at, Pass, IsFirstFault, FirstFault}
 use Rattle.deriv_log.specs.Formed.{is_formed, is_end, ends_once, IsLog}
 use Rattle.deriv_log.specs.Laws.{OneReading, IsTextOf}
 use Rattle.deriv_log.specs.LineFault.{line_fault}
@@ -21,14 +22,14 @@ use Rattle.deriv_log.proofs.Written.{line_written}
 abbrev Outcome : List ℕ → Type 0
 Outcome bytes = ((entries : List Entry) × IsTextOf bytes entries) ⊎ ((f : LogFault) × FirstFault bytes f)
 
-line_is : (l : LogLine) (e : Entry) → l.whole ≡ true → l.text ≡ entry_text e → l ≡ whole_line e
+line_is : (l : TextLine) (e : Entry) → l.whole ≡ true → l.text ≡ entry_text e → l ≡ whole_line e
 line_is l e h k = λ i. record { text = k i; whole = h i }
 
 closes : (bytes : List ℕ) (entries : List Entry) (b : Bool) → list_any is_end entries ≡ b → IsReadTo bytes [] entries → Outcome bytes
 closes bytes entries true e r = inl (entries, read_all_lines bytes entries r e)
 closes bytes entries false e r = inr (_, read_open bytes entries r e)
 
-reads : (bytes : List ℕ) (rest : List LogLine) (entries : List Entry) → IsReadTo bytes rest entries → Outcome bytes
+reads : (bytes : List ℕ) (rest : List TextLine) (entries : List Entry) → IsReadTo bytes rest entries → Outcome bytes
 reads bytes [] entries r = closes bytes entries (list_any is_end entries) refl r
 reads bytes (l ∷ rest) entries r = by (λ e k. reads bytes rest (entries ++ e ∷ []) k) (line_fault (list_any is_end entries) l.whole l.text) refl
   where
@@ -115,7 +116,7 @@ same_lines (e ∷ entries) (o ∷ others) h k same =
     let p = and_parts (is_formed e) (list_all is_formed entries) h in
     let q = and_parts (is_formed o) (list_all is_formed others) k in
     let first : whole_line e ≡ whole_line o = cc in
-    let heads = same_entry e o p.0 q.0 (ap (λ (l : LogLine). l.text) first) in
+    let heads = same_entry e o p.0 q.0 (ap (λ (l : TextLine). l.text) first) in
     let tails = same_lines entries others p.1 q.1 (cc) in
     λ i. heads i ∷ tails i
 
@@ -124,13 +125,13 @@ one_log bytes entries others h k =
     same_lines entries others h.0.formed k.0.formed (sym (text_passes bytes entries h) ∙ text_passes bytes others k)
 
 -- a line past the last has no fault
-past : (lines : List LogLine) (i : ℕ) → length lines < i → fault_at lines i ≡ None
+past : (lines : List TextLine) (i : ℕ) → length lines < i → fault_at lines i ≡ None
 past lines i h = ap (fault_of_line (has_ended lines i)) (slice_get_past lines (i - 1) (omega arith))
 
-all_pass : (lines : List LogLine) (i : ℕ) → 1 ≤ i → Pass lines (length lines) → fault_at lines i ≡ None
+all_pass : (lines : List TextLine) (i : ℕ) → 1 ≤ i → Pass lines (length lines) → fault_at lines i ≡ None
 all_pass lines i low h = ⊎_elim (λ below. past lines i below) (λ above. h i low (omega arith)) (cases_lt (length lines) i)
 
-not_both : (lines : List LogLine) (i : ℕ) (k : LogKind) → fault_at lines i ≡ None → fault_at lines i ≡ Some k → ⊥
+not_both : (lines : List TextLine) (i : ℕ) (k : LogKind) → fault_at lines i ≡ None → fault_at lines i ≡ Some k → ⊥
 not_both lines i k none some = no_kind (sym none ∙ some)
   where
     no_kind : None ≡ Some k → ⊥
@@ -139,7 +140,7 @@ not_both lines i k none some = no_kind (sym none ∙ some)
 fault_same : (f g : LogFault) → f.line ≡ g.line → f.kind ≡ g.kind → f ≡ g
 fault_same f g line kind = λ i. record { line = line i; kind = kind i }
 
-one_by : (lines : List LogLine) (f g : LogFault) → IsFirstFault lines f → IsFirstFault lines g → f ≡ g
+one_by : (lines : List TextLine) (f g : LogFault) → IsFirstFault lines f → IsFirstFault lines g → f ≡ g
 one_by lines f g (inl h) (inl k) =
     let not_less : f.line < g.line → ⊥ = λ less. not_both lines f.line f.kind (k.1 f.line h.0 (omega arith)) h.2 in
     let not_more : g.line < f.line → ⊥ = λ less. not_both lines g.line g.kind (h.1 g.line k.0 (omega arith)) k.2 in

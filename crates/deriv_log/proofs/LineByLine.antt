@@ -5,8 +5,8 @@ use Rattle.std.specs.List.{list_any, slice_split}
 use Rattle.std.specs.Result.{IsErr, IsErrAnd, IfErr}
 use Rattle.std.proofs.lemmas.Bool.{eqb-true, eqb-false}
 use Rattle.std.proofs.lemmas.List.Folds.{list_any-append}
-use Rattle.src_sink.specs.Texts.{pieces_behind}
-use Rattle.deriv_log.specs.FirstFault.{LogLine, lines_of, FirstFault}
+use Rattle.src_sink.specs.Texts.{TextLine, lines_of, pieces_behind}
+use Rattle.deriv_log.specs.FirstFault.{FirstFault}
 use Rattle.deriv_log.specs.Formed.{is_end}
 use Rattle.deriv_log.specs.LineFault.{line_fault}
 use Rattle.deriv_log.specs.LogText.{entry_text}
@@ -15,26 +15,27 @@ use Rattle.deriv_log.specs.declared.entry.Entry.{Entry}
 use Rattle.deriv_log.specs.declared.fault.LogEnd.{LogEnd}
 use Rattle.deriv_log.specs.declared.fault.LogEnd.TheVariants.{Fault, NoMemory}
 use Rattle.deriv_log.specs.declared.fault.LogFault.{LogFault}
-use Rattle.deriv_log.proofs.Lines.{whole_line, first_line, last_line, IsReadTo, read_next, read_fault}
+use Rattle.src_sink.proofs.TextLines.{first_line, last_line}
+use Rattle.deriv_log.proofs.Lines.{whole_line, IsReadTo, read_next, read_fault}
 
 -- the next line, and those behind it
 pub next_lines : (rest line : List ℕ) (behind : Option (Bor (List ℕ))) → 0 < length rest → slice_split (λ b. b == 10) rest ≡ line ∷ pieces_behind 10 behind → lines_of rest ≡ record { text = line; whole = is_some behind } ∷ lines_of (text_behind behind)
 next_lines rest line None some cut = last_line rest line cut some
 next_lines rest line (Some more) some cut = first_line rest line more.now cut
 
-line_is : (l : LogLine) (e : Entry) → l.whole ≡ true → l.text ≡ entry_text e → l ≡ whole_line e
+line_is : (l : TextLine) (e : Entry) → l.whole ≡ true → l.text ≡ entry_text e → l ≡ whole_line e
 line_is l e h k = λ i. record { text = k i; whole = h i }
 
 -- one line more is read
 pub reads_on : (bytes rest line : List ℕ) (behind : Option (Bor (List ℕ))) (entries : List Entry) (e : Entry) (ended : Bool) → 0 < length rest → slice_split (λ b. b == 10) rest ≡ line ∷ pieces_behind 10 behind → IsReadTo bytes (lines_of rest) entries → ended ≡ list_any is_end entries → ReadsLine ended (is_some behind) line e → IsReadTo bytes (lines_of (text_behind behind)) (entries ++ e ∷ [])
 reads_on bytes rest line behind entries e ended some cut read is h =
-    let l : LogLine = record { text = line; whole = is_some behind } in
+    let l : TextLine = record { text = line; whole = is_some behind } in
     read_next bytes l (lines_of (text_behind behind)) entries e (subst (λ ls. IsReadTo bytes ls entries) (next_lines rest line behind some cut) read) (sym is ∙ h.0) h.2 (line_is l e h.1 h.3)
 
 -- the next line is refused
 pub refuses_on : (bytes rest line : List ℕ) (behind : Option (Bor (List ℕ))) (entries : List Entry) (number : ℕ) (ended : Bool) (end : LogEnd) → 0 < length rest → slice_split (λ b. b == 10) rest ≡ line ∷ pieces_behind 10 behind → IsReadTo bytes (lines_of rest) entries → number ≡ length entries → ended ≡ list_any is_end entries → RefusesLine (number + 1) ended (is_some behind) line end → RefusesText bytes end
 refuses_on bytes rest line behind entries number ended (Fault f) some cut read count is h =
-    let l : LogLine = record { text = line; whole = is_some behind } in
+    let l : TextLine = record { text = line; whole = is_some behind } in
     let first = read_fault bytes l (lines_of (text_behind behind)) entries f.kind (subst (λ ls. IsReadTo bytes ls entries) (next_lines rest line behind some cut) read) (ap (λ b. line_fault b (is_some behind) line) (sym is) ∙ h.1) in
     let line_is_next : length entries + 1 ≡ f.line = ap (λ n. n + 1) (sym count) ∙ sym h.0 in
     subst (λ (g : LogFault). FirstFault bytes g) (λ i. record { line = line_is_next i; kind = f.kind }) first

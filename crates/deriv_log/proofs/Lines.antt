@@ -6,7 +6,9 @@ use Rattle.std.proofs.lemmas.List.{append-nil, length-map, map-append}
 use Rattle.std.proofs.lemmas.List.Folds.{list_any-append}
 use Rattle.std.proofs.lemmas.List.Splits.{join_with_byte-slice_split, slice_split_at, length-slice_split}
 use Rattle.std.proofs.Math.Seq.{take-append_seam}
-use Rattle.deriv_log.specs.FirstFault.{LogLine, lines_between, lines_of, first_word, is_end_line, fault_of_line, fault_at, Pass, FirstFault}
+use Rattle.src_sink.proofs.TextLines.{torn_line, first_line, lines_more}
+use Rattle.src_sink.specs.Texts.{TextLine, lines_between, lines_of}
+use Rattle.deriv_log.specs.FirstFault.{first_word, is_end_line, fault_of_line, fault_at, Pass, FirstFault}
 use Rattle.deriv_log.specs.Formed.{is_formed, is_end, ends_once, IsLog}
 use Rattle.deriv_log.specs.LineFault.{line_fault}
 use Rattle.deriv_log.specs.LogText.{entry_name, entry_text, log_text}
@@ -18,30 +20,8 @@ use Rattle.deriv_log.specs.declared.fault.LogKind.TheVariants.{NoEnd}
 use Rattle.deriv_log.proofs.Entries.{cut_entry, entry_lacks, line_passes}
 
 -- the line of an entry
-abbrev pub whole_line : Entry → LogLine
+abbrev pub whole_line : Entry → TextLine
 whole_line e = record { text = entry_text e; whole = true }
-
--- a line without its line feed
-abbrev pub torn_line : List ℕ → LogLine
-torn_line text = record { text = text; whole = false }
-
--- the lines behind one that ends with a line feed
-pub lines_more : (piece : List ℕ) (pieces : List (List ℕ)) → 0 < length pieces → lines_between (piece ∷ pieces) ≡ record { text = piece; whole = true } ∷ lines_between pieces
-lines_more piece [] h = absurd (omega arith)
-lines_more piece (next ∷ pieces) h = refl
-
-some_pieces : (bytes : List ℕ) → 0 < length (slice_split (λ b. b == 10) bytes)
-some_pieces bytes = omega (arith, length-slice_split (λ b. b == 10) bytes)
-
--- a line that ends with a line feed, and what stands behind it
-pub first_line : (bytes piece rest : List ℕ) → slice_split (λ b. b == 10) bytes ≡ piece ∷ slice_split (λ b. b == 10) rest → lines_of bytes ≡ record { text = piece; whole = true } ∷ lines_of rest
-first_line bytes piece rest e = ap lines_between e ∙ lines_more piece (slice_split (λ b. b == 10) rest) (some_pieces rest)
-
--- a last line without one
-pub last_line : (bytes piece : List ℕ) → slice_split (λ b. b == 10) bytes ≡ piece ∷ [] → 0 < length bytes → lines_of bytes ≡ torn_line piece ∷ []
-last_line bytes piece e some =
-    let same : piece ≡ bytes = sym (ap (join_with_byte 10) e) ∙ join_with_byte-slice_split 10 bytes in
-    ap lines_between e ∙ ap (λ b. cond b [] (torn_line piece ∷ [])) (ne_eqb (length piece) 0 (λ none. absurd (omega (arith, none, ap length same))))
 
 -- the lines of a log's text are those of its entries
 pub lines_of_log : (entries : List Entry) → list_all is_formed entries ≡ true → lines_of (log_text entries) ≡ map whole_line entries
@@ -66,12 +46,12 @@ text_of_pieces (piece ∷ []) entries e = by (length piece == 0) refl entries e
     by true k [] e = empty piece k
     by true k (o ∷ es) e = cc
     by false k [] e = cc
-    by false k (o ∷ es) e = let torn : torn_line piece ≡ whole_line o = cc in absurd (false≢true (ap (λ (l : LogLine). l.whole) torn))
+    by false k (o ∷ es) e = let torn : torn_line piece ≡ whole_line o = cc in absurd (false≢true (ap (λ (l : TextLine). l.whole) torn))
 text_of_pieces (piece ∷ next ∷ pieces) [] e = cc
 text_of_pieces (piece ∷ next ∷ pieces) (o ∷ entries) e =
     let first : record { text = piece; whole = true } ≡ whole_line o = cc in
     let tails : lines_between (next ∷ pieces) ≡ map whole_line entries = cc in
-    let piece_is : piece ≡ entry_text o = ap (λ (l : LogLine). l.text) first in
+    let piece_is : piece ≡ entry_text o = ap (λ (l : TextLine). l.text) first in
     (λ i. piece_is i ++ 10 ∷ text_of_pieces (next ∷ pieces) entries tails i) ∙ sym (append_assoc (entry_text o) (10 ∷ []) (log_text entries))
 
 -- a text with the lines of entries is theirs
@@ -119,7 +99,7 @@ ends_once-push (o ∷ []) e = ap (λ r. not (is_end o) && r) (and_true (is_end e
 ends_once-push (o ∷ p ∷ entries) e = ap (λ r. not (is_end o) && r) (ends_once-push (p ∷ entries) e) ∙ not_turn (is_end o) (is_end e) (list_any is_end (p ∷ entries))
 
 -- the first lines were read as these entries, and these are left
-pub record IsReadTo (bytes : List ℕ) (rest : List LogLine) (entries : List Entry) : Type 0 where
+pub record IsReadTo (bytes : List ℕ) (rest : List TextLine) (entries : List Entry) : Type 0 where
   pub lines_are : lines_of bytes ≡ map whole_line entries ++ rest
   pub formed : list_all is_formed entries ≡ true
   pub pass : Pass (lines_of bytes) (length entries)
@@ -132,7 +112,7 @@ item_behind : {X : Type 0} (xs : List X) (x : X) (ys : List X) → slice_get (xs
 item_behind [] x ys = refl
 item_behind (z ∷ xs) x ys = item_behind xs x ys
 
-next_fault : (done : List LogLine) (l : LogLine) (rest : List LogLine) → fault_at (done ++ l ∷ rest) (length done + 1) ≡ line_fault (list_any is_end_line done) l.whole l.text
+next_fault : (done : List TextLine) (l : TextLine) (rest : List TextLine) → fault_at (done ++ l ∷ rest) (length done + 1) ≡ line_fault (list_any is_end_line done) l.whole l.text
 next_fault done l rest =
     let back : length done + 1 - 1 ≡ length done = omega arith in
     ap (λ n. fault_of_line (list_any is_end_line (take n (done ++ l ∷ rest))) (slice_get (done ++ l ∷ rest) n)) back
@@ -140,13 +120,13 @@ next_fault done l rest =
     ∙ ap (λ ls. line_fault (list_any is_end_line ls) l.whole l.text) (take-append_seam done (l ∷ rest))
 
 -- the first test that the next line fails
-pub fault_next : (bytes : List ℕ) (l : LogLine) (rest : List LogLine) (entries : List Entry) → IsReadTo bytes (l ∷ rest) entries → fault_at (lines_of bytes) (length entries + 1) ≡ line_fault (list_any is_end entries) l.whole l.text
+pub fault_next : (bytes : List ℕ) (l : TextLine) (rest : List TextLine) (entries : List Entry) → IsReadTo bytes (l ∷ rest) entries → fault_at (lines_of bytes) (length entries + 1) ≡ line_fault (list_any is_end entries) l.whole l.text
 fault_next bytes l rest entries r =
     (λ i. fault_at (r.lines_are i) (sym (length-map entries whole_line) i + 1))
     ∙ next_fault (map whole_line entries) l rest
     ∙ ap (λ b. line_fault b l.whole l.text) (any_end entries r.formed)
 
-pass_more : (lines : List LogLine) (n : ℕ) → Pass lines n → fault_at lines (n + 1) ≡ None → Pass lines (n + 1)
+pass_more : (lines : List TextLine) (n : ℕ) → Pass lines n → fault_at lines (n + 1) ≡ None → Pass lines (n + 1)
 pass_more lines n h k i low high =
     ⊎_elim (λ below. h i low (omega arith)) (λ above. let same : n + 1 ≡ i = omega arith in subst (λ (j : ℕ). fault_at lines j ≡ None) same k) (cases_lt i (n + 1))
 
@@ -162,7 +142,7 @@ any_pushed false true none h = refl
 any_pushed false false none h = h
 
 -- one more line
-pub read_next : (bytes : List ℕ) (l : LogLine) (rest : List LogLine) (entries : List Entry) (e : Entry) → IsReadTo bytes (l ∷ rest) entries → list_any is_end entries ≡ false → is_formed e ≡ true → l ≡ whole_line e → IsReadTo bytes rest (entries ++ e ∷ [])
+pub read_next : (bytes : List ℕ) (l : TextLine) (rest : List TextLine) (entries : List Entry) (e : Entry) → IsReadTo bytes (l ∷ rest) entries → list_any is_end entries ≡ false → is_formed e ≡ true → l ≡ whole_line e → IsReadTo bytes rest (entries ++ e ∷ [])
 read_next bytes l rest entries e r none formed same =
     let more : length (entries ++ e ∷ []) ≡ length entries + 1 = length-append entries (e ∷ []) in
     let passes : fault_at (lines_of bytes) (length entries + 1) ≡ None =
@@ -175,7 +155,7 @@ read_next bytes l rest entries e r none formed same =
     }
 
 -- the next line has the first fault
-pub read_fault : (bytes : List ℕ) (l : LogLine) (rest : List LogLine) (entries : List Entry) (k : LogKind) → IsReadTo bytes (l ∷ rest) entries → line_fault (list_any is_end entries) l.whole l.text ≡ Some k → FirstFault bytes (record { line = length entries + 1; kind = k })
+pub read_fault : (bytes : List ℕ) (l : TextLine) (rest : List TextLine) (entries : List Entry) (k : LogKind) → IsReadTo bytes (l ∷ rest) entries → line_fault (list_any is_end entries) l.whole l.text ≡ Some k → FirstFault bytes (record { line = length entries + 1; kind = k })
 read_fault bytes l rest entries k r h =
     let back : length entries ≡ length entries + 1 - 1 = omega arith in
     inl (omega arith, subst (Pass (lines_of bytes)) back r.pass, fault_next bytes l rest entries r ∙ h)

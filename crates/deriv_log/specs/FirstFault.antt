@@ -1,53 +1,40 @@
 -- The lines of a log's text, by their numbers, and its first fault.
 use Rattle.std.specs.Prelude.{◌≡◌, ℕ, ◌+◌, ◌-◌, ◌≤◌, ◌⊎◌, ◌==◌, Bool, true, false, if◌then◌else◌, List, [], ◌∷◌, length, take, codes, Option, None, Some, slice_get}
 use Rattle.std.specs.List.{list_any, slice_split}
+use Rattle.src_sink.specs.Texts.{TextLine, lines_of}
 use Rattle.deriv_log.specs.LineFault.{line_fault}
 use Rattle.deriv_log.specs.Numerals.{same_word}
 use Rattle.deriv_log.specs.declared.fault.LogKind.{LogKind}
 use Rattle.deriv_log.specs.declared.fault.LogKind.TheVariants.{NoEnd}
 use Rattle.deriv_log.specs.declared.fault.LogFault.{LogFault}
 
--- a line without its line feed, and whether that stood
-pub record LogLine : Type 0 where
-  pub text : List ℕ
-  pub whole : Bool
-
--- the lines of pieces that stood between line feeds; behind the last line feed only where it is not empty
-abbrev pub lines_between : List (List ℕ) → List LogLine
-lines_between [] = []
-lines_between (piece ∷ []) = if length piece == 0 then [] else record { text = piece; whole = false } ∷ []
-lines_between (piece ∷ next ∷ pieces) = record { text = piece; whole = true } ∷ lines_between (next ∷ pieces)
-
-abbrev pub lines_of : List ℕ → List LogLine
-lines_of bytes = lines_between (slice_split (λ b. b == 10) bytes)
-
 abbrev pub first_word : List (List ℕ) → List ℕ
 first_word [] = []
 first_word (w ∷ words) = w
 
 -- whether the first word of a line is `end`
-abbrev pub is_end_line : LogLine → Bool
+abbrev pub is_end_line : TextLine → Bool
 is_end_line line = same_word (first_word (slice_split (λ b. b == 32) line.text)) (codes "end")
 
 -- whether an `end` line stands before line n
-abbrev pub has_ended : List LogLine → ℕ → Bool
+abbrev pub has_ended : List TextLine → ℕ → Bool
 has_ended lines n = list_any is_end_line (take (n - 1) lines)
 
-abbrev pub fault_of_line : Bool → Option LogLine → Option LogKind
+abbrev pub fault_of_line : Bool → Option TextLine → Option LogKind
 fault_of_line ended None = None
 fault_of_line ended (Some line) = line_fault ended line.whole line.text
 
 -- the first test that line n fails, if there is such a line
-abbrev pub fault_at : List LogLine → ℕ → Option LogKind
+abbrev pub fault_at : List TextLine → ℕ → Option LogKind
 fault_at lines n = fault_of_line (has_ended lines n) (slice_get lines (n - 1))
 
 -- the first n lines pass their tests
-abbrev pub Pass : List LogLine → ℕ → Type 0
+abbrev pub Pass : List TextLine → ℕ → Type 0
 Pass lines n = (i : ℕ) → 1 ≤ i → i ≤ n → fault_at lines i ≡ None
 
 -- this is the first fault: of a line behind lines that pass, or, where all pass and none is an `end` line,
 -- that there is no end
-abbrev pub IsFirstFault : List LogLine → LogFault → Type 0
+abbrev pub IsFirstFault : List TextLine → LogFault → Type 0
 IsFirstFault lines f =
     ((1 ≤ f.line) × Pass lines (f.line - 1) × (fault_at lines f.line ≡ Some f.kind))
     ⊎ (Pass lines (length lines) × (list_any is_end_line lines ≡ false) × (f ≡ record { line = length lines + 1; kind = NoEnd }))

@@ -1,5 +1,5 @@
--- Texts of words, and texts that are cut at a byte.
-use Rattle.std.specs.Prelude.{ℕ, ◌==◌, List, [], ◌∷◌, ◌++◌, Option, None, Some}
+-- Texts of words, texts that are cut at a byte, and the lines of a text.
+use Rattle.std.specs.Prelude.{ℕ, ◌==◌, Bool, true, false, if◌then◌else◌, List, [], ◌∷◌, ◌++◌, length, Option, None, Some}
 use Rattle.std.specs.Borrow.{Bor}
 use Rattle.std.specs.List.{slice_split, join_with_byte}
 
@@ -15,3 +15,18 @@ line_text words = words_text words ++ 10 ∷ []
 abbrev pub pieces_behind : ℕ → Option (Bor (List ℕ)) → List (List ℕ)
 pieces_behind byte None = []
 pieces_behind byte (Some rest) = slice_split (λ b. b == byte) rest.now
+
+-- a line without its line feed, and whether that stood
+pub record TextLine : Type 0 where
+  pub text : List ℕ
+  pub whole : Bool
+
+-- the lines of pieces that stood between line feeds; behind the last line feed only where it is not empty
+abbrev pub lines_between : List (List ℕ) → List TextLine
+lines_between [] = []
+lines_between (piece ∷ []) = if length piece == 0 then [] else record { text = piece; whole = false } ∷ []
+lines_between (piece ∷ next ∷ pieces) = record { text = piece; whole = true } ∷ lines_between (next ∷ pieces)
+
+-- the lines of a text
+abbrev pub lines_of : List ℕ → List TextLine
+lines_of bytes = lines_between (slice_split (λ b. b == 10) bytes)

@@ -113,6 +113,13 @@ impl<T: Drop> Items<T> {
         self.list.push(item)?;
         Ok(())
     }
+
+    /// Lets all items go, and keeps the memory for later ones.
+    pub fn clear(&mut self)
+        ensures { self.new ≡ [] }
+    {
+        self.list.clear();
+    }
 }
 
 impl<T: Copy> Items<T> {

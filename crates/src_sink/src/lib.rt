@@ -6,6 +6,7 @@
 
 mod edge;
 mod items;
+mod lines;
 mod memory;
 mod outside;
 mod pieces;
@@ -13,6 +14,7 @@ mod whole;
 
 pub use edge::{StdSink, StdSource};
 pub use items::{Bytes, Items, MOST_ITEMS, NoMemory};
+pub use lines::{LineEnd, Lines};
 pub use memory::{MemSink, MemSource};
 pub use outside::{Failed, Sink, Source};
 pub use pieces::first_piece;

@@ -3,11 +3,13 @@ ghost use Rattle.std.specs.Prelude.{◌≡◌, ◌==◌, ◌<◌, ◌∷◌, len
 ghost use Rattle.std.specs.List.{slice_split};
 ghost use Rattle.src_sink.specs.Texts.{pieces_behind};
 
+use memchr::memchr;
+
 /// The place of the first of this byte.
-fn place_of(text: &[u8], byte: u8) -> Option<usize>
+pub fn place_of(text: &[u8], byte: u8) -> Option<usize>
     ensures { result ≡ position (λ b. b == byte) text.now }
 {
-    text.iter().position(|b| *b == byte)
+    memchr(byte, text)
 }
 
 /// The piece of a text before the first of this byte, and what stands behind that byte where there is

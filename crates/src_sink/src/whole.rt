@@ -8,8 +8,8 @@ use crate::outside::{Failed, Sink, Source};
 use std::alloc::Global;
 use thiserror::Error;
 
-/// How many bytes `read_all` asks for at a time.
-const PIECE: usize = 4096;
+/// How many bytes are asked for at a time.
+pub const PIECE: usize = 4096;
 
 /// Why `read_all` gives no bytes.
 #[derive(Clone, Copy, Debug, Error, PartialEq, Eq)]

@@ -8,7 +8,7 @@ use crate::{
 use std::alloc::Global;
 use std::test::Fail;
 
-fn bytes(alloc: Global, text: &[u8]) -> Result<Bytes, NoMemory>
+pub fn bytes(alloc: Global, text: &[u8]) -> Result<Bytes, NoMemory>
     ensures { IfOk result (λ list. list ≡ text.now) }
 {
     let mut list = Bytes::new(alloc);
@@ -16,7 +16,7 @@ fn bytes(alloc: Global, text: &[u8]) -> Result<Bytes, NoMemory>
     Ok(list)
 }
 
-fn source(alloc: Global, text: &[u8], most: usize, fails: &[u64]) -> Result<MemSource, NoMemory>
+pub fn source(alloc: Global, text: &[u8], most: usize, fails: &[u64]) -> Result<MemSource, NoMemory>
     requires { 0 < most }
 {
     let mut numbers = Items::new(alloc);

@@ -1,7 +1,8 @@
 use Rattle.std.proofs.Common.{◌+◌, ◌++◌, ◌∷◌, [], arith, length, sym, ap, ◌∙◌, subst}
 use Rattle.std.specs.List.{list_any}
 use Rattle.std.proofs.lemmas.List.{length-append}
-use Rattle.deriv_log.specs.FirstFault.{lines_of, FirstFault}
+use Rattle.src_sink.specs.Texts.{lines_of}
+use Rattle.deriv_log.specs.FirstFault.{FirstFault}
 use Rattle.deriv_log.specs.Formed.{is_end}
 use Rattle.deriv_log.specs.Taking.{RefusesLine}
 use Rattle.deriv_log.specs.declared.fault.LogKind.TheVariants.{NoEnd}

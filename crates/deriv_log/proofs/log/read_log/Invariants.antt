@@ -1,6 +1,6 @@
 use Rattle.std.proofs.Common.{◌≡◌, ◌+◌, ◌≤◌, length}
 use Rattle.std.specs.List.{list_any}
-use Rattle.deriv_log.specs.FirstFault.{lines_of}
+use Rattle.src_sink.specs.Texts.{lines_of}
 use Rattle.deriv_log.specs.Formed.{is_end}
 use Rattle.deriv_log.proofs.Lines.{IsReadTo}
 use Rattle.deriv_log.proofs.log.read_log.Given as goal
