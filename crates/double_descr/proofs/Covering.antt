@@ -4,15 +4,24 @@ use Rattle.polyhedra.specs.TightSets.{IsTight}
 use Rattle.polyhedra.proofs.Tests.{zero_of_test, test_of_zero}
 use Rattle.polyhedra.proofs.Lists.{Contains-here, Contains-there}
 use Rattle.incid_sets.specs.Marks.{no_marks}
-use Rattle.std.proofs.Common.{Contains, ◌+◌, ◌-◌, ◌++◌, min, set, ◌≡◌, ℕ, zero, suc, ◌<◌, List, [], ◌∷◌, length, map, Bool, true, false, true≢false, not, ◌&&◌, ◌||◌, refl, sym, ap, ap₂, ◌∙◌, arith, get_or}
+use Rattle.std.proofs.Common.{Contains, ◌+◌, ◌-◌, ◌++◌, min, set, ◌≡◌, ℕ, zero, suc, ◌<◌, ◌≤◌, ◌⊎◌, inl, inr, subst, cond, count_by, List, [], ◌∷◌, length, map, Bool, true, false, true≢false, not, ◌&&◌, ◌||◌, refl, sym, ap, ap₂, ◌∙◌, arith, get_or}
 use Rattle.std.specs.Prelude.{IsTrue, ◌↔◌}
 use Rattle.std.specs.List.{list_all}
 use Rattle.exact_field.specs.Rational.{ℚ}
 use Rattle.exact_field.specs.Vector.{dot}
-use Rattle.incid_sets.specs.Marks.{has, ContainsAll, IsMeet}
+use Rattle.std.proofs.lemmas.Bool.{cases_lt}
+use Rattle.std.proofs.lemmas.List.Sums.{sum_by-cons, length-filter}
+use Rattle.incid_sets.specs.Marks.{has, size, ContainsAll, IsMeet}
+use Rattle.polyhedra.specs.Generators.{common_rows}
+use Rattle.polyhedra.specs.LiveList.{Numbered, vectors, without_numbers, is_uncovered_live}
+use Rattle.polyhedra.proofs.Members.{member_of, Contains-map}
+use Rattle.polyhedra.proofs.LiveList.{third_by_number}
+use Rattle.polyhedra.proofs.CommonRows.{few_are_covered}
 use Rattle.polyhedra.specs.DoubleDescription.{is_zero, covers}
 use Rattle.polyhedra.proofs.Tests.{both_true, both_hold, same_tests}
-use Rattle.double_descr.specs.State.{tight_set}
+use Rattle.double_descr.specs.Steps.{values}
+use Rattle.double_descr.specs.State.{AreTwoLive, HasTightSet, tight_set, numbered_of, live_of, list_of, pair_of}
+use Rattle.double_descr.specs.declared.generator.Generator.{Generator}
 
 either : (a b c : Bool) → ((a && b) ≡ true → c ≡ true) → (not a || not b || c) ≡ true
 either true true c h = h refl
@@ -130,3 +139,55 @@ meet_is_tight rows p m z common i h = same_marks common (tight_set rows z)
 
 pub tight_with : (rows : List (List ℚ)) (row v : List ℚ) → tight_set (rows ++ row ∷ []) v ≡ tight_set rows v ++ is_zero (dot row v) ∷ []
 tight_with rows row v = map-append (λ r. is_zero (dot r v)) rows (row ∷ [])
+
+-- ---- how many rows are tight at both
+both_tight : List ℚ → List ℚ → List ℚ → Bool
+both_tight a b r = is_zero (dot r a) && is_zero (dot r b)
+
+has-both : (rows : List (List ℚ)) (a b : List ℚ) (k : ℕ) → (has (tight_set rows a) k && has (tight_set rows b) k) ≡ has (map (both_tight a b) rows) k
+unfolding both_tight
+has-both [] a b k = refl
+has-both (r ∷ rows) a b zero = refl
+has-both (r ∷ rows) a b (suc k) = has-both rows a b k
+
+size-map : {X : Type 0} (p : X → Bool) (xs : List X) → size (map p xs) ≡ count_by p xs
+size-map p [] = refl
+size-map p (x ∷ xs) = sum_by-cons (λ (marked : Bool). cond {A = ℕ} marked 1 0) (p x) (map p xs) ∙ ap (λ n. cond {A = ℕ} (p x) 1 0 + n) (size-map p xs)
+    ∙ sym (sum_by-cons (λ y. cond {A = ℕ} (p y) 1 0) x xs)
+
+common_size : (rows : List (List ℚ)) (a b : List ℚ) (common : List Bool) → IsMeet common (tight_set rows a) (tight_set rows b) →
+    size common ≡ length (common_rows rows a b)
+unfolding both_tight
+common_size rows a b common m =
+    ap size (same_marks common (map (both_tight a b) rows)
+    (let e : length common ≡ min (length (tight_set rows a)) (length (tight_set rows b)) = m.bound in
+    let x : length (tight_set rows a) ≡ length rows = length-tight_set rows a in
+    let y : length (tight_set rows b) ≡ length rows = length-tight_set rows b in
+    let z : length (map (both_tight a b) rows) ≡ length rows = length-map rows (both_tight a b) in omega arith)
+    (λ k. m.common k ∙ has-both rows a b k))
+    ∙ size-map (both_tight a b) rows ∙ sym (length-filter (both_tight a b) rows)
+
+-- two live generators with fewer common tight rows than the width less 2 are covered
+pub few_are_no_pair : {F : Type 0} (value : F → ℚ) (n : ℕ) (rows : List (List ℚ)) (gens : List (Generator F)) (p m : Generator F) (common : List Bool) →
+    AreTwoLive value n rows gens p m → IsMeet common p.tight m.tight → (length p.vector.items - 2 ≤ size common → ⊥) →
+    is_uncovered_live rows (live_of value gens) (pair_of value p m) ≡ false
+few_are_no_pair {F} value n rows gens p m common two meet few =
+    third_by_number n rows (list_of value gens two.next) two.live.rising two.live.described (pair_of value p m) (numbered_listed p two.plus_listed) (numbered_listed m two.minus_listed)
+    ∙ few_are_covered n rows (vectors (live_of value gens)) (without_numbers (pair_of value p m)) two.live.described (listed p two.plus_listed) (listed m two.minus_listed) two.differ
+    (let wide : length p.vector.items ≡ n = sym (length-map p.vector.items value) ∙ member_of (λ v. length v ≡ n) (vectors (live_of value gens)) (values value p.vector.items)
+    two.live.described.generators_wide.wide (listed p two.plus_listed) in
+    let many : size common ≡ length (common_rows rows (values value p.vector.items) (values value m.vector.items)) =
+    common_size rows (values value p.vector.items) (values value m.vector.items) common (subst (λ (s : List Bool × List Bool). IsMeet common s.0 s.1)
+    (λ i. (member_of (HasTightSet value rows) gens p two.tight two.plus_listed i, member_of (HasTightSet value rows) gens m two.tight two.minus_listed i)) meet) in
+    let less : size common < length p.vector.items - 2 = below (cases_lt (size common) (length p.vector.items - 2)) in
+    omega arith)
+  where
+    numbered_listed : (g : Generator F) → Contains gens g → Contains (live_of value gens) (numbered_of value g)
+    numbered_listed g c = Contains-map (numbered_of value) gens g c
+
+    listed : (g : Generator F) → Contains gens g → Contains (vectors (live_of value gens)) (values value g.vector.items)
+    listed g c = Contains-map (λ (h : Numbered). h.vector) (live_of value gens) (numbered_of value g) (Contains-map (numbered_of value) gens g c)
+
+    below : (size common < length p.vector.items - 2) ⊎ (length p.vector.items - 2 ≤ size common) → size common < length p.vector.items - 2
+    below (inl h) = h
+    below (inr h) = absurd (few h)

@@ -11,9 +11,10 @@ use Rattle.polyhedra.specs.DoubleDescription.{is_zero, normed, made, meeting}
 use Rattle.polyhedra.specs.Generators.{IsTightAtBoth}
 use Rattle.polyhedra.specs.LiveList.{staying, dropped, Numbered, LivePair, vectors, numbers, numbered, products, without_numbers, is_uncovered_live}
 use Rattle.polyhedra.proofs.Generators.{tight_at_meeting}
+use Rattle.polyhedra.proofs.Order.{lt_irrefl, lt_trans}
 use Rattle.polyhedra.proofs.Members.{member_of, Contains-map}
 use Rattle.double_descr.specs.Steps.{values, between}
-use Rattle.double_descr.specs.State.{numbered_of, live_of, pair_of, HasTightSet, tight_set}
+use Rattle.double_descr.specs.State.{numbered_of, live_of, pair_of, HasTightSet, AreTwoLive, tight_set}
 use Rattle.double_descr.specs.Adding.{Block, AreHeld, IsFault, IsAddFault, value_block, block_of, pair_block, pair_blocks}
 use Rattle.double_descr.specs.Making.{IsAddition, with_negatives, candidates_of, candidates, AddsPair, IsTried, IsPairFault, pair_numbers, live_numbers, IsMadeSoFar}
 use Rattle.double_descr.specs.declared.generator.Generator.{Generator}
@@ -57,7 +58,7 @@ module _ {F : Type 0} (value : F → ℚ) (holds : ℚ → Bool) (n : ℕ) (rows
   new_tight p m g common pc mc up down is meet tight =
       let z : List ℚ = normed (meeting row (values value p.vector.items) (values value m.vector.items)) in
       let law : IsTightAtBoth rows row (values value p.vector.items) (values value m.vector.items) = tight_at_meeting n rows (vectors (live_of value gens)) row
-      (values value p.vector.items) (values value m.vector.items) ctx.described (vector_listed p pc) (vector_listed m mc) up down in
+      (values value p.vector.items) (values value m.vector.items) ctx.live.described (vector_listed p pc) (vector_listed m mc) up down in
       let meet' : IsMeet common (tight_set rows (values value p.vector.items)) (tight_set rows (values value m.vector.items)) =
       subst (λ (s : List Bool × List Bool). IsMeet common s.0 s.1)
       (λ i. (member_of (HasTightSet value rows) gens p ctx.tight pc i, member_of (HasTightSet value rows) gens m ctx.tight mc i)) meet in
@@ -144,6 +145,13 @@ module _ {F : Type 0} (value : F → ℚ) (holds : ℚ → Bool) (n : ℕ) (rows
       here = subst (λ (x : ℚ × ℚ). IsFault value holds (block_of value p m x.0 x.1) (Stuck first second step left)) (λ i. (ae i, be i)) k.1;
     }
 
+-- a pair that no third generator covers, given up at a step of its block
+pub pair_fault : {F : Type 0} (value : F → ℚ) (holds : ℚ → Bool) (uncovered : Bool) (block : Block) (fault : DdFault F) → uncovered ≡ true →
+    IsFault value holds block fault → IsPairFault value holds uncovered block fault
+pair_fault value holds uncovered block (Stuck first second step left) e h = (e, h)
+pair_fault value holds uncovered block (Elim fault) e h = h
+pair_fault value holds uncovered block NoMemory e h = tt
+
 -- ---- the candidates
 pub negatives_at : (row : List ℚ) (p m : Numbered) (all all' : List Numbered) → all ≡ m ∷ all' → (b : Bool) → b ≡ lt_ℚ (dot row m.vector) zero_ℚ →
     with_negatives row p all ≡ cond b (record { plus_side = p; minus_side = m } ∷ with_negatives row p all') (with_negatives row p all')
@@ -171,15 +179,27 @@ module _ {F : Type 0} (value : F → ℚ) (n : ℕ) (rows : List (List ℚ)) (ro
     (ctx : IsAddition value n rows row gens vals) where
   pub wide_of : (p : Generator F) → Contains gens p → length p.vector.items ≡ n
   wide_of p c = sym (length-map p.vector.items value) ∙ member_of (λ v. length v ≡ n) (vectors (live_of value gens)) (values value p.vector.items)
-      ctx.described.generators_wide.wide (Contains-map (λ (g : Numbered). g.vector) (live_of value gens) (numbered_of value p) (Contains-map (numbered_of value) gens p c))
+      ctx.live.described.generators_wide.wide (Contains-map (λ (g : Numbered). g.vector) (live_of value gens) (numbered_of value p) (Contains-map (numbered_of value) gens p c))
 
   pub bound_of : (p : Generator F) → Contains gens p → length p.tight ≡ length rows
   bound_of p c = ap length (member_of (HasTightSet value rows) gens p ctx.tight c) ∙ length-map rows (λ r. is_zero (dot r (values value p.vector.items)))
 
+  -- two generators at which the row has opposite signs differ
+  pub two_of : (p m : Generator F) (a b : ℚ) → Contains gens p → Contains gens m → a ≡ dot row (values value p.vector.items) → b ≡ dot row (values value m.vector.items) →
+      zero_ℚ <ℚ a → b <ℚ zero_ℚ → AreTwoLive value n rows gens p m
+  two_of p m a b pc mc ae be up down = record {
+    next = ctx.next;
+    live = ctx.live;
+    tight = ctx.tight;
+    plus_listed = pc;
+    minus_listed = mc;
+    differ = λ e. lt_irrefl zero_ℚ (lt_trans zero_ℚ a zero_ℚ up (subst (λ (x : ℚ). x <ℚ zero_ℚ) (be ∙ ap (dot row) (sym e) ∙ sym ae) down));
+  }
+
   -- a meeting point is not 0
   pub norming_of : (p m : Generator F) (a b : ℚ) → Contains gens p → Contains gens m → a ≡ dot row (values value p.vector.items) → b ≡ dot row (values value m.vector.items) →
       zero_ℚ <ℚ a → b <ℚ zero_ℚ → norming (between a b (values value p.vector.items) (values value m.vector.items)) ≡ zero_ℚ → ⊥
-  norming_of p m a b pc mc ae be up down e = meeting_not_zero n rows (vectors (live_of value gens)) row (values value p.vector.items) (values value m.vector.items) ctx.described
+  norming_of p m a b pc mc ae be up down e = meeting_not_zero n rows (vectors (live_of value gens)) row (values value p.vector.items) (values value m.vector.items) ctx.live.described
       (listed p pc) (listed m mc) (subst (λ (x : ℚ). zero_ℚ <ℚ x) ae up) (subst (λ (x : ℚ). x <ℚ zero_ℚ) be down)
       (ap₂ (λ x y. norming (between x y (values value p.vector.items) (values value m.vector.items))) (sym ae) (sym be) ∙ e)
     where

@@ -21,7 +21,7 @@ module _ {F : Type 0} (value : F → ℚ) (holds : ℚ → Bool) (n : ℕ) (rows
     (l : IsLive n rows (list_of value gens first)) (tight : All (HasTightSet value rows) gens) where
   pub addition : (vals : List F) → length row ≡ n → n < 4294967296 → length rows + 1 < 4294967296 →
       map value vals ≡ map (λ (g : Numbered). dot row g.vector) (live_of value gens) → IsAddition value n rows row gens vals
-  addition vals w narrow room at = record { described = l.described; wide = w; narrow = narrow; room = room; tight = tight; at_row = at }
+  addition vals w narrow room at = record { next = first; live = l; wide = w; narrow = narrow; room = room; tight = tight; at_row = at }
 
   pub begun : (m : Made F) → m.pairs ≡ [] → live_of value m.generators ≡ staying row (live_of value gens) → All (HasTightSet value (rows ++ row ∷ [])) m.generators →
       m.first_new ≡ first → length m.common ≡ length rows →

@@ -2,11 +2,11 @@
 use Rattle.std.specs.Prelude.{ℕ, ◌+◌, ◌<◌, ◌≡◌, List, [], ◌∷◌, ◌++◌, map, length, filter, All, Contains, Bool, true, false, if◌then◌else◌}
 use Rattle.exact_field.specs.Rational.{ℚ, zero_ℚ, lt_ℚ, ◌<ℚ◌}
 use Rattle.exact_field.specs.Vector.{dot}
-use Rattle.polyhedra.specs.TightSets.{IsDoubleDescriptionPair}
 use Rattle.polyhedra.specs.DoubleDescription.{normed, made}
-use Rattle.polyhedra.specs.LiveList.{Numbered, LivePair, vectors, numbered, without_numbers, is_uncovered_live, live_pairs}
+use Rattle.polyhedra.specs.LiveList.{Numbered, LivePair, numbered, without_numbers, is_uncovered_live, live_pairs}
+use Rattle.polyhedra.specs.LiveSteps.{IsLive}
 use Rattle.double_descr.specs.Steps.{values, between}
-use Rattle.double_descr.specs.State.{numbered_of, live_of, HasTightSet}
+use Rattle.double_descr.specs.State.{numbered_of, live_of, list_of, HasTightSet}
 use Rattle.double_descr.specs.Adding.{Block, AreHeld, IsFault, block_of, pair_block}
 use Rattle.double_descr.specs.declared.generator.Generator.{Generator}
 use Rattle.double_descr.specs.declared.fault.Pair.{Pair}
@@ -15,9 +15,10 @@ use Rattle.double_descr.specs.declared.fault.DdFault.TheVariants.{Elim, Left as 
 use Rattle.double_descr.specs.declared.made.Made.{Made}
 use Rattle.incid_sets.specs.Marks.{IsMeet}
 
--- generators of a double description pair with their tight sets, and their values at a new row
+-- a live list with its tight sets, and its generators' values at a new row
 pub record IsAddition {F : Type 0} (value : F → ℚ) (n : ℕ) (rows : List (List ℚ)) (row : List ℚ) (gens : List (Generator F)) (vals : List F) : Type 0 where
-  pub described : IsDoubleDescriptionPair n rows (vectors (live_of value gens))
+  pub next : ℕ
+  pub live : IsLive n rows (list_of value gens next)
   pub wide : length row ≡ n
   pub narrow : n < 4294967296
   pub room : length rows + 1 < 4294967296

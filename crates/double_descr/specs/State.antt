@@ -1,5 +1,5 @@
 -- What a double description holds: the rows in their order, and the live generators under their numbers.
-use Rattle.std.specs.Prelude.{ℕ, ◌<◌, List, ◌≡◌, map, All, Bool, not, ◌||◌, nat_eq, refl}
+use Rattle.std.specs.Prelude.{ℕ, ◌<◌, List, ◌≡◌, map, All, Contains, Bool, not, ◌||◌, nat_eq, refl}
 use Rattle.std.specs.Coded.{Coded, code_by, coded×, coded_ℕ, coded_list}
 use Rattle.exact_field.specs.Rational.{ℚ, coded_ℚ}
 use Rattle.exact_field.specs.Vector.{dot}
@@ -44,6 +44,15 @@ HasTightSet value rows g = g.tight ≡ tight_set rows (values value g.vector.ite
 -- a pair of generators in numbers
 abbrev pub pair_of : {F : Type 0} → (F → ℚ) → Generator F → Generator F → LivePair
 pair_of value p m = record { plus_side = numbered_of value p; minus_side = numbered_of value m }
+
+-- two different generators of a live list with its tight sets
+pub record AreTwoLive {F : Type 0} (value : F → ℚ) (n : ℕ) (rows : List (List ℚ)) (gens : List (Generator F)) (plus minus : Generator F) : Type 0 where
+  pub next : ℕ
+  pub live : IsLive n rows (record { live = live_of value gens; next = next })
+  pub tight : All (HasTightSet value rows) gens
+  pub plus_listed : Contains gens plus
+  pub minus_listed : Contains gens minus
+  pub differ : values value plus.vector.items ≡ values value minus.vector.items → ⊥
 
 -- whether a live generator is one of the pair or does not cover it
 abbrev pub third_test : List (List ℚ) → LivePair → Numbered → Bool

@@ -6,12 +6,12 @@ ghost use Rattle.polyhedra.specs.DoubleDescription.{norming};
 ghost use Rattle.polyhedra.specs.LiveList.{LivePair, Numbered, is_uncovered_live, live_pairs};
 ghost use Rattle.double_descr.specs.Adding.{IsAddFault, block_of, pair_blocks};
 ghost use Rattle.double_descr.specs.Making.{IsAddition, IsMadeSoFar, IsPairFault, IsPlus, IsTried, candidates, with_negatives};
-ghost use Rattle.double_descr.specs.State.{HasTightSet, live_of, numbered_of, pair_of};
+ghost use Rattle.double_descr.specs.State.{AreTwoLive, live_of, numbered_of, pair_of};
 ghost use Rattle.double_descr.specs.Steps.{between, values};
 
 use crate::fault::{DdFault, Pair};
 use crate::generator::{Generator, between_two};
-use crate::pairs::is_uncovered;
+use crate::pairs::are_adjacent;
 use crate::signs::{is_above, is_below};
 use exact_field::Field;
 use incid_sets::Marks;
@@ -52,11 +52,11 @@ fn try_pair<F: Field>(
     requires not_zero { norming (between (F.value at_plus) (F.value at_minus) (values F.value plus.now.vector.items) (values F.value minus.now.vector.items)) ≢ zero_ℚ }
     ensures from { so_far.new.first_new ≡ so_far.old.first_new }
     ensures bound { length so_far.new.common ≡ length so_far.old.common }
-    ensures ok { (rows : List (List ℚ)) → All (HasTightSet F.value rows) generators.now → HasTightSet F.value rows plus.now → HasTightSet F.value rows minus.now → OnOk result (IsTried F.value F.holds (is_uncovered_live rows (live_of F.value generators.now) (pair_of F.value plus.now minus.now)) plus.now minus.now (F.value at_plus) (F.value at_minus) so_far.old so_far.new) }
-    ensures left { (rows : List (List ℚ)) → All (HasTightSet F.value rows) generators.now → HasTightSet F.value rows plus.now → HasTightSet F.value rows minus.now → IfErr result (λ fault. IsPairFault F.value F.holds (is_uncovered_live rows (live_of F.value generators.now) (pair_of F.value plus.now minus.now)) (block_of F.value plus.now minus.now (F.value at_plus) (F.value at_minus)) fault) }
+    ensures ok { (n : ℕ) (rows : List (List ℚ)) → AreTwoLive F.value n rows generators.now plus.now minus.now → OnOk result (IsTried F.value F.holds (is_uncovered_live rows (live_of F.value generators.now) (pair_of F.value plus.now minus.now)) plus.now minus.now (F.value at_plus) (F.value at_minus) so_far.old so_far.new) }
+    ensures left { (n : ℕ) (rows : List (List ℚ)) → AreTwoLive F.value n rows generators.now plus.now minus.now → IfErr result (λ fault. IsPairFault F.value F.holds (is_uncovered_live rows (live_of F.value generators.now) (pair_of F.value plus.now minus.now)) (block_of F.value plus.now minus.now (F.value at_plus) (F.value at_minus)) fault) }
 {
     so_far.common.set_meet(&plus.tight, &minus.tight);
-    if !is_uncovered(generators, plus, minus, &so_far.common, &mut so_far.last) {
+    if !are_adjacent(generators, plus, minus, &so_far.common, &mut so_far.last) {
         return Ok(());
     }
     if so_far.first_new as usize + so_far.pairs.len() > MOST_ITEMS {
@@ -149,7 +149,8 @@ fn try_plus<F: Field>(
 }
 
 /// Makes all new generators of an addition, from the values of the row at the live generators. The cost is at the worst that
-/// of the opposite pairs times the live generators times the words of a tight set; most scans stop early.
+/// of the opposite pairs times the live generators times the words of a tight set. Pairs with too few common tight rows are not
+/// scanned, and most other scans stop early.
 pub fn meet_all<F: Field>(
     alloc: Global,
     generators: &[Generator<F>],

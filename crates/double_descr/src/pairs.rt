@@ -1,10 +1,10 @@
 //! Opposite pairs of generators, and the new generators between them.
-ghost use Rattle.std.specs.Prelude.{◌≡◌, ◌||◌, ℕ, List, All, not, nat_eq};
+ghost use Rattle.std.specs.Prelude.{◌≡◌, ◌<◌, ◌||◌, ℕ, List, All, length, not, nat_eq};
 ghost use Rattle.incid_sets.specs.Marks.{IsMeet};
 ghost use Rattle.exact_field.specs.Rational.{ℚ};
 ghost use Rattle.polyhedra.specs.DoubleDescription.{covers};
 ghost use Rattle.polyhedra.specs.LiveList.{is_uncovered_live};
-ghost use Rattle.double_descr.specs.State.{HasTightSet, live_of, pair_of};
+ghost use Rattle.double_descr.specs.State.{AreTwoLive, HasTightSet, live_of, pair_of};
 ghost use Rattle.double_descr.specs.Steps.{values};
 
 use crate::generator::Generator;
@@ -33,8 +33,8 @@ fn covers_pair<F: Field>(
     third.tight.contains_all(common)
 }
 
-/// Whether no third generator covers the pair. The one that covered last is tried first.
-pub fn is_uncovered<F: Field>(
+/// Whether no third generator covers the pair, by a scan. The one that covered last is tried first.
+fn is_uncovered<F: Field>(
     generators: &[Generator<F>],
     plus: &Generator<F>,
     minus: &Generator<F>,
@@ -56,4 +56,23 @@ pub fn is_uncovered<F: Field>(
         }
     }
     true
+}
+
+/// Whether no third generator covers the pair. One does where fewer rows are tight at both than the width less 2, so most pairs
+/// need no scan.
+pub fn are_adjacent<F: Field>(
+    generators: &[Generator<F>],
+    plus: &Generator<F>,
+    minus: &Generator<F>,
+    common: &Marks,
+    last: &mut usize,
+) -> bool
+    requires narrow { length plus.now.vector.items < 4294967296 }
+    ensures { (n : ℕ) (rows : List (List ℚ)) → AreTwoLive F.value n rows generators.now plus.now minus.now → IsMeet common.now plus.now.tight minus.now.tight → result ≡ is_uncovered_live rows (live_of F.value generators.now) (pair_of F.value plus.now minus.now) }
+{
+    let least = plus.vector.len().saturating_sub(2);
+    if !common.has_at_least(least as u32) {
+        return false;
+    }
+    is_uncovered(generators, plus, minus, common, last)
 }

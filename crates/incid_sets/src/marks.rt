@@ -1,9 +1,10 @@
 //! Sets of numbers below a bound.
 ghost use Rattle.std.specs.Prelude.{◌≡◌, ◌<◌, ◌≤◌, ◌*◌, ◌-◌, ◌++◌, ◌↔◌, ℕ, IsTrue, true, OnOk, OnErr, IfOk, length, slice_set};
-ghost use Rattle.incid_sets.specs.Marks.{has, no_marks, ContainsAll, CoversBoth, IsMeet};
+ghost use Rattle.incid_sets.specs.Marks.{has, no_marks, size, ContainsAll, CoversBoth, IsMeet};
 
 use crate::words::{
-    contains_words, covers_words, grow_words, has_mark, set_mark, words_for, write_meet, zero_words,
+    contains_words, covers_words, grow_words, has_mark, have_at_least, set_mark, words_for,
+    write_meet, zero_words,
 };
 use src_sink::NoMemory;
 use std::alloc::Global;
@@ -66,6 +67,13 @@ impl Marks {
         ensures { result ≡ has self.now k }
     {
         has_mark(&self.words, k as usize)
+    }
+
+    /// Whether the set has at least as many numbers as `count`.
+    pub fn has_at_least(&self, count: u32) -> bool
+        ensures { IsTrue result ↔ (count ≤ size self.now) }
+    {
+        have_at_least(&self.words, count)
     }
 
     /// Whether the set has each number of the other.

@@ -1,6 +1,7 @@
 //! Bits of words, taken a word at a time. A list of words that is shorter counts as continued with zeros.
 ghost use Rattle.std.specs.Prelude.{◌≡◌, ◌<◌, ◌/◌, ◌*◌, ◌≤◌, ◌↔◌, ℕ, IsTrue, IfOk, OnOk, replicate, ◌&&◌, slice_index, vec_len};
-ghost use Rattle.incid_sets.specs.Words.{is_marked, AddsMark};
+ghost use Rattle.incid_sets.specs.Marks.{size};
+ghost use Rattle.incid_sets.specs.Words.{is_marked, marks_below, AddsMark, AreBounded};
 
 use src_sink::NoMemory;
 use std::alloc::Global;
@@ -79,6 +80,21 @@ pub fn covers_words(words: &[u64], a: &[u64], b: &[u64]) -> bool
         }
     }
     true
+}
+
+/// Whether the words have at least as many numbers as `count`. It stops at the first words that do.
+pub fn have_at_least(words: &[u64], count: u32) -> bool
+    ensures { (bound : ℕ) → AreBounded words.now bound → IsTrue result ↔ (count ≤ size (marks_below bound words.now)) }
+{
+    let mut missing = count;
+    for word in words {
+        let ones = word.count_ones();
+        if missing <= ones {
+            return true;
+        }
+        missing -= ones;
+    }
+    missing == 0
 }
 
 /// Makes the words have exactly the common numbers of the two others, as far as they have room.

@@ -34,6 +34,7 @@ fn sets_meet_and_grow(rt: HostRuntime) -> Result<(), Fail> {
     assert!(rt; common.bound() == 130 && common.has(2) && !common.has(129));
     common.insert(129);
     assert!(rt; common.has(129) && common.has(2) && !common.has(65) && !common.has(128));
+    assert!(rt; common.has_at_least(0) && common.has_at_least(2) && !common.has_at_least(3));
     Ok(())
 }
 

@@ -3,15 +3,14 @@ use Rattle.exact_field.specs.Rational.{zero_ℚ, ◌<ℚ◌, lt_ℚ}
 use Rattle.exact_field.specs.Vector.{dot}
 use Rattle.polyhedra.specs.LiveList.{LivePair}
 use Rattle.double_descr.specs.Steps.{values}
-use Rattle.double_descr.specs.State.{live_of, numbered_of, pair_of, HasTightSet}
+use Rattle.double_descr.specs.State.{live_of, numbered_of, pair_of}
 use Rattle.double_descr.specs.Making.{IsMadeSoFar, IsPlus, with_negatives}
 use Rattle.std.proofs.Common.{slice_index_or}
 use Rattle.std.proofs.lemmas.List.{get_or_default}
 use Rattle.double_descr.specs.declared.generator.Generator.{Generator}
 use Rattle.double_descr.proofs.made.try_minus.Goals as goal
-use Rattle.double_descr.proofs.MadePairs.{value_at_index, wide_of, bound_of, norming_of, negatives_at, tried, tried_fault}
+use Rattle.double_descr.proofs.MadePairs.{value_at_index, wide_of, bound_of, norming_of, two_of, negatives_at, tried, tried_fault}
 use Rattle.double_descr.proofs.StepLists.{drop_value, on_ok_map, if_err_map}
-use Rattle.polyhedra.proofs.Members.{member_of}
 
 pub try_pair-requires-clause-same : goal.try_pair-requires-clause-same
 try_pair-requires-clause-same g c =
@@ -110,13 +109,12 @@ returns-clause-ok g c = λ kept n next rows row left P h.
     let down : value c.index-values-j.result <ℚ zero_ℚ = sym c.is_below.ensures ∙ c.if-not-is_below.false in
     let e = drop_value (numbered_of value) c.args.generators.now c.args.j m c.requires.inside c.index-generators-j.is in
     let todo = with_negatives row (numbered_of value c.args.plus.now) (drop (c.args.j + 1) (live_of value c.args.generators.now)) ++ left in
-    let tight = P.addition.tight in
     let here : IsMadeSoFar value g.F.Field.holds rows row (live_of value c.args.generators.now) kept next (pair_of value c.args.plus.now m ∷ todo) c.args.so_far.now =
     subst (λ (l : List LivePair). IsMadeSoFar value g.F.Field.holds rows row (live_of value c.args.generators.now) kept next l c.args.so_far.now)
     (ap (λ l. l ++ left) (negatives_at row (numbered_of value c.args.plus.now) (numbered_of value m) (drop c.args.j (live_of value c.args.generators.now)) (drop (c.args.j + 1) (live_of value c.args.generators.now)) e true
     (sym (ap (λ x. lt_ℚ x zero_ℚ) (sym be) ∙ down)))) h in
-    on_ok_map c.try_pair.result _ _ (c.try_pair.ensures.ok rows tight (member_of (HasTightSet value rows) c.args.generators.now c.args.plus.now tight P.listed)
-    (member_of (HasTightSet value rows) c.args.generators.now m tight mc))
+    on_ok_map c.try_pair.result _ _ (c.try_pair.ensures.ok n rows (two_of value n rows row c.args.generators.now c.args.values.now P.addition c.args.plus.now m
+    (value c.args.at_plus) (value c.index-values-j.result) P.listed mc P.valued be P.positive down))
     (λ t. tried value g.F.Field.holds n rows row c.args.generators.now c.args.values.now kept next P.addition c.args.plus.now m P.listed mc (value c.args.at_plus) (value c.index-values-j.result)
     P.valued be P.positive down todo c.args.so_far.now c.try_pair.new.so_far here t c.try_pair.ensures.from c.try_pair.ensures.bound)
 
@@ -130,12 +128,11 @@ returns-clause-left g c = λ kept n next rows row left P h.
     let down : value c.index-values-j.result <ℚ zero_ℚ = sym c.is_below.ensures ∙ c.if-not-is_below.false in
     let e = drop_value (numbered_of value) c.args.generators.now c.args.j m c.requires.inside c.index-generators-j.is in
     let todo = with_negatives row (numbered_of value c.args.plus.now) (drop (c.args.j + 1) (live_of value c.args.generators.now)) ++ left in
-    let tight = P.addition.tight in
     let here : IsMadeSoFar value g.F.Field.holds rows row (live_of value c.args.generators.now) kept next (pair_of value c.args.plus.now m ∷ todo) c.args.so_far.now =
     subst (λ (l : List LivePair). IsMadeSoFar value g.F.Field.holds rows row (live_of value c.args.generators.now) kept next l c.args.so_far.now)
     (ap (λ l. l ++ left) (negatives_at row (numbered_of value c.args.plus.now) (numbered_of value m) (drop c.args.j (live_of value c.args.generators.now)) (drop (c.args.j + 1) (live_of value c.args.generators.now)) e true
     (sym (ap (λ x. lt_ℚ x zero_ℚ) (sym be) ∙ down)))) h in
-    if_err_map c.try_pair.result _ _ (c.try_pair.ensures.left rows tight (member_of (HasTightSet value rows) c.args.generators.now c.args.plus.now tight P.listed)
-    (member_of (HasTightSet value rows) c.args.generators.now m tight mc))
+    if_err_map c.try_pair.result _ _ (c.try_pair.ensures.left n rows (two_of value n rows row c.args.generators.now c.args.values.now P.addition c.args.plus.now m
+    (value c.args.at_plus) (value c.index-values-j.result) P.listed mc P.valued be P.positive down))
     (λ fault k. tried_fault value g.F.Field.holds n rows row c.args.generators.now c.args.values.now kept next P.addition c.args.plus.now m P.listed mc (value c.args.at_plus) (value c.index-values-j.result)
     P.valued be P.positive down todo c.args.so_far.now c.try_pair.new.so_far here fault k)
