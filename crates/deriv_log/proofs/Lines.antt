@@ -1,12 +1,12 @@
 -- The lines of a text, and what is known behind those that were read.
-use Rattle.std.proofs.Common.{◌≡◌, refl, ℕ, ◌+◌, ◌-◌, ◌<◌, true, false, not, ◌&&◌, ◌||◌, eqb, ◌==◌, cond, Bool, List, [], ◌∷◌, ◌++◌, length, map, take, arith, ap, sym, ◌∙◌, subst, codes, None, Some, if◌then◌else◌, append_assoc, inl, inr, ne_eqb, ⊎_elim, slice_get, length-append}
+use Rattle.std.proofs.Common.{◌≡◌, refl, ℕ, ◌+◌, ◌-◌, true, false, not, ◌&&◌, ◌||◌, eqb, ◌==◌, Bool, List, [], ◌∷◌, ◌++◌, length, map, take, arith, ap, sym, ◌∙◌, subst, codes, None, Some, if◌then◌else◌, append_assoc, inl, inr, ne_eqb, ⊎_elim, slice_get, length-append}
 use Rattle.std.specs.List.{list_all, list_any, slice_split, join_with_byte}
 use Rattle.std.proofs.lemmas.Bool.{and_parts, and_from, false≢true, cases_lt}
 use Rattle.std.proofs.lemmas.List.{append-nil, length-map, map-append}
 use Rattle.std.proofs.lemmas.List.Folds.{list_any-append}
-use Rattle.std.proofs.lemmas.List.Splits.{join_with_byte-slice_split, slice_split_at, length-slice_split}
+use Rattle.std.proofs.lemmas.List.Splits.{join_with_byte-slice_split, slice_split_at}
 use Rattle.std.proofs.Math.Seq.{take-append_seam}
-use Rattle.src_sink.proofs.TextLines.{torn_line, first_line, lines_more}
+use Rattle.src_sink.proofs.TextLines.{torn_line, first_line}
 use Rattle.src_sink.specs.Texts.{TextLine, lines_between, lines_of}
 use Rattle.deriv_log.specs.FirstFault.{first_word, is_end_line, fault_of_line, fault_at, Pass, FirstFault}
 use Rattle.deriv_log.specs.Formed.{is_formed, is_end, ends_once, IsLog}

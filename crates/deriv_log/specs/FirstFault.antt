@@ -1,5 +1,5 @@
 -- The lines of a log's text, by their numbers, and its first fault.
-use Rattle.std.specs.Prelude.{◌≡◌, ℕ, ◌+◌, ◌-◌, ◌≤◌, ◌⊎◌, ◌==◌, Bool, true, false, if◌then◌else◌, List, [], ◌∷◌, length, take, codes, Option, None, Some, slice_get}
+use Rattle.std.specs.Prelude.{◌≡◌, ℕ, ◌+◌, ◌-◌, ◌≤◌, ◌⊎◌, ◌==◌, Bool, false, List, [], ◌∷◌, length, take, codes, Option, None, Some, slice_get}
 use Rattle.std.specs.List.{list_any, slice_split}
 use Rattle.src_sink.specs.Texts.{TextLine, lines_of}
 use Rattle.deriv_log.specs.LineFault.{line_fault}
