@@ -206,8 +206,8 @@ impl Lines {
     }
 
     /// Puts the next line, without its line feed, into `line` in place of what that held, and answers
-    /// how it ended: `LineEnd::End` where there is none, and then `line` is empty. The memory of the old
-    /// line serves the next one. Each call is to be given the same source.
+    /// how it ended: `LineEnd::End` where there is none, and then `line` is empty. Each call is to be
+    /// given the same source.
     ///
     /// `ReadEnd::TooLong` comes as soon as more than the limit were taken since `new`. After a `ReadEnd`
     /// `line` is as before, and no further call may follow.
