@@ -319,3 +319,21 @@ module _ (file : Problem) (entries : List Entry) (dir : Dir) (c : List ℚ) (gen
           },
         );
       }
+
+-- the answer of what was found and sorted
+pub answer_given : (file : Problem) (entries : List Entry) (dir : Dir) (c : List ℚ) (generators : List Generator) (cuts : List Cut) (used facets : List ℕ) →
+    Supplies file entries dir c generators cuts used facets → (points directions : List Member) (places : List ℕ) (made fs : List Facet) →
+    IsSorting (λ (m : Member). m.y) (points_of dir generators) points → IsSorting (λ (m : Member). m.y) (directions_of dir generators) directions →
+    AreFacetPlaces used facets (length cuts) places → made ≡ facets_at dir points directions cuts places →
+    ((width : ℕ) → All (λ f. length f.w ≡ width) made → AllPairs (λ f g. key (right.stated f) ≢ key (right.stated g)) made → IsSorting (λ f. key (right.stated f)) made fs) →
+    Proves file entries (Solved c (map shown_of points) (map shown_of directions) fs)
+answer_given file entries dir c generators cuts used facets h points directions places made fs p d are e sort =
+    let from_points : (m : Member) → Contains points m → Contains (points_of dir generators) m = λ m a. (p.same m).1 a in
+    let from_directions : (m : Member) → Contains directions m → Contains (directions_of dir generators) m = λ m a. (d.same m).1 a in
+    given file entries dir c generators cuts used facets h places are points directions from_points from_directions fs p d
+    (subst (λ (gs : List Facet). IsSorting (λ f. key (right.stated f)) gs fs) e
+    (sort file.objs
+    (subst (λ (gs : List Facet). All (λ f. length f.w ≡ file.objs) gs) (sym e)
+    (wide_facets file entries dir c generators cuts used facets h places are points directions from_points from_directions))
+    (subst (λ (gs : List Facet). AllPairs (λ f g. key (right.stated f) ≢ key (right.stated g)) gs) (sym e)
+    (differ file entries dir c generators cuts used facets h places are points directions from_points from_directions))))

@@ -1,6 +1,7 @@
 -- What stands after a solved log, for what a checker keeps of it.
 use Rattle.std.proofs.Common.{◌≡◌, ◌≢◌, ℕ, suc, ◌<◌, ◌≤◌, ◌-◌, List, [], ◌∷◌, sym, ap, ◌∙◌, subst, arith, refl, map, length, take, slice_index_or, true, not, All, Contains, Option, None, Some, IsTrue, ◌⊎◌, inl, inr}
 use Rattle.std.specs.Prelude.{unwrap_or, IsSome}
+use Rattle.std.proofs.lemmas.List.{length-map}
 use Rattle.exact_field.specs.Rational.{ℚ, zero_ℚ, one_ℚ}
 use Rattle.exact_field.specs.Order.{same_ℚ}
 use Rattle.exact_field.specs.Vector.{entry}
@@ -15,17 +16,19 @@ use Rattle.vlp_reader.specs.declared.problem.Dir.{Dir}
 use Rattle.vlp_reader.specs.declared.problem.Problem.{Problem}
 use Rattle.deriv_log.specs.declared.entry.Entry.{Entry}
 use Rattle.log_rules.specs.Laws.{Stands}
-use Rattle.log_rules.specs.Live.{State, state, in_use, rows_in_use, y_of, t_of, preimages}
+use Rattle.log_rules.specs.Live.{Stated, State, state, in_use, rows_in_use, y_of, t_of, preimages}
 use Rattle.log_rules.specs.Meets.{MeetsSolved}
 use Rattle.log_rules.specs.Proves.{shown}
 use Rattle.log_rules.proofs.KeepsDescription.{IsKept, kept, rules_keep_description}
 use Rattle.log_rules.proofs.NormedMembers.{IsPoint, IsNormedWay, one_of, one_not_zero}
 use Rattle.log_rules.proofs.SolvedIsSolved.{solved_met}
+use Rattle.log_tests.specs.Cuts.{stated}
 use Rattle.log_tests.specs.declared.corner.Cut.{Cut}
 use Rattle.log_live.specs.Live.{numbered_of, HasTightSet, HasPreimage, listed}
 use Rattle.log_live.specs.declared.generator.Generator.{Generator}
 use Rattle.log_answer.specs.Members.{last, is_point, IsReached, member, shown_of}
 use Rattle.log_answer.specs.Supplies.{Supplies}
+use Rattle.log_answer.proofs.NamedOnce.{named_once}
 
 -- the one pre-image of a list of one or none
 first_listed : (o : Option (List Spot)) → slice_index_or (listed o) 0 [] ≡ unwrap_or o []
@@ -121,3 +124,15 @@ module _ (file : Problem) (entries : List Entry) (dir : Dir) (c : List ℚ) (gen
       let pre : slice_index_or (preimages entries g.number) 0 [] ≡ unwrap_or g.pre [] =
       ap (λ (xs : List (List Spot)). slice_index_or xs 0 []) (member_of (HasPreimage entries) generators g h.preimages m) ∙ first_listed g.pre in
       cc
+
+  -- the numbers of the rows in use are those of cuts, and a named cut is in use
+  pub used_exist : All (λ k. (1 ≤ k) × (k ≤ length cuts)) used
+  used_exist =
+      let many : length s.cuts ≡ length cuts = sym (ap (λ (xs : List Stated). length xs) h.stands) ∙ length-map cuts stated in
+      subst (λ (ks : List ℕ). All (λ k. (1 ≤ k) × (k ≤ length cuts)) ks) (sym h.used)
+      (subst (λ (n : ℕ). All (λ k. (1 ≤ k) × (k ≤ n)) s.used) many holds.exist)
+
+  pub named_used : All (Contains used) facets
+  named_used =
+      subst (λ (ks : List ℕ). All (Contains ks) facets) (sym h.used)
+      (subst (λ (ks : List ℕ). All (Contains s.used) ks) (sym h.names) (named_once file entries h.meet).used)
