@@ -17,7 +17,8 @@ use Rattle.log_rules.proofs.Kept.{Earlier, find_is}
 use Rattle.log_live.specs.Adding.{AreAtRow, IsBetween, IsPointOrDirection, new_entries, pair_events, pair_named}
 use Rattle.log_live.specs.Live.{numbered_of, live_of, HasTightSet, tight_set}
 use Rattle.log_live.specs.declared.generator.Generator.{Generator}
-use Rattle.log_live.proofs.Bridges.{pair_as}
+use Rattle.log_rules.specs.Runs.{steps}
+use Rattle.log_live.proofs.Bridges.{few_steps, pair_as}
 use Rattle.log_live.proofs.LivePairs.{IsParted, parted}
 use Rattle.log_live.proofs.NewSets.{between_tight}
 use Rattle.log_live.proofs.NewVectors.{between_is, between_divides}
@@ -47,6 +48,15 @@ module _ (q : ℕ) (rows : List (List ℚ)) (row : List ℚ) (gens : List Genera
 
     pub find_minus : find (live_of gens) pair.minus ≡ Some named.minus_side
     find_minus = is_found named.minus_side pair.minus two.minus (ap (λ (p : LogPair). p.minus) named_is)
+
+    -- its steps are few
+    pub few_of_pair : steps (events.pair_of q row (live_of gens) pair) ≤ 400000
+    few_of_pair =
+        let e = ap steps (pair_as q row (live_of gens) pair named.plus_side named.minus_side find_plus find_minus) in
+        let wide : length named.plus_side.vector ≡ suc q = member_of (λ v. length v ≡ suc q) (vectors (live_of gens)) named.plus_side.vector a.described.generators_wide.wide
+            (Contains-map (λ (n : Numbered). n.vector) (live_of gens) named.plus_side two.plus) in
+        let f = few_steps q (dot row named.plus_side.vector) (dot row named.minus_side.vector) named.plus_side.vector named.minus_side.vector wide a.few in
+        omega (arith, e, f)
 
     -- the generators that were read at the places that were found
     module _ (g m : Generator) (gc : Contains gens g) (mc : Contains gens m) (g_is : find (live_of gens) pair.plus ≡ Some (numbered_of g)) (m_is : find (live_of gens) pair.minus ≡ Some (numbered_of m))

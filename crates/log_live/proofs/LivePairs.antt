@@ -1,6 +1,6 @@
 -- The required pairs as pairs of live generators, and the new generators one pair at a time.
 use Rattle.std.proofs.Common.{◌≡◌, ℕ, suc, ◌+◌, ◌<◌, List, [], ◌∷◌, ◌++◌, refl, sym, ap, ap₂, ◌∙◌, subst, arith, length, map, filter, take, All, Contains, slice_index_or, None, zero}
-use Rattle.std.proofs.lemmas.List.{length-map, map-append, take_more}
+use Rattle.std.proofs.lemmas.List.{get_or-map, length-map, map-append, take_more}
 use Rattle.std.proofs.lemmas.List.Elements.{All-nil, All-cons, All-head, All-tail, All-append, All-map, All-weaker}
 use Rattle.exact_field.specs.Rational.{ℚ, zero_ℚ, lt_ℚ, ◌<ℚ◌}
 use Rattle.exact_field.specs.Vector.{dot}
@@ -9,7 +9,8 @@ use Rattle.polyhedra.specs.LiveList.{Numbered, LivePair, products, is_uncovered_
 use Rattle.polyhedra.proofs.Members.{all_of_members, member_of, Contains-filter_source}
 use Rattle.deriv_log.specs.declared.entry.LogPair.{LogPair}
 use Rattle.log_rules.specs.Live.{required_pairs, log_pair}
-use Rattle.log_live.specs.Adding.{pair_named, IsBetween}
+use Rattle.log_tests.proofs.Going.{any-default}
+use Rattle.log_live.specs.Adding.{pair_named, AreNew, IsBetween}
 use Rattle.log_live.specs.Live.{numbered_of, live_of, HasTightSet}
 use Rattle.log_live.specs.declared.generator.Generator.{Generator}
 
@@ -95,3 +96,44 @@ made_more rows row pairs next i number old new pair g l at count h b e = subst (
     more = ap (λ ps. made row (map without_numbers ps)) (take_more pairs i pair l ∙ ap (λ p. take i pairs ++ p ∷ []) (at pair))
         ∙ ap (made row) (map-append without_numbers (take i pairs) (pair ∷ []))
         ∙ map-append (λ q. normed (meeting row q.plus_side q.minus_side)) (map without_numbers (take i pairs)) (without_numbers pair ∷ [])
+
+-- ---- the pair at a place
+pub record IsPairAt (rows : List (List ℚ)) (live : List Numbered) (row : List ℚ) (pairs : List LogPair) (i : ℕ) : Type 0 where
+  pub named : LivePair
+  pub inside : i < length (live_pairs rows live row)
+  pub at : (d : LivePair) → slice_index_or (live_pairs rows live row) i d ≡ named
+  pub is : (d : LogPair) → slice_index_or pairs i d ≡ pair_named named
+
+pub pair_at : (rows : List (List ℚ)) (live : List Numbered) (row : List ℚ) (pairs : List LogPair) (i : ℕ) → pairs ≡ required_pairs rows live row → i < length pairs →
+    IsPairAt rows live row pairs i
+pair_at rows live row pairs i e l =
+    let none : Numbered = record { number = 0; vector = [] } in
+    let ps : List LivePair = live_pairs rows live row in
+    let n = ap length (e ∙ required_named rows live row) in
+    let m = length-map (live_pairs rows live row) pair_named in
+    let inside : i < length (live_pairs rows live row) = omega (arith, l, n, m) in
+    record {
+      named = slice_index_or (live_pairs rows live row) i record { plus_side = none; minus_side = none };
+      inside = inside;
+      at = λ d. any-default (live_pairs rows live row) i d record { plus_side = none; minus_side = none } inside;
+      is = λ d. ap (λ (xs : List LogPair). slice_index_or xs i d) (e ∙ required_named rows live row)
+          ∙ get_or-map pair_named (live_pairs rows live row) i record { plus_side = none; minus_side = none } d inside;
+    }
+
+take_all_of : {X : Type 0} (n : ℕ) (xs : List X) → n ≡ length xs → take n xs ≡ xs
+take_all_of zero [] h = refl
+take_all_of zero (x ∷ xs) h = absurd (omega (arith, h))
+take_all_of (suc n) [] h = refl
+take_all_of (suc n) (x ∷ xs) h = ap (λ ys. x ∷ ys) (take_all_of n xs (omega (arith, h)))
+
+-- with the last pair all are made
+pub all_made : (rows : List (List ℚ)) (live : List Numbered) (row : List ℚ) (pairs : List LogPair) (next i : ℕ) (gens : List Generator) → pairs ≡ required_pairs rows live row → i ≡ length pairs →
+    AreMadeTo rows row (live_pairs rows live row) next i gens → AreNew rows row live next gens
+all_made rows live row pairs next i gens e n h =
+    let l = ap length (e ∙ required_named rows live row) in
+    let m = length-map (live_pairs rows live row) pair_named in
+    record {
+      are = h.are ∙ ap (λ ps. numbered next (made row (map without_numbers ps))) (take_all_of i (live_pairs rows live row) (omega (arith, n, l, m)));
+      tight = h.tight;
+      fresh = h.fresh;
+    }

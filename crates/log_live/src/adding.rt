@@ -59,7 +59,8 @@ pub fn keep_all(
 
 /// The number of the generator behind so many new ones.
 pub fn number_behind(next: u32, count: usize) -> Result<u32, Stop>
-    ensures { (taken : ℕ) → Runs is_held [] taken taken (λ number. number ≡ next + count) result }
+    ensures runs { (taken : ℕ) → Runs is_held [] taken taken (λ number. number ≡ next + count) result }
+    ensures few { IfOk result (λ number. count ≤ 4294967295) }
 {
     if count > (u32::MAX - next) as usize {
         return Err(Stop::NoMemory);

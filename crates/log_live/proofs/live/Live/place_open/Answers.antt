@@ -83,9 +83,9 @@ returns-else-eq-clause-none c file s before h p =
         c.index-vector-vector.is ∙ ap (λ (u : List ℚ). slice_index_or u (length u - 1) c.index-vector-vector.result) v in
     elim c.else-eq.branch [
       | else-eq-via-then-eq+else-is_none u ↦
-          let some = some_of g.pre ? in
+          let some = some_of g.pre u.if-is_none.ensures in
           closed_given file s live h before p c.args.number c.args.t c.in_ok-place.place g inside c.index-generator.ensures number some.0 some.1
       | else-eq-via-else-eq u ↦
           closed_kind file s live h before p c.args.number c.args.t c.in_ok-place.place g inside c.index-generator.ensures number
-          (λ e. true≢false (sym (sym c.eq.ensures ∙ same_passes c.index-vector-vector.result c.args.t (sym (last_is g.vector file.objs c.index-vector-vector.result w read) ∙ e)) ∙ u.if-eq.false))
+          (λ e. true≢false (sym (same_passes c.index-vector-vector.result c.args.t (sym (last_is g.vector file.objs c.index-vector-vector.result w read) ∙ e)) ∙ sym c.eq.ensures ∙ u.if-eq.false))
     ]
