@@ -79,6 +79,27 @@ module _ (file : Problem) (s : State) (cut : ℕ) (w : List ℚ) (gamma : ℚ) (
       ++ (test rule.Pairs (same_pairs pairs (required_pairs (rows_in_use file.objs s) l (cut_row s cut))) ∷ flat_map (events.pair_of file.objs (cut_row s cut) l) pairs))
       h.wide h.before.list.live
 
+  -- the same of a list that was read
+  pub parts_at : (gs : List Generator) → gs ≡ live.generators.items → (pairs : List LogPair) → all_value_events w gamma (length w) gs
+      ++ (test rule.Pairs (same_pairs pairs (required_pairs (rows_in_use file.objs s) (live_of gs) (cut_row s cut)))
+      ∷ flat_map (events.pair_of (length w) (cut_row s cut) (live_of gs)) pairs) ≡ added_events file.objs s cut pairs
+  parts_at gs e pairs = ap (λ (g : List Generator). all_value_events w gamma (length w) g
+      ++ (test rule.Pairs (same_pairs pairs (required_pairs (rows_in_use file.objs s) (live_of g) (cut_row s cut)))
+      ∷ flat_map (events.pair_of (length w) (cut_row s cut) (live_of g)) pairs)) e ∙ parts_are pairs
+
+  pub read_at : (gs : List Generator) (values : List ℚ) → gs ≡ live.generators.items → values ≡ all_values w gamma gs → AreAtRow (length w) (rows_in_use file.objs s) (cut_row s cut) gs values
+  read_at gs values e v = subst (λ (g : List Generator). AreAtRow (length w) (rows_in_use file.objs s) (cut_row s cut) g values) (sym e) (at_row values (v ∙ ap (all_values w gamma) e))
+
+  pub change_is : (gs : List Generator) (pairs : List LogPair) (change : Change) → gs ≡ live.generators.items → change.values ≡ all_values w gamma gs →
+      AreNew (rows_in_use file.objs s) (cut_row s cut) (live_of gs) live.next change.made.items → pairs ≡ required_pairs (rows_in_use file.objs s) (live_of gs) (cut_row s cut) →
+      change.next ≡ live.next + length pairs → IsChange file.objs s cut pairs live change
+  change_is gs pairs change e v made paired next = record {
+    values = values_are change.values (v ∙ ap (all_values w gamma) e);
+    made = subst (λ (g : List Generator). AreNew (rows_in_use file.objs s) (cut_row s cut) (live_of g) live.next change.made.items) e made;
+    paired = paired ∙ ap (λ (l : List Numbered). required_pairs (rows_in_use file.objs s) l (cut_row s cut)) (ap live_of e ∙ h.before.list.live);
+    next = next;
+  }
+
   -- ---- what stands behind them
   module _ (pairs : List LogPair) (change : Change) (c : IsChange file.objs s cut pairs live change) (new : Live) (kept : new.generators.items ≡ kept_of (cut_row s cut) live.generators.items ++ change.made.items)
       (next : new.next ≡ change.next) where

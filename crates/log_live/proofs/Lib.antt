@@ -15,3 +15,4 @@ pub mod FirstGenerators
 pub mod Between
 pub mod Standing
 pub mod Added
+pub mod Staying

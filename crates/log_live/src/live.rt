@@ -141,6 +141,7 @@ impl Live {
             → Runs is_held (added_events file.objs s cut pairs.now) 0 (steps (added_events file.objs s cut pairs.now))
             (IsChange file.objs s cut pairs.now self.now) result }
     {
+        let first_new = self.next;
         let generators = self.generators.as_slice();
         let mut counter = Steps { taken: 0 };
         let values = values_at(alloc, &mut counter, w, gamma, generators)?;
@@ -153,9 +154,9 @@ impl Live {
             generators,
             at_row,
             pairs,
-            self.next,
+            first_new,
         )?;
-        let next = number_behind(self.next, pairs.len())?;
+        let next = number_behind(first_new, pairs.len())?;
         Ok(Change { values, made, next })
     }
 
