@@ -1,5 +1,5 @@
 -- The required pairs as pairs of live generators, and the new generators one pair at a time.
-use Rattle.std.proofs.Common.{◌≡◌, ℕ, suc, ◌+◌, ◌<◌, List, [], ◌∷◌, ◌++◌, refl, sym, ap, ap₂, ◌∙◌, subst, arith, length, map, filter, take, All, Contains, slice_index_or, None, zero}
+use Rattle.std.proofs.Common.{◌≡◌, ℕ, suc, ◌+◌, ◌<◌, ◌≤◌, List, [], ◌∷◌, ◌++◌, refl, sym, ap, ap₂, ◌∙◌, subst, arith, length, map, filter, take, All, Contains, slice_index_or, None, zero}
 use Rattle.std.proofs.lemmas.List.{get_or-map, length-map, map-append, take_more}
 use Rattle.std.proofs.lemmas.List.Elements.{All-nil, All-cons, All-head, All-tail, All-append, All-map, All-weaker}
 use Rattle.exact_field.specs.Rational.{ℚ, zero_ℚ, lt_ℚ, ◌<ℚ◌}
@@ -66,15 +66,15 @@ pub none_made : (rows : List (List ℚ)) (row : List ℚ) (pairs : List LivePair
 none_made rows row pairs next gens e = subst (λ (gs : List Generator). AreMadeTo rows row pairs next 0 gs) (sym e)
     record { are = refl; tight = All-nil (HasTightSet (rows ++ row ∷ [])); fresh = All-nil (λ (g : Generator). g.pre ≡ None) }
 
-numbered_push : (k : ℕ) (vs : List (List ℚ)) (v : List ℚ) → numbered k (vs ++ v ∷ []) ≡ numbered k vs ++ record { number = k + length vs; vector = v } ∷ []
+pub numbered_push : (k : ℕ) (vs : List (List ℚ)) (v : List ℚ) → numbered k (vs ++ v ∷ []) ≡ numbered k vs ++ record { number = k + length vs; vector = v } ∷ []
 numbered_push k [] v = ap (λ n. record { number = n; vector = v } ∷ []) (let e : k ≡ k + 0 = omega arith in e)
 numbered_push k (w ∷ vs) v = ap (λ l. record { number = k; vector = w } ∷ l) (numbered_push (suc k) vs v
     ∙ ap (λ n. numbered (suc k) vs ++ record { number = n; vector = v } ∷ []) (let e : suc k + length vs ≡ k + suc (length vs) = omega arith in e))
 
-length-take_in : {X : Type 0} (i : ℕ) (xs : List X) → i < length xs → length (take i xs) ≡ i
-length-take_in zero xs h = refl
-length-take_in (suc i) [] h = absurd (omega (arith, h))
-length-take_in (suc i) (x ∷ xs) h = ap suc (length-take_in i xs (omega (arith, h)))
+pub length-take_to : {X : Type 0} (i : ℕ) (xs : List X) → i ≤ length xs → length (take i xs) ≡ i
+length-take_to zero xs h = refl
+length-take_to (suc i) [] h = absurd (omega (arith, h))
+length-take_to (suc i) (x ∷ xs) h = ap suc (length-take_to i xs (omega (arith, h)))
 
 pub made_more : (rows : List (List ℚ)) (row : List ℚ) (pairs : List LivePair) (next i number : ℕ) (old new : List Generator) (pair : LivePair) (g : Generator) → i < length pairs →
     ((d : LivePair) → slice_index_or pairs i d ≡ pair) → number ≡ next + i → AreMadeTo rows row pairs next i old → IsBetween rows row pair number g → new ≡ old ++ g ∷ [] →
@@ -90,7 +90,7 @@ made_more rows row pairs next i number old new pair g l at count h b e = subst (
     }
   where
     many : length (made row (map without_numbers (take i pairs))) ≡ i
-    many = length-map (map without_numbers (take i pairs)) (λ q. normed (meeting row q.plus_side q.minus_side)) ∙ length-map (take i pairs) without_numbers ∙ length-take_in i pairs l
+    many = length-map (map without_numbers (take i pairs)) (λ q. normed (meeting row q.plus_side q.minus_side)) ∙ length-map (take i pairs) without_numbers ∙ length-take_to i pairs (omega (arith, l))
 
     more : made row (map without_numbers (take (i + 1) pairs)) ≡ made row (map without_numbers (take i pairs)) ++ normed (meeting row pair.plus_side.vector pair.minus_side.vector) ∷ []
     more = ap (λ ps. made row (map without_numbers ps)) (take_more pairs i pair l ∙ ap (λ p. take i pairs ++ p ∷ []) (at pair))
@@ -120,7 +120,7 @@ pair_at rows live row pairs i e l =
           ∙ get_or-map pair_named (live_pairs rows live row) i record { plus_side = none; minus_side = none } d inside;
     }
 
-take_all_of : {X : Type 0} (n : ℕ) (xs : List X) → n ≡ length xs → take n xs ≡ xs
+pub take_all_of : {X : Type 0} (n : ℕ) (xs : List X) → n ≡ length xs → take n xs ≡ xs
 take_all_of zero [] h = refl
 take_all_of zero (x ∷ xs) h = absurd (omega (arith, h))
 take_all_of (suc n) [] h = refl

@@ -43,7 +43,7 @@ returns-in_err-generator c rows row a e =
     let listed : Contains (live_pairs rows (live_of c.args.generators.now) row) P.named = (c.loop-i.i, P.inside, P.at P.named) in
     let here = c.loop-i.invariant.here rows row a e in
     let stopped = at-stop f c.args.pairs.now c.args.counter.now.taken c.loop-i.i c.loop-i.counter.taken x c.in_err-generator.field-0.0 (omega arith) own here
-        (c.in_err-generator.ensures rows row P.named a listed (P.is _)) in
+    (c.in_err-generator.ensures rows row P.named a listed (P.is _)) in
     search (stopped, rules)
 
 pub returns-in_err-append_generator : goal.returns-in_err-append_generator

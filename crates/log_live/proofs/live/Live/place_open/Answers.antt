@@ -53,11 +53,11 @@ returns-then-is_none-clause-some c file s before h p =
     let inside : c.in_ok-place.place < length live.generators.items = omega (arith, n, told) in
     let w = vector_wide file s live h c.in_ok-place.place g inside c.index-generator.ensures in
     let found = λ (d : Generator). ap (λ (gs : List Generator). find (live_of gs) c.args.number) (sym c.deref.ensures.value) ∙ c.in_ok-place.ensures.some.1 d
-        ∙ ap (λ (gs : List Generator). Some (numbered_of (slice_index_or gs c.in_ok-place.place d))) c.deref.ensures.value in
+    ∙ ap (λ (gs : List Generator). Some (numbered_of (slice_index_or gs c.in_ok-place.place d))) c.deref.ensures.value in
     let number = λ (d : Generator). find_number (live_of live.generators.items) c.args.number (numbered_of (slice_index_or live.generators.items c.in_ok-place.place d)) (found d) in
     let v = c.as_slice-vector.ensures.items in
     let read : c.index-vector-vector.result ≡ slice_index_or g.vector (length g.vector - 1) c.index-vector-vector.result =
-        c.index-vector-vector.is ∙ ap (λ (u : List ℚ). slice_index_or u (length u - 1) c.index-vector-vector.result) v in
+    c.index-vector-vector.is ∙ ap (λ (u : List ℚ). slice_index_or u (length u - 1) c.index-vector-vector.result) v in
     record {
       inside = inside;
       is_open = opens file s live h before p c.args.number c.args.t c.in_ok-place.place g inside c.index-generator.ensures (ap (λ (u : Generator). u.number) c.index-generator.ensures ∙ number g)
@@ -75,12 +75,12 @@ returns-else-eq-clause-none c file s before h p =
     let inside : c.in_ok-place.place < length live.generators.items = omega (arith, n, told) in
     let w = vector_wide file s live h c.in_ok-place.place g inside c.index-generator.ensures in
     let found = ap (λ (gs : List Generator). find (live_of gs) c.args.number) (sym c.deref.ensures.value) ∙ c.in_ok-place.ensures.some.1 g
-        ∙ ap (λ (gs : List Generator). Some (numbered_of (slice_index_or gs c.in_ok-place.place g))) c.deref.ensures.value in
+    ∙ ap (λ (gs : List Generator). Some (numbered_of (slice_index_or gs c.in_ok-place.place g))) c.deref.ensures.value in
     let number : g.number ≡ c.args.number = ap (λ (u : Generator). u.number) c.index-generator.ensures
-        ∙ find_number (live_of live.generators.items) c.args.number (numbered_of (slice_index_or live.generators.items c.in_ok-place.place g)) found in
+    ∙ find_number (live_of live.generators.items) c.args.number (numbered_of (slice_index_or live.generators.items c.in_ok-place.place g)) found in
     let v = c.as_slice-vector.ensures.items in
     let read : c.index-vector-vector.result ≡ slice_index_or g.vector (length g.vector - 1) c.index-vector-vector.result =
-        c.index-vector-vector.is ∙ ap (λ (u : List ℚ). slice_index_or u (length u - 1) c.index-vector-vector.result) v in
+    c.index-vector-vector.is ∙ ap (λ (u : List ℚ). slice_index_or u (length u - 1) c.index-vector-vector.result) v in
     elim c.else-eq.branch [
       | else-eq-via-then-eq+else-is_none u ↦
           let some = some_of g.pre u.if-is_none.ensures in
