@@ -29,7 +29,8 @@ use Rattle.log_rules.proofs.CutsStay.{Exists, cut_of}
 use Rattle.log_rules.proofs.NamedCuts.{named_stand}
 use Rattle.log_tests.specs.Cuts.{stated}
 use Rattle.log_tests.specs.declared.corner.Cut.{Cut}
-use Rattle.log_tests.proofs.Going.{length-zip, any-default}
+use Rattle.vlp_matrices.proofs.Lists.{length-zip}
+use Rattle.std.proofs.lemmas.List.{get_or_default}
 use Rattle.log_live.specs.Live.{HasTightSet}
 use Rattle.log_live.specs.Tight.{row_at}
 use Rattle.log_live.specs.declared.generator.Generator.{Generator}
@@ -162,7 +163,7 @@ module _ (file : Problem) (entries : List Entry) (dir : Dir) (c : List ℚ) (gen
         split = get_or-zip cuts places i d l room
 
         same : get_or places i d.1 ≡ slice_index places i
-        same = any-default places i d.1 0 room
+        same = get_or_default places i d.1 0 room
 
         go : (n : ℕ) → IsFacetPlace used facets (suc i) n → not (n == 0) ≡ true → get_or places i d.1 ≡ n → IsNamedPair i (get_or cuts i d.0, get_or places i d.1)
         go zero f u e = absurd (true≢false (sym u))
@@ -248,7 +249,7 @@ module _ (file : Problem) (entries : List Entry) (dir : Dir) (c : List ℚ) (gen
               placed i l a p e =
                   let room : i < length places = let m = are.many in omega (arith, l, m) in
                   let same : slice_index places i ≡ p.1 =
-                  sym (any-default places i p.1 0 room) ∙ sym (ap (λ (p : Cut × ℕ). p.1) (get_or-zip cuts places i p l room)) ∙ ap (λ (p : Cut × ℕ). p.1) e in
+                  sym (get_or_default places i p.1 0 room) ∙ sym (ap (λ (p : Cut × ℕ). p.1) (get_or-zip cuts places i p l room)) ∙ ap (λ (p : Cut × ℕ). p.1) e in
                   subst (λ (n : ℕ). not (n == 0) ≡ true) same (positive (slice_index places i) (are.each i l))
                 where
                   positive : (n : ℕ) → IsFacetPlace used facets (suc i) n → not (n == 0) ≡ true

@@ -13,7 +13,7 @@ use Rattle.log_rules.specs.Events.Event.{step}
 use Rattle.log_rules.specs.Live.{Stated, find, value}
 use Rattle.log_rules.specs.Runs.{steps}
 use Rattle.log_rules.proofs.Failures.{steps-append}
-use Rattle.log_tests.proofs.Going.{length-zip}
+use Rattle.vlp_matrices.proofs.Lists.{length-zip}
 use Rattle.log_tests.proofs.StepBounds.{steps-dot, steps-all}
 use Rattle.deriv_log.specs.declared.entry.LogPair.{LogPair}
 use Rattle.log_live.specs.Adding.{AreGenerators, IsPointOrDirection, all_value_events, pair_events, quotients_events, value_events}

@@ -1,7 +1,7 @@
 use Rattle.std.proofs.Common.{◌≡◌, ◌-◌, ◌+◌, ◌<◌, ◌≤◌, ◌∷◌, ◌++◌, [], ℕ, List, length, take, slice_index, slice_index_or, slice_set, sym, subst, ap, ◌∙◌, arith}
 use Rattle.std.proofs.lemmas.List.{take_more}
 use Rattle.polyhedra.proofs.Members.{member_of}
-use Rattle.log_tests.proofs.Going.{any-default}
+use Rattle.std.proofs.lemmas.List.{get_or_default}
 use Rattle.log_answer.specs.Places.{AreFacetPlaces}
 use Rattle.log_answer.proofs.PlaceTables.{Stands, facets_more}
 use Rattle.log_answer.proofs.places.facet_places.Goals as goal
@@ -45,7 +45,7 @@ loop-number-preserved c =
     let b = e.1 in
     let many = c.in_ok-rows.ensures.many in
     let room : k - 1 < length rows = omega (arith, a, b, many) in
-    let place : slice_index rows (k - 1) ≡ c.index.result.now = any-default rows (k - 1) 0 c.index.result.now room ∙ sym c.index.ensures in
+    let place : slice_index rows (k - 1) ≡ c.index.result.now = get_or_default rows (k - 1) 0 c.index.result.now room ∙ sym c.index.ensures in
     record {
       table = subst (λ (ks : List ℕ). AreFacetPlaces used ks c.args.cuts (slice_set places (k - 1) c.index.result.now)) (sym (take_more named i 0 here))
           (subst (λ (n : ℕ). AreFacetPlaces used (take i named ++ k ∷ []) c.args.cuts (slice_set places (k - 1) n)) place

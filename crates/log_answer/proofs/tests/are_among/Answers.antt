@@ -1,5 +1,5 @@
 use Rattle.std.proofs.Common.{rules, ℕ, ◌<◌, List, length, slice_index_or, subst, arith, below_more, Contains, IsTrue}
-use Rattle.log_tests.proofs.Going.{any-default}
+use Rattle.std.proofs.lemmas.List.{get_or_default}
 use Rattle.log_answer.proofs.tests.are_among.Goals as goal
 
 pub loop-k-preserved : goal.loop-k-preserved
@@ -10,4 +10,4 @@ loop-k-preserved c =
     let here : i < length others = omega arith in
     let t : IsTrue c.is_among.result = search rules in
     below_more (λ (j : ℕ). (d : ℕ) → Contains numbers (slice_index_or others j d)) i c.loop-k.invariant
-    (λ d. subst (Contains numbers) (any-default others i 0 d here) (c.is_among.ensures.0 t))
+    (λ d. subst (Contains numbers) (get_or_default others i 0 d here) (c.is_among.ensures.0 t))

@@ -59,7 +59,7 @@ loop-generator-preserved c =
           let many = ap length split in
           let all = length-append at.yielded (x ∷ into_iter_items c.next.new.self) in
           let here : c.index-values-place.result ≡ dot row x.vector = mapped-at (λ (g : Generator). dot row g.vector) c.args.generators.items c.args.values.now at.place x c.index-values-place.result e
-              (let p = at.invariant.place in omega (arith, p, many, all)) (at_seam at.yielded x (into_iter_items c.next.new.self) c.args.generators.items at.place split at.invariant.place) c.index-values-place.is in
+          (let p = at.invariant.place in omega (arith, p, many, all)) (at_seam at.yielded x (into_iter_items c.next.new.self) c.args.generators.items at.place split at.invariant.place) c.index-values-place.is in
           c.in_ok-keep_one.ensures row here ∙ ap (λ (l : List Generator). l ++ (if le_ℚ zero_ℚ (dot row x.vector) then grown row x ∷ [] else [])) (at.invariant.kept row e) ∙ sym (kept_more row x at.yielded);
     }
 

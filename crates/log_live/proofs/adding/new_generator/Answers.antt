@@ -85,9 +85,9 @@ returns-in_err-vector c rows row named a l e =
     let gc : Contains c.args.generators.now g = (c.place_of-at_plus.result, g_in, sym c.index-generators-at_plus.is) in
     let mc : Contains c.args.generators.now m = (c.place_of-at_minus.result, m_in, sym c.index-generators-at_minus.is) in
     let same : pair_events c.args.q x y c.as_slice.result.now c.as_slice-2.result.now ≡ pair_of c.args.q row (live_of c.args.generators.now) c.args.pair =
-        ap₂ (λ (u v : List ℚ). pair_events c.args.q x y u v) c.as_slice.ensures.items c.as_slice-2.ensures.items ∙ sym (events_are c.args.q rows row c.args.generators.now c.args.values.now a named l c.args.pair e g m gc mc g_is m_is x y x_is y_is) in
+    ap₂ (λ (u v : List ℚ). pair_events c.args.q x y u v) c.as_slice.ensures.items c.as_slice-2.ensures.items ∙ sym (events_are c.args.q rows row c.args.generators.now c.args.values.now a named l c.args.pair e g m gc mc g_is m_is x y x_is y_is) in
     let stopped : Stops is_held (pair_of c.args.q row (live_of c.args.generators.now) c.args.pair) c.args.counter.now.taken c.in_err-vector.field-0.0 =
-        subst (λ (es : List Event). Stops is_held es c.args.counter.now.taken c.in_err-vector.field-0.0) same c.in_err-vector.ensures in
+    subst (λ (es : List Event). Stops is_held es c.args.counter.now.taken c.in_err-vector.field-0.0) same c.in_err-vector.ensures in
     search (stopped, rules)
 
 pub returns-in_err-tight : goal.returns-in_err-tight
@@ -105,12 +105,12 @@ returns-in_err-tight c rows row named a l e =
     let gc : Contains c.args.generators.now g = (c.place_of-at_plus.result, g_in, sym c.index-generators-at_plus.is) in
     let mc : Contains c.args.generators.now m = (c.place_of-at_minus.result, m_in, sym c.index-generators-at_minus.is) in
     let same : pair_events c.args.q x y c.as_slice.result.now c.as_slice-2.result.now ≡ pair_of c.args.q row (live_of c.args.generators.now) c.args.pair =
-        ap₂ (λ (u v : List ℚ). pair_events c.args.q x y u v) c.as_slice.ensures.items c.as_slice-2.ensures.items ∙ sym (events_are c.args.q rows row c.args.generators.now c.args.values.now a named l c.args.pair e g m gc mc g_is m_is x y x_is y_is) in
+    ap₂ (λ (u v : List ℚ). pair_events c.args.q x y u v) c.as_slice.ensures.items c.as_slice-2.ensures.items ∙ sym (events_are c.args.q rows row c.args.generators.now c.args.values.now a named l c.args.pair e g m gc mc g_is m_is x y x_is y_is) in
     let came : Passed (pair_events c.args.q x y c.as_slice.result.now c.as_slice-2.result.now) c.args.counter.now.taken c.new_vector.new.counter.taken =
-        record { none = c.in_ok-vector.ensures.0; count = c.in_ok-vector.ensures.1 } in
+    record { none = c.in_ok-vector.ensures.0; count = c.in_ok-vector.ensures.1 } in
     let here : Stopped [] c.new_vector.new.counter.taken c.in_err-tight.field-0.0 = record { at = c.in_err-tight.ensures c.new_vector.new.counter.taken } in
     let stopped : Stops is_held (pair_of c.args.q row (live_of c.args.generators.now) c.args.pair) c.args.counter.now.taken c.in_err-tight.field-0.0 =
-        subst (λ (es : List Event). Stops is_held es c.args.counter.now.taken c.in_err-tight.field-0.0) same (stopped-after came here).at in
+    subst (λ (es : List Event). Stops is_held es c.args.counter.now.taken c.in_err-tight.field-0.0) same (stopped-after came here).at in
     search (stopped, rules)
 
 pub returns : goal.returns
@@ -128,11 +128,10 @@ returns c rows row named a l e =
     let gc : Contains c.args.generators.now g = (c.place_of-at_plus.result, g_in, sym c.index-generators-at_plus.is) in
     let mc : Contains c.args.generators.now m = (c.place_of-at_minus.result, m_in, sym c.index-generators-at_minus.is) in
     let same : pair_events c.args.q x y c.as_slice.result.now c.as_slice-2.result.now ≡ pair_of c.args.q row (live_of c.args.generators.now) c.args.pair =
-        ap₂ (λ (u v : List ℚ). pair_events c.args.q x y u v) c.as_slice.ensures.items c.as_slice-2.ensures.items ∙ sym (events_are c.args.q rows row c.args.generators.now c.args.values.now a named l c.args.pair e g m gc mc g_is m_is x y x_is y_is) in
+    ap₂ (λ (u v : List ℚ). pair_events c.args.q x y u v) c.as_slice.ensures.items c.as_slice-2.ensures.items ∙ sym (events_are c.args.q rows row c.args.generators.now c.args.values.now a named l c.args.pair e g m gc mc g_is m_is x y x_is y_is) in
     let came : Passed (pair_of c.args.q row (live_of c.args.generators.now) c.args.pair) c.args.counter.now.taken c.new_vector.new.counter.taken =
-        subst (λ (es : List Event). Passed es c.args.counter.now.taken c.new_vector.new.counter.taken) same record { none = c.in_ok-vector.ensures.0; count = c.in_ok-vector.ensures.1 } in
-    let tight = (c.in_ok-tight.ensures 0).2 in
-    (
+    subst (λ (es : List Event). Passed es c.args.counter.now.taken c.new_vector.new.counter.taken) same record { none = c.in_ok-vector.ensures.0; count = c.in_ok-vector.ensures.1 } in
+    let tight = (c.in_ok-tight.ensures 0).2 in (
       came.none,
       came.count,
       made_is c.args.q rows row c.args.generators.now c.args.values.now a named l c.args.pair e g m gc mc g_is m_is x y x_is y_is c.args.number _ tight.0 refl

@@ -4,7 +4,8 @@ use Rattle.frac128.specs.Held.{is_held}
 use Rattle.polyhedra.specs.LiveList.{live_pairs}
 use Rattle.log_rules.specs.Events.{pair_of}
 use Rattle.log_rules.specs.Runs.{Stops}
-use Rattle.log_tests.proofs.Going.{Passed, Stopped, any-default, at-end, at-more, at-start, at-stop, stopped-after, stopped-in}
+use Rattle.log_tests.proofs.Going.{Passed, Stopped, at-end, at-more, at-start, at-stop, stopped-after, stopped-in}
+use Rattle.std.proofs.lemmas.List.{get_or_default}
 use Rattle.log_live.specs.Live.{live_of}
 use Rattle.log_live.proofs.Between.{few_of_pair}
 use Rattle.log_live.proofs.LivePairs.{all_made, made_more, none_made, pair_at}
@@ -15,7 +16,7 @@ returns-in_err-number c rows row a e =
     let f = pair_of c.args.q row (live_of c.args.generators.now) in
     let P = pair_at rows (live_of c.args.generators.now) row c.args.pairs.now c.loop-i.i e (omega arith) in
     let x = slice_index_or c.args.pairs.now c.loop-i.i record { plus = 0; minus = 0 } in
-    let own : x ≡ slice_index_or c.args.pairs.now c.loop-i.i x = any-default c.args.pairs.now c.loop-i.i record { plus = 0; minus = 0 } x (omega arith) in
+    let own : x ≡ slice_index_or c.args.pairs.now c.loop-i.i x = get_or_default c.args.pairs.now c.loop-i.i record { plus = 0; minus = 0 } x (omega arith) in
     let listed : Contains (live_pairs rows (live_of c.args.generators.now) row) P.named = (c.loop-i.i, P.inside, P.at P.named) in
     let here = c.loop-i.invariant.here rows row a e in
     let none : Stopped [] c.loop-i.counter.taken c.in_err-number.field-0.0 = record { at = c.in_err-number.ensures.runs c.loop-i.counter.taken } in
@@ -39,11 +40,11 @@ returns-in_err-generator c rows row a e =
     let f = pair_of c.args.q row (live_of c.args.generators.now) in
     let P = pair_at rows (live_of c.args.generators.now) row c.args.pairs.now c.loop-i.i e (omega arith) in
     let x = slice_index_or c.args.pairs.now c.loop-i.i record { plus = 0; minus = 0 } in
-    let own : x ≡ slice_index_or c.args.pairs.now c.loop-i.i x = any-default c.args.pairs.now c.loop-i.i record { plus = 0; minus = 0 } x (omega arith) in
+    let own : x ≡ slice_index_or c.args.pairs.now c.loop-i.i x = get_or_default c.args.pairs.now c.loop-i.i record { plus = 0; minus = 0 } x (omega arith) in
     let listed : Contains (live_pairs rows (live_of c.args.generators.now) row) P.named = (c.loop-i.i, P.inside, P.at P.named) in
     let here = c.loop-i.invariant.here rows row a e in
     let stopped = at-stop f c.args.pairs.now c.args.counter.now.taken c.loop-i.i c.loop-i.counter.taken x c.in_err-generator.field-0.0 (omega arith) own here
-        (c.in_err-generator.ensures rows row P.named a listed (P.is _)) in
+    (c.in_err-generator.ensures rows row P.named a listed (P.is _)) in
     search (stopped, rules)
 
 pub returns-in_err-append_generator : goal.returns-in_err-append_generator
@@ -51,7 +52,7 @@ returns-in_err-append_generator c rows row a e =
     let f = pair_of c.args.q row (live_of c.args.generators.now) in
     let P = pair_at rows (live_of c.args.generators.now) row c.args.pairs.now c.loop-i.i e (omega arith) in
     let x = slice_index_or c.args.pairs.now c.loop-i.i record { plus = 0; minus = 0 } in
-    let own : x ≡ slice_index_or c.args.pairs.now c.loop-i.i x = any-default c.args.pairs.now c.loop-i.i record { plus = 0; minus = 0 } x (omega arith) in
+    let own : x ≡ slice_index_or c.args.pairs.now c.loop-i.i x = get_or_default c.args.pairs.now c.loop-i.i record { plus = 0; minus = 0 } x (omega arith) in
     let listed : Contains (live_pairs rows (live_of c.args.generators.now) row) P.named = (c.loop-i.i, P.inside, P.at P.named) in
     let here = c.loop-i.invariant.here rows row a e in
     let ran = c.in_ok-generator.ensures rows row P.named a listed (P.is _) in
@@ -82,7 +83,7 @@ loop-i-preserved c =
           let f = pair_of c.args.q row (live_of c.args.generators.now) in
           let P = pair_at rows (live_of c.args.generators.now) row c.args.pairs.now c.loop-i.i e (omega arith) in
           let x = slice_index_or c.args.pairs.now c.loop-i.i record { plus = 0; minus = 0 } in
-          let own : x ≡ slice_index_or c.args.pairs.now c.loop-i.i x = any-default c.args.pairs.now c.loop-i.i record { plus = 0; minus = 0 } x (omega arith) in
+          let own : x ≡ slice_index_or c.args.pairs.now c.loop-i.i x = get_or_default c.args.pairs.now c.loop-i.i record { plus = 0; minus = 0 } x (omega arith) in
           let listed : Contains (live_pairs rows (live_of c.args.generators.now) row) P.named = (c.loop-i.i, P.inside, P.at P.named) in
           let here = c.loop-i.invariant.here rows row a e in
           let ran = c.in_ok-generator.ensures rows row P.named a listed (P.is _) in
@@ -91,7 +92,7 @@ loop-i-preserved c =
           let f = pair_of c.args.q row (live_of c.args.generators.now) in
           let P = pair_at rows (live_of c.args.generators.now) row c.args.pairs.now c.loop-i.i e (omega arith) in
           let x = slice_index_or c.args.pairs.now c.loop-i.i record { plus = 0; minus = 0 } in
-          let own : x ≡ slice_index_or c.args.pairs.now c.loop-i.i x = any-default c.args.pairs.now c.loop-i.i record { plus = 0; minus = 0 } x (omega arith) in
+          let own : x ≡ slice_index_or c.args.pairs.now c.loop-i.i x = get_or_default c.args.pairs.now c.loop-i.i record { plus = 0; minus = 0 } x (omega arith) in
           let listed : Contains (live_pairs rows (live_of c.args.generators.now) row) P.named = (c.loop-i.i, P.inside, P.at P.named) in
           let here = c.loop-i.invariant.here rows row a e in
           let ran = c.in_ok-generator.ensures rows row P.named a listed (P.is _) in

@@ -39,13 +39,14 @@ returns-in_err-values c file s cut h =
     let all : A ++ (T ∷ P) ≡ added_events file.objs s cut c.args.pairs.now = parts_at file s cut c.args.w.now c.args.gamma c.args.self.now h G E c.args.pairs.now in
     let here : Stopped A 0 c.in_err-values.field-0.0 = record { at = c.in_err-values.ensures } in
     let stopped : Stops is_held (added_events file.objs s cut c.args.pairs.now) 0 c.in_err-values.field-0.0 = subst (λ (es : List Event). Stops is_held es 0 c.in_err-values.field-0.0) all
-        (stopped-in (T ∷ P) here).at in
+    (stopped-in (T ∷ P) here).at in
     search (stopped, rules)
 
 pub test_pairs-requires-clause-rows : goal.test_pairs-requires-clause-rows
-test_pairs-requires-clause-rows c =
-    (rows_in_use c.requires.addition.0.objs c.requires.addition.1,
-    subst (λ (gs : List Generator). All (HasTightSet (rows_in_use c.requires.addition.0.objs c.requires.addition.1)) gs) (sym c.as_slice-generators.ensures.value) c.requires.addition.3.before.list.tight)
+test_pairs-requires-clause-rows c = (
+  rows_in_use c.requires.addition.0.objs c.requires.addition.1,
+  subst (λ (gs : List Generator). All (HasTightSet (rows_in_use c.requires.addition.0.objs c.requires.addition.1)) gs) (sym c.as_slice-generators.ensures.value) c.requires.addition.3.before.list.tight,
+)
 
 pub returns-in_err-test_pairs : goal.returns-in_err-test_pairs
 returns-in_err-test_pairs c file s cut h =
@@ -59,9 +60,9 @@ returns-in_err-test_pairs c file s cut h =
     let all : A ++ (T ∷ P) ≡ added_events file.objs s cut c.args.pairs.now = parts_at file s cut c.args.w.now c.args.gamma c.args.self.now h G E c.args.pairs.now in
     let came : Passed A 0 c.values_at.new.counter.taken = record { none = c.in_ok-values.ensures.0; count = c.in_ok-values.ensures.1 } in
     let here : Stopped (T ∷ []) c.values_at.new.counter.taken c.in_err-test_pairs.field-0.0 =
-        record { at = c.in_err-test_pairs.ensures (rows_in_use file.objs s) (cut_row s cut) c.values_at.new.counter.taken at.tight at.at_row } in
+    record { at = c.in_err-test_pairs.ensures (rows_in_use file.objs s) (cut_row s cut) c.values_at.new.counter.taken at.tight at.at_row } in
     let stopped : Stops is_held (added_events file.objs s cut c.args.pairs.now) 0 c.in_err-test_pairs.field-0.0 = subst (λ (es : List Event). Stops is_held es 0 c.in_err-test_pairs.field-0.0) all
-        (stopped-behind came (stopped-in P here)).at in
+    (stopped-behind came (stopped-in P here)).at in
     search (stopped, rules)
 
 pub new_generators-requires-clause-pairs : goal.new_generators-requires-clause-pairs
@@ -74,9 +75,13 @@ new_generators-requires-clause-pairs c =
     let E = c.as_slice-generators.ensures.value in
     let values : c.as_slice-at_row.result.now ≡ all_values c.args.w.now c.args.gamma G = c.as_slice-at_row.ensures.items ∙ c.in_ok-values.ensures.2 in
     let at : AreAtRow (length c.args.w.now) (rows_in_use file.objs s) (cut_row s cut) G c.as_slice-at_row.result.now = read_at file s cut c.args.w.now c.args.gamma c.args.self.now h G c.as_slice-at_row.result.now E values in
-    let fine = c.in_ok-test_pairs.ensures (rows_in_use file.objs s) (cut_row s cut) c.values_at.new.counter.taken at.tight at.at_row in
-    (rows_in_use file.objs s, cut_row s cut, at, pairs_are c.args.pairs.now (required_pairs (rows_in_use file.objs s) (live_of G) (cut_row s cut))
-    (test-passed (suc c.values_at.new.counter.taken) rule.Pairs (same_pairs c.args.pairs.now (required_pairs (rows_in_use file.objs s) (live_of G) (cut_row s cut))) fine.0))
+    let fine = c.in_ok-test_pairs.ensures (rows_in_use file.objs s) (cut_row s cut) c.values_at.new.counter.taken at.tight at.at_row in (
+      rows_in_use file.objs s,
+      cut_row s cut,
+      at,
+      pairs_are c.args.pairs.now (required_pairs (rows_in_use file.objs s) (live_of G) (cut_row s cut))
+          (test-passed (suc c.values_at.new.counter.taken) rule.Pairs (same_pairs c.args.pairs.now (required_pairs (rows_in_use file.objs s) (live_of G) (cut_row s cut))) fine.0),
+    )
 
 pub new_generators-requires-clause-room : goal.new_generators-requires-clause-room
 new_generators-requires-clause-room c =
@@ -102,11 +107,11 @@ returns-in_err-made c file s cut h =
     let fine = c.in_ok-test_pairs.ensures (rows_in_use file.objs s) (cut_row s cut) c.values_at.new.counter.taken at.tight at.at_row in
     let tested : Passed (T ∷ []) c.values_at.new.counter.taken c.values_at.new.counter.taken = record { none = fine.0; count = fine.1 } in
     let paired : c.args.pairs.now ≡ required_pairs (rows_in_use file.objs s) (live_of G) (cut_row s cut) =
-        pairs_are c.args.pairs.now (required_pairs (rows_in_use file.objs s) (live_of G) (cut_row s cut))
-        (test-passed (suc c.values_at.new.counter.taken) rule.Pairs (same_pairs c.args.pairs.now (required_pairs (rows_in_use file.objs s) (live_of G) (cut_row s cut))) fine.0) in
+    pairs_are c.args.pairs.now (required_pairs (rows_in_use file.objs s) (live_of G) (cut_row s cut))
+    (test-passed (suc c.values_at.new.counter.taken) rule.Pairs (same_pairs c.args.pairs.now (required_pairs (rows_in_use file.objs s) (live_of G) (cut_row s cut))) fine.0) in
     let here : Stopped P c.values_at.new.counter.taken c.in_err-made.field-0.0 = record { at = c.in_err-made.ensures (rows_in_use file.objs s) (cut_row s cut) at paired } in
     let stopped : Stops is_held (added_events file.objs s cut c.args.pairs.now) 0 c.in_err-made.field-0.0 = subst (λ (es : List Event). Stops is_held es 0 c.in_err-made.field-0.0) all
-        (stopped-behind came (stopped-behind tested here)).at in
+    (stopped-behind came (stopped-behind tested here)).at in
     search (stopped, rules)
 
 pub returns-in_err-next : goal.returns-in_err-next
@@ -123,13 +128,13 @@ returns-in_err-next c file s cut h =
     let fine = c.in_ok-test_pairs.ensures (rows_in_use file.objs s) (cut_row s cut) c.values_at.new.counter.taken at.tight at.at_row in
     let tested : Passed (T ∷ []) c.values_at.new.counter.taken c.values_at.new.counter.taken = record { none = fine.0; count = fine.1 } in
     let paired : c.args.pairs.now ≡ required_pairs (rows_in_use file.objs s) (live_of G) (cut_row s cut) =
-        pairs_are c.args.pairs.now (required_pairs (rows_in_use file.objs s) (live_of G) (cut_row s cut))
-        (test-passed (suc c.values_at.new.counter.taken) rule.Pairs (same_pairs c.args.pairs.now (required_pairs (rows_in_use file.objs s) (live_of G) (cut_row s cut))) fine.0) in
+    pairs_are c.args.pairs.now (required_pairs (rows_in_use file.objs s) (live_of G) (cut_row s cut))
+    (test-passed (suc c.values_at.new.counter.taken) rule.Pairs (same_pairs c.args.pairs.now (required_pairs (rows_in_use file.objs s) (live_of G) (cut_row s cut))) fine.0) in
     let made = c.in_ok-made.ensures (rows_in_use file.objs s) (cut_row s cut) at paired in
     let through : Passed P c.values_at.new.counter.taken c.new_generators.new.counter.taken = record { none = made.0; count = made.1 } in
     let none : Stopped [] c.new_generators.new.counter.taken c.in_err-next.field-0.0 = record { at = c.in_err-next.ensures.runs c.new_generators.new.counter.taken } in
     let stopped : Stops is_held (added_events file.objs s cut c.args.pairs.now) 0 c.in_err-next.field-0.0 = subst (λ (es : List Event). Stops is_held es 0 c.in_err-next.field-0.0) all
-        (stopped-after (passed-then came (passed-then tested through)) none).at in
+    (stopped-after (passed-then came (passed-then tested through)) none).at in
     search (stopped, rules)
 
 pub returns : goal.returns
@@ -146,10 +151,10 @@ returns c file s cut h =
     let fine = c.in_ok-test_pairs.ensures (rows_in_use file.objs s) (cut_row s cut) c.values_at.new.counter.taken at.tight at.at_row in
     let tested : Passed (T ∷ []) c.values_at.new.counter.taken c.values_at.new.counter.taken = record { none = fine.0; count = fine.1 } in
     let paired : c.args.pairs.now ≡ required_pairs (rows_in_use file.objs s) (live_of G) (cut_row s cut) =
-        pairs_are c.args.pairs.now (required_pairs (rows_in_use file.objs s) (live_of G) (cut_row s cut))
-        (test-passed (suc c.values_at.new.counter.taken) rule.Pairs (same_pairs c.args.pairs.now (required_pairs (rows_in_use file.objs s) (live_of G) (cut_row s cut))) fine.0) in
+    pairs_are c.args.pairs.now (required_pairs (rows_in_use file.objs s) (live_of G) (cut_row s cut))
+    (test-passed (suc c.values_at.new.counter.taken) rule.Pairs (same_pairs c.args.pairs.now (required_pairs (rows_in_use file.objs s) (live_of G) (cut_row s cut))) fine.0) in
     let made = c.in_ok-made.ensures (rows_in_use file.objs s) (cut_row s cut) at paired in
     let through : Passed P c.values_at.new.counter.taken c.new_generators.new.counter.taken = record { none = made.0; count = made.1 } in
     let whole : Passed (added_events file.objs s cut c.args.pairs.now) 0 c.new_generators.new.counter.taken =
-        subst (λ (es : List Event). Passed es 0 c.new_generators.new.counter.taken) all (passed-then came (passed-then tested through)) in
+    subst (λ (es : List Event). Passed es 0 c.new_generators.new.counter.taken) all (passed-then came (passed-then tested through)) in
     (whole.none, omega arith, change_is file s cut c.args.w.now c.args.gamma c.args.self.now h G c.args.pairs.now _ E c.in_ok-values.ensures.2 made.2 paired (c.in_ok-next.ensures.runs 0).2)

@@ -4,7 +4,7 @@ use Rattle.exact_field.specs.Vector.{entry}
 use Rattle.log_rules.specs.Live.{find}
 use Rattle.log_rules.proofs.HeldTests.{same_passes}
 use Rattle.log_rules.proofs.PassedTests.{same_number}
-use Rattle.log_tests.proofs.Going.{any-default}
+use Rattle.std.proofs.lemmas.List.{get_or_default}
 use Rattle.log_live.specs.Live.{StandsFor, live_of, numbered_of}
 use Rattle.log_live.specs.declared.generator.Generator.{Generator}
 use Rattle.log_live.proofs.Standing.{closed_given, closed_kind, closed_unfound, find_number, none_of, opens, rises, some_of, vector_wide}
@@ -18,7 +18,7 @@ when_none (Some x) P p = tt
 last_is : (v : List ℚ) (q : ℕ) (x : ℚ) → length v ≡ suc q → x ≡ slice_index_or v (length v - 1) x → entry v (suc q) ≡ x
 last_is v q x w e =
     let i : suc q - 1 ≡ length v - 1 = omega (arith, w) in
-    ap (λ (k : ℕ). slice_index_or v k zero_ℚ) i ∙ any-default v (length v - 1) zero_ℚ x (omega (arith, w)) ∙ sym e
+    ap (λ (k : ℕ). slice_index_or v k zero_ℚ) i ∙ get_or_default v (length v - 1) zero_ℚ x (omega (arith, w)) ∙ sym e
 
 pub find-requires : goal.find-requires
 find-requires c = subst (λ (gs : List Generator). AllPairs (λ (g : Generator) (h : Generator). g.number < h.number) gs) (sym c.deref.ensures.value)
@@ -53,11 +53,11 @@ returns-then-is_none-clause-some c file s before h p =
     let inside : c.in_ok-place.place < length live.generators.items = omega (arith, n, told) in
     let w = vector_wide file s live h c.in_ok-place.place g inside c.index-generator.ensures in
     let found = λ (d : Generator). ap (λ (gs : List Generator). find (live_of gs) c.args.number) (sym c.deref.ensures.value) ∙ c.in_ok-place.ensures.some.1 d
-        ∙ ap (λ (gs : List Generator). Some (numbered_of (slice_index_or gs c.in_ok-place.place d))) c.deref.ensures.value in
+    ∙ ap (λ (gs : List Generator). Some (numbered_of (slice_index_or gs c.in_ok-place.place d))) c.deref.ensures.value in
     let number = λ (d : Generator). find_number (live_of live.generators.items) c.args.number (numbered_of (slice_index_or live.generators.items c.in_ok-place.place d)) (found d) in
     let v = c.as_slice-vector.ensures.items in
     let read : c.index-vector-vector.result ≡ slice_index_or g.vector (length g.vector - 1) c.index-vector-vector.result =
-        c.index-vector-vector.is ∙ ap (λ (u : List ℚ). slice_index_or u (length u - 1) c.index-vector-vector.result) v in
+    c.index-vector-vector.is ∙ ap (λ (u : List ℚ). slice_index_or u (length u - 1) c.index-vector-vector.result) v in
     record {
       inside = inside;
       is_open = opens file s live h before p c.args.number c.args.t c.in_ok-place.place g inside c.index-generator.ensures (ap (λ (u : Generator). u.number) c.index-generator.ensures ∙ number g)
@@ -75,12 +75,12 @@ returns-else-eq-clause-none c file s before h p =
     let inside : c.in_ok-place.place < length live.generators.items = omega (arith, n, told) in
     let w = vector_wide file s live h c.in_ok-place.place g inside c.index-generator.ensures in
     let found = ap (λ (gs : List Generator). find (live_of gs) c.args.number) (sym c.deref.ensures.value) ∙ c.in_ok-place.ensures.some.1 g
-        ∙ ap (λ (gs : List Generator). Some (numbered_of (slice_index_or gs c.in_ok-place.place g))) c.deref.ensures.value in
+    ∙ ap (λ (gs : List Generator). Some (numbered_of (slice_index_or gs c.in_ok-place.place g))) c.deref.ensures.value in
     let number : g.number ≡ c.args.number = ap (λ (u : Generator). u.number) c.index-generator.ensures
-        ∙ find_number (live_of live.generators.items) c.args.number (numbered_of (slice_index_or live.generators.items c.in_ok-place.place g)) found in
+    ∙ find_number (live_of live.generators.items) c.args.number (numbered_of (slice_index_or live.generators.items c.in_ok-place.place g)) found in
     let v = c.as_slice-vector.ensures.items in
     let read : c.index-vector-vector.result ≡ slice_index_or g.vector (length g.vector - 1) c.index-vector-vector.result =
-        c.index-vector-vector.is ∙ ap (λ (u : List ℚ). slice_index_or u (length u - 1) c.index-vector-vector.result) v in
+    c.index-vector-vector.is ∙ ap (λ (u : List ℚ). slice_index_or u (length u - 1) c.index-vector-vector.result) v in
     elim c.else-eq.branch [
       | else-eq-via-then-eq+else-is_none u ↦
           let some = some_of g.pre u.if-is_none.ensures in
