@@ -1,19 +1,26 @@
 -- What an `add` entry does to the live generators, by the parts that the calls go through.
-use Rattle.std.specs.Prelude.{◌≡◌, ℕ, suc, List, [], ◌∷◌, ◌++◌, length, map, take, drop, All, ◌&&◌, Bool, false, not, ◌||◌, nat_eq, if◌then◌else◌}
+use Rattle.std.specs.Prelude.{◌≡◌, ℕ, suc, ◌+◌, ◌<◌, ◌≤◌, List, [], ◌∷◌, ◌++◌, length, map, filter, take, drop, All, AllPairs, ◌&&◌, Bool, false, not, ◌||◌, nat_eq, if◌then◌else◌, None}
 use Rattle.std.specs.List.{flat_map}
-use Rattle.exact_field.specs.Rational.{ℚ, zero_ℚ, one_ℚ, neg_ℚ, ◌*ℚ◌, ◌/ℚ◌, lt_ℚ}
+use Rattle.exact_field.specs.Rational.{ℚ, zero_ℚ, one_ℚ, neg_ℚ, ◌*ℚ◌, ◌/ℚ◌, le_ℚ, lt_ℚ}
 use Rattle.exact_field.specs.Vector.{dot, entry}
 use Rattle.exact_field.specs.declared.op.Op.TheVariants as op
 use Rattle.frac128.specs.Sparse.{is_zero}
-use Rattle.polyhedra.specs.DoubleDescription.{covers}
+use Rattle.polyhedra.specs.DoubleDescription.{covers, normed, meeting}
+use Rattle.polyhedra.specs.DoubleDescription as double
+use Rattle.polyhedra.specs.TightSets.{IsDoubleDescriptionPair}
 use Rattle.polyhedra.specs.Exactness.{homogenised}
-use Rattle.polyhedra.specs.LiveList.{Numbered, LivePair, is_uncovered_live}
-use Rattle.log_live.specs.Live.{numbered_of}
-use Rattle.log_rules.specs.Events.{Event, dot_steps, divisor, meeting_point, meeting_steps, same_pairs}
-use Rattle.log_rules.specs.Live.{value}
+use Rattle.polyhedra.specs.LiveList.{Numbered, LivePair, vectors, numbered, new_vectors, is_uncovered_live}
+use Rattle.log_live.specs.Live.{numbered_of, live_of, HasTightSet, StandsFor}
+use Rattle.vlp_reader.specs.declared.problem.Problem.{Problem}
+use Rattle.log_rules.specs.Events.{Event, dot_steps, divisor, meeting_point, meeting_steps, same_pairs, value_steps}
+use Rattle.log_rules.specs.Events as events
+use Rattle.log_rules.specs.Live.{State, value, cut_at, cut_row, rows_in_use, required_pairs, log_pair}
+use Rattle.log_rules.specs.declared.rule.Rule.TheVariants as rule
 use Rattle.deriv_log.specs.declared.entry.LogPair.{LogPair}
-use Rattle.log_rules.specs.Events.Event.{step}
+use Rattle.log_rules.specs.Events.Event.{step, test}
 use Rattle.log_live.specs.declared.generator.Generator.{Generator}
+use Rattle.log_live.specs.declared.live.Live.{Live}
+use Rattle.log_live.specs.declared.live.Change.{Change}
 
 -- the vector (y, t) has q entries and a t that is 1 where it is not 0
 pub record IsPointOrDirection (q : ℕ) (vector : List ℚ) : Type 0 where
@@ -88,3 +95,60 @@ pairs_from rows live row ps = flat_map (pairs_at rows live row) ps
 -- the pairs of the log from place old on are the block and then those from place new on; or they are not, whatever follows
 abbrev pub Matches : List LogPair → ℕ → Bool → ℕ → List LogPair → Type 0
 Matches pairs old result new block = (more : List LogPair) → same_pairs (drop old pairs) (block ++ more) ≡ (if result then same_pairs (drop new pairs) more else false)
+
+-- ---- the whole entry
+-- the events of an `add` entry behind the test that its number is that of a cut that is not in use
+abbrev pub added_events : ℕ → State → ℕ → List LogPair → List Event
+added_events q s cut pairs =
+    flat_map (value_steps q (cut_at s.cuts cut)) s.list.live
+    ++ test rule.Pairs (same_pairs pairs (required_pairs (rows_in_use q s) s.list.live (cut_row s cut)))
+    ∷ flat_map (events.pair_of q (cut_row s cut) s.list.live) pairs
+
+-- the value stands for what the log says so far, whose cut of this number is w . y ≥ gamma
+pub record IsAddition (file : Problem) (s : State) (cut : ℕ) (w : List ℚ) (gamma : ℚ) (live : Live) : Type 0 where
+  pub before : StandsFor file s live
+  pub wide : length w ≡ file.objs
+  pub normal : (cut_at s.cuts cut).w ≡ w
+  pub bound : (cut_at s.cuts cut).gamma ≡ gamma
+
+-- ---- its parts
+-- generators that describe the cone of the rows, with their tight sets and their values at a new row
+pub record AreAtRow (q : ℕ) (rows : List (List ℚ)) (row : List ℚ) (gens : List Generator) (values : List ℚ) : Type 0 where
+  pub few : q ≤ 100000
+  pub described : IsDoubleDescriptionPair (suc q) rows (vectors (live_of gens))
+  pub rises : AllPairs (λ g h. g.number < h.number) gens
+  pub kinds : AreGenerators q gens
+  pub tight : All (HasTightSet rows) gens
+  pub wide : length row ≡ suc q
+  pub at_row : values ≡ map (λ g. dot row g.vector) gens
+
+-- a generator with one more row
+abbrev pub grown : List ℚ → Generator → Generator
+grown row g = record g { tight = g.tight ++ double.is_zero (dot row g.vector) ∷ [] }
+
+-- those that stay, each with the row
+abbrev pub kept_of : List ℚ → List Generator → List Generator
+kept_of row gens = map (grown row) (filter (λ g. le_ℚ zero_ℚ (dot row g.vector)) gens)
+
+-- the pair of the log that names two live generators
+abbrev pub pair_named : LivePair → LogPair
+pair_named pair = log_pair (pair.plus_side.number, pair.minus_side.number)
+
+-- the new generator between two
+pub record IsBetween (rows : List (List ℚ)) (row : List ℚ) (pair : LivePair) (number : ℕ) (g : Generator) : Type 0 where
+  pub is : numbered_of g ≡ record { number = number; vector = normed (meeting row pair.plus_side.vector pair.minus_side.vector) }
+  pub tight : HasTightSet (rows ++ row ∷ []) g
+  pub fresh : g.pre ≡ None
+
+-- the new generators that a row gives, under the numbers from next on
+pub record AreNew (rows : List (List ℚ)) (row : List ℚ) (live : List Numbered) (next : ℕ) (gens : List Generator) : Type 0 where
+  pub are : live_of gens ≡ numbered next (new_vectors rows live row)
+  pub tight : All (HasTightSet (rows ++ row ∷ [])) gens
+  pub fresh : All (λ g. g.pre ≡ None) gens
+
+-- what the addition of a cut changes, where its pairs are those that are required
+pub record IsChange (q : ℕ) (s : State) (cut : ℕ) (pairs : List LogPair) (live : Live) (change : Change) : Type 0 where
+  pub values : change.values ≡ map (λ g. dot (cut_row s cut) g.vector) live.generators.items
+  pub made : AreNew (rows_in_use q s) (cut_row s cut) (live_of live.generators.items) live.next change.made.items
+  pub paired : pairs ≡ required_pairs (rows_in_use q s) s.list.live (cut_row s cut)
+  pub next : change.next ≡ live.next + length pairs

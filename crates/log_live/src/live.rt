@@ -1,0 +1,235 @@
+//! The live generators of a log as one value.
+ghost use Rattle.std.specs.Prelude.{◌≡◌, ⊤, ◌≤◌, ◌<◌, ◌*◌, ◌==◌, ℕ, List, All, [], ◌∷◌, ◌++◌, IfOk, OnOk, IfSome, IfNone, length, map, not, true};
+ghost use Rattle.std.specs.List.{list_all};
+ghost use Rattle.exact_field.specs.Rational.{ℚ};
+ghost use Rattle.exact_field.specs.Vector.{dot};
+ghost use Rattle.frac128.specs.Held.{is_held};
+ghost use Rattle.deriv_log.specs.declared.entry.Entry.{Entry};
+ghost use Rattle.deriv_log.specs.declared.entry.Entry.TheVariants.{Start, Add, Point, Ray};
+ghost use Rattle.frac128.specs.declared.vectors.Spot.{Spot};
+ghost use Rattle.vlp_reader.specs.declared.problem.Problem.{Problem};
+ghost use Rattle.log_rules.specs.Events.{is_open, same_pairs};
+ghost use Rattle.log_rules.specs.Events.Event.{test};
+ghost use Rattle.log_rules.specs.Live.{State, after, nothing, preimages, required_pairs};
+ghost use Rattle.log_rules.specs.Meets.{MeetsStart};
+ghost use Rattle.log_rules.specs.Runs.{Runs, steps};
+ghost use Rattle.log_rules.specs.declared.rule.Rule.TheVariants as rule;
+ghost use Rattle.log_live.specs.Adding.{IsAddition, IsChange, added_events, kept_of};
+ghost use Rattle.log_live.specs.Live.{HasPreimages, HasTightSet, IsListOf, IsOpenAt, StandsFor, live_of};
+
+use crate::adding::{keep_all, new_generators, number_behind};
+use crate::generator::{Generator, find};
+use crate::matching::has_pairs;
+use crate::starting::{start_direction, start_point};
+use crate::values::values_at;
+use deriv_log::LogPair;
+use frac128::{Frac, Sparse};
+use incid_sets::Marks;
+use log_rules::{Rule, Stop};
+use log_tests::{Steps, pass};
+use src_sink::{Items, NoMemory};
+use std::alloc::Global;
+use std::mem::replace;
+
+/// The live generators of a log behind some of its entries, each with the rows in use that are tight at it and the
+/// pre-image that it has.
+#[derive(Debug, Drop)]
+pub struct Live {
+    /// They stand by rising numbers.
+    pub generators: Vec<Generator>,
+    /// The number that the next new generator gets.
+    pub next: u32,
+}
+
+/// What an `add` entry changes.
+#[derive(Debug, Drop)]
+pub struct Change {
+    /// The values of the row at the live generators.
+    pub values: Items<Frac>,
+    /// The new generators.
+    pub made: Vec<Generator>,
+    /// The number that the next new one gets.
+    pub next: u32,
+}
+
+impl Live {
+    /// No generators, as before a `start`.
+    pub fn none(alloc: Global) -> Live
+        ensures list { (q : ℕ) (s : State) → s.list ≡ nothing.list → IsListOf q s result }
+        ensures preimages { (before : List Entry) → ((k : ℕ) → 1 ≤ k → preimages before k ≡ []) → HasPreimages before result }
+    {
+        Live {
+            generators: Vec::new(alloc),
+            next: 1,
+        }
+    }
+
+    /// The generators of a `start` entry that meets its rules: its point and its `q` directions. No product is computed.
+    pub fn start(
+        alloc: Global,
+        q: u32,
+        point: &[Frac],
+        directions: &[Frac],
+    ) -> Result<Live, NoMemory>
+        requires few { q ≤ 100000 }
+        requires entries { length directions.now ≡ q * q }
+        ensures list { (file : Problem) (s : State) (cuts : List ℕ) → file.objs ≡ q → MeetsStart file s cuts point.now directions.now
+            → IfOk result (IsListOf file.objs (after file.objs s (Start cuts point.now directions.now))) }
+        ensures preimages { (before : List Entry) → ((k : ℕ) → 1 ≤ k → preimages before k ≡ []) → IfOk result (HasPreimages before) }
+    {
+        let mut generators = Vec::new(alloc);
+        generators.push(start_point(alloc, q, point)?)?;
+        let count = q as usize;
+        for a in 0..count {
+            let from = a * count;
+            let direction = &directions[from..from + count];
+            generators.push(start_direction(alloc, q, a as u32, direction)?)?;
+        }
+        Ok(Live {
+            generators,
+            next: q + 2,
+        })
+    }
+
+    /// The empty set of rows in use; where there are no generators, of none.
+    fn no_rows(&self, alloc: Global) -> Result<Marks, NoMemory>
+        requires { (rows : List (List ℚ)) × All (HasTightSet rows) self.now.generators.items }
+        ensures { IfOk result (λ marks. All (λ g. length g.tight ≡ length marks) self.now.generators.items) }
+    {
+        let mut bound = 0;
+        if !self.generators.is_empty() {
+            bound = self.generators[0].tight.bound();
+        }
+        Marks::new(alloc, bound)
+    }
+
+    /// Whether the pairs are those that a row with these values asks for.
+    fn test_pairs(&self, alloc: Global, values: &[Frac], pairs: &[LogPair]) -> Result<(), Stop>
+        requires values { length values.now ≡ length self.now.generators.items }
+        requires rows { (rows : List (List ℚ)) × All (HasTightSet rows) self.now.generators.items }
+        ensures { (rows : List (List ℚ)) (row : List ℚ) (taken : ℕ) → All (HasTightSet rows) self.now.generators.items → values.now ≡ map (λ g. dot row g.vector) self.now.generators.items
+            → Runs is_held (test rule.Pairs (same_pairs pairs.now (required_pairs rows (live_of self.now.generators.items) row)) ∷ []) taken taken (λ _. ⊤) result }
+    {
+        match self.no_rows(alloc) {
+            Ok(common) => pass(
+                Rule::Pairs,
+                has_pairs(&self.generators, values, pairs, common),
+            ),
+            Err(_) => Err(Stop::NoMemory),
+        }
+    }
+
+    /// What an `add` entry changes, by its events behind the test of its number.
+    fn change_at(
+        &self,
+        alloc: Global,
+        w: &[Frac],
+        gamma: Frac,
+        pairs: &[LogPair],
+    ) -> Result<Change, Stop>
+        requires addition { (file : Problem) × ((s : State) × ((cut : ℕ) × IsAddition file s cut w.now gamma self.now)) }
+        ensures { (file : Problem) (s : State) (cut : ℕ) → IsAddition file s cut w.now gamma self.now
+            → Runs is_held (added_events file.objs s cut pairs.now) 0 (steps (added_events file.objs s cut pairs.now))
+            (IsChange file.objs s cut pairs.now self.now) result }
+    {
+        let mut counter = Steps { taken: 0 };
+        let values = values_at(alloc, &mut counter, w, gamma, &self.generators)?;
+        let at_row = values.as_slice();
+        self.test_pairs(alloc, at_row, pairs)?;
+        let made = new_generators(
+            alloc,
+            &mut counter,
+            w.len(),
+            &self.generators,
+            at_row,
+            pairs,
+            self.next,
+        )?;
+        let next = number_behind(self.next, pairs.len())?;
+        Ok(Change { values, made, next })
+    }
+
+    /// Drops the generators at which the row of the change is negative, gives the others the row, and lists the new ones.
+    fn take(&mut self, alloc: Global, change: Change) -> Result<(), NoMemory>
+        requires { length change.values ≡ length self.old.generators.items }
+        ensures { (row : List ℚ) → change.values ≡ map (λ g. dot row g.vector) self.old.generators.items
+            → OnOk result ((self.new.generators.items ≡ kept_of row self.old.generators.items ++ change.made.items) × (self.new.next ≡ change.next)) }
+    {
+        let Change { values, made, next } = change;
+        let mut made = made;
+        let generators = replace(&mut self.generators, Vec::new(alloc));
+        self.generators = keep_all(alloc, generators, values.as_slice())?;
+        self.generators.append(&mut made)?;
+        self.next = next;
+        Ok(())
+    }
+
+    /// The events of an `add` entry behind the test of its number, for the cut `w.y >= gamma`: its values at the live
+    /// generators, the test of the pairs, and the new generators. Those at which it is negative are dropped, and the
+    /// others keep their pre-images. Behind an error the value is of no use. The cost is at the worst that of the
+    /// opposite pairs times the generators times the words of a tight set.
+    pub fn add(
+        &mut self,
+        alloc: Global,
+        w: &[Frac],
+        gamma: Frac,
+        pairs: &[LogPair],
+    ) -> Result<(), Stop>
+        requires addition { (file : Problem) × ((s : State) × ((cut : ℕ) × IsAddition file s cut w.now gamma self.old)) }
+        ensures runs { (file : Problem) (s : State) (cut : ℕ) → IsAddition file s cut w.now gamma self.old
+            → Runs is_held (added_events file.objs s cut pairs.now) 0 (steps (added_events file.objs s cut pairs.now))
+            (λ _. IsListOf file.objs (after file.objs s (Add cut pairs.now)) self.new) result }
+        ensures preimages { (file : Problem) (s : State) (cut : ℕ) (before : List Entry) → IsAddition file s cut w.now gamma self.old → HasPreimages before self.old
+            → OnOk result (HasPreimages (before ++ Add cut pairs.now ∷ []) self.new) }
+    {
+        let change = self.change_at(alloc, w, gamma, pairs)?;
+        match self.take(alloc, change) {
+            Ok(()) => Ok(()),
+            Err(_) => Err(Stop::NoMemory),
+        }
+    }
+
+    /// The place of the live generator of this number, if it has this t and no pre-image yet: 1 for the generator of a
+    /// `point` entry, 0 for that of a `ray`. The cost is the logarithm of the number of generators.
+    pub fn place_open(&self, number: u32, t: Frac) -> Option<usize>
+        requires standing { (file : Problem) × ((s : State) × StandsFor file s self.now) }
+        ensures some { (file : Problem) (s : State) (before : List Entry) → StandsFor file s self.now → HasPreimages before self.now
+            → IfSome result (IsOpenAt file.objs before s number t self.now) }
+        ensures none { (file : Problem) (s : State) (before : List Entry) → StandsFor file s self.now → HasPreimages before self.now
+            → IfNone result (not (is_open file.objs before s.list.live number t) ≡ true) }
+    {
+        let place = find(&self.generators, number)?;
+        let generator = &self.generators[place];
+        let vector = generator.vector.as_slice();
+        if vector[vector.len() - 1] == t && generator.pre.is_none() {
+            Some(place)
+        } else {
+            None
+        }
+    }
+
+    /// Gives the generator at a place, which was found open, its pre-image.
+    pub fn set_preimage(&mut self, place: usize, x: Sparse)
+        requires { place < length self.old.generators.items }
+        ensures list { (q : ℕ) (s : State) → IsListOf q s self.old → IsListOf q s self.new }
+        ensures point { (file : Problem) (s : State) (before : List Entry) (k : ℕ) (t : ℚ) (m : List Spot)
+            → StandsFor file s self.old → HasPreimages before self.old → IsOpenAt file.objs before s k t self.old place
+            → HasPreimages (before ++ Point k x m ∷ []) self.new }
+        ensures ray { (file : Problem) (s : State) (before : List Entry) (k : ℕ) (t : ℚ) (m : List Spot)
+            → StandsFor file s self.old → HasPreimages before self.old → IsOpenAt file.objs before s k t self.old place
+            → HasPreimages (before ++ Ray k x m ∷ []) self.new }
+    {
+        let generator = &mut self.generators[place];
+        generator.pre = Some(x);
+    }
+
+    /// Whether each live generator has a pre-image.
+    pub fn are_reached(&self) -> bool
+        ensures { (q : ℕ) (s : State) (before : List Entry) → IsListOf q s self.now → HasPreimages before self.now
+            → result ≡ list_all (λ g. not (length (preimages before g.number) == 0)) s.list.live }
+    {
+        self.generators
+            .iter()
+            .all(|generator| generator.pre.is_some())
+    }
+}
