@@ -20,9 +20,9 @@ place-last i (j ∷ ks) c h =
     elim (eqb_tells j c) [
       | inl t ↦ absurd (let z : suc i ≡ 0 = sym (ap (λ (b : Bool). if b then suc i else place_from (suc (suc i)) ks c) t.0) ∙ h in omega (arith, z))
       | inr t ↦
-          let inner : place_from (suc (suc i)) ks c ≡ 0 = sym (ap (λ (b : Bool). if b then suc i else place_from (suc (suc i)) ks c) t) ∙ h in
+          let inner : place_from (suc (suc i)) ks c ≡ 0 = sym (ap (λ (b : Bool). if b then suc i else place_from (suc (suc i)) ks c) t.0) ∙ h in
           let more = place-last (suc i) ks c inner in
-          ap (λ (b : Bool). if b then suc i else place_from (suc (suc i)) (ks ++ c ∷ []) c) t ∙ more ∙ omega arith
+          ap (λ (b : Bool). if b then suc i else place_from (suc (suc i)) (ks ++ c ∷ []) c) t.0 ∙ more ∙ omega arith
     ]
 
 -- a number that is none of them has the place 0
@@ -36,9 +36,22 @@ pub place-tells : (i : ℕ) (ks : List ℕ) (k : ℕ) → not (place_from (suc i
 place-tells i [] k = refl
 place-tells i (j ∷ ks) k =
     elim (j == k) as (λ (b : Bool). not ((if b then suc i else place_from (suc (suc i)) ks k) == 0) ≡ (b || contains ks k)) [
-      | true ↦ refl
+      | true ↦ ap not (ne_eqb (suc i) 0 (λ e. omega (arith, e)))
       | false ↦ place-tells (suc i) ks k
     ]
+
+double : (b : Bool) → b ≡ not (not b)
+double true = refl
+double false = refl
+
+pub place-free : (ks : List ℕ) (k p : ℕ) → p ≡ place_of ks k → (p == 0) ≡ not (contains ks k)
+place-free ks k p h = double (p == 0) ∙ ap not (ap (λ (n : ℕ). not (n == 0)) h ∙ place-tells 0 ks k)
+
+pub place-used : (ks : List ℕ) (k p : ℕ) → p ≡ place_of ks k → p ≢ 0 → true ≡ contains ks k
+place-used ks k p h some = sym (ap not (ne_eqb p 0 some)) ∙ ap (λ (n : ℕ). not (n == 0)) h ∙ place-tells 0 ks k
+
+pub place-unused : (ks : List ℕ) (k p : ℕ) → p ≡ place_of ks k → p ≡ 0 → false ≡ contains ks k
+place-unused ks k p h none = sym (ap not (eq-eqb p 0 none)) ∙ ap (λ (n : ℕ). not (n == 0)) h ∙ place-tells 0 ks k
 
 -- at its place the number stands
 pub record IsPlaced (i : ℕ) (ks : List ℕ) (k : ℕ) : Type 0 where
@@ -51,7 +64,7 @@ pub placed : (i : ℕ) (ks : List ℕ) (k : ℕ) → contains ks k ≡ true → 
 placed i [] k h = absurd (true≢false (sym h))
 placed i (j ∷ ks) k h = go (eqb_tells j k) (λ c. placed (suc i) ks k c)
   where
-    go : ((j == k ≡ true) × (j ≡ k)) ⊎ (j == k ≡ false) → (contains ks k ≡ true → IsPlaced (suc i) ks k) → IsPlaced i (j ∷ ks) k
+    go : (((j == k) ≡ true) × (j ≡ k)) ⊎ (((j == k) ≡ false) × (j ≢ k)) → (contains ks k ≡ true → IsPlaced (suc i) ks k) → IsPlaced i (j ∷ ks) k
     go (inl t) again = record {
       index = 0;
       place = ap (λ (b : Bool). if b then i else place_from (suc i) ks k) t.0 ∙ omega arith;
@@ -59,12 +72,12 @@ placed i (j ∷ ks) k h = go (eqb_tells j k) (λ c. placed (suc i) ks k c)
       is = λ d. t.1;
     }
     go (inr t) again =
-        let p : IsPlaced (suc i) ks k = again (sym (ap (λ (b : Bool). b || contains ks k) t) ∙ h) in
+        let p : IsPlaced (suc i) ks k = again (sym (ap (λ (b : Bool). b || contains ks k) t.0) ∙ h) in
         let place = p.place in
         let low = p.low in
         record {
           index = suc p.index;
-          place = ap (λ (b : Bool). if b then i else place_from (suc i) ks k) t ∙ omega (arith, place);
+          place = ap (λ (b : Bool). if b then i else place_from (suc i) ks k) t.0 ∙ omega (arith, place);
           low = omega (arith, low);
           is = p.is;
         }

@@ -11,7 +11,7 @@ ghost use Rattle.deriv_log.specs.declared.entry.EndKind.TheVariants as end;
 ghost use Rattle.vlp_reader.specs.Sides.{numbers_from};
 ghost use Rattle.vlp_reader.specs.declared.problem.Problem.{Problem};
 ghost use Rattle.log_rules.specs.Events.{add_events, end_events, facet_events, is_accounted, is_largest, is_taken, point_events, ray_events, start_events};
-ghost use Rattle.log_rules.specs.Live.{contains, cut_row, named, state};
+ghost use Rattle.log_rules.specs.Live.{contains, cut_row, named, preimages, state};
 ghost use Rattle.log_rules.specs.Meets.{Meets};
 ghost use Rattle.log_rules.specs.Order as order;
 ghost use Rattle.log_rules.specs.Runs.{Runs, steps};
@@ -57,6 +57,13 @@ fn copied<T: Copy + Drop>(alloc: Global, items: &[T]) -> Result<Items<T>, NoMemo
     let mut copy = Items::new(alloc);
     copy.append(items)?;
     Ok(copy)
+}
+
+/// Whether the numbers have this one. It costs their count.
+fn has_number(numbers: &[u32], k: u32) -> bool
+    ensures { result ≡ contains numbers.now k }
+{
+    numbers.iter().any(|j| *j == k)
 }
 
 /// Whether each of so many cuts in use, by their places from 1 on, is accounted for by a facet.
@@ -106,7 +113,8 @@ impl Solving {
             u: copied(alloc, u)?,
         };
         self.cuts.push(cut)?;
-        self.uses.grow()
+        self.uses.grow()?;
+        Ok(())
     }
 
     /// Begins with the named cuts and the first generators.
@@ -154,12 +162,19 @@ impl Solving {
         }
     }
 
+    /// Whether there is a cut of this number.
+    fn is_cut(&self, cut: u32) -> bool
+        ensures { result ≡ (nat_le 1 cut && nat_le cut (length self.now.cuts.items)) }
+    {
+        1 <= cut && cut as usize <= self.cuts.len()
+    }
+
     /// Whether the cut is there and not in use.
     fn is_unused(&self, cut: u32) -> bool
         ensures { (used : List ℕ) → AreUses (length self.now.cuts.items) used self.now.uses
             → result ≡ (nat_le 1 cut && nat_le cut (length self.now.cuts.items) && not (contains used cut)) }
     {
-        cut >= 1 && cut as usize <= self.cuts.len() && self.uses.place(cut) == 0
+        self.is_cut(cut) && self.uses.place(cut) == 0
     }
 
     /// The events of an `add` entry.
@@ -281,7 +296,7 @@ impl Solving {
         ensures { (file : Problem) (before : List Entry) → IsSolving file before self.now
             → result ≡ (contains (state file.objs before).used cut && not (contains (named before) cut)) }
     {
-        self.uses.place(cut) != 0 && !self.named.as_slice().iter().any(|k| *k == cut)
+        self.uses.place(cut) != 0 && !has_number(self.named.as_slice(), cut)
     }
 
     /// Whether the cut at this place among the rows in use has a largest set of tight generators, which is that of no
@@ -319,7 +334,8 @@ impl Solving {
             → OnOk result (IsSolving file (before ++ entry.Facet cut ∷ []) self.new) }
     {
         self.named.push(cut)?;
-        self.facets.push(place)
+        self.facets.push(place)?;
+        Ok(())
     }
 
     /// The events of a `facet` entry. It costs the rows in use and the facets, each times the words of a set of
@@ -342,6 +358,14 @@ impl Solving {
         }
     }
 
+    /// Whether there was a `start`, and each live generator has a pre-image.
+    fn is_reached(&self, started: bool) -> bool
+        ensures { (file : Problem) (before : List Entry) → IsSolving file before self.now → started ≡ order.has order.start before
+            → result ≡ (order.has order.start before && list_all (λ g. not (length (preimages before g.number) == 0)) (state file.objs before).list.live) }
+    {
+        started && self.live.are_reached()
+    }
+
     /// The events of an `end solved` entry. It costs the rows in use times the facets times the words of a set of
     /// generators, and the generators.
     pub fn end(&mut self, alloc: Global, started: bool) -> Result<(), Stop>
@@ -350,7 +374,7 @@ impl Solving {
             → Runs is_held (end_events file before (state file.objs before) end.Solved) 0 (steps (end_events file before (state file.objs before) end.Solved))
             (λ _. IsSolving file (before ++ entry.End end.Solved ∷ []) self.new) result }
     {
-        if !started || !self.live.are_reached() {
+        if !self.is_reached(started) {
             return Err(Stop::Wrong(Rule::Missing));
         }
         if let Err(NoMemory) = self.compare(alloc) {
