@@ -4,3 +4,15 @@ pub mod OneMore
 pub mod ValuesAt
 pub mod Covering
 pub mod PairMatches
+pub mod NotZero
+pub mod NewVectors
+pub mod NewSets
+pub mod KeptGenerators
+pub mod LivePairs
+pub mod Preimages
+pub mod Bridges
+pub mod FirstGenerators
+pub mod Between
+pub mod Standing
+pub mod Added
+pub mod Staying

@@ -1,5 +1,5 @@
 //! The generators behind an `add` entry: those that stay, and the new ones.
-ghost use Rattle.std.specs.Prelude.{◌≡◌, ◌+◌, ◌^◌, ◌<◌, ◌++◌, ◌∷◌, [], ℕ, List, Bool, Contains, AllPairs, IfOk, OnOk, Some, length, map, slice_index_or, filter, if◌then◌else◌};
+ghost use Rattle.std.specs.Prelude.{◌≡◌, ◌+◌, ◌^◌, ◌<◌, ◌≤◌, ◌++◌, ◌∷◌, [], ℕ, List, Bool, Contains, AllPairs, IfOk, OnOk, Some, true, length, map, slice_index_or, filter, if◌then◌else◌};
 ghost use Rattle.std.specs.List.{flat_map};
 ghost use Rattle.exact_field.specs.Rational.{ℚ, zero_ℚ, le_ℚ};
 ghost use Rattle.exact_field.specs.Vector.{dot};
@@ -44,7 +44,8 @@ pub fn keep_all(
     generators: Vec<Generator>,
     values: &[Frac],
 ) -> Result<Vec<Generator>, NoMemory>
-    requires { length values.now ≡ length generators.items }
+    requires same { length values.now ≡ length generators.items }
+    requires few { length values.now ≤ 4294967294 }
     ensures { (row : List ℚ) → values.now ≡ map (λ g. dot row g.vector) generators.items → IfOk result (λ kept. kept.items ≡ kept_of row generators.items) }
 {
     let mut kept = Vec::new(alloc);
@@ -58,7 +59,8 @@ pub fn keep_all(
 
 /// The number of the generator behind so many new ones.
 pub fn number_behind(next: u32, count: usize) -> Result<u32, Stop>
-    ensures { (taken : ℕ) → Runs is_held [] taken taken (λ number. number ≡ next + count) result }
+    ensures runs { (taken : ℕ) → Runs is_held [] taken taken (λ number. number ≡ next + count) result }
+    ensures few { IfOk result (λ number. count ≤ 4294967295) }
 {
     if count > (u32::MAX - next) as usize {
         return Err(Stop::NoMemory);
@@ -81,7 +83,7 @@ fn place_of(generators: &[Generator], number: u32) -> usize
 
 /// The common numbers of two sets of rows, and the next row.
 fn common_and_next(alloc: Global, a: &Marks, b: &Marks) -> Result<Marks, Stop>
-    ensures { (taken : ℕ) → Runs is_held [] taken taken (λ marks. (common : List Bool) × (IsMeet common a.now b.now × (marks ≡ common ++ true ∷ []))) result }
+    ensures { (taken : ℕ) → Runs is_held [] taken taken (λ marks. (common : List Bool) × IsMeet common a.now b.now × (marks ≡ common ++ true ∷ [])) result }
 {
     match Marks::meet(alloc, a, b) {
         Ok(marks) => {
@@ -105,25 +107,27 @@ fn new_generator(
     pair: LogPair,
     number: u32,
 ) -> Result<Generator, Stop>
-    requires pair { (rows : List (List ℚ)) × ((row : List ℚ) × ((named : LivePair)
-        × (AreAtRow q rows row generators.now values.now × Contains (live_pairs rows (live_of generators.now) row) named × (pair ≡ pair_named named)))) }
+    requires pair { (rows : List (List ℚ)) × (row : List ℚ) × (named : LivePair)
+        × AreAtRow q rows row generators.now values.now × Contains (live_pairs rows (live_of generators.now) row) named × (pair ≡ pair_named named) }
     requires room { counter.old.taken + 400000 < 2 ^ 63 }
     ensures { (rows : List (List ℚ)) (row : List ℚ) (named : LivePair) → AreAtRow q rows row generators.now values.now
         → Contains (live_pairs rows (live_of generators.now) row) named → pair ≡ pair_named named
         → Runs is_held (pair_of q row (live_of generators.now) pair) counter.old.taken counter.new.taken (IsBetween rows row named number) result }
 {
-    let plus = place_of(generators, pair.plus);
-    let minus = place_of(generators, pair.minus);
+    let at_plus = place_of(generators, pair.plus);
+    let at_minus = place_of(generators, pair.minus);
+    let plus = &generators[at_plus];
+    let minus = &generators[at_minus];
     let vector = new_vector(
         alloc,
         counter,
         q,
-        values[plus],
-        values[minus],
-        generators[plus].vector.as_slice(),
-        generators[minus].vector.as_slice(),
+        values[at_plus],
+        values[at_minus],
+        plus.vector.as_slice(),
+        minus.vector.as_slice(),
     )?;
-    let tight = common_and_next(alloc, &generators[plus].tight, &generators[minus].tight)?;
+    let tight = common_and_next(alloc, &plus.tight, &minus.tight)?;
     Ok(Generator {
         number,
         vector,
@@ -142,7 +146,7 @@ pub fn new_generators(
     pairs: &[LogPair],
     next: u32,
 ) -> Result<Vec<Generator>, Stop>
-    requires pairs { (rows : List (List ℚ)) × ((row : List ℚ) × (AreAtRow q rows row generators.now values.now × (pairs.now ≡ required_pairs rows (live_of generators.now) row))) }
+    requires pairs { (rows : List (List ℚ)) × (row : List ℚ) × AreAtRow q rows row generators.now values.now × (pairs.now ≡ required_pairs rows (live_of generators.now) row) }
     requires room { counter.old.taken < 2 ^ 60 }
     ensures { (rows : List (List ℚ)) (row : List ℚ) → AreAtRow q rows row generators.now values.now → pairs.now ≡ required_pairs rows (live_of generators.now) row
         → Runs is_held (flat_map (pair_of q row (live_of generators.now)) pairs.now) counter.old.taken counter.new.taken

@@ -1,5 +1,5 @@
 //! The live generators of a log as one value.
-ghost use Rattle.std.specs.Prelude.{◌≡◌, ⊤, ◌≤◌, ◌<◌, ◌*◌, ◌==◌, ℕ, List, All, [], ◌∷◌, ◌++◌, IfOk, OnOk, IfSome, IfNone, length, map, not, true};
+ghost use Rattle.std.specs.Prelude.{◌≡◌, ⊤, ◌≤◌, ◌<◌, ◌*◌, ◌==◌, ℕ, List, All, [], ◌∷◌, ◌++◌, IfOk, OnOk, IfSome, IfNone, length, map, not, false, is_some};
 ghost use Rattle.std.specs.List.{list_all};
 ghost use Rattle.exact_field.specs.Rational.{ℚ};
 ghost use Rattle.exact_field.specs.Vector.{dot};
@@ -52,6 +52,43 @@ pub struct Change {
     pub next: u32,
 }
 
+/// The empty set of rows in use; where there are no generators, of none.
+fn no_rows(alloc: Global, generators: &[Generator]) -> Result<Marks, NoMemory>
+    requires { (rows : List (List ℚ)) × All (HasTightSet rows) generators.now }
+    ensures { IfOk result (λ marks. All (λ g. length g.tight ≡ length marks) generators.now) }
+{
+    let mut bound = 0;
+    if !generators.is_empty() {
+        bound = generators[0].tight.bound();
+    }
+    Marks::new(alloc, bound)
+}
+
+/// The test that the pairs are those that a row with these values asks for.
+fn test_pairs(
+    alloc: Global,
+    generators: &[Generator],
+    values: &[Frac],
+    pairs: &[LogPair],
+) -> Result<(), Stop>
+    requires values { length values.now ≡ length generators.now }
+    requires rows { (rows : List (List ℚ)) × All (HasTightSet rows) generators.now }
+    ensures { (rows : List (List ℚ)) (row : List ℚ) (taken : ℕ) → All (HasTightSet rows) generators.now → values.now ≡ map (λ g. dot row g.vector) generators.now
+        → Runs is_held (test rule.Pairs (same_pairs pairs.now (required_pairs rows (live_of generators.now) row)) ∷ []) taken taken (λ _. ⊤) result }
+{
+    match no_rows(alloc, generators) {
+        Ok(common) => pass(Rule::Pairs, has_pairs(generators, values, pairs, common)),
+        Err(_) => Err(Stop::NoMemory),
+    }
+}
+
+/// Whether each has a pre-image.
+fn are_given(generators: &[Generator]) -> bool
+    ensures { result ≡ list_all (λ g. is_some g.pre) generators.now }
+{
+    generators.iter().all(|generator| generator.pre.is_some())
+}
+
 impl Live {
     /// No generators, as before a `start`.
     pub fn none(alloc: Global) -> Live
@@ -91,34 +128,6 @@ impl Live {
         })
     }
 
-    /// The empty set of rows in use; where there are no generators, of none.
-    fn no_rows(&self, alloc: Global) -> Result<Marks, NoMemory>
-        requires { (rows : List (List ℚ)) × All (HasTightSet rows) self.now.generators.items }
-        ensures { IfOk result (λ marks. All (λ g. length g.tight ≡ length marks) self.now.generators.items) }
-    {
-        let mut bound = 0;
-        if !self.generators.is_empty() {
-            bound = self.generators[0].tight.bound();
-        }
-        Marks::new(alloc, bound)
-    }
-
-    /// Whether the pairs are those that a row with these values asks for.
-    fn test_pairs(&self, alloc: Global, values: &[Frac], pairs: &[LogPair]) -> Result<(), Stop>
-        requires values { length values.now ≡ length self.now.generators.items }
-        requires rows { (rows : List (List ℚ)) × All (HasTightSet rows) self.now.generators.items }
-        ensures { (rows : List (List ℚ)) (row : List ℚ) (taken : ℕ) → All (HasTightSet rows) self.now.generators.items → values.now ≡ map (λ g. dot row g.vector) self.now.generators.items
-            → Runs is_held (test rule.Pairs (same_pairs pairs.now (required_pairs rows (live_of self.now.generators.items) row)) ∷ []) taken taken (λ _. ⊤) result }
-    {
-        match self.no_rows(alloc) {
-            Ok(common) => pass(
-                Rule::Pairs,
-                has_pairs(&self.generators, values, pairs, common),
-            ),
-            Err(_) => Err(Stop::NoMemory),
-        }
-    }
-
     /// What an `add` entry changes, by its events behind the test of its number.
     fn change_at(
         &self,
@@ -127,25 +136,27 @@ impl Live {
         gamma: Frac,
         pairs: &[LogPair],
     ) -> Result<Change, Stop>
-        requires addition { (file : Problem) × ((s : State) × ((cut : ℕ) × IsAddition file s cut w.now gamma self.now)) }
+        requires addition { (file : Problem) × (s : State) × (cut : ℕ) × IsAddition file s cut w.now gamma self.now }
         ensures { (file : Problem) (s : State) (cut : ℕ) → IsAddition file s cut w.now gamma self.now
             → Runs is_held (added_events file.objs s cut pairs.now) 0 (steps (added_events file.objs s cut pairs.now))
             (IsChange file.objs s cut pairs.now self.now) result }
     {
+        let first_new = self.next;
+        let generators = self.generators.as_slice();
         let mut counter = Steps { taken: 0 };
-        let values = values_at(alloc, &mut counter, w, gamma, &self.generators)?;
+        let values = values_at(alloc, &mut counter, w, gamma, generators)?;
         let at_row = values.as_slice();
-        self.test_pairs(alloc, at_row, pairs)?;
+        test_pairs(alloc, generators, at_row, pairs)?;
         let made = new_generators(
             alloc,
             &mut counter,
             w.len(),
-            &self.generators,
+            generators,
             at_row,
             pairs,
-            self.next,
+            first_new,
         )?;
-        let next = number_behind(self.next, pairs.len())?;
+        let next = number_behind(first_new, pairs.len())?;
         Ok(Change { values, made, next })
     }
 
@@ -175,7 +186,7 @@ impl Live {
         gamma: Frac,
         pairs: &[LogPair],
     ) -> Result<(), Stop>
-        requires addition { (file : Problem) × ((s : State) × ((cut : ℕ) × IsAddition file s cut w.now gamma self.old)) }
+        requires addition { (file : Problem) × (s : State) × (cut : ℕ) × IsAddition file s cut w.now gamma self.old }
         ensures runs { (file : Problem) (s : State) (cut : ℕ) → IsAddition file s cut w.now gamma self.old
             → Runs is_held (added_events file.objs s cut pairs.now) 0 (steps (added_events file.objs s cut pairs.now))
             (λ _. IsListOf file.objs (after file.objs s (Add cut pairs.now)) self.new) result }
@@ -192,11 +203,11 @@ impl Live {
     /// The place of the live generator of this number, if it has this t and no pre-image yet: 1 for the generator of a
     /// `point` entry, 0 for that of a `ray`. The cost is the logarithm of the number of generators.
     pub fn place_open(&self, number: u32, t: Frac) -> Option<usize>
-        requires standing { (file : Problem) × ((s : State) × StandsFor file s self.now) }
+        requires standing { (file : Problem) × (s : State) × StandsFor file s self.now }
         ensures some { (file : Problem) (s : State) (before : List Entry) → StandsFor file s self.now → HasPreimages before self.now
             → IfSome result (IsOpenAt file.objs before s number t self.now) }
         ensures none { (file : Problem) (s : State) (before : List Entry) → StandsFor file s self.now → HasPreimages before self.now
-            → IfNone result (not (is_open file.objs before s.list.live number t) ≡ true) }
+            → IfNone result (is_open file.objs before s.list.live number t ≡ false) }
     {
         let place = find(&self.generators, number)?;
         let generator = &self.generators[place];
@@ -228,8 +239,6 @@ impl Live {
         ensures { (q : ℕ) (s : State) (before : List Entry) → IsListOf q s self.now → HasPreimages before self.now
             → result ≡ list_all (λ g. not (length (preimages before g.number) == 0)) s.list.live }
     {
-        self.generators
-            .iter()
-            .all(|generator| generator.pre.is_some())
+        are_given(&self.generators)
     }
 }
