@@ -5,16 +5,21 @@ ghost use Rattle.log_answer.specs.Supplies.{Supplies};
 ghost use Rattle.log_rules.specs.Proves.{Proves};
 ghost use Rattle.vlp_reader.specs.declared.problem.Problem.{Problem};
 
+use crate::facets::facets;
+use crate::members::{parted, shown};
+use crate::places::facet_places;
+use crate::sorting::{sorted_facets, sorted_members};
 use frac128::Vector;
 use log_live::Generator;
 use log_rules::Answer;
 use log_tests::Cut;
-use src_sink::NoMemory;
+use src_sink::{MOST_ITEMS, NoMemory};
 use std::alloc::Global;
 use vlp_reader::Dir;
 
 /// The answer that the entries of a solved log prove, from what stands after them: the direction of the file, the duality
-/// vector, the live generators, the cuts, and the numbers of those in use and of those named as facets.
+/// vector, the live generators, the cuts, and the numbers of those in use and of those named as facets. It costs n log n
+/// comparisons of vectors for each list, and a test for each facet at each point and direction; no value is computed anew.
 pub fn solved_answer(
     alloc: Global,
     dir: Dir,
@@ -27,5 +32,25 @@ pub fn solved_answer(
     requires { (file : Problem) × (entries : List Entry) × Supplies file entries dir c generators.items cuts.items used.now named.now }
     ensures { (file : Problem) (entries : List Entry) → Supplies file entries dir c generators.items cuts.items used.now named.now → IfOk result (Proves file entries) }
 {
-    Err(NoMemory)
+    let (points, directions) = parted(alloc, dir, generators)?;
+    if points.len() + directions.len() > MOST_ITEMS {
+        return Err(NoMemory);
+    }
+    let points = sorted_members(points);
+    let directions = sorted_members(directions);
+    let places = facet_places(alloc, cuts.len(), used, named)?;
+    let facets = facets(
+        alloc,
+        dir,
+        points.as_slice(),
+        directions.as_slice(),
+        cuts,
+        places.as_slice(),
+    )?;
+    Ok(Answer::Solved {
+        c,
+        points: shown(alloc, points)?,
+        directions: shown(alloc, directions)?,
+        facets: sorted_facets(facets),
+    })
 }
