@@ -126,20 +126,26 @@ impl Checker {
             named,
             ..
         } = solving;
-        match found.ended {
+        let Found {
+            farkas,
+            whole,
+            line,
+            ended,
+        } = found;
+        match ended {
             Some(kind) => match kind {
-                EndKind::Infeasible => match found.farkas {
+                EndKind::Infeasible => match farkas {
                     Some(u) => Ok(Answer::Infeasible { u }),
                     None => unreachable!(),
                 },
-                EndKind::Whole => match found.whole {
-                    Some(whole) => Ok(whole_answer(c, whole)),
+                EndKind::Whole => match whole {
+                    Some(found) => Ok(whole_answer(c, found)),
                     None => unreachable!(),
                 },
-                EndKind::NoVertex => match found.line {
-                    Some(line) => {
+                EndKind::NoVertex => match line {
+                    Some(found) => {
                         let first = cuts.swap_remove(0);
-                        Ok(line_answer(alloc, problem.dir, c, line, first))
+                        Ok(line_answer(alloc, problem.dir, c, found, first))
                     }
                     None => unreachable!(),
                 },

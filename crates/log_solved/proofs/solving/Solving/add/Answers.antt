@@ -41,14 +41,14 @@ pub add-requires-clause-addition : goal.add-requires-clause-addition
 add-requires-clause-addition c =
     let r = c.requires in
     let can = is_usable _ _ c.args.cut (sym (c.is_unused.ensures (state r.0.objs r.1.0).used r.1.1.solving.uses) ∙ test-passed 1 rule.Index c.is_unused.result (c.in_ok-pass.ensures 0).0) in
-    (r.0, (state r.0.objs r.1.0, (c.args.cut, addition_of r.0 r.1.0 c.args.self.now r.1.1 c.args.cut c.index-row.result.now c.as_slice.result.now can c.index-row.is c.as_slice.ensures.items)))
+    (r.0, (state r.0.objs r.1.0, (c.args.cut, addition_of r.0 r.1.0 c.args.self.now r.1.1 c.args.cut c.index-row.result.now c.as_slice.result.now can c.index-row.ensures c.as_slice.ensures.items)))
 
 pub returns-in_err-add : goal.returns-in_err-add
 returns-in_err-add c = λ file before stands.
     let s = state file.objs before in
     let passed = sym (c.is_unused.ensures s.used stands.solving.uses) ∙ test-passed 1 rule.Index c.is_unused.result (c.in_ok-pass.ensures 0).0 in
     let can = is_usable _ _ c.args.cut passed in
-    let addition = addition_of file before c.args.self.now stands c.args.cut c.index-row.result.now c.as_slice.result.now can c.index-row.is c.as_slice.ensures.items in
+    let addition = addition_of file before c.args.self.now stands c.args.cut c.index-row.result.now c.as_slice.result.now can c.index-row.ensures c.as_slice.ensures.items in
     let stopped = stops_as (add_events file s c.args.cut c.args.pairs.now) (added_events file.objs s c.args.cut c.args.pairs.now) c.in_err-add.field-0.0
     (added file s c.args.cut c.args.pairs.now (sym (usable_told file before c.args.self.now stands.solving c.args.cut) ∙ passed))
     (c.in_err-add.ensures.runs file s c.args.cut addition) in
@@ -73,7 +73,7 @@ returns-in-Ok c = λ file before stands.
     let s = state file.objs before in
     let passed = sym (c.is_unused.ensures s.used stands.solving.uses) ∙ test-passed 1 rule.Index c.is_unused.result (c.in_ok-pass.ensures 0).0 in
     let can = is_usable _ _ c.args.cut passed in
-    let addition = addition_of file before c.args.self.now stands c.args.cut c.index-row.result.now c.as_slice.result.now can c.index-row.is c.as_slice.ensures.items in
+    let addition = addition_of file before c.args.self.now stands c.args.cut c.index-row.result.now c.as_slice.result.now can c.index-row.ensures c.as_slice.ensures.items in
     let went = c.in_ok-add.ensures.runs file s c.args.cut addition in
     let none = added file s c.args.cut c.args.pairs.now (sym (usable_told file before c.args.self.now stands.solving c.args.cut) ∙ passed) ∙ went.0 in
     (none, omega arith,

@@ -31,7 +31,7 @@ slice_bounds-y-end c =
     let file = c.args.problem.now in
     let held = stands_for file r.0 order.ray c.args.self.now r.1 (order_of r.0 order.ray r.1.order).start in
     let here = subst (λ (t : ℚ). IsOpenAt file.objs r.0 (state file.objs r.0) c.args.number t c.args.self.now.live c.in-Some.place) c.from.ensures (c.in-Some.ensures.some file (state file.objs r.0) r.0 held r.1.solving.preimages) in
-    let room = y_room file (state file.objs r.0) c.args.self.now.live held c.in-Some.place c.index.result.now here.inside c.index.is in
+    let room = y_room file (state file.objs r.0) c.args.self.now.live held c.in-Some.place c.index.result.now here.inside c.index.ensures in
     let same = ap (λ (v : List ℚ). length v) c.as_slice-vector.ensures.items in
     omega (arith, room, same)
 
@@ -42,7 +42,7 @@ shows_ray-requires-clause-entries c =
     let held = stands_for file r.0 order.ray c.args.self.now r.1 (order_of r.0 order.ray r.1.order).start in
     let here = subst (λ (t : ℚ). IsOpenAt file.objs r.0 (state file.objs r.0) c.args.number t c.args.self.now.live c.in-Some.place) c.from.ensures (c.in-Some.ensures.some file (state file.objs r.0) r.0 held r.1.solving.preimages) in
     ap (λ (v : List ℚ). length (take file.objs v)) c.as_slice-vector.ensures.items
-    ∙ y_wide file (state file.objs r.0) c.args.self.now.live held c.in-Some.place c.index.result.now here.inside c.index.is
+    ∙ y_wide file (state file.objs r.0) c.args.self.now.live held c.in-Some.place c.index.result.now here.inside c.index.ensures
 
 pub give-requires : goal.give-requires
 give-requires c =
@@ -58,7 +58,7 @@ returns-in_err-shows_ray-in-Some c = λ before stands.
     let held = stands_for file before order.ray c.args.self.now stands (order_of before order.ray stands.order).start in
     let here = subst (λ (t : ℚ). IsOpenAt file.objs before s c.args.number t c.args.self.now.live c.in-Some.place) c.from.ensures (c.in-Some.ensures.some file s before held stands.solving.preimages) in
     let v = c.as_slice-vector.result.now in
-    let same = y_told file.objs before s c.args.number zero_ℚ c.args.self.now.live c.in-Some.place c.index.result.now v here c.index.is c.as_slice-vector.ensures.items in
+    let same = y_told file.objs before s c.args.number zero_ℚ c.args.self.now.live c.in-Some.place c.index.result.now v here c.index.ensures c.as_slice-vector.ensures.items in
     let stopped = stops_as (ray_events file before s c.args.number c.args.x.now c.args.m.now) (shown_ray file (take file.objs v) c.args.x.now c.args.m.now) c.in_err-shows_ray-in-Some.field-0.0
     (opened (λ y. shown_ray file y c.args.x.now c.args.m.now) (is_open file.objs before s.list.live c.args.number zero_ℚ) (y_at file.objs s.list.live c.args.number) (take file.objs v) here.is_open same)
     c.in_err-shows_ray-in-Some.ensures in
@@ -71,7 +71,7 @@ returns-in_ok-shows_ray-in-Some c = λ before stands.
     let held = stands_for file before order.ray c.args.self.now stands (order_of before order.ray stands.order).start in
     let here = subst (λ (t : ℚ). IsOpenAt file.objs before s c.args.number t c.args.self.now.live c.in-Some.place) c.from.ensures (c.in-Some.ensures.some file s before held stands.solving.preimages) in
     let v = c.as_slice-vector.result.now in
-    let same = y_told file.objs before s c.args.number zero_ℚ c.args.self.now.live c.in-Some.place c.index.result.now v here c.index.is c.as_slice-vector.ensures.items in
+    let same = y_told file.objs before s c.args.number zero_ℚ c.args.self.now.live c.in-Some.place c.index.result.now v here c.index.ensures c.as_slice-vector.ensures.items in
     ends _ (ray_events file before s c.args.number c.args.x.now c.args.m.now) c.give.result
     (opened (λ y. shown_ray file y c.args.x.now c.args.m.now) (is_open file.objs before s.list.live c.args.number zero_ℚ) (y_at file.objs s.list.live c.args.number) (take file.objs v) here.is_open same
     ∙ c.in_ok-shows_ray-in-Some.ensures.0)
