@@ -1,13 +1,20 @@
-//! Live generators of small cones, by the rows that are tight at them: the pairs that a row asks for, and the rows that
-//! are facets.
-ghost use Rattle.std.specs.Prelude.{◌≡◌, ◌==◌, ◌≤◌, length, IfOk};
+//! Live generators of small cones, by the rows that are tight at them: the pairs that a row asks for, the rows that are
+//! facets, and what an added cut does to a corner.
+ghost use Rattle.std.specs.Prelude.{◌≡◌, ◌==◌, ◌≤◌, ℕ, List, length, IfOk};
 ghost use Rattle.std.specs.List.{list_all};
 
-use crate::{Generator, TightSets, has_pairs};
+ghost use Rattle.exact_field.specs.Rational.{ℚ};
+ghost use Rattle.vlp_reader.specs.declared.problem.Problem.{Problem};
+ghost use Rattle.log_rules.specs.Live.{State};
+ghost use Rattle.log_live.specs.Adding.{IsAddition};
+
+use crate::{Generator, Live, TightSets, has_pairs};
 use deriv_log::LogPair;
+use exact_field::Op;
 use frac128::Frac;
 use incid_sets::Marks;
-use src_sink::Items;
+use log_rules::{Rule, Stop};
+use src_sink::{Items, NoMemory};
 use std::alloc::Global;
 use std::process::Abort;
 use std::test::Fail;
@@ -162,4 +169,86 @@ fn facets_have_largest_sets(rt: HostRuntime) -> Result<(), Fail> {
     assert!(rt; sets.is_accounted([].as_slice(), 0) && sets.is_accounted([3].as_slice(), 4));
     assert!(rt; !sets.is_accounted([1].as_slice(), 4));
     Ok(())
+}
+
+/// The corner (-4, 4) of two cuts, y1 + y2 >= 0 halved and y2 >= 4, with its two directions.
+fn corner(alloc: Global) -> Result<Live, NoMemory>
+    ensures { IfOk result (λ live. (w : List ℚ) (gamma : ℚ) → length w ≡ 2 → (file : Problem) × (s : State) × (cut : ℕ) × IsAddition file s cut w gamma live) }
+{
+    let point = [Frac::from(-4), Frac::from(4)];
+    let directions = [
+        Frac::from(1),
+        Frac::from(0),
+        Frac::from(-1),
+        Frac::from(1),
+    ];
+    Live::start(alloc, 2, point.as_slice(), directions.as_slice())
+}
+
+/// What a cut with these pairs answers at that corner, and the generators behind it.
+fn added(
+    rt: &impl Abort,
+    alloc: Global,
+    w: [Frac; 2],
+    gamma: Frac,
+    pairs: &[(u32, u32)],
+) -> Result<(Live, Result<(), Stop>), Fail> {
+    let mut live = corner(alloc)?;
+    let mut named: Vec<LogPair> = Vec::new(alloc);
+    for pair in pairs {
+        named.push(LogPair {
+            plus: pair.0,
+            minus: pair.1,
+        })?;
+    }
+    let answer = live.add(alloc, w.as_slice(), gamma, named.as_slice());
+    Ok((live, answer))
+}
+
+/// Whether a generator has this number, these entries and these tight rows of four, and no pre-image.
+fn is(generator: &Generator, number: u32, entries: [i64; 3], tight: [bool; 4]) -> bool {
+    let vector = generator.vector.as_slice();
+    generator.number == number
+        && vector.len() == 3
+        && (0..3).all(|i| vector[i] == Frac::from(entries[i]))
+        && (0..4).all(|i| generator.tight.has(i as u32) == tight[i])
+        && generator.tight.bound() == 4
+        && generator.pre.is_none()
+}
+
+#[test]
+fn a_cut_is_added(rt: HostRuntime) -> Result<(), Fail> {
+    let alloc = rt.alloc();
+    let quarters = [
+        Frac::new(1, 4).expect(&rt, "held"),
+        Frac::new(3, 4).expect(&rt, "held"),
+    ];
+    let (live, answer) = added(&rt, alloc, quarters, Frac::from(3), [(2, 1), (3, 1)].as_slice())?;
+    assert!(rt; answer.is_ok() && live.next == 6 && live.generators.len() == 4);
+    assert!(rt; is(&live.generators[0], 2, [1, 0, 0], [true, false, true, false]));
+    assert!(rt; is(&live.generators[1], 3, [-1, 1, 0], [true, true, false, false]));
+    assert!(rt; is(&live.generators[2], 4, [0, 4, 1], [false, false, true, true]));
+    assert!(rt; is(&live.generators[3], 5, [-6, 6, 1], [false, true, false, true]));
+    let (_live, answer) = added(&rt, alloc, quarters, Frac::from(3), [(2, 1)].as_slice())?;
+    assert!(rt; matches!(answer, Err(Stop::Wrong(Rule::Pairs))));
+    // Four times 2^119 is not held.
+    let large = Frac::new(1 << 119, 1).expect(&rt, "held");
+    let (_live, answer) = added(&rt, alloc, [large, Frac::from(0)], Frac::from(0), [].as_slice())?;
+    assert!(rt; is_left(&answer, 1, Op::Mul, large, Frac::from(-4)));
+    // The values take 11 steps, and the quotient of the one pair is 2^-130.
+    let small = Frac::new(1, 1 << 100).expect(&rt, "held");
+    let bound = Frac::from(1 << 30);
+    let (_live, answer) = added(&rt, alloc, [small, small], bound, [(2, 1)].as_slice())?;
+    assert!(rt; is_left(&answer, 12, Op::Div, small, bound));
+    Ok(())
+}
+
+/// Whether the answer is that of a step whose result is not held.
+fn is_left(answer: &Result<(), Stop>, number: u64, op: Op, a: Frac, b: Frac) -> bool {
+    match answer {
+        Err(Stop::Left { step, left }) => {
+            *step == number && left.op == op && left.a == a && left.b == b
+        }
+        _ => false,
+    }
 }

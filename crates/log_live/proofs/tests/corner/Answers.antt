@@ -1,0 +1,83 @@
+use Rattle.std.proofs.Common.{◌≡◌, ℕ, suc, pos, negsuc, List, [], ◌∷◌, ◌++◌, refl, sym, ap, ap₂, subst, ◌∙◌, length, All, Option, None, Some}
+use Rattle.std.proofs.Common.{Result, Ok, Err}
+use Rattle.std.specs.Prelude.{IfOk}
+use Rattle.exact_field.specs.Rational.{ℚ, whole}
+use Rattle.frac128.specs.Held.{is_held}
+use Rattle.vlp_reader.specs.declared.problem.Problem.{Problem}
+use Rattle.deriv_log.specs.declared.entry.Entry.{Entry}
+use Rattle.deriv_log.specs.declared.entry.Entry.TheVariants.{Start}
+use Rattle.log_rules.specs.Events.{Failing, log_failure}
+use Rattle.log_rules.specs.Examples.{SmallLogs, in_numbers, last_ray, n, minus_one, small_cuts, small_front, solved_end, half, third, at}
+use Rattle.log_rules.specs.Laws.{Stands}
+use Rattle.log_rules.specs.Live.{State, Stated, after, state}
+use Rattle.log_rules.specs.Meets.{Meets, MeetsStart}
+use Rattle.log_rules.specs.Proves.{AllMeet}
+use Rattle.log_rules.proofs.CutsStay.{Exists}
+use Rattle.log_rules.proofs.Examples.{worked_logs}
+use Rattle.log_rules.proofs.KeepsDescription.{stands-cut}
+use Rattle.log_rules.proofs.LogMeets.{events_give_meets}
+use Rattle.log_rules.proofs.StartDescribes.{stands-start}
+use Rattle.log_live.specs.Adding.{IsAddition}
+use Rattle.log_live.specs.Live.{IsListOf}
+use Rattle.log_live.specs.declared.live.Live.{Live}
+use Rattle.log_live.proofs.Staying.{list_stays}
+use Rattle.log_live.proofs.tests.corner.Goals as goal
+use Rattle.deriv_log.specs.declared.entry.Entry.TheVariants as entry
+
+none_fails : (f : Option Failing) → in_numbers f ≡ [] → f ≡ None
+none_fails None h = refl
+none_fails (Some f) h = absurd cc
+
+-- the worked log of this corner meets its rules
+solved : SmallLogs
+solved = worked_logs.small
+
+file : Problem
+file = solved.solved.file
+
+log : List Entry
+log = small_front ++ last_ray ∷ entry.Facet 1 ∷ entry.Facet 2 ∷ entry.Facet 3 ∷ solved_end
+
+meet : AllMeet file log
+unfolding file log
+meet = events_give_meets is_held file log (none_fails (log_failure is_held file log) solved.solved.first)
+
+before : List Entry
+before =
+    entry.Version 1
+    ∷ entry.Duality (n 1 ∷ n 1 ∷ []) [] [] []
+    ∷ entry.Cut (half ∷ half ∷ []) (n 0) (at 3 (n 1) ∷ []) []
+    ∷ entry.Cut (n 0 ∷ n 1 ∷ []) (n 4) (at 1 third ∷ at 2 third ∷ []) []
+    ∷ []
+
+point : List ℚ
+point = whole (negsuc 3) ∷ n 4 ∷ []
+
+directions : List ℚ
+directions = n 1 ∷ n 0 ∷ minus_one ∷ n 1 ∷ []
+
+start_meets : MeetsStart file (state file.objs before) (1 ∷ 2 ∷ []) point directions
+unfolding log before point directions
+start_meets = (meet before (entry.Start (1 ∷ 2 ∷ []) point directions) _ refl).rules
+
+base : State
+base = after file.objs (state file.objs before) (entry.Start (1 ∷ 2 ∷ []) point directions)
+
+module _ (live : Live) (list : IsListOf file.objs base live) (w : List ℚ) (gamma : ℚ) (wide : length w ≡ 2) where
+  added : Stated
+  added = record { w = w; gamma = gamma; u = [] }
+
+  addition : IsAddition file (record base { cuts = base.cuts ++ record { w = w; gamma = gamma; u = [] } ∷ [] }) 3 w gamma live
+  unfolding base before
+  addition = record {
+    before = record {
+      stands = stands-cut file base record { w = w; gamma = gamma; u = [] } start_meets.exist (stands-start file (state file.objs before) (1 ∷ 2 ∷ []) point directions start_meets);
+      list = list_stays file.objs base record { w = w; gamma = gamma; u = [] } live start_meets.exist list;
+    };
+    wide = wide ∙ sym solved.solved.says.objs;
+    normal = refl;
+    bound = refl;
+  }
+
+pub returns : goal.returns
+returns c = ?
