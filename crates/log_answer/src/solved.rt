@@ -1,6 +1,7 @@
 //! The answer of a solved log.
-ghost use Rattle.std.specs.Prelude.{List, IfOk};
+ghost use Rattle.std.specs.Prelude.{◌≤◌, List, All, Contains, IfOk, length};
 ghost use Rattle.deriv_log.specs.declared.entry.Entry.{Entry};
+ghost use Rattle.log_answer.specs.Members.{IsReached};
 ghost use Rattle.log_answer.specs.Supplies.{Supplies};
 ghost use Rattle.log_rules.specs.Proves.{Proves};
 ghost use Rattle.vlp_reader.specs.declared.problem.Problem.{Problem};
@@ -17,10 +18,8 @@ use src_sink::{MOST_ITEMS, NoMemory};
 use std::alloc::Global;
 use vlp_reader::Dir;
 
-/// The answer that the entries of a solved log prove, from what stands after them: the direction of the file, the duality
-/// vector, the live generators, the cuts, and the numbers of those in use and of those named as facets. It costs n log n
-/// comparisons of vectors for each list, and a test for each facet at each point and direction; no value is computed anew.
-pub fn solved_answer(
+/// The answer of these, of which the numbers name what is there.
+pub(crate) fn assembled(
     alloc: Global,
     dir: Dir,
     c: Vector,
@@ -29,7 +28,9 @@ pub fn solved_answer(
     used: &[u32],
     named: &[u32],
 ) -> Result<Answer, NoMemory>
-    requires { (file : Problem) × (entries : List Entry) × Supplies file entries dir c generators.items cuts.items used.now named.now }
+    requires reached { All IsReached generators.items }
+    requires exist { All (λ k. (1 ≤ k) × (k ≤ length cuts.items)) used.now }
+    requires named { All (Contains used.now) named.now }
     ensures { (file : Problem) (entries : List Entry) → Supplies file entries dir c generators.items cuts.items used.now named.now → IfOk result (Proves file entries) }
 {
     let (points, directions) = parted(alloc, dir, generators)?;
@@ -53,4 +54,22 @@ pub fn solved_answer(
         directions: shown(alloc, directions)?,
         facets: sorted_facets(facets),
     })
+}
+
+/// The answer that the entries of a solved log prove, from what stands after them: the direction of the file, the duality
+/// vector, the live generators, the cuts, and the numbers of those in use and of those named as facets. It costs n log n
+/// comparisons of vectors for each list, and a test for each facet at each point and direction; no value is computed anew.
+pub fn solved_answer(
+    alloc: Global,
+    dir: Dir,
+    c: Vector,
+    generators: Vec<Generator>,
+    cuts: Vec<Cut>,
+    used: &[u32],
+    named: &[u32],
+) -> Result<Answer, NoMemory>
+    requires { (file : Problem) × (entries : List Entry) × Supplies file entries dir c generators.items cuts.items used.now named.now }
+    ensures { (file : Problem) (entries : List Entry) → Supplies file entries dir c generators.items cuts.items used.now named.now → IfOk result (Proves file entries) }
+{
+    assembled(alloc, dir, c, generators, cuts, used, named)
 }
