@@ -1,5 +1,5 @@
 -- The first failure of entries behind entries without one.
-use Rattle.std.proofs.Common.{◌≡◌, ℕ, suc, ◌+◌, ◌<◌, ◌≤◌, List, [], ◌∷◌, ◌++◌, length, take, drop, get_or, refl, sym, ap, ◌∙◌, subst, arith, true≢false, append-nil, append_assoc, Option, None, Some}
+use Rattle.std.proofs.Common.{◌≡◌, ℕ, zero, suc, ◌+◌, ◌<◌, ◌≤◌, List, [], ◌∷◌, ◌++◌, length, take, drop, get_or, refl, sym, ap, ◌∙◌, subst, arith, true≢false, append-nil, append_assoc, Option, None, Some}
 use Rattle.std.specs.Option.{is_some}
 use Rattle.std.proofs.lemmas.List.{length-take}
 use Rattle.frac128.specs.Held.{is_held}
@@ -19,9 +19,9 @@ or_later (Some failure) n later = Some (record { entry = n; failure = failure })
 or_later None n later = later
 
 -- neither a failure here nor a later one
-record NoneFails (f : Option Failure) (later : Option Failing) : Type 0 where
+record NoneFails (f : Option Failure) (then : Option Failing) : Type 0 where
   here : f ≡ None
-  later : later ≡ None
+  later : then ≡ None
 
 neither : (f : Option Failure) (n : ℕ) (later : Option Failing) → or_later f n later ≡ None → NoneFails f later
 unfolding or_later
@@ -75,7 +75,7 @@ module _ (file : Problem) (before : List Entry) (e : Entry) (passes : log_failur
 -- ---- the entry at a place of a log
 pub split_at : (list : List Entry) (i : ℕ) (e : Entry) → i < length list → e ≡ get_or list i e → list ≡ take i list ++ e ∷ drop (i + 1) list
 split_at [] i e low is = absurd (omega (arith, low))
-split_at (d ∷ list) 0 e low is = ap (λ (x : Entry). x ∷ list) (sym is)
+split_at (d ∷ list) zero e low is = ap (λ (x : Entry). x ∷ list) (sym is)
 split_at (d ∷ list) (suc i) e low is = ap (λ (es : List Entry). d ∷ es) (split_at list i e (omega (arith, low)) is)
 
 pub refuses_at : (file : Problem) (list : List Entry) (i : ℕ) (e : Entry) (stop : Stop) → i < length list → e ≡ get_or list i e → log_failure is_held file (take i list) ≡ None →

@@ -91,7 +91,8 @@ impl Checker {
         ensures solving { self.new.solving ≡ self.old.solving }
     {
         self.known.keep(alloc, entry)?;
-        self.found.keep(alloc, entry)
+        self.found.keep(alloc, entry)?;
+        Ok(())
     }
 
     /// The events of one more entry.

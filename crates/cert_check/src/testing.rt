@@ -35,6 +35,7 @@ fn take_cut(
     u: &[Spot],
     v: &[Spot],
 ) -> Result<(), Stop>
+    requires multipliers { IsSparse u.now }
     requires cone_multipliers { IsSparse v.now }
     requires standing { (before : List Entry) × (IsKnown problem.now before known.now × StandsBefore problem.now before order.cut solving.old) }
     ensures { (before : List Entry) → IsKnown problem.now before known.now → StandsBefore problem.now before order.cut solving.old

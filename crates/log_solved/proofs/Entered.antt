@@ -43,7 +43,14 @@ pub record IsTold (file : Problem) (st : State) (entries : List Entry) (ks : Lis
 
 solving_of : (file : Problem) (entries : List Entry) (s : Solving) → IsTold file (state file.objs entries) entries (named entries) s → IsSolving file entries s
 solving_of file entries s h = record {
-  cuts = h.cuts; uses = h.uses; live = h.live; preimages = h.preimages; names = h.names; in_use = h.in_use; facets = h.facets; sets = h.sets;
+  cuts = h.cuts;
+  uses = h.uses;
+  live = h.live;
+  preimages = h.preimages;
+  names = h.names;
+  in_use = h.in_use;
+  facets = h.facets;
+  sets = h.sets;
 }
 
 -- behind one more entry
@@ -66,8 +73,14 @@ pub stays : (file : Problem) (before : List Entry) (e : Entry) (s : Solving) →
 stays file before e s same unnamed none h =
     entered file before e (named before) s (named-stay before e unnamed)
     (subst (λ (st : State). IsTold file st (before ++ e ∷ []) (named before) s) (sym (same file.objs (state file.objs before))) (record {
-      cuts = h.cuts; uses = h.uses; live = h.live; preimages = preimages-kept before e s.live none h.preimages;
-      names = h.names; in_use = h.in_use; facets = h.facets; sets = h.sets;
+      cuts = h.cuts;
+      uses = h.uses;
+      live = h.live;
+      preimages = preimages-kept before e s.live none h.preimages;
+      names = h.names;
+      in_use = h.in_use;
+      facets = h.facets;
+      sets = h.sets;
     }))
 
 -- ---- nothing

@@ -9,6 +9,9 @@ use Rattle.log_solved.proofs.Given.{tests_as}
 use Rattle.cert_check.proofs.OneEntry.{took_as}
 use Rattle.cert_check.proofs.testing.take_end.Goals as goal
 
+pub end-requires : goal.end-requires
+end-requires c = let r = c.requires.standing in (r.0, (r.1.0, r.1.1.1))
+
 pub returns-in-Infeasible : goal.returns-in-Infeasible
 returns-in-Infeasible c = λ file before known h.
     took_as file before (End ending.Infeasible) (End c.args.kind) c.args.solving.now c.pass.result (ap End (sym c.in-Infeasible.is))

@@ -18,6 +18,11 @@ take_cut-requires-clause-cone_multipliers c =
     subst IsSparse (sym c.as_slice-in-Cut-3.ensures.items)
     (sparse_at c.args.entry.now (Cut c.in-Cut.w c.in-Cut.gamma c.in-Cut.u c.in-Cut.v) c.in-Cut.is c.requires.formed 3 (omega arith) c.in-Cut.v refl)
 
+pub take_cut-requires-clause-multipliers : goal.take_cut-requires-clause-multipliers
+take_cut-requires-clause-multipliers c =
+    subst IsSparse (sym c.as_slice-in-Cut-2.ensures.items)
+    (sparse_at c.args.entry.now (Cut c.in-Cut.w c.in-Cut.gamma c.in-Cut.u c.in-Cut.v) c.in-Cut.is c.requires.formed 2 (omega arith) c.in-Cut.u refl)
+
 pub take_cut-requires-clause-standing : goal.take_cut-requires-clause-standing
 take_cut-requires-clause-standing c =
     let file = c.args.problem.now in
@@ -45,7 +50,7 @@ name_facet-requires c =
 pub take_end-requires : goal.take_end-requires
 take_end-requires c =
     let from = c.requires.standing in
-    (c.args.problem.now, (from.0, (from.1.0, from.1.1.solving)))
+    record { standing = (c.args.problem.now, (from.0, (from.1.0, from.1.1.solving))) }
 
 pub certify_point-requires-clause-sheet : goal.certify_point-requires-clause-sheet
 certify_point-requires-clause-sheet c = c.requires.standing.1.0.sheet
@@ -120,14 +125,14 @@ check_line-requires-clause-back_multipliers c =
 pub returns-in-Version : goal.returns-in-Version
 returns-in-Version c = λ before known stands.
     let file = c.args.problem.now in
-    took_as file before (Version c.in-Version.number) c.args.entry.now c.args.solving.now c.pass.result sym c.in-Version.is
+    took_as file before (Version c.in-Version.number) c.args.entry.now c.args.solving.now c.pass.result (sym c.in-Version.is)
     (took file before (Version c.in-Version.number) c.args.solving.now c.pass.result (λ q st. refl) refl (λ k. refl) stands.solving (c.pass.ensures 0))
 
 pub returns-in-Duality : goal.returns-in-Duality
 returns-in-Duality c = λ before known stands.
     let file = c.args.problem.now in
-    took_as file before (Duality c.as_slice-in-Duality.result.now c.as_slice-in-Duality-2.result.now c.as_slice-in-Duality-3.result.now c.as_slice-in-Duality-4.result.now) c.args.entry.now c.args.solving.now c.check_duality.result ((λ i. Duality (c.as_slice-in-Duality.ensures.items i) (c.as_slice-in-Duality-2.ensures.items i) (c.as_slice-in-Duality-3.ensures.items i) (c.as_slice-in-Duality-4.ensures.items i)) ∙ sym c.in-Duality.is)
-    (took file before (Duality c.as_slice-in-Duality.result.now c.as_slice-in-Duality-2.result.now c.as_slice-in-Duality-3.result.now c.as_slice-in-Duality-4.result.now) c.args.solving.now c.check_duality.result (λ q st. refl) refl (λ k. refl) stands.solving c.check_duality.ensures)
+    took_as file before (Duality c.as_slice.result.now c.as_slice-in-Duality.result.now c.as_slice-in-Duality-2.result.now c.as_slice-in-Duality-3.result.now) c.args.entry.now c.args.solving.now c.check_duality.result ((λ i. Duality (c.as_slice.ensures.items i) (c.as_slice-in-Duality.ensures.items i) (c.as_slice-in-Duality-2.ensures.items i) (c.as_slice-in-Duality-3.ensures.items i)) ∙ sym c.in-Duality.is)
+    (took file before (Duality c.as_slice.result.now c.as_slice-in-Duality.result.now c.as_slice-in-Duality-2.result.now c.as_slice-in-Duality-3.result.now) c.args.solving.now c.check_duality.result (λ q st. refl) refl (λ k. refl) stands.solving c.check_duality.ensures)
 
 pub returns-in-Cut : goal.returns-in-Cut
 returns-in-Cut c = λ before known stands.

@@ -30,7 +30,7 @@ take_entry-requires-clause-standing c =
 pub returns-in_err-take_entry : goal.returns-in_err-take_entry
 returns-in_err-take_entry c = λ before at.
     let ordered : in_order before (kind c.args.entry.now) ≡ true = sym (c.in_order.ensures before at.known.kinds) ∙ test-passed 1 rule.Order c.in_order.result (c.in_ok-pass.ensures 0).0 in
-    let stands = record { solving = at.solving; meet = events_give_meets is_held c.args.problem.now before at.passes; order = ordered } in
+    let stands : StandsBefore c.args.problem.now before (kind c.args.entry.now) c.args.self.now.solving = record { solving = at.solving; meet = events_give_meets is_held c.args.problem.now before at.passes; order = ordered } in
     let stopped = not_passed c.args.problem.now before c.args.entry.now c.in_err-take_entry.field-0.0 ordered (c.in_err-take_entry.ensures before at.known stands) in
     search (stopped, rules)
 
@@ -39,7 +39,7 @@ returns-in-Ok c = λ before at.
     let file = c.args.problem.now in
     let e = c.args.entry.now in
     let ordered : in_order before (kind e) ≡ true = sym (c.in_order.ensures before at.known.kinds) ∙ test-passed 1 rule.Order c.in_order.result (c.in_ok-pass.ensures 0).0 in
-    let stands = record { solving = at.solving; meet = events_give_meets is_held file before at.passes; order = ordered } in
+    let stands : StandsBefore file before (kind e) c.args.self.now.solving = record { solving = at.solving; meet = events_give_meets is_held file before at.passes; order = ordered } in
     let went = c.in_ok-take_entry.ensures before at.known stands in
     let none = all_passed file before e ordered went.0 in
     let fits = fits_scale file before e went.0 in

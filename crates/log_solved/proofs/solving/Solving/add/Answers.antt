@@ -37,11 +37,11 @@ index-row-requires c =
     let high = can.high in
     omega (arith, low, high)
 
-pub add-requires-clause-addition : goal.add-requires-clause-addition
-add-requires-clause-addition c =
+pub add-requires : goal.add-requires
+add-requires c =
     let r = c.requires in
     let can = is_usable _ _ c.args.cut (sym (c.is_unused.ensures (state r.0.objs r.1.0).used r.1.1.solving.uses) ∙ test-passed 1 rule.Index c.is_unused.result (c.in_ok-pass.ensures 0).0) in
-    (r.0, (state r.0.objs r.1.0, (c.args.cut, addition_of r.0 r.1.0 c.args.self.now r.1.1 c.args.cut c.index-row.result.now c.as_slice.result.now can c.index-row.ensures c.as_slice.ensures.items)))
+    record { addition = (r.0, state r.0.objs r.1.0, c.args.cut, addition_of r.0 r.1.0 c.args.self.now r.1.1 c.args.cut c.index-row.result.now c.as_slice.result.now can c.index-row.ensures c.as_slice.ensures.items) }
 
 pub returns-in_err-add : goal.returns-in_err-add
 returns-in_err-add c = λ file before stands.
@@ -75,8 +75,10 @@ returns-in-Ok c = λ file before stands.
     let can = is_usable _ _ c.args.cut passed in
     let addition = addition_of file before c.args.self.now stands c.args.cut c.index-row.result.now c.as_slice.result.now can c.index-row.ensures c.as_slice.ensures.items in
     let went = c.in_ok-add.ensures.runs file s c.args.cut addition in
-    let none = added file s c.args.cut c.args.pairs.now (sym (usable_told file before c.args.self.now stands.solving c.args.cut) ∙ passed) ∙ went.0 in
-    (none, omega arith,
-    (changed file before (Add c.args.cut c.args.pairs.now) c.args.self.now _ stands.solving refl
-    (unnamed before (λ b. not_true (has order.facet before) (order_of before order.add stands.order).facet b)) refl refl refl refl refl
-    (c.in-Ok.ensures _ s.used stands.solving.uses can.fresh) went.2 (c.in_ok-add.ensures.preimages file s c.args.cut before addition stands.solving.preimages)))
+    let none = added file s c.args.cut c.args.pairs.now (sym (usable_told file before c.args.self.now stands.solving c.args.cut) ∙ passed) ∙ went.0 in (
+      none,
+      omega arith,
+      (changed file before (Add c.args.cut c.args.pairs.now) c.args.self.now _ stands.solving refl
+          (unnamed before (λ b. not_true (has order.facet before) (order_of before order.add stands.order).facet b)) refl refl refl refl refl
+          (c.in-Ok.ensures _ s.used stands.solving.uses can.fresh) went.2 (c.in_ok-add.ensures.preimages file s c.args.cut before addition stands.solving.preimages)),
+    )

@@ -11,11 +11,11 @@ use Rattle.log_solved.proofs.Given.{y_told, opened, stops_as, ends}
 use Rattle.log_solved.proofs.Tested.{stands_for, y_wide, y_room, fails_test}
 use Rattle.log_solved.proofs.solving.Solving.certify_point.Goals as goal
 
-pub place_open-requires-clause-standing : goal.place_open-requires-clause-standing
-place_open-requires-clause-standing c =
+pub place_open-requires : goal.place_open-requires
+place_open-requires c =
     let r = c.requires.standing in
     let file = c.args.problem.now in
-    (file, (state file.objs r.0, stands_for file r.0 order.point c.args.self.now r.1 (order_of r.0 order.point r.1.order).start))
+    record { standing = (file, state file.objs r.0, stands_for file r.0 order.point c.args.self.now r.1 (order_of r.0 order.point r.1.order).start) }
 
 pub index-requires : goal.index-requires
 index-requires c =
@@ -33,7 +33,9 @@ slice_bounds-y-end c =
     let here = subst (λ (t : ℚ). IsOpenAt file.objs r.0 (state file.objs r.0) c.args.number t c.args.self.now.live c.in-Some.place) c.from.ensures (c.in-Some.ensures.some file (state file.objs r.0) r.0 held r.1.solving.preimages) in
     let room = y_room file (state file.objs r.0) c.args.self.now.live held c.in-Some.place c.index.result.now here.inside c.index.ensures in
     let same = ap (λ (v : List ℚ). length v) c.as_slice-vector.ensures.items in
-    omega (arith, room, same)
+    let wide = ap (λ (v : List ℚ). length (take file.objs v)) c.as_slice-vector.ensures.items
+    ∙ y_wide file (state file.objs r.0) c.args.self.now.live held c.in-Some.place c.index.result.now here.inside c.index.ensures in
+    omega (arith, room, same, wide)
 
 pub shows_point-requires-clause-entries : goal.shows_point-requires-clause-entries
 shows_point-requires-clause-entries c =

@@ -22,9 +22,20 @@ pub is_facet-requires-clause-standing : goal.is_facet-requires-clause-standing
 is_facet-requires-clause-standing c =
     let r = c.requires in
     let s = state r.0.objs r.1.0 in
-    let made = (c.in_default.ensures r.0 r.1.0 r.1.1.solving).0 in
-    (r.0, (r.1.0, (c.args.cut, (made, facet_used r.0 r.1.0 c.args.cut c.is_unnamed.result (c.is_unnamed.ensures r.0 r.1.0 r.1.1.solving) (test-passed 1 rule.Index c.is_unnamed.result (c.in_ok-pass.ensures 0).0),
-    c.place-place.ensures _ s.used made.uses))))
+    let made = (c.in_default.ensures r.0 r.1.0 r.1.1.solving).0 in (
+      r.0,
+      (
+        r.1.0,
+        (
+          c.args.cut,
+          (
+            made,
+            facet_used r.0 r.1.0 c.args.cut c.is_unnamed.result (c.is_unnamed.ensures r.0 r.1.0 r.1.1.solving) (test-passed 1 rule.Index c.is_unnamed.result (c.in_ok-pass.ensures 0).0),
+            c.place-place.ensures _ s.used made.uses,
+          ),
+        ),
+      ),
+    )
 
 pub returns-in_err-pass-2 : goal.returns-in_err-pass-2
 returns-in_err-pass-2 c = λ file before stands.
