@@ -85,6 +85,9 @@ const PLANE_LOG: [&str; 15] = [
 const PLANE_REPORT: &str =
     "report 1\nanswer solved\nfree 0 0\nc 1 1\npoints 2\n1 -6 6\n1 0 4\ndirections 2\n0 -1 1\n0 1 0\nfacets 3\nf 0 1 4\nf 1/4 3/4 3\nf 1/2 1/2 0\ndual 3\n1 0 4\n1 1/4 3\n1 1/2 0\n0 0 -1\nincidence 3\nn 2 2 4\nn 2 1 2\nn 2 1 3\nwitnesses\nx 1 2 6\nx 2 1 2 2 2\nr 1 2 1\nr 0\nu 2 1 1/3 2 1/3\nu 1 1 1/2\nu 1 3 1\n";
 
+/// How many of its bytes tell of the image.
+const PLANE_IMAGE: usize = 199;
+
 /// What the outside does: the bytes that a call moves, and the number of the call of each object that
 /// fails, 0 for none.
 #[derive(Clone, Copy)]
@@ -473,6 +476,24 @@ fn each_front_and_each_change_is_answered(rt: HostRuntime) -> Result<(), Fail> {
         let mut text = LOG.as_bytes().to_vec(rt.alloc())?;
         text[end] = b'9';
         is_answered(&rt, FILE.as_bytes(), text.as_slice(), &[REPORT])?;
+    }
+    Ok(())
+}
+
+#[test]
+fn each_change_of_a_solved_log_is_answered(rt: HostRuntime) -> Result<(), Fail> {
+    let log = plane_log(rt.alloc(), 1, "version 1")?;
+    let image = &PLANE_REPORT.as_bytes()[..PLANE_IMAGE];
+    for at in 0..log.len() {
+        let mut text = log.as_bytes().to_vec(rt.alloc())?;
+        text[at] = b'9';
+        let (status, out) = check(rt.alloc(), PLANE.as_bytes(), text.as_slice(), 4096, NO_FAULTS)?;
+        match status {
+            Status::Done => assert!(rt; out.contents().starts_with(image)),
+            Status::Left { .. } => assert!(rt; out.contents().starts_with(b"fault 5 ")),
+            Status::Refused(_) => assert!(rt; out.contents().starts_with(b"fault 9 ")),
+            _ => assert!(rt; false, "{status:?}"),
+        }
     }
     Ok(())
 }

@@ -76,7 +76,9 @@ module _ (file : Problem) (before : List Entry) (e : Entry) (passes : log_failur
 pub split_at : (list : List Entry) (i : ℕ) (e : Entry) → i < length list → e ≡ get_or list i e → list ≡ take i list ++ e ∷ drop (i + 1) list
 split_at [] i e low is = absurd (omega (arith, low))
 split_at (d ∷ list) zero e low is = ap (λ (x : Entry). x ∷ list) (sym is)
-split_at (d ∷ list) (suc i) e low is = ap (λ (es : List Entry). d ∷ es) (split_at list i e (omega (arith, low)) is)
+split_at (d ∷ list) (suc i) e low is =
+    let one : suc (i + 1) ≡ suc i + 1 = omega arith in
+    ap (λ (es : List Entry). d ∷ es) (split_at list i e (omega (arith, low)) is) ∙ ap (λ (k : ℕ). d ∷ (take i list ++ e ∷ drop k (d ∷ list))) one
 
 pub refuses_at : (file : Problem) (list : List Entry) (i : ℕ) (e : Entry) (stop : Stop) → i < length list → e ≡ get_or list i e → log_failure is_held file (take i list) ≡ None →
     Stops is_held (events file (take i list) e) 0 stop → Refuses file list (refusal_of (i + 1) stop)

@@ -54,11 +54,7 @@ pub fn keep_scale(alloc: Global, c: &mut Vector, entry: &Entry) -> Result<(), No
 }
 
 /// Keeps the multipliers of the entry, if it is a `farkas`.
-fn keep_farkas(
-    alloc: Global,
-    farkas: &mut Option<Sparse>,
-    entry: &Entry,
-) -> Result<(), NoMemory>
+fn keep_farkas(alloc: Global, farkas: &mut Option<Sparse>, entry: &Entry) -> Result<(), NoMemory>
     ensures { OnOk result (farkas.new ≡ next_farkas farkas.old entry.now) }
 {
     if let Entry::Farkas { u } = entry {
@@ -68,11 +64,7 @@ fn keep_farkas(
 }
 
 /// Keeps the point and the direction of the entry, if it is a `whole`.
-fn keep_whole(
-    alloc: Global,
-    whole: &mut Option<FoundWhole>,
-    entry: &Entry,
-) -> Result<(), NoMemory>
+fn keep_whole(alloc: Global, whole: &mut Option<FoundWhole>, entry: &Entry) -> Result<(), NoMemory>
     ensures { OnOk result (whole.new ≡ next_whole whole.old entry.now) }
 {
     if let Entry::Whole { x, ray, .. } = entry {

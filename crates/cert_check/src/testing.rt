@@ -51,12 +51,7 @@ fn take_cut(
 }
 
 /// Whether what this end needs stands before it.
-fn take_end(
-    alloc: Global,
-    known: &Known,
-    solving: &mut Solving,
-    kind: EndKind,
-) -> Result<(), Stop>
+fn take_end(alloc: Global, known: &Known, solving: &mut Solving, kind: EndKind) -> Result<(), Stop>
     requires standing { (file : Problem) × ((before : List Entry) × (IsKnown file before known.now × IsSolving file before solving.old)) }
     ensures { (file : Problem) (before : List Entry) → IsKnown file before known.now → IsSolving file before solving.old
         → Runs is_held (end_events file before (state file.objs before) kind) 0 (steps (end_events file before (state file.objs before) kind))

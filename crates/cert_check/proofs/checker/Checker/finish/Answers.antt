@@ -1,4 +1,5 @@
-use Rattle.std.proofs.Common.{◌∙◌, ap, sym, Some, subst}
+use Rattle.std.proofs.Common.{◌∙◌, ap, sym, Some, subst, arith, ℕ, List}
+use Rattle.log_answer.specs.Supplies.{Supplies}
 use Rattle.log_rules.specs.Proves.{Proves}
 use Rattle.log_rules.specs.declared.answer.Answer.{Answer}
 use Rattle.cert_check.proofs.Ending.{no_end, some_cut, whole_proved, no_vertex_proved, infeasible_proved, farkas_missing, whole_missing, line_missing, supplies}
@@ -26,7 +27,8 @@ unreachable-requires-in-None-whole c =
 pub swap_remove-first-requires : goal.swap_remove-first-requires
 swap_remove-first-requires c =
     let from = c.requires in
-    some_cut c.args.problem.now from.0 c.args.self from.1.0 from.1.1 c.in-Some-line.found c.in-Some-line.is
+    let some = some_cut c.args.problem.now from.0 c.args.self from.1.0 from.1.1 c.in-Some-line.found c.in-Some-line.is in
+    omega (arith, some)
 
 pub returns-in-Some-line : goal.returns-in-Some-line
 returns-in-Some-line c = λ entries at log.
@@ -40,10 +42,27 @@ unreachable-requires-in-None-line c =
     line_missing c.args.problem.now from.0 c.args.self from.1.0 from.1.1 (c.in-Some.is ∙ ap Some c.in-NoVertex.is) c.in-None-line.is
 
 pub solved_answer-requires : goal.solved_answer-requires
-solved_answer-requires c = ?
+solved_answer-requires c =
+    let from = c.requires in
+    let here = c.args.self in (
+      c.args.problem.now,
+      from.0,
+      subst (λ (ks : List ℕ). Supplies c.args.problem.now from.0 c.args.problem.now.dir here.known.c here.solving.live.generators.items here.solving.cuts.items ks c.as_slice-in-Solved.result.now)
+          (sym c.as_slice.ensures.items)
+          (subst (λ (ks : List ℕ). Supplies c.args.problem.now from.0 c.args.problem.now.dir here.known.c here.solving.live.generators.items here.solving.cuts.items here.solving.uses.list ks)
+          (sym c.as_slice-in-Solved.ensures.items)
+          (supplies c.args.problem.now from.0 here from.1.0 from.1.1 (c.in-Some.is ∙ ap Some c.in-Solved.is))),
+    )
 
-pub returns-in-Solved : goal.returns-in-Solved
-returns-in-Solved c = ?
+pub returns-in-Some : goal.returns-in-Some
+returns-in-Some c = λ entries at log.
+    let here = c.args.self in
+    c.solved_answer.ensures c.args.problem.now entries
+    (subst (λ (ks : List ℕ). Supplies c.args.problem.now entries c.args.problem.now.dir here.known.c here.solving.live.generators.items here.solving.cuts.items ks c.as_slice-in-Solved.result.now)
+    (sym c.as_slice.ensures.items)
+    (subst (λ (ks : List ℕ). Supplies c.args.problem.now entries c.args.problem.now.dir here.known.c here.solving.live.generators.items here.solving.cuts.items here.solving.uses.list ks)
+    (sym c.as_slice-in-Solved.ensures.items)
+    (supplies c.args.problem.now entries here at log (c.in-Some.is ∙ ap Some c.in-Solved.is))))
 
 pub unreachable-requires-in-None : goal.unreachable-requires-in-None
 unreachable-requires-in-None c =

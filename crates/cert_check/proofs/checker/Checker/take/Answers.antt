@@ -20,11 +20,14 @@ pub take_entry-requires-clause-standing : goal.take_entry-requires-clause-standi
 take_entry-requires-clause-standing c =
     let from = c.requires.standing in (
       from.0,
-      (from.1.known, record {
-        solving = from.1.solving;
-        meet = events_give_meets is_held c.args.problem.now from.0 from.1.passes;
-        order = sym (c.in_order.ensures from.0 from.1.known.kinds) ∙ test-passed 1 rule.Order c.in_order.result (c.in_ok-pass.ensures 0).0;
-      }),
+      (
+        from.1.known,
+        record {
+          solving = from.1.solving;
+          meet = events_give_meets is_held c.args.problem.now from.0 from.1.passes;
+          order = sym (c.in_order.ensures from.0 from.1.known.kinds) ∙ test-passed 1 rule.Order c.in_order.result (c.in_ok-pass.ensures 0).0;
+        },
+      ),
     )
 
 pub returns-in_err-take_entry : goal.returns-in_err-take_entry
@@ -42,10 +45,13 @@ returns-in-Ok c = λ before at.
     let stands : StandsBefore file before (kind e) c.args.self.now.solving = record { solving = at.solving; meet = events_give_meets is_held file before at.passes; order = ordered } in
     let went = c.in_ok-take_entry.ensures before at.known stands in
     let none = all_passed file before e ordered went.0 in
-    let fits = fits_scale file before e went.0 in
-    (none, omega arith, (record {
-      known = c.in-Ok.ensures.known file before at.known ordered fits;
-      found = c.in-Ok.ensures.found before at.found;
-      solving = subst (λ (s : Solving). IsSolving file (before ++ e ∷ []) s) (sym c.in-Ok.ensures.solving) went.2;
-      passes = one_more file before e at.passes none;
-    }))
+    let fits = fits_scale file before e went.0 in (
+      none,
+      omega arith,
+      (record {
+        known = c.in-Ok.ensures.known file before at.known ordered fits;
+        found = c.in-Ok.ensures.found before at.found;
+        solving = subst (λ (s : Solving). IsSolving file (before ++ e ∷ []) s) (sym c.in-Ok.ensures.solving) went.2;
+        passes = one_more file before e at.passes none;
+      }),
+    )
