@@ -54,7 +54,7 @@ module _ (q : ℕ) (rows : List (List ℚ)) (row : List ℚ) (gens : List Genera
     few_of_pair =
         let e = ap steps (pair_as q row (live_of gens) pair named.plus_side named.minus_side find_plus find_minus) in
         let wide : length named.plus_side.vector ≡ suc q = member_of (λ v. length v ≡ suc q) (vectors (live_of gens)) named.plus_side.vector a.described.generators_wide.wide
-            (Contains-map (λ (n : Numbered). n.vector) (live_of gens) named.plus_side two.plus) in
+        (Contains-map (λ (n : Numbered). n.vector) (live_of gens) named.plus_side two.plus) in
         let f = few_steps q (dot row named.plus_side.vector) (dot row named.minus_side.vector) named.plus_side.vector named.minus_side.vector wide a.few in
         omega (arith, e, f)
 
@@ -106,9 +106,9 @@ module _ (q : ℕ) (rows : List (List ℚ)) (row : List ℚ) (gens : List Genera
           IsMeet common g.tight m.tight → new.tight ≡ common ++ true ∷ [] → new.pre ≡ None → IsBetween rows row named number new
       made_is number new common n v meet t fresh =
           let entries : new.vector ≡ normed (meeting row g.vector m.vector) = v ∙ ap₂ (λ (s u : ℚ). new_entries q (meeting_point (s /ℚ neg_ℚ u) g.vector m.vector)) x_is y_is
-              ∙ between_is q row g.vector m.vector g_kind m_kind up down in
+          ∙ between_is q row g.vector m.vector g_kind m_kind up down in
           let sets : IsMeet common (tight_set rows g.vector) (tight_set rows m.vector) = subst (λ (s : List Bool × List Bool). IsMeet common s.0 s.1)
-              (λ i. (member_of (HasTightSet rows) gens g a.tight gc i, member_of (HasTightSet rows) gens m a.tight mc i)) meet in
+          (λ i. (member_of (HasTightSet rows) gens g a.tight gc i, member_of (HasTightSet rows) gens m a.tight mc i)) meet in
           record {
             is = ap₂ (λ (k : ℕ) (w : List ℚ). record { number = k; vector = w }) n
                 (entries ∙ ap₂ (λ (s u : Numbered). normed (meeting row s.vector u.vector)) plus_is minus_is);

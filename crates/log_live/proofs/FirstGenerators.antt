@@ -26,6 +26,7 @@ use Rattle.log_live.specs.Live.{AreLive, HasPreimage, HasTightSet, listed, live_
 use Rattle.log_live.specs.Starting.{IsAllBut, IsFirst}
 use Rattle.log_live.specs.Tight.{row_at}
 use Rattle.log_live.specs.declared.generator.Generator.{Generator}
+use Rattle.log_live.proofs.LivePairs.{length-take_to, numbered_push, take_all_of}
 use Rattle.log_live.proofs.NewSets.{length-tight_set, same_marks}
 
 -- ---- a set of all rows but one
@@ -149,11 +150,6 @@ pub none_first : (q : ℕ) (gens : List Generator) → gens ≡ [] → AreFirst 
 none_first q gens e = subst (λ (gs : List Generator). AreFirst q [] gs) (sym e)
     record { are = refl; sets = All-nil (λ (g : Generator). IsAllBut (suc q) (g.number - 1) g.tight); fresh = All-nil (λ (g : Generator). g.pre ≡ None) }
 
-numbered_push : (k : ℕ) (vs : List (List ℚ)) (v : List ℚ) → numbered k (vs ++ v ∷ []) ≡ numbered k vs ++ record { number = k + length vs; vector = v } ∷ []
-numbered_push k [] v = ap (λ n. record { number = n; vector = v } ∷ []) (let e : k ≡ k + 0 = omega arith in e)
-numbered_push k (w ∷ vs) v = ap (λ l. record { number = k; vector = w } ∷ l) (numbered_push (suc k) vs v
-    ∙ ap (λ n. numbered (suc k) vs ++ record { number = n; vector = v } ∷ []) (let e : suc k + length vs ≡ k + suc (length vs) = omega arith in e))
-
 pub one_first : (q place : ℕ) (vectors : List (List ℚ)) (v : List ℚ) (old new : List Generator) (g : Generator) → AreFirst q vectors old → length vectors ≡ place → IsFirst q place v g →
     new ≡ old ++ g ∷ [] → AreFirst q (vectors ++ v ∷ []) new
 one_first q place vectors v old new g h count f e = subst (λ (gs : List Generator). AreFirst q (vectors ++ v ∷ []) gs) (sym e)
@@ -172,11 +168,6 @@ one_first q place vectors v old new g h count f e = subst (λ (gs : List Generat
 abbrev pub first_of : ℕ → List ℚ → List ℚ → ℕ → List (List ℚ)
 first_of q point directions i = homogenised point one_ℚ ∷ map (λ d. homogenised d zero_ℚ) (take i (pieces q q directions))
 
-length-take_to : {X : Type 0} (i : ℕ) (xs : List X) → i ≤ length xs → length (take i xs) ≡ i
-length-take_to zero xs h = refl
-length-take_to (suc i) [] h = absurd (omega (arith, h))
-length-take_to (suc i) (x ∷ xs) h = ap suc (length-take_to i xs (omega (arith, h)))
-
 pub length-first : (q : ℕ) (point directions : List ℚ) (i : ℕ) → i ≤ q → length (first_of q point directions i) ≡ suc i
 length-first q point directions i l =
     ap suc (length-map (take i (pieces q q directions)) (λ d. homogenised d zero_ℚ) ∙ length-take_to i (pieces q q directions) (let n = length-pieces q q directions in omega (arith, l, n)))
@@ -187,14 +178,8 @@ first_more q point directions i d l e = sym (ap (λ ps. homogenised point one_�
     (take_more (pieces q q directions) i [] (let n = length-pieces q q directions in omega (arith, l, n)) ∙ ap (λ p. take i (pieces q q directions) ++ p ∷ []) (pieces-at q q i directions [] l ∙ e))
     ∙ ap (λ vs. homogenised point one_ℚ ∷ vs) (map-append (λ u. homogenised u zero_ℚ) (take i (pieces q q directions)) (d ∷ [])))
 
-take_all_of : {X : Type 0} (n : ℕ) (xs : List X) → length xs ≡ n → take n xs ≡ xs
-take_all_of zero [] h = refl
-take_all_of zero (x ∷ xs) h = absurd (omega (arith, h))
-take_all_of (suc n) [] h = refl
-take_all_of (suc n) (x ∷ xs) h = ap (λ ys. x ∷ ys) (take_all_of n xs (omega (arith, h)))
-
 pub first_all : (q : ℕ) (point directions : List ℚ) → first_of q point directions q ≡ first_vectors q point directions
-first_all q point directions = ap (λ ps. homogenised point one_ℚ ∷ map (λ d. homogenised d zero_ℚ) ps) (take_all_of q (pieces q q directions) (length-pieces q q directions))
+first_all q point directions = ap (λ ps. homogenised point one_ℚ ∷ map (λ d. homogenised d zero_ℚ) ps) (take_all_of q (pieces q q directions) (sym (length-pieces q q directions)))
 
 -- ---- all of them
 numbered_at : (k : ℕ) (vs : List (List ℚ)) (j : ℕ) (d : Numbered) → j < length vs → slice_index_or (numbered k vs) j d ≡ record { number = k + j; vector = slice_index_or vs j [] }

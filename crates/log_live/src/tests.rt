@@ -2,7 +2,6 @@
 //! facets, and what an added cut does to a corner.
 ghost use Rattle.std.specs.Prelude.{◌≡◌, ◌==◌, ◌≤◌, ℕ, List, length, IfOk};
 ghost use Rattle.std.specs.List.{list_all};
-
 ghost use Rattle.exact_field.specs.Rational.{ℚ};
 ghost use Rattle.vlp_reader.specs.declared.problem.Problem.{Problem};
 ghost use Rattle.log_rules.specs.Live.{State};
@@ -176,12 +175,7 @@ fn corner(alloc: Global) -> Result<Live, NoMemory>
     ensures { IfOk result (λ live. (w : List ℚ) (gamma : ℚ) → length w ≡ 2 → (file : Problem) × (s : State) × (cut : ℕ) × IsAddition file s cut w gamma live) }
 {
     let point = [Frac::from(-4), Frac::from(4)];
-    let directions = [
-        Frac::from(1),
-        Frac::from(0),
-        Frac::from(-1),
-        Frac::from(1),
-    ];
+    let directions = [Frac::from(1), Frac::from(0), Frac::from(-1), Frac::from(1)];
     Live::start(alloc, 2, point.as_slice(), directions.as_slice())
 }
 
@@ -189,10 +183,11 @@ fn corner(alloc: Global) -> Result<Live, NoMemory>
 fn added(
     rt: &impl Abort,
     alloc: Global,
-    w: [Frac; 2],
+    w: &[Frac],
     gamma: Frac,
     pairs: &[(u32, u32)],
 ) -> Result<(Live, Result<(), Stop>), Fail> {
+    assert!(rt; w.len() == 2);
     let mut live = corner(alloc)?;
     let mut named: Vec<LogPair> = Vec::new(alloc);
     for pair in pairs {
@@ -201,7 +196,7 @@ fn added(
             minus: pair.1,
         })?;
     }
-    let answer = live.add(alloc, w.as_slice(), gamma, named.as_slice());
+    let answer = live.add(alloc, w, gamma, named.as_slice());
     Ok((live, answer))
 }
 
@@ -223,22 +218,74 @@ fn a_cut_is_added(rt: HostRuntime) -> Result<(), Fail> {
         Frac::new(1, 4).expect(&rt, "held"),
         Frac::new(3, 4).expect(&rt, "held"),
     ];
-    let (live, answer) = added(&rt, alloc, quarters, Frac::from(3), [(2, 1), (3, 1)].as_slice())?;
+    let (live, answer) = added(
+        &rt,
+        alloc,
+        quarters.as_slice(),
+        Frac::from(3),
+        [(2, 1), (3, 1)].as_slice(),
+    )?;
     assert!(rt; answer.is_ok() && live.next == 6 && live.generators.len() == 4);
-    assert!(rt; is(&live.generators[0], 2, [1, 0, 0], [true, false, true, false]));
-    assert!(rt; is(&live.generators[1], 3, [-1, 1, 0], [true, true, false, false]));
-    assert!(rt; is(&live.generators[2], 4, [0, 4, 1], [false, false, true, true]));
-    assert!(rt; is(&live.generators[3], 5, [-6, 6, 1], [false, true, false, true]));
-    let (_live, answer) = added(&rt, alloc, quarters, Frac::from(3), [(2, 1)].as_slice())?;
+    assert!(rt;
+        is(
+            &live.generators[0],
+            2,
+            [1, 0, 0],
+            [true, false, true, false]
+        )
+    );
+    assert!(rt;
+        is(
+            &live.generators[1],
+            3,
+            [-1, 1, 0],
+            [true, true, false, false]
+        )
+    );
+    assert!(rt;
+        is(
+            &live.generators[2],
+            4,
+            [0, 4, 1],
+            [false, false, true, true]
+        )
+    );
+    assert!(rt;
+        is(
+            &live.generators[3],
+            5,
+            [-6, 6, 1],
+            [false, true, false, true]
+        )
+    );
+    let (_live, answer) = added(
+        &rt,
+        alloc,
+        quarters.as_slice(),
+        Frac::from(3),
+        [(2, 1)].as_slice(),
+    )?;
     assert!(rt; matches!(answer, Err(Stop::Wrong(Rule::Pairs))));
     // Four times 2^119 is not held.
     let large = Frac::new(1 << 119, 1).expect(&rt, "held");
-    let (_live, answer) = added(&rt, alloc, [large, Frac::from(0)], Frac::from(0), [].as_slice())?;
+    let (_live, answer) = added(
+        &rt,
+        alloc,
+        [large, Frac::from(0)].as_slice(),
+        Frac::from(0),
+        [].as_slice(),
+    )?;
     assert!(rt; is_left(&answer, 1, Op::Mul, large, Frac::from(-4)));
     // The values take 11 steps, and the quotient of the one pair is 2^-130.
     let small = Frac::new(1, 1 << 100).expect(&rt, "held");
     let bound = Frac::from(1 << 30);
-    let (_live, answer) = added(&rt, alloc, [small, small], bound, [(2, 1)].as_slice())?;
+    let (_live, answer) = added(
+        &rt,
+        alloc,
+        [small, small].as_slice(),
+        bound,
+        [(2, 1)].as_slice(),
+    )?;
     assert!(rt; is_left(&answer, 12, Op::Div, small, bound));
     Ok(())
 }

@@ -50,25 +50,22 @@ before =
     ∷ entry.Cut (n 0 ∷ n 1 ∷ []) (n 4) (at 1 third ∷ at 2 third ∷ []) []
     ∷ []
 
-point : List ℚ
+abbrev point : List ℚ
 point = whole (negsuc 3) ∷ n 4 ∷ []
 
-directions : List ℚ
+abbrev directions : List ℚ
 directions = n 1 ∷ n 0 ∷ minus_one ∷ n 1 ∷ []
 
 start_meets : MeetsStart file (state file.objs before) (1 ∷ 2 ∷ []) point directions
-unfolding log before point directions
+unfolding log before
 start_meets = (meet before (entry.Start (1 ∷ 2 ∷ []) point directions) _ refl).rules
 
-base : State
+abbrev base : State
 base = after file.objs (state file.objs before) (entry.Start (1 ∷ 2 ∷ []) point directions)
 
 module _ (live : Live) (list : IsListOf file.objs base live) (w : List ℚ) (gamma : ℚ) (wide : length w ≡ 2) where
-  added : Stated
-  added = record { w = w; gamma = gamma; u = [] }
-
   addition : IsAddition file (record base { cuts = base.cuts ++ record { w = w; gamma = gamma; u = [] } ∷ [] }) 3 w gamma live
-  unfolding base before
+  unfolding before file solved
   addition = record {
     before = record {
       stands = stands-cut file base record { w = w; gamma = gamma; u = [] } start_meets.exist (stands-start file (state file.objs before) (1 ∷ 2 ∷ []) point directions start_meets);
@@ -79,5 +76,25 @@ module _ (live : Live) (list : IsListOf file.objs base live) (w : List ℚ) (gam
     bound = refl;
   }
 
+objs_two : file.objs ≡ 2
+unfolding file solved
+objs_two = solved.solved.says.objs
+
+if_ok_map : {X E : Type 0} (r : Result X E) (P Q : X → Type 0) → IfOk r P → ((x : X) → P x → Q x) → IfOk r Q
+if_ok_map (Ok x) P Q h f = f x h
+if_ok_map (Err e) P Q h f = tt
+
 pub returns : goal.returns
-returns c = ?
+returns c =
+    let at_point : c.as_slice.result.now ≡ point = c.as_slice.ensures ∙ (λ i. c.from.ensures i ∷ c.from-2.ensures i ∷ []) in
+    let along : c.as_slice-2.result.now ≡ directions = c.as_slice-2.ensures ∙ (λ i. c.from-3.ensures i ∷ c.from-4.ensures i ∷ c.from-5.ensures i ∷ c.from-6.ensures i ∷ []) in
+    if_ok_map c.start.result (IsListOf file.objs (after file.objs (state file.objs before) (entry.Start (1 ∷ 2 ∷ []) c.as_slice.result.now c.as_slice-2.result.now)))
+    (λ (live : Live). (w : List ℚ) (gamma : ℚ) → length w ≡ 2 → (file : Problem) × (s : State) × (cut : ℕ) × IsAddition file s cut w gamma live)
+    (c.start.ensures.list file (state file.objs before) (1 ∷ 2 ∷ []) objs_two
+    (subst (λ (p : List ℚ × List ℚ). MeetsStart file (state file.objs before) (1 ∷ 2 ∷ []) p.0 p.1) (λ i. (sym at_point i, sym along i)) start_meets))
+    (λ live l w gamma wide. (
+      file,
+      record base { cuts = base.cuts ++ record { w = w; gamma = gamma; u = [] } ∷ [] },
+      3,
+      addition live (subst (λ (p : List ℚ × List ℚ). IsListOf file.objs (after file.objs (state file.objs before) (entry.Start (1 ∷ 2 ∷ []) p.0 p.1)) live) (λ i. (at_point i, along i)) l) w gamma wide,
+    ))

@@ -22,7 +22,7 @@ loop-a-preserved c =
     let step : a * c.args.q + c.args.q - a * c.args.q ≡ c.args.q = omega arith in
     let one : a + 1 ≡ suc a = omega arith in
     let first : IsFirst c.args.q (suc a) (homogenised d zero_ℚ) c.in_ok-start_direction.field-0 =
-        subst (λ (p : ℕ × ℕ). IsFirst c.args.q p.0 (homogenised (take p.1 (drop (a * c.args.q) c.args.directions.now)) zero_ℚ) c.in_ok-start_direction.field-0) (λ i. (one i, step i)) c.in_ok-start_direction.ensures in
+    subst (λ (p : ℕ × ℕ). IsFirst c.args.q p.0 (homogenised (take p.1 (drop (a * c.args.q) c.args.directions.now)) zero_ℚ) c.in_ok-start_direction.field-0) (λ i. (one i, step i)) c.in_ok-start_direction.ensures in
     subst (λ (vs : List (List ℚ)). AreFirst c.args.q vs c.push-in-loop-a.new.self.items) (first_more c.args.q c.args.point.now c.args.directions.now a d (omega arith) refl)
     (one_first c.args.q (suc a) (first_of c.args.q c.args.point.now c.args.directions.now a) (homogenised d zero_ℚ) c.loop-a.generators.items c.push-in-loop-a.new.self.items c.in_ok-start_direction.field-0
     c.loop-a.invariant (length-first c.args.q c.args.point.now c.args.directions.now a (omega arith)) first c.in_ok-push-2.ensures.items)
@@ -31,10 +31,10 @@ pub returns-clause-list : goal.returns-clause-list
 returns-clause-list c file s cuts e m =
     let over : c.loop-a.a ≡ c.args.q = omega arith in
     let all : AreFirst c.args.q (first_vectors c.args.q c.args.point.now c.args.directions.now) c.loop-a.generators.items =
-        subst (λ (vs : List (List ℚ)). AreFirst c.args.q vs c.loop-a.generators.items)
-        (ap (first_of c.args.q c.args.point.now c.args.directions.now) over ∙ first_all c.args.q c.args.point.now c.args.directions.now) c.loop-a.invariant in
+    subst (λ (vs : List (List ℚ)). AreFirst c.args.q vs c.loop-a.generators.items)
+    (ap (first_of c.args.q c.args.point.now c.args.directions.now) over ∙ first_all c.args.q c.args.point.now c.args.directions.now) c.loop-a.invariant in
     let corner : IsCornerOf c.args.q (map (λ k. inequality (cut_at s.cuts k)) cuts) c.args.point.now (pieces c.args.q c.args.q c.args.directions.now) =
-        subst (λ (n : ℕ). IsCornerOf n (map (λ k. inequality (cut_at s.cuts k)) cuts) c.args.point.now (pieces n n c.args.directions.now)) e m.corner in
+    subst (λ (n : ℕ). IsCornerOf n (map (λ k. inequality (cut_at s.cuts k)) cuts) c.args.point.now (pieces n n c.args.directions.now)) e m.corner in
     subst (λ (n : ℕ). AreLive (rows_of n (map (λ k. inequality (cut_at s.cuts k)) cuts)) (starting 1 (first_vectors n c.args.point.now c.args.directions.now)) c.loop-a.generators.items (c.args.q + 2)) (sym e)
     (first_live c.args.q (map (λ k. inequality (cut_at s.cuts k)) cuts) c.args.point.now c.args.directions.now corner c.loop-a.generators.items all (c.args.q + 2) refl)
 
