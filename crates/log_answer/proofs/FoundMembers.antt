@@ -1,5 +1,5 @@
 -- The points and directions among the kept generators are those of the log, and no two are equal.
-use Rattle.std.proofs.Common.{◌≡◌, ◌≢◌, ℕ, List, [], ◌∷◌, sym, ap, ap₂, ◌∙◌, subst, refl, cond, map, filter, Bool, true, false, true≢false, not, AllPairs, Contains}
+use Rattle.std.proofs.Common.{◌≡◌, ◌≢◌, ℕ, List, [], ◌∷◌, sym, ap, ap₂, ◌∙◌, subst, refl, cond, map, filter, Bool, true, false, not, AllPairs, Contains}
 use Rattle.exact_field.specs.Rational.{ℚ, zero_ℚ, one_ℚ}
 use Rattle.exact_field.specs.Order.{same_ℚ}
 use Rattle.polyhedra.specs.Exactness.{homogenised}
@@ -7,18 +7,19 @@ use Rattle.polyhedra.specs.LiveList.{Numbered}
 use Rattle.polyhedra.proofs.Generators.{described_are_distinct}
 use Rattle.polyhedra.proofs.Lists.{Contains-here, Contains-there}
 use Rattle.polyhedra.proofs.Members.{Contains-map, Contains-map_source, Contains-filter_source, pairs-map, pairs-filter, pairs-weaker}
-use Rattle.upper_image.specs.UpperImage.{front, turned}
+use Rattle.upper_image.specs.UpperImage.{front}
 use Rattle.upper_image.proofs.TurnedSets.{turned-same}
+use Rattle.upper_image.proofs.Widths.{map-map}
 use Rattle.vlp_reader.specs.declared.problem.Dir.{Dir}
 use Rattle.vlp_reader.specs.declared.problem.Problem.{Problem}
 use Rattle.deriv_log.specs.declared.entry.Entry.{Entry}
-use Rattle.log_rules.specs.Live.{rows_in_use, t_of}
+use Rattle.log_rules.specs.Live.{t_of}
 use Rattle.log_rules.specs.Proves.{IsSorting, shown, live_at}
 use Rattle.log_rules.specs.Right.{Rise}
 use Rattle.log_rules.specs.declared.answer.Gen.{Gen}
 use Rattle.log_rules.proofs.LiveNumbers.{pairs_from_map}
 use Rattle.log_tests.specs.declared.corner.Cut.{Cut}
-use Rattle.log_live.specs.Live.{numbered_of, live_of}
+use Rattle.log_live.specs.Live.{numbered_of}
 use Rattle.log_live.specs.declared.generator.Generator.{Generator}
 use Rattle.log_answer.specs.Members.{is_point, member, shown_of, points_of, directions_of}
 use Rattle.log_answer.specs.Supplies.{Supplies}
@@ -39,10 +40,6 @@ filter_same {X} {Y} {Z} f p q a b (x ∷ xs) t e =
     go true h = ap₂ (λ z zs. z ∷ zs) (e x (Contains-here x xs x refl)) h
     go false h = h
 
-map_twice : {X Y Z : Type 0} (f : X → Y) (g : Y → Z) (xs : List X) → map g (map f xs) ≡ map (λ x. g (f x)) xs
-map_twice f g [] = refl
-map_twice f g (x ∷ xs) = ap (λ zs. g (f x) ∷ zs) (map_twice f g xs)
-
 -- a sorting of points or directions, without their rows
 pub shown_sorting : (old new : List Member) → IsSorting (λ (m : Member). m.y) old new → IsSorting (λ (g : Gen). g.y) (map shown_of old) (map shown_of new)
 shown_sorting old new h = record {
@@ -52,11 +49,11 @@ shown_sorting old new h = record {
     λ k. let a : (m : Member) × Contains new m × (shown_of m ≡ g) = Contains-map_source shown_of new g k in
         subst (λ (x : Gen). Contains (map shown_of old) x) a.2 (Contains-map shown_of old a.0 ((h.same a.0).1 a.1)),
   );
-  rise = subst Rise (sym (map_twice shown_of (λ (g : Gen). g.y) new)) h.rise;
+  rise = subst Rise (sym (map-map (λ (g : Gen). g.y) shown_of new)) h.rise;
 }
 
 pub shown-ys : (ms : List Member) → map (λ (g : Gen). g.y) (map shown_of ms) ≡ map (λ (m : Member). m.y) ms
-shown-ys ms = map_twice shown_of (λ (g : Gen). g.y) ms
+shown-ys ms = map-map (λ (g : Gen). g.y) shown_of ms
 
 module _ (file : Problem) (entries : List Entry) (dir : Dir) (c : List ℚ) (generators : List Generator) (cuts : List Cut) (used facets : List ℕ)
     (h : Supplies file entries dir c generators cuts used facets) where
@@ -66,7 +63,7 @@ module _ (file : Problem) (entries : List Entry) (dir : Dir) (c : List ℚ) (gen
       ap (λ (gs : List Numbered). map (shown file entries) (filter (λ g. same_ℚ (t_of file.objs g) t) gs)) (sym h.live)
       ∙ filter_same numbered_of (λ g. same_ℚ (t_of file.objs g) t) test (shown file entries) (λ (g : Generator). shown_of (member dir g)) generators e
       (shown_same file entries dir c generators cuts used facets h)
-      ∙ sym (map_twice (member dir) shown_of (filter test generators))
+      ∙ sym (map-map shown_of (member dir) (filter test generators))
 
   pub points_found : live_at file entries one_ℚ ≡ map shown_of (points_of dir generators)
   points_found = found one_ℚ is_point (point_test file entries dir c generators cuts used facets h)

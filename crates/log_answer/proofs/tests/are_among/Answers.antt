@@ -1,4 +1,4 @@
-use Rattle.std.proofs.Common.{rules, ℕ, ◌<◌, List, length, slice_index_or, subst, arith, below_more, Contains, IsTrue}
+use Rattle.std.proofs.Common.{rules, ℕ, ◌<◌, length, slice_index_or, subst, arith, below_more, Contains, IsTrue}
 use Rattle.log_tests.proofs.Going.{any-default}
 use Rattle.log_answer.proofs.tests.are_among.Goals as goal
 
