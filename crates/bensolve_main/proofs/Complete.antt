@@ -12,8 +12,7 @@ use Rattle.frac128.specs.Held.{is_held}
 use Rattle.frac128.specs.declared.frac.Frac.{Frac}
 use Rattle.deriv_log.specs.declared.entry.Entry.{Entry}
 use Rattle.vlp_reader.specs.declared.problem.Problem.{Problem}
-use Rattle.log_rules.specs.Events.{Failing}
-use Rattle.cert_check.specs.Built.{log_failure}
+use Rattle.log_rules.specs.Events.{Failing, log_failure}
 use Rattle.bensolve_main.specs.Outcome.{Sources, Output, ReadWhole, GoodFile, Checked, Outcome, Honest, log_limit}
 use Rattle.bensolve_main.specs.declared.status.LogRefusal.{LogRefusal}
 use Rattle.bensolve_main.specs.declared.status.LogRefusal.TheVariants.{Text, Wrong}

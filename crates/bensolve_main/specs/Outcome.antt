@@ -10,10 +10,10 @@ use Rattle.deriv_log.specs.Laws.{IsTextOf}
 use Rattle.exact_field.specs.declared.op.Left.{Left as AStep}
 use Rattle.frac128.specs.Held.{is_held}
 use Rattle.frac128.specs.declared.frac.Frac.{Frac}
+use Rattle.log_rules.specs.Events.{log_failure}
 use Rattle.log_rules.specs.Events.Failure.{wrong, left}
 use Rattle.log_rules.specs.Proves.{Proves}
 use Rattle.log_rules.specs.Right.{IsRight}
-use Rattle.cert_check.specs.Built.{log_failure}
 use Rattle.log_rules.specs.declared.answer.Answer.{Answer}
 use Rattle.deriv_log.specs.declared.entry.Entry.{Entry}
 use Rattle.deriv_log.specs.declared.fault.LogFault.{LogFault as ALogFault}

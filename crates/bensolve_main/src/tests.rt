@@ -50,6 +50,44 @@ const LINE_REPORT: &str =
 /// x2 is at least 10^20 x1, and x1 at least 10^20.
 const LARGE: &str = "p vlp min 1 2 2 1 1\na 1 1 -1e20\na 1 2 1\no 1 2 1\ni 1 l 0\nj 1 l 1e20\ne\n";
 
+/// One objective and a bound that is no whole number.
+const INTERVAL: &str = "p vlp min 0 1 0 1 1\no 1 1 1\nj 1 l 1.5\ne\n";
+
+const INTERVAL_LOG: &str =
+    "version 1\nduality 1 1 0 0 0\ncut 1 1 3/2 1 1 1 0\nstart 1 1 1 3/2 1 1\npoint 1 1 1 3/2 0\nray 2 0 0\nfacet 1\nend solved\n";
+
+const INTERVAL_REPORT: &str =
+    "report 1\nanswer solved\nfree 0 0\nc 1\npoints 1\n1 3/2\ndirections 1\n0 1\nfacets 1\nf 1 3/2\ndual 1\n1 3/2\n0 -1\nincidence 1\nn 1 1\nwitnesses\nx 1 1 3/2\nr 0\nu 1 1 1\n";
+
+/// Two objectives, of which the image has two vertices.
+const PLANE: &str =
+    "p vlp min 2 2 4 2 4\na 1 1 2\na 1 2 1\na 2 1 1\na 2 2 2\no 1 1 1\no 1 2 -1\no 2 1 1\no 2 2 1\ni 1 l 6\ni 2 l 6\nj 1 l 0\nj 2 l 0\ne\n";
+
+/// The lines of its log.
+const PLANE_LOG: [&str; 15] = [
+    "version 1",
+    "duality 2 1 1 0 0 0",
+    "cut 2 1/2 1/2 0 1 3 1 0",
+    "cut 2 0 1 4 2 1 1/3 2 1/3 0",
+    "start 2 1 2 2 -4 4 4 1 0 -1 1",
+    "cut 2 1/4 3/4 3 1 1 1/2 0",
+    "add 3 2 2 1 3 1",
+    "point 4 2 1 2 2 2 0",
+    "point 5 1 2 6 0",
+    "ray 2 0 0",
+    "ray 3 1 2 1 0",
+    "facet 1",
+    "facet 2",
+    "facet 3",
+    "end solved",
+];
+
+const PLANE_REPORT: &str =
+    "report 1\nanswer solved\nfree 0 0\nc 1 1\npoints 2\n1 -6 6\n1 0 4\ndirections 2\n0 -1 1\n0 1 0\nfacets 3\nf 0 1 4\nf 1/4 3/4 3\nf 1/2 1/2 0\ndual 3\n1 0 4\n1 1/4 3\n1 1/2 0\n0 0 -1\nincidence 3\nn 2 2 4\nn 2 1 2\nn 2 1 3\nwitnesses\nx 1 2 6\nx 2 1 2 2 2\nr 1 2 1\nr 0\nu 2 1 1/3 2 1/3\nu 1 1 1/2\nu 1 3 1\n";
+
+/// How many of its bytes tell of the image.
+const PLANE_IMAGE: usize = 199;
+
 /// What the outside does: the bytes that a call moves, and the number of the call of each object that
 /// fails, 0 for none.
 #[derive(Clone, Copy)]
@@ -203,11 +241,102 @@ fn tells_each_refusal_by_its_line(rt: HostRuntime) -> Result<(), Fail> {
             FILE,
             "version 1\nduality 1 1 0 0 0\nend solved\n",
             9,
-            "fault 9 entry 3 rule 16 NotBuilt\n",
+            "fault 9 entry 3 rule 15 Missing\n",
         ),
+        (INTERVAL, INTERVAL_LOG, 0, INTERVAL_REPORT),
     ];
     for (file, log, code, text) in table {
         let (status, out) = check(rt.alloc(), file.as_bytes(), log.as_bytes(), 10, NO_FAULTS)?;
+        assert_eq!(rt; out.contents(), text.as_bytes());
+        assert_eq!(rt; status.code(), code, "of {text:?}");
+    }
+    Ok(())
+}
+
+/// The log of the plane with other lines at this number: none where the text is empty, and several where it has line
+/// feeds.
+fn plane_log(alloc: Global, number: usize, text: &str) -> Result<String, AllocError> {
+    let mut log = String::new(alloc);
+    for i in 0..PLANE_LOG.len() {
+        let line = if i + 1 == number { text } else { PLANE_LOG[i] };
+        if !line.is_empty() {
+            log.push_str(line)?;
+            log.push_str("\n")?;
+        }
+    }
+    Ok(log)
+}
+
+#[test]
+fn a_solved_log_is_tested_entry_by_entry(rt: HostRuntime) -> Result<(), Fail> {
+    let table = [
+        (1, "version 1", 0, PLANE_REPORT),
+        // A cut that is not needed: it is tight at the point (0, 4) alone.
+        (
+            7,
+            "add 3 2 2 1 3 1\ncut 2 1/8 7/8 7/2 2 1 5/12 2 1/6 0\nadd 4 0",
+            0,
+            PLANE_REPORT,
+        ),
+        (5, "start 2 1 2 2 -4 4 3 1 0 -1", 9, "fault 9 entry 5 rule 3 Length\n"),
+        (5, "start 2 1 3 2 -4 4 4 1 0 -1 1", 9, "fault 9 entry 5 rule 4 Index\n"),
+        (5, "start 2 1 2 2 -4 4 4 1 0 -2 2", 9, "fault 9 entry 5 rule 12 Corner\n"),
+        (5, "start 2 1 2 2 -4 5 4 1 0 -1 1", 9, "fault 9 entry 5 rule 12 Corner\n"),
+        (5, "start 2 1 2 2 -4 4 4 1 1 -1 1", 9, "fault 9 entry 5 rule 12 Corner\n"),
+        (
+            6,
+            "cut 2 1/4 3/4 4 1 1 1/2 0",
+            9,
+            "fault 9 entry 6 rule 10 Bound\n",
+        ),
+        (7, "add 3 1 2 1", 9, "fault 9 entry 7 rule 13 Pairs\n"),
+        (7, "add 3 2 3 1 2 1", 9, "fault 9 entry 7 rule 13 Pairs\n"),
+        (7, "add 3 3 2 1 3 1 3 2", 9, "fault 9 entry 7 rule 13 Pairs\n"),
+        (7, "add 4 0", 9, "fault 9 entry 7 rule 4 Index\n"),
+        (7, "add 1 0", 9, "fault 9 entry 7 rule 4 Index\n"),
+        (7, "", 9, "fault 9 entry 7 rule 4 Index\n"),
+        (
+            7,
+            "add 3 2 2 1 3 1\nadd 3 0",
+            9,
+            "fault 9 entry 8 rule 4 Index\n",
+        ),
+        // The generator that was cut off, a direction, and one whose pre-image stands already.
+        (8, "point 1 2 1 2 2 2 0", 9, "fault 9 entry 8 rule 4 Index\n"),
+        (8, "point 2 0 0", 9, "fault 9 entry 8 rule 4 Index\n"),
+        (9, "point 4 2 1 2 2 2 0", 9, "fault 9 entry 9 rule 4 Index\n"),
+        // The pre-image of the other point, and one that is not feasible.
+        (8, "point 5 2 1 2 2 2 0", 9, "fault 9 entry 8 rule 9 Cone\n"),
+        (8, "point 4 2 1 1 2 2 0", 9, "fault 9 entry 8 rule 11 Side\n"),
+        (10, "ray 4 0 0", 9, "fault 9 entry 10 rule 4 Index\n"),
+        (11, "ray 3 1 1 1 0", 9, "fault 9 entry 11 rule 9 Cone\n"),
+        (11, "", 9, "fault 9 entry 14 rule 15 Missing\n"),
+        (12, "facet 4", 9, "fault 9 entry 12 rule 4 Index\n"),
+        (13, "facet 1", 9, "fault 9 entry 13 rule 4 Index\n"),
+        (14, "", 9, "fault 9 entry 14 rule 15 Missing\n"),
+        (
+            7,
+            "add 3 2 2 1 3 1\ncut 2 1/8 7/8 7/2 2 1 5/12 2 1/6 0\nadd 4 0\nfacet 4",
+            9,
+            "fault 9 entry 10 rule 14 Facet\n",
+        ),
+        // The same cut once more.
+        (
+            7,
+            "add 3 2 2 1 3 1\ncut 2 1/4 3/4 3 1 1 1/2 0\nadd 4 0\nfacet 4",
+            9,
+            "fault 9 entry 17 rule 14 Facet\n",
+        ),
+        (
+            12,
+            "facet 1\nadd 3 0",
+            9,
+            "fault 9 entry 13 rule 2 Order\n",
+        ),
+    ];
+    for (number, line, code, text) in table {
+        let log = plane_log(rt.alloc(), number, line)?;
+        let (status, out) = check(rt.alloc(), PLANE.as_bytes(), log.as_bytes(), 10, NO_FAULTS)?;
         assert_eq!(rt; out.contents(), text.as_bytes());
         assert_eq!(rt; status.code(), code, "of {text:?}");
     }
@@ -347,6 +476,24 @@ fn each_front_and_each_change_is_answered(rt: HostRuntime) -> Result<(), Fail> {
         let mut text = LOG.as_bytes().to_vec(rt.alloc())?;
         text[end] = b'9';
         is_answered(&rt, FILE.as_bytes(), text.as_slice(), &[REPORT])?;
+    }
+    Ok(())
+}
+
+#[test]
+fn each_change_of_a_solved_log_is_answered(rt: HostRuntime) -> Result<(), Fail> {
+    let log = plane_log(rt.alloc(), 1, "version 1")?;
+    let image = &PLANE_REPORT.as_bytes()[..PLANE_IMAGE];
+    for at in 0..log.len() {
+        let mut text = log.as_bytes().to_vec(rt.alloc())?;
+        text[at] = b'9';
+        let (status, out) = check(rt.alloc(), PLANE.as_bytes(), text.as_slice(), 4096, NO_FAULTS)?;
+        match status {
+            Status::Done => assert!(rt; out.contents().starts_with(image)),
+            Status::Left { .. } => assert!(rt; out.contents().starts_with(b"fault 5 ")),
+            Status::Refused(_) => assert!(rt; out.contents().starts_with(b"fault 9 ")),
+            _ => assert!(rt; false, "{status:?}"),
+        }
     }
     Ok(())
 }

@@ -1,13 +1,13 @@
 -- The answer that the entries of a log give.
-use Rattle.std.proofs.Common.{◌≡◌, ℕ, suc, List, [], ◌∷◌, ◌++◌, take, length, refl, sym, ap, ◌∙◌, subst, arith, true, false, true≢false, not, ◌==◌, append_assoc, IsTrue, Contains, Option, None, Some}
+use Rattle.std.proofs.Common.{◌≡◌, ℕ, suc, List, [], ◌∷◌, ◌++◌, take, length, map, get_or, ◌<◌, refl, sym, ap, ◌∙◌, subst, arith, true, false, true≢false, not, ◌==◌, append_assoc, IsTrue, Contains, Option, None, Some}
 use Rattle.std.specs.Prelude.{MatchOption}
 use Rattle.std.specs.Option.{is_some}
 use Rattle.exact_field.specs.Rational.{ℚ}
 use Rattle.frac128.specs.declared.vectors.Spot.{Spot}
-use Rattle.polyhedra.proofs.Members.{member_of}
 use Rattle.polyhedra.proofs.Tests.{both_true, or_right}
 use Rattle.vlp_reader.specs.declared.problem.Problem.{Problem}
-use Rattle.deriv_log.specs.Formed.{is_end, ends_once}
+use Rattle.frac128.specs.Held.{is_held}
+use Rattle.deriv_log.specs.Formed.{is_end, ends_once, IsLog}
 use Rattle.deriv_log.specs.declared.entry.EndKind.{EndKind}
 use Rattle.deriv_log.specs.declared.entry.EndKind.TheVariants as ending
 use Rattle.deriv_log.specs.declared.entry.Entry.{Entry}
@@ -23,10 +23,13 @@ use Rattle.log_rules.proofs.NumbersStay.{cuts_continue}
 use Rattle.log_rules.proofs.PassedTests.{some_passes}
 use Rattle.vlp_reader.specs.declared.problem.Dir.{Dir}
 use Rattle.vlp_reader.specs.declared.problem.Dir.TheVariants.{Min, Max}
-use Rattle.cert_check.specs.Built.{is_built}
-use Rattle.cert_check.specs.Standing.{IsAt, IsFound, IsWholeOf, IsLineOf, HasPassed, listed_cut, stated_cut, line_answer}
+use Rattle.log_answer.specs.Supplies.{Supplies}
+use Rattle.log_rules.specs.Proves.{AllMeet}
+use Rattle.log_rules.proofs.LogMeets.{events_give_meets}
+use Rattle.log_tests.specs.Cuts as cuts
+use Rattle.log_tests.specs.declared.corner.Cut as kept
+use Rattle.cert_check.specs.Standing.{IsAt, IsFound, IsWholeOf, IsLineOf, line_answer}
 use Rattle.cert_check.specs.declared.checker.Checker.{Checker}
-use Rattle.cert_check.specs.declared.found.FirstCut.{FirstCut}
 use Rattle.cert_check.specs.declared.found.FoundWhole.{FoundWhole}
 use Rattle.cert_check.specs.declared.found.FoundLine.{FoundLine}
 
@@ -110,54 +113,42 @@ not_found k entries (Some x) Of e h t = true≢false (ap (λ o. is_some o) e)
 pub found_is : {X : Type 0} (k : Kind) (entries : List Entry) (found : Option X) (Of : X → Type 0) (x : X) → found ≡ Some x → IsFound k entries found Of → Of x
 found_is k entries found Of x e h = subst (λ o. MatchOption o (has k entries ≡ false) Of) e h
 
-module _ (file : Problem) (entries : List Entry) (checker : Checker) (at : IsAt file entries checker) (passed : HasPassed file entries) where
+module _ (file : Problem) (entries : List Entry) (checker : Checker) (at : IsAt file entries checker) (log : IsLog entries) where
+  meet : AllMeet file entries
+  meet = events_give_meets is_held file entries at.passes
+
   ends : has order.end entries ≡ true
-  ends = has_end entries passed.log.ends
+  ends = has_end entries log.ends
 
-  pub no_end : checker.ended ≡ None → ⊥
-  no_end e = not_found order.end entries checker.ended (λ k. Contains entries (End k)) e at.ended ends
+  pub no_end : checker.found.ended ≡ None → ⊥
+  no_end e = not_found order.end entries checker.found.ended (λ k. Contains entries (End k)) e at.found.ended ends
 
-  stands : (k : EndKind) → checker.ended ≡ Some k → Contains entries (End k)
-  stands k e = found_is order.end entries checker.ended (λ j. Contains entries (End j)) k e at.ended
-
-  built : (e : Entry) → Contains entries e → IsTrue (is_built e)
-  built e c = member_of (λ d. IsTrue (is_built d)) entries e passed.built c
-
-  pub not_solved : checker.ended ≡ Some ending.Solved → ⊥
-  not_solved e = true≢false (sym (built (End ending.Solved) (stands ending.Solved e)))
+  stands : (k : EndKind) → checker.found.ended ≡ Some k → Contains entries (End k)
+  stands k e = found_is order.end entries checker.found.ended (λ j. Contains entries (End j)) k e at.found.ended
 
   -- what stands before the end stands in the log
   before_end : (k : Kind) (e : Entry) → Contains entries e → ((before : List Entry) → Meets file before e → IsTrue (has k before)) → has k entries ≡ true
   before_end k e c asked =
       let p : StandsAt entries e = stands_at entries e c in
-      ap (has k) p.same ∙ has_more k p.before (e ∷ p.rest) (asked p.before (passed.meet p.before e p.rest p.same))
+      ap (has k) p.same ∙ has_more k p.before (e ∷ p.rest) (asked p.before (meet p.before e p.rest p.same))
 
-  pub has_farkas : checker.ended ≡ Some ending.Infeasible → has order.farkas entries ≡ true
-  has_farkas e = before_end order.farkas (End ending.Infeasible) (stands ending.Infeasible e) (λ before m. m.rules)
+  -- a `whole`, a `line` or a `start` has a `duality` before it
+  scale : (k : Kind) (e : Entry) → Contains entries e → ((before : List Entry) → Meets file before e → IsTrue (has order.duality before)) → checker.known.c ≡ duality_vector entries
+  scale k e c asked = (at.known.scale (before_end order.duality e c asked)).is
 
-  pub has_whole : checker.ended ≡ Some ending.Whole → has order.whole entries ≡ true
-  has_whole e = before_end order.whole (End ending.Whole) (stands ending.Whole e) (λ before m. m.rules)
-
-  pub has_line : checker.ended ≡ Some ending.NoVertex → has order.line entries ≡ true
-  has_line e = before_end order.line (End ending.NoVertex) (stands ending.NoVertex e) (λ before m. m.rules)
-
-  -- a `whole` or a `line` has a `duality` before it
-  scale : (k : Kind) (e : Entry) → Contains entries e → ((before : List Entry) → Meets file before e → IsTrue (has order.duality before)) → checker.c ≡ duality_vector entries
-  scale k e c asked = (at.scale (before_end order.duality e c asked)).is
-
-  pub infeasible_proved : checker.ended ≡ Some ending.Infeasible → (u : List Spot) → checker.farkas ≡ Some u → Proves file entries (answer.Infeasible u)
+  pub infeasible_proved : checker.found.ended ≡ Some ending.Infeasible → (u : List Spot) → checker.found.farkas ≡ Some u → Proves file entries (answer.Infeasible u)
   infeasible_proved e u f = record {
-    log = passed.log;
-    meet = passed.meet;
-    gives = (stands ending.Infeasible e, found_is order.farkas entries checker.farkas (λ v. Contains entries (Farkas v)) u f at.farkas);
+    log = log;
+    meet = meet;
+    gives = (stands ending.Infeasible e, found_is order.farkas entries checker.found.farkas (λ v. Contains entries (Farkas v)) u f at.found.farkas);
   }
 
-  pub whole_proved : checker.ended ≡ Some ending.Whole → (w : FoundWhole) → checker.whole ≡ Some w → Proves file entries (answer.Whole checker.c w.x w.ray)
+  pub whole_proved : checker.found.ended ≡ Some ending.Whole → (w : FoundWhole) → checker.found.whole ≡ Some w → Proves file entries (answer.Whole checker.known.c w.x w.ray)
   whole_proved e w f =
-      let m : IsWholeOf entries w = found_is order.whole entries checker.whole (IsWholeOf entries) w f at.whole in
+      let m : IsWholeOf entries w = found_is order.whole entries checker.found.whole (IsWholeOf entries) w f at.found.whole in
       record {
-        log = passed.log;
-        meet = passed.meet;
+        log = log;
+        meet = meet;
         gives = (
           stands ending.Whole e,
           record { c_given = scale order.whole (Whole w.x w.ray m.0) m.1 (λ before k. (order_of before order.whole k.order).duality); m = m.0; stands = m.1 },
@@ -165,22 +156,34 @@ module _ (file : Problem) (entries : List Entry) (checker : Checker) (at : IsAt 
       }
 
   -- ---- a line
-  line_in : (l : FoundLine) → checker.line ≡ Some l → IsLineOf entries l
-  line_in l f = found_is order.line entries checker.line (IsLineOf entries) l f at.line
+  line_in : (l : FoundLine) → checker.found.line ≡ Some l → IsLineOf entries l
+  line_in l f = found_is order.line entries checker.found.line (IsLineOf entries) l f at.found.line
 
-  pub no_first : (l : FoundLine) → checker.line ≡ Some l → checker.first ≡ None → ⊥
-  no_first l f none =
+  pub some_cut : (l : FoundLine) → checker.found.line ≡ Some l → 0 < length checker.solving.cuts.items
+  some_cut l f =
       let c = line_in l f in
       let e : Entry = Line l.d l.x l.ray c.0 l.back c.1.0 in
-      cuts_there file.objs entries (before_end order.cut e c.1.1 (λ before k. cut_before before k.order)) (at.first ∙ ap listed_cut none)
+      longer checker.solving.cuts.items (λ none. cuts_there file.objs entries (before_end order.cut e c.1.1 (λ before k. cut_before before k.order))
+      (ap (take 1) (sym at.solving.cuts) ∙ ap (λ (xs : List kept.Cut). take 1 (map cuts.stated xs)) none))
+    where
+      longer : (xs : List kept.Cut) → (xs ≡ [] → ⊥) → 0 < length xs
+      longer [] h = absurd (h refl)
+      longer (x ∷ xs) h = omega arith
 
-  pub no_vertex_proved : checker.ended ≡ Some ending.NoVertex → (l : FoundLine) → checker.line ≡ Some l → (first : FirstCut) → checker.first ≡ Some first →
-      Proves file entries (line_answer file.dir checker.c l first)
+  first_cut : (first : kept.Cut) → 0 < length checker.solving.cuts.items → first ≡ get_or checker.solving.cuts.items 0 first → take 1 (state file.objs entries).cuts ≡ cuts.stated first ∷ []
+  first_cut first l is = ap (take 1) (sym at.solving.cuts) ∙ go checker.solving.cuts.items l is
+    where
+      go : (xs : List kept.Cut) → 0 < length xs → first ≡ get_or xs 0 first → take 1 (map cuts.stated xs) ≡ cuts.stated first ∷ []
+      go [] l is = absurd (omega (arith, l))
+      go (x ∷ xs) l is = ap (λ (c : kept.Cut). cuts.stated c ∷ []) (sym is)
+
+  pub no_vertex_proved : checker.found.ended ≡ Some ending.NoVertex → (l : FoundLine) → checker.found.line ≡ Some l → (first : kept.Cut) →
+      first ≡ get_or checker.solving.cuts.items 0 first → Proves file entries (line_answer file.dir checker.known.c l first)
   no_vertex_proved e l f first g =
       let c = line_in l f in
       record {
-        log = passed.log;
-        meet = passed.meet;
+        log = log;
+        meet = meet;
         gives = (
           stands ending.NoVertex e,
           record {
@@ -190,19 +193,61 @@ module _ (file : Problem) (entries : List Entry) (checker : Checker) (at : IsAt 
             stands = subst (λ (r : List Spot). Contains entries (Line l.d l.x r c.0 (forth file.dir (forth file.dir l.back l.ray) (forth file.dir l.ray l.back)) c.1.0))
                 (sym (forth_forth file.dir l.ray l.back))
                 (subst (λ (b : List Spot). Contains entries (Line l.d l.x l.ray c.0 b c.1.0)) (sym (forth_forth file.dir l.back l.ray)) c.1.1);
-            first = stated_cut first;
-            cuts = at.first ∙ ap listed_cut g;
+            first = cuts.stated first;
+            cuts = first_cut first (some_cut l f) g;
             shown_cut = refl;
           },
         );
       }
 
+  -- ---- a solved log
+  pub supplies : checker.found.ended ≡ Some ending.Solved → Supplies file entries file.dir checker.known.c checker.solving.live.generators.items checker.solving.cuts.items
+      checker.solving.uses.list checker.solving.named
+  supplies e = record {
+    log = log;
+    meet = meet;
+    ended = stands ending.Solved e;
+    direction = refl;
+    scale = (at.known.scale with_duality).is;
+    live = at.solving.live.live;
+    tight = at.solving.live.tight;
+    preimages = at.solving.preimages.each;
+    stands = at.solving.cuts;
+    used = at.solving.uses.list;
+    names = at.solving.names;
+  }
+    where
+      with_start : has order.start entries ≡ true
+      with_start = before_end order.start (End ending.Solved) (stands ending.Solved e) (λ before m. m.rules.started)
+
+      with_duality : IsTrue (has order.duality entries)
+      with_duality =
+          let s = some_passes (λ d. place (kind d) == place order.start) entries with_start in
+          before_end order.duality s.0 s.1 (λ before m. (order_of before order.start (started_is s.0 s.2 before m)).duality)
+        where
+          started_is : (d : Entry) → (place (kind d) == place order.start) ≡ true → (before : List Entry) → Meets file before d → IsTrue (in_order before order.start)
+          started_is (Start cuts point directions) h before m = m.order
+          started_is (Version n) h before m = absurd (true≢false (sym h))
+          started_is (Duality c weights picks inverse) h before m = absurd (true≢false (sym h))
+          started_is (Cut w gamma u v) h before m = absurd (true≢false (sym h))
+          started_is (Add cut pairs) h before m = absurd (true≢false (sym h))
+          started_is (Point k x z) h before m = absurd (true≢false (sym h))
+          started_is (Ray k x z) h before m = absurd (true≢false (sym h))
+          started_is (Farkas u) h before m = absurd (true≢false (sym h))
+          started_is (Whole x ray z) h before m = absurd (true≢false (sym h))
+          started_is (Line d x ray z back n) h before m = absurd (true≢false (sym h))
+          started_is (Facet cut) h before m = absurd (true≢false (sym h))
+          started_is (End k) h before m = absurd (true≢false (sym h))
+
   -- ---- what an end asks for is found
-  pub farkas_missing : checker.ended ≡ Some ending.Infeasible → checker.farkas ≡ None → ⊥
-  farkas_missing e none = not_found order.farkas entries checker.farkas (λ u. Contains entries (Farkas u)) none at.farkas (has_farkas e)
+  pub farkas_missing : checker.found.ended ≡ Some ending.Infeasible → checker.found.farkas ≡ None → ⊥
+  farkas_missing e none = not_found order.farkas entries checker.found.farkas (λ u. Contains entries (Farkas u)) none at.found.farkas
+      (before_end order.farkas (End ending.Infeasible) (stands ending.Infeasible e) (λ before m. m.rules))
 
-  pub whole_missing : checker.ended ≡ Some ending.Whole → checker.whole ≡ None → ⊥
-  whole_missing e none = not_found order.whole entries checker.whole (IsWholeOf entries) none at.whole (has_whole e)
+  pub whole_missing : checker.found.ended ≡ Some ending.Whole → checker.found.whole ≡ None → ⊥
+  whole_missing e none = not_found order.whole entries checker.found.whole (IsWholeOf entries) none at.found.whole
+      (before_end order.whole (End ending.Whole) (stands ending.Whole e) (λ before m. m.rules))
 
-  pub line_missing : checker.ended ≡ Some ending.NoVertex → checker.line ≡ None → ⊥
-  line_missing e none = not_found order.line entries checker.line (IsLineOf entries) none at.line (has_line e)
+  pub line_missing : checker.found.ended ≡ Some ending.NoVertex → checker.found.line ≡ None → ⊥
+  line_missing e none = not_found order.line entries checker.found.line (IsLineOf entries) none at.found.line
+      (before_end order.line (End ending.NoVertex) (stands ending.NoVertex e) (λ before m. m.rules))

@@ -1,5 +1,5 @@
 -- One more entry keeps what the checker knows.
-use Rattle.std.proofs.Common.{◌≡◌, ℕ, List, [], ◌∷◌, ◌++◌, take, refl, sym, ap, ap₂, ◌∙◌, subst, false, ◌||◌, ◌==◌, IsTrue, Contains, Option, None, Some}
+use Rattle.std.proofs.Common.{◌≡◌, ℕ, List, [], ◌∷◌, ◌++◌, refl, sym, ap, ap₂, ◌∙◌, subst, false, ◌||◌, ◌==◌, IsTrue, Contains, Option, None, Some}
 use Rattle.std.proofs.lemmas.List.Folds.{list_any-append}
 use Rattle.std.proofs.lemmas.List.Elements.{Contains-append_left, Contains-push}
 use Rattle.exact_field.specs.Rational.{ℚ}
@@ -8,17 +8,19 @@ use Rattle.frac128.specs.declared.vectors.Spot.{Spot}
 use Rattle.vlp_reader.specs.declared.problem.Problem.{Problem}
 use Rattle.deriv_log.specs.declared.entry.EndKind.{EndKind}
 use Rattle.deriv_log.specs.declared.entry.Entry.{Entry}
-use Rattle.deriv_log.specs.declared.entry.Entry.TheVariants.{Duality, Cut, Farkas, Whole, Line, End}
-use Rattle.log_rules.specs.Live.{Stated, State, state, after, duality_vector}
+use Rattle.deriv_log.specs.declared.entry.Entry.TheVariants.{Duality, Farkas, Whole, Line, End}
+use Rattle.log_rules.specs.Live.{duality_vector}
 use Rattle.log_rules.specs.Order.{Kind, has, kind, place, in_order}
 use Rattle.log_rules.specs.Order as order
 use Rattle.log_rules.proofs.DualityStays.{duality_stays}
-use Rattle.log_rules.proofs.Entries.{state-push, has_before, order_of}
+use Rattle.log_rules.proofs.Entries.{has_before, order_of}
 use Rattle.vlp_matrices.specs.Sheets.{IsSheetOf}
-use Rattle.cert_check.specs.Keeping.{next_scale, or_one, next_first, next_farkas, next_whole, next_line, next_end}
+use Rattle.vlp_matrices.specs.declared.sheet.Sheet.{Sheet}
+use Rattle.cert_check.specs.Keeping.{next_scale, next_farkas, next_whole, next_line, next_end}
 use Rattle.cert_check.specs.Kinds.{AreKinds}
-use Rattle.cert_check.specs.Standing.{IsAt, IsScale, IsFound, IsWholeOf, IsLineOf, FitsScale, listed_cut}
-use Rattle.cert_check.specs.declared.checker.Checker.{Checker}
+use Rattle.cert_check.specs.Standing.{IsKnown, HasFound, IsScale, IsFound, IsWholeOf, IsLineOf, FitsScale}
+use Rattle.cert_check.specs.declared.known.Known.{Known}
+use Rattle.cert_check.specs.declared.found.Found.{Found}
 use Rattle.cert_check.specs.declared.found.FoundWhole.{FoundWhole}
 use Rattle.cert_check.specs.declared.found.FoundLine.{FoundLine}
 
@@ -39,19 +41,6 @@ scale_kept file before e c m fits h b =
     let d = has_before order.duality before e refl b in
     let s = h d in
     record { is = s.is ∙ sym (duality_stays before (e ∷ []) d); wide = s.wide }
-
--- ---- the first cut
-first_of : (cuts : List Stated) (c : Stated) (first : List Stated) → take 1 cuts ≡ first → take 1 (cuts ++ c ∷ []) ≡ or_one first c
-first_of [] c first h = ap (λ f. or_one f c) h
-first_of (d ∷ cuts) c first h = ap (λ f. or_one f c) h
-
-pub first_kept : (file : Problem) (before : List Entry) (e : Entry) (first : List Stated) → take 1 (state file.objs before).cuts ≡ first →
-    take 1 (state file.objs (before ++ e ∷ [])).cuts ≡ next_first first e
-first_kept file before e first h = ap (λ (s : State). take 1 s.cuts) (state-push file.objs before e) ∙ go e
-  where
-    go : (d : Entry) → take 1 (after file.objs (state file.objs before) d).cuts ≡ next_first first d
-    go (Cut w gamma u v) = first_of (state file.objs before).cuts (record { w = w; gamma = gamma; u = u }) first h
-    go d = h
 
 -- ---- what is found
 none_yet : (k : Kind) (before : List Entry) (e : Entry) → (place (kind e) == place k) ≡ false → has k before ≡ false → has k (before ++ e ∷ []) ≡ false
@@ -92,15 +81,17 @@ end_kept before e found h =
     (λ k c. Contains-append_left before (e ∷ []) (End k) c) h
 
 -- ---- all of it
-pub kept : (file : Problem) (before : List Entry) (e : Entry) (old new : Checker) → IsAt file before old → IsTrue (in_order before (kind e)) → FitsScale file e →
-    IsSheetOf file new.sheet → AreKinds (before ++ e ∷ []) new.kinds → new.c ≡ next_scale old.c e → listed_cut new.first ≡ next_first (listed_cut old.first) e →
-    new.farkas ≡ next_farkas old.farkas e → new.whole ≡ next_whole old.whole e → new.line ≡ next_line old.line e → new.ended ≡ next_end old.ended e →
-    IsAt file (before ++ e ∷ []) new
-kept file before e old new at m fits sheet kinds c first farkas whole line ended = record {
-  sheet = sheet;
+pub known_kept : (file : Problem) (before : List Entry) (e : Entry) (old new : Known) → IsKnown file before old → IsTrue (in_order before (kind e)) → FitsScale file e →
+    new.sheet ≡ old.sheet → AreKinds (before ++ e ∷ []) new.kinds → new.c ≡ next_scale old.c e → IsKnown file (before ++ e ∷ []) new
+known_kept file before e old new at m fits sheet kinds c = record {
+  sheet = subst (λ (s : Sheet). IsSheetOf file s) (sym sheet) at.sheet;
   kinds = kinds;
   scale = λ b. subst (λ (v : List ℚ). IsScale file (before ++ e ∷ []) v) (sym c) (scale_kept file before e old.c m fits at.scale b);
-  first = first_kept file before e (listed_cut old.first) at.first ∙ sym first;
+}
+
+pub has_found : (before : List Entry) (e : Entry) (old new : Found) → HasFound before old → new.farkas ≡ next_farkas old.farkas e → new.whole ≡ next_whole old.whole e →
+    new.line ≡ next_line old.line e → new.ended ≡ next_end old.ended e → HasFound (before ++ e ∷ []) new
+has_found before e old new at farkas whole line ended = record {
   farkas = subst (λ (o : Option (List Spot)). IsFound order.farkas (before ++ e ∷ []) o (λ u. Contains (before ++ e ∷ []) (Farkas u))) (sym farkas)
       (farkas_kept before e old.farkas at.farkas);
   whole = subst (λ (o : Option FoundWhole). IsFound order.whole (before ++ e ∷ []) o (IsWholeOf (before ++ e ∷ []))) (sym whole) (whole_kept before e old.whole at.whole);

@@ -1,6 +1,5 @@
-pub mod Ending
 pub mod KeptEntries
-pub mod OneEntry
+pub mod Ending
 pub mod Passing
 pub mod Taking
-pub mod Walking
+pub mod OneEntry

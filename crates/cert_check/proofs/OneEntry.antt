@@ -1,4 +1,4 @@
--- One entry: its sparse vectors, what its order asks for, and the events of an end.
+-- One entry: its sparse vectors, and what stands behind it.
 use Rattle.std.proofs.Common.{◌≡◌, ℕ, ◌<◌, List, [], ◌∷◌, length, refl, sym, ◌∙◌, ap, subst, Bool, true, true≢false, IsTrue, slice_index_or, ◌&&◌, ◌==◌, ◌++◌, None}
 use Rattle.std.specs.List.{list_all}
 use Rattle.exact_field.specs.Rational.{ℚ, one_ℚ}
@@ -11,25 +11,24 @@ use Rattle.vlp_reader.specs.declared.problem.Problem.{Problem}
 use Rattle.deriv_log.specs.LogText.{entry_parts}
 use Rattle.deriv_log.specs.LogText.Part.{natural, sparse}
 use Rattle.deriv_log.specs.Formed.{is_short, is_formed_spot, is_formed_part, is_formed}
-use Rattle.deriv_log.specs.declared.entry.EndKind.{EndKind}
-use Rattle.deriv_log.specs.declared.entry.EndKind.TheVariants as end
 use Rattle.deriv_log.specs.declared.entry.Entry.{Entry}
-use Rattle.deriv_log.specs.declared.entry.Entry.TheVariants.{Duality, End}
+use Rattle.deriv_log.specs.declared.entry.Entry.TheVariants.{Duality}
 use Rattle.std.specs.Prelude.{Result, ⊤}
 use Rattle.frac128.specs.Held.{is_held}
 use Rattle.log_rules.specs.Runs.{Runs, steps}
 use Rattle.log_rules.specs.declared.stop.Stop.{Stop}
-use Rattle.log_rules.specs.Events.{Event, first_failure, kind_events, has_lengths, follows_given, interior, end_events, cut_events, whole_events}
+use Rattle.log_rules.specs.Events.{Event, first_failure, kind_events, has_lengths, follows_given, interior}
 use Rattle.log_rules.specs.Events.Event.{test}
-use Rattle.log_rules.specs.Live.{State, state}
-use Rattle.log_rules.specs.Order.{has}
+use Rattle.log_rules.specs.Live.{State, state, after, named_in, preimage_in}
 use Rattle.log_rules.specs.declared.rule.Rule.TheVariants as rule
-use Rattle.log_rules.specs.Order as order
 use Rattle.std.proofs.lemmas.Bool.{eqb-true}
 use Rattle.log_tests.proofs.Going.{first-passed}
-use Rattle.cert_check.specs.Built.{is_built}
-use Rattle.cert_check.specs.Standing.{IsAt, FitsScale, answers}
-use Rattle.cert_check.specs.declared.checker.Checker.{Checker}
+use Rattle.log_rules.specs.Order.{kind}
+use Rattle.log_solved.specs.Solving.{IsSolving, StandsBefore}
+use Rattle.log_solved.specs.declared.solving.Solving.{Solving}
+use Rattle.log_solved.proofs.Entered.{stays}
+use Rattle.log_solved.proofs.Given.{with_value}
+use Rattle.cert_check.specs.Standing.{FitsScale}
 
 -- ---- formed parts
 pub formed_part : (e : Entry) → IsTrue (is_formed e) → (i : ℕ) → i < length (entry_parts e) →
@@ -47,38 +46,26 @@ pub sparse_at : (e whole : Entry) → e ≡ whole → IsTrue (is_formed e) → (
 sparse_at e whole same h i l u is =
     formed_sparse u (ap is_formed_part (sym is) ∙ formed_part whole (subst (λ (x : Entry). IsTrue (is_formed x)) same h) i l)
 
--- ---- the duality vector
--- where one list of entries for which the checker stands has a `duality`, each has
-pub has_duality : (file : Problem) (before other : List Entry) (checker : Checker) → IsAt file before checker → IsAt file other checker →
-    IsTrue (has order.duality before) → IsTrue (has order.duality other)
-has_duality file before other checker at also h = sym also.kinds.duality ∙ at.kinds.duality ∙ h
+-- ---- an entry that was gone through
+-- the events of the entry were gone through, and then it stands among those before
+abbrev pub Took : Problem → List Entry → Entry → Solving → Result (Unit {0}) Stop → Type 0
+Took file before e solving result =
+    Runs is_held (kind_events file before (state file.objs before) e) 0 (steps (kind_events file before (state file.objs before) e)) (λ _. IsSolving file (before ++ e ∷ []) solving) result
 
--- ---- ends
-pub end_as : (file : Problem) (before : List Entry) (s : State) (k : EndKind) → IsTrue (is_built (End k)) →
-    end_events file before s k ≡ test rule.Missing (answers before k) ∷ []
-end_as file before s end.Infeasible h = refl
-end_as file before s end.Whole h = refl
-end_as file before s end.NoVertex h = refl
-end_as file before s end.Solved h = absurd (true≢false (sym h))
+-- the same of an entry under another name
+pub took_as : (file : Problem) (before : List Entry) (e e' : Entry) (solving : Solving) (result : Result (Unit {0}) Stop) → e ≡ e' → Took file before e solving result → Took file before e' solving result
+took_as file before e e' solving result same h = subst (λ (x : Entry). Took file before x solving result) same h
 
--- ---- the same events of lists that are the same
-abbrev pub Went : List Event → Result (Unit {0}) Stop → Type 0
-Went es result = Runs is_held es 0 (steps es) (λ _. ⊤) result
+pub stands_as : (file : Problem) (before : List Entry) (e e' : Entry) (solving : Solving) → e ≡ e' → StandsBefore file before (kind e) solving → StandsBefore file before (kind e') solving
+stands_as file before e e' solving same h = subst (λ (x : Entry). StandsBefore file before (kind x) solving) same h
 
-pub cut_as : (file : Problem) (before : List Entry) (w w' : List ℚ) (gamma : ℚ) (u u' v v' : List Spot) (result : Result (Unit {0}) Stop) → w ≡ w' → u ≡ u' → v ≡ v' →
-    Went (cut_events file before w gamma u v) result → Went (cut_events file before w' gamma u' v') result
-cut_as file before w w' gamma u u' v v' result a b c h =
-    subst (λ (x : List Spot). Went (cut_events file before w' gamma u' x) result) c
-    (subst (λ (x : List Spot). Went (cut_events file before w' gamma x v) result) b
-    (subst (λ (x : List ℚ). Went (cut_events file before x gamma u v) result) a h))
-
-pub whole_as : (file : Problem) (c c' : List ℚ) (x x' ray ray' m m' : List Spot) (result : Result (Unit {0}) Stop) → c ≡ c' → x ≡ x' → ray ≡ ray' → m ≡ m' →
-    Went (whole_events file c x ray m) result → Went (whole_events file c' x' ray' m') result
-whole_as file c c' x x' ray ray' m m' result a b d e h =
-    subst (λ (z : List Spot). Went (whole_events file c' x' ray' z) result) e
-    (subst (λ (z : List Spot). Went (whole_events file c' x' z m) result) d
-    (subst (λ (z : List Spot). Went (whole_events file c' z ray m) result) b
-    (subst (λ (z : List ℚ). Went (whole_events file z x ray m) result) a h)))
+-- an entry that changes nothing of what stands
+pub took : (file : Problem) (before : List Entry) (e : Entry) (solving : Solving) (result : Result (Unit {0}) Stop) → ((q : ℕ) (st : State) → after q st e ≡ st) → named_in e ≡ None →
+    ((k : ℕ) → preimage_in k e ≡ None) → IsSolving file before solving →
+    Runs is_held (kind_events file before (state file.objs before) e) 0 (steps (kind_events file before (state file.objs before) e)) (λ _. ⊤) result → Took file before e solving result
+took file before e solving result same unnamed none h ran =
+    with_value (IsSolving file (before ++ e ∷ []) solving) (kind_events file before (state file.objs before) e) (steps (kind_events file before (state file.objs before) e)) result
+    (stays file before e solving same unnamed none h) ran
 
 -- ---- a `duality` that passes its tests has an entry for each objective
 pub fits_scale : (file : Problem) (before : List Entry) (e : Entry) → first_failure is_held 1 (kind_events file before (state file.objs before) e) ≡ None → FitsScale file e

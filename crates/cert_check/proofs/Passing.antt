@@ -1,47 +1,88 @@
--- A log without a failure of the checker's events has none of the rules'.
-use Rattle.std.proofs.Common.{◌≡◌, ℕ, suc, List, [], ◌∷◌, ◌++◌, refl, ap, ◌∙◌, Bool, true, false, true≢false, IsTrue, Option, None, Some, All, length}
+-- The first failure of entries behind entries without one.
+use Rattle.std.proofs.Common.{◌≡◌, ℕ, zero, suc, ◌+◌, ◌<◌, ◌≤◌, List, [], ◌∷◌, ◌++◌, length, take, drop, get_or, refl, sym, ap, ◌∙◌, subst, arith, true≢false, append-nil, append_assoc, Option, None, Some}
 use Rattle.std.specs.Option.{is_some}
-use Rattle.std.proofs.lemmas.List.Elements.{All-nil, All-cons}
+use Rattle.std.proofs.lemmas.List.{length-take}
 use Rattle.frac128.specs.Held.{is_held}
 use Rattle.vlp_reader.specs.declared.problem.Problem.{Problem}
-use Rattle.deriv_log.specs.Formed.{IsLog}
 use Rattle.deriv_log.specs.declared.entry.Entry.{Entry}
-use Rattle.log_rules.specs.Events.{Event, Failure, Failing, first_failure, events}
-use Rattle.log_rules.specs.Events.Event.{test}
-use Rattle.log_rules.specs.Events as rules
-use Rattle.log_rules.specs.declared.rule.Rule.TheVariants as rule
-use Rattle.log_rules.proofs.LogMeets.{events_give_meets}
-use Rattle.log_tests.proofs.Going.{first-passed}
-use Rattle.cert_check.specs.Built.{is_built, checked_events, first_failing}
-use Rattle.cert_check.specs.Standing.{HasPassed}
+use Rattle.log_rules.specs.Events.{Failure, Failing, first_failure, events, first_failing, log_failure}
+use Rattle.log_rules.specs.Events.Failure.{wrong, left}
+use Rattle.log_rules.specs.Runs.{Stops}
+use Rattle.log_rules.specs.declared.stop.Stop.{Stop}
+use Rattle.log_rules.specs.declared.stop.Stop.TheVariants.{Wrong, Left, NoMemory}
+use Rattle.vlp_matrices.proofs.Lists.{drop-next-of}
+use Rattle.cert_check.specs.Verdict.{Refuses, refusal_of}
+
+-- the failure of an entry, or else that of those behind it
+or_later : Option Failure → ℕ → Option Failing → Option Failing
+or_later (Some failure) n later = Some (record { entry = n; failure = failure })
+or_later None n later = later
 
 -- neither a failure here nor a later one
-both_none : (f : Option Failure) (n : ℕ) (later : Option Failing) →
-    (elim f as (λ _. Option Failing) [ Some failure ↦ Some (record { entry = n; failure = failure }) | None ↦ later ]) ≡ None → (f ≡ None) × (later ≡ None)
-both_none None n later h = (refl, h)
-both_none (Some failure) n later h = absurd (true≢false (ap (λ (o : Option Failing). is_some o) h))
+record NoneFails (f : Option Failure) (then : Option Failing) : Type 0 where
+  here : f ≡ None
+  later : then ≡ None
 
--- the events behind the test that the kind is built
-behind_built : (b : Bool) (es : List Event) → first_failure is_held 1 (test rule.NotBuilt b ∷ es) ≡ None → first_failure is_held 1 es ≡ None
-behind_built true es h = h
-behind_built false es h = absurd cc
+neither : (f : Option Failure) (n : ℕ) (later : Option Failing) → or_later f n later ≡ None → NoneFails f later
+unfolding or_later
+neither None n later h = record { here = refl; later = h }
+neither (Some failure) n later h = absurd (true≢false (ap (λ (o : Option Failing). is_some o) h))
 
-record Passes (file : Problem) (before entries : List Entry) : Type 0 where
-  built : All (λ e. IsTrue (is_built e)) entries
-  none : rules.first_failing is_held file before entries ≡ None
+next : (file : Problem) (before : List Entry) (e : Entry) (entries : List Entry) →
+    first_failing is_held file before (e ∷ entries) ≡ or_later (first_failure is_held 1 (events file before e)) (suc (length before)) (first_failing is_held file (before ++ e ∷ []) entries)
+unfolding or_later
+next file before e entries = by (first_failure is_held 1 (events file before e))
+  where
+    by : (f : Option Failure) → (elim f as (λ _. Option Failing) [ Some failure ↦ Some (record { entry = suc (length before); failure = failure }) | None ↦ first_failing is_held file (before ++ e ∷ []) entries ])
+        ≡ or_later f (suc (length before)) (first_failing is_held file (before ++ e ∷ []) entries)
+    by None = refl
+    by (Some failure) = refl
 
-passes : (file : Problem) (before entries : List Entry) → first_failing is_held file before entries ≡ None → Passes file before entries
-passes file before [] h = record { built = All-nil (λ e. IsTrue (is_built e)); none = refl }
-passes file before (e ∷ entries) h =
-    let both = both_none (first_failure is_held 1 (checked_events file before e)) (suc (length before)) (first_failing is_held file (before ++ e ∷ []) entries) h in
-    let later = passes file (before ++ e ∷ []) entries both.1 in
-    let here = behind_built (is_built e) (events file before e) both.0 in
-    record {
-      built = All-cons (λ d. IsTrue (is_built d)) e entries (first-passed 1 rule.NotBuilt (is_built e) (events file before e) both.0) later.built;
-      none = ap (λ (f : Option Failure). elim f as (λ _. Option Failing) [ Some failure ↦ Some (record { entry = suc (length before); failure = failure }) | None ↦ rules.first_failing is_held file (before ++ e ∷ []) entries ]) here ∙ later.none;
-    }
+pub behind : (file : Problem) (before xs ys : List Entry) → first_failing is_held file before xs ≡ None →
+    first_failing is_held file before (xs ++ ys) ≡ first_failing is_held file (before ++ xs) ys
+unfolding or_later
+behind file before [] ys h = ap (λ (b : List Entry). first_failing is_held file b ys) (sym (append-nil before))
+behind file before (x ∷ xs) ys h =
+    let ff : Option Failure = first_failure is_held 1 (events file before x) in
+    let both : NoneFails ff (first_failing is_held file (before ++ x ∷ []) xs) =
+    neither ff (suc (length before)) (first_failing is_held file (before ++ x ∷ []) xs) (sym (next file before x xs) ∙ h) in
+    next file before x (xs ++ ys)
+    ∙ ap (λ (f : Option Failure). or_later f (suc (length before)) (first_failing is_held file (before ++ x ∷ []) (xs ++ ys))) both.here
+    ∙ behind file (before ++ x ∷ []) xs ys both.later
+    ∙ ap (λ (b : List Entry). first_failing is_held file b ys) (append_assoc before (x ∷ []) xs)
 
-pub has_passed : (file : Problem) (entries : List Entry) → IsLog entries → first_failing is_held file [] entries ≡ None → HasPassed file entries
-has_passed file entries log h =
-    let p = passes file [] entries h in
-    record { log = log; built = p.built; meet = events_give_meets is_held file entries p.none }
+module _ (file : Problem) (before : List Entry) (e : Entry) (passes : log_failure is_held file before ≡ None) where
+  -- one more entry without a failure
+  pub one_more : first_failure is_held 1 (events file before e) ≡ None → log_failure is_held file (before ++ e ∷ []) ≡ None
+  unfolding or_later
+  one_more none =
+      behind file [] before (e ∷ []) passes ∙ next file before e []
+      ∙ ap (λ (f : Option Failure). or_later f (suc (length before)) (first_failing is_held file (before ++ e ∷ []) [])) none
+
+  -- one with a failure
+  fails : (rest : List Entry) (f : Failure) → first_failure is_held 1 (events file before e) ≡ Some f →
+      log_failure is_held file (before ++ e ∷ rest) ≡ Some (record { entry = suc (length before); failure = f })
+  unfolding or_later
+  fails rest f some =
+      behind file [] before (e ∷ rest) passes ∙ next file before e rest
+      ∙ ap (λ (o : Option Failure). or_later o (suc (length before)) (first_failing is_held file (before ++ e ∷ []) rest)) some
+
+  pub refuses : (rest : List Entry) (n : ℕ) (stop : Stop) → suc (length before) ≡ n → Stops is_held (events file before e) 0 stop → Refuses file (before ++ e ∷ rest) (refusal_of n stop)
+  refuses rest n (Wrong r) same h = fails rest (wrong r) h ∙ ap (λ (k : ℕ). Some (record { entry = k; failure = wrong r })) same
+  refuses rest n (Left s l) same h = fails rest (left s l.op l.a l.b) h ∙ ap (λ (k : ℕ). Some (record { entry = k; failure = left s l.op l.a l.b })) same
+  refuses rest n NoMemory same h = tt
+
+-- ---- the entry at a place of a log
+pub split_at : (list : List Entry) (i : ℕ) (e : Entry) → i < length list → e ≡ get_or list i e → list ≡ take i list ++ e ∷ drop (i + 1) list
+split_at [] i e low is = absurd (omega (arith, low))
+split_at (d ∷ list) zero e low is = ap (λ (x : Entry). x ∷ list) (sym is)
+split_at (d ∷ list) (suc i) e low is =
+    let one : suc (i + 1) ≡ suc i + 1 = omega arith in
+    ap (λ (es : List Entry). d ∷ es) (split_at list i e (omega (arith, low)) is) ∙ ap (λ (k : ℕ). d ∷ (take i list ++ e ∷ drop k (d ∷ list))) one
+
+pub refuses_at : (file : Problem) (list : List Entry) (i : ℕ) (e : Entry) (stop : Stop) → i < length list → e ≡ get_or list i e → log_failure is_held file (take i list) ≡ None →
+    Stops is_held (events file (take i list) e) 0 stop → Refuses file list (refusal_of (i + 1) stop)
+refuses_at file list i e stop low is passes h =
+    let many = length-take i list in
+    subst (λ (es : List Entry). Refuses file es (refusal_of (i + 1) stop)) (sym (split_at list i e low is))
+    (refuses file (take i list) e passes (drop (i + 1) list) (i + 1) stop (omega (arith, many, low)) h)

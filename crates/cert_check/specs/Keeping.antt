@@ -1,26 +1,16 @@
 -- What one more entry changes of what the checker keeps. For the clauses of the code alone.
-use Rattle.std.specs.Prelude.{List, [], ◌∷◌, Option, Some}
+use Rattle.std.specs.Prelude.{List, Option, Some}
 use Rattle.exact_field.specs.Rational.{ℚ}
 use Rattle.frac128.specs.declared.vectors.Spot.{Spot}
 use Rattle.deriv_log.specs.declared.entry.EndKind.{EndKind}
 use Rattle.deriv_log.specs.declared.entry.Entry.{Entry}
 use Rattle.deriv_log.specs.declared.entry.Entry.TheVariants as entry
-use Rattle.log_rules.specs.Live.{Stated}
 use Rattle.cert_check.specs.declared.found.FoundWhole.{FoundWhole}
 use Rattle.cert_check.specs.declared.found.FoundLine.{FoundLine}
 
 abbrev pub next_scale : List ℚ → Entry → List ℚ
 next_scale c (entry.Duality d weights picks inverse) = d
 next_scale c _ = c
-
--- these cuts, or this one where there are none
-abbrev pub or_one : List Stated → Stated → List Stated
-or_one [] cut = cut ∷ []
-or_one (first ∷ cuts) cut = first ∷ cuts
-
-abbrev pub next_first : List Stated → Entry → List Stated
-next_first cuts (entry.Cut w gamma u v) = or_one cuts (record { w = w; gamma = gamma; u = u })
-next_first cuts _ = cuts
 
 abbrev pub next_farkas : Option (List Spot) → Entry → Option (List Spot)
 next_farkas found (entry.Farkas u) = Some u

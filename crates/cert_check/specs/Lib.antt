@@ -1,4 +1,3 @@
-pub mod Built
 pub mod Keeping
 pub mod Kinds
 pub mod Standing

@@ -3,13 +3,13 @@ use Rattle.std.specs.Prelude.{◌≡◌, ℕ, List, Some, None}
 use Rattle.frac128.specs.Held.{is_held}
 use Rattle.vlp_reader.specs.declared.problem.Problem.{Problem}
 use Rattle.deriv_log.specs.declared.entry.Entry.{Entry}
+use Rattle.log_rules.specs.Events.{log_failure}
 use Rattle.log_rules.specs.Events.Failure.{wrong, left}
 use Rattle.log_rules.specs.Proves.{Proves}
 use Rattle.log_rules.specs.Right.{IsRight}
 use Rattle.log_rules.specs.declared.answer.Answer.{Answer}
 use Rattle.log_rules.specs.declared.stop.Stop.{Stop}
 use Rattle.log_rules.specs.declared.stop.Stop.TheVariants as Stopped
-use Rattle.cert_check.specs.Built.{log_failure}
 use Rattle.cert_check.specs.declared.fault.Refusal.{Refusal}
 use Rattle.cert_check.specs.declared.fault.Refusal.TheVariants.{Wrong, Left, NoMemory}
 

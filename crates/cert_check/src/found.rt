@@ -1,20 +1,13 @@
 //! What the entries of a log gave.
-ghost use Rattle.std.specs.Prelude.{◌≡◌, IfOk, OnOk};
-ghost use Rattle.cert_check.specs.Keeping.{next_scale, next_first, next_farkas, next_whole, next_line, next_end};
-ghost use Rattle.cert_check.specs.Standing.{listed_cut};
+ghost use Rattle.std.specs.Prelude.{◌≡◌, List, [], ◌∷◌, ◌++◌, IfOk, OnOk};
+ghost use Rattle.cert_check.specs.Keeping.{next_scale, next_farkas, next_whole, next_line, next_end};
+ghost use Rattle.cert_check.specs.Standing.{HasFound};
+ghost use Rattle.deriv_log.specs.declared.entry.Entry.{Entry};
 
 use deriv_log::{EndKind, Entry};
-use frac128::{Frac, Sparse, Vector};
+use frac128::{Sparse, Vector};
 use src_sink::{Items, NoMemory};
 use std::alloc::Global;
-
-/// The first cut.
-#[derive(Debug, Drop)]
-pub struct FirstCut {
-    pub w: Vector,
-    pub gamma: Frac,
-    pub u: Sparse,
-}
 
 /// A feasible point, and a direction along which the image is everything.
 #[derive(Debug, Drop)]
@@ -30,6 +23,15 @@ pub struct FoundLine {
     pub x: Sparse,
     pub ray: Sparse,
     pub back: Sparse,
+}
+
+/// What the answers but a solved one need of the entries before.
+#[derive(Debug, Drop)]
+pub struct Found {
+    pub farkas: Option<Sparse>,
+    pub whole: Option<FoundWhole>,
+    pub line: Option<FoundLine>,
+    pub ended: Option<EndKind>,
 }
 
 /// A copy of a list.
@@ -51,32 +53,8 @@ pub fn keep_scale(alloc: Global, c: &mut Vector, entry: &Entry) -> Result<(), No
     Ok(())
 }
 
-/// Keeps the cut of the entry, if it is the first.
-pub fn keep_first(
-    alloc: Global,
-    first: &mut Option<FirstCut>,
-    entry: &Entry,
-) -> Result<(), NoMemory>
-    ensures { OnOk result (listed_cut first.new ≡ next_first (listed_cut first.old) entry.now) }
-{
-    if let Entry::Cut { w, gamma, u, .. } = entry {
-        if first.is_none() {
-            *first = Some(FirstCut {
-                w: copied(alloc, w)?,
-                gamma: *gamma,
-                u: copied(alloc, u)?,
-            });
-        }
-    }
-    Ok(())
-}
-
 /// Keeps the multipliers of the entry, if it is a `farkas`.
-pub fn keep_farkas(
-    alloc: Global,
-    farkas: &mut Option<Sparse>,
-    entry: &Entry,
-) -> Result<(), NoMemory>
+fn keep_farkas(alloc: Global, farkas: &mut Option<Sparse>, entry: &Entry) -> Result<(), NoMemory>
     ensures { OnOk result (farkas.new ≡ next_farkas farkas.old entry.now) }
 {
     if let Entry::Farkas { u } = entry {
@@ -86,11 +64,7 @@ pub fn keep_farkas(
 }
 
 /// Keeps the point and the direction of the entry, if it is a `whole`.
-pub fn keep_whole(
-    alloc: Global,
-    whole: &mut Option<FoundWhole>,
-    entry: &Entry,
-) -> Result<(), NoMemory>
+fn keep_whole(alloc: Global, whole: &mut Option<FoundWhole>, entry: &Entry) -> Result<(), NoMemory>
     ensures { OnOk result (whole.new ≡ next_whole whole.old entry.now) }
 {
     if let Entry::Whole { x, ray, .. } = entry {
@@ -103,7 +77,7 @@ pub fn keep_whole(
 }
 
 /// Keeps the line of the entry, if it is a `line`.
-pub fn keep_line(alloc: Global, line: &mut Option<FoundLine>, entry: &Entry) -> Result<(), NoMemory>
+fn keep_line(alloc: Global, line: &mut Option<FoundLine>, entry: &Entry) -> Result<(), NoMemory>
     ensures { OnOk result (line.new ≡ next_line line.old entry.now) }
 {
     if let Entry::Line {
@@ -125,10 +99,35 @@ pub fn keep_line(alloc: Global, line: &mut Option<FoundLine>, entry: &Entry) -> 
 }
 
 /// Keeps the kind of the entry, if it is an end.
-pub fn keep_end(ended: &mut Option<EndKind>, entry: &Entry)
+fn keep_end(ended: &mut Option<EndKind>, entry: &Entry)
     ensures { ended.new ≡ next_end ended.old entry.now }
 {
     if let Entry::End(kind) = entry {
         *ended = Some(*kind);
+    }
+}
+
+impl Found {
+    /// Where there is no entry.
+    pub fn none() -> Found
+        ensures { HasFound [] result }
+    {
+        Found {
+            farkas: None,
+            whole: None,
+            line: None,
+            ended: None,
+        }
+    }
+
+    /// With one entry more.
+    pub fn keep(&mut self, alloc: Global, entry: &Entry) -> Result<(), NoMemory>
+        ensures { (before : List Entry) → HasFound before self.old → OnOk result (HasFound (before ++ entry.now ∷ []) self.new) }
+    {
+        keep_farkas(alloc, &mut self.farkas, entry)?;
+        keep_whole(alloc, &mut self.whole, entry)?;
+        keep_line(alloc, &mut self.line, entry)?;
+        keep_end(&mut self.ended, entry);
+        Ok(())
     }
 }

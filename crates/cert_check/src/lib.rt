@@ -7,6 +7,8 @@ mod checker;
 mod fault;
 mod found;
 mod kinds;
+mod known;
+mod testing;
 mod verdict;
 
 pub use fault::Refusal;

@@ -36,5 +36,5 @@ pub fn check(alloc: Global, problem: &Problem, entries: &Entries) -> Result<Answ
             return Err(refusal(i as u32 + 1, stop));
         }
     }
-    Ok(checker.finish(alloc, problem))
+    Ok(checker.finish(alloc, problem)?)
 }

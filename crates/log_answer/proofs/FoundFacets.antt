@@ -1,22 +1,21 @@
 -- The named cuts with their places are the facets of the log, and no two have one key.
-use Rattle.std.proofs.Common.{◌≡◌, ◌≢◌, ℕ, zero, suc, ◌<◌, ◌≤◌, ◌-◌, ◌==◌, List, [], ◌∷◌, ◌++◌, sym, ap, ap₂, ◌∙◌, subst, refl, arith, map, filter, length, get_or, slice_index, slice_index_or, Bool, true, false, true≢false, not, All, AllPairs, Contains}
+use Rattle.std.proofs.Common.{◌≡◌, ◌≢◌, ℕ, zero, suc, ◌<◌, ◌-◌, ◌==◌, List, [], ◌∷◌, ◌++◌, sym, ap, ap₂, ◌∙◌, subst, refl, arith, map, filter, length, get_or, slice_index, slice_index_or, Bool, true, false, true≢false, not, All, AllPairs, Contains}
 use Rattle.std.specs.List.{zip}
 use Rattle.std.proofs.lemmas.Bool.{ne_eqb}
 use Rattle.std.proofs.lemmas.List.{same_from_push, get_or-map, map-append, length-map}
 use Rattle.std.proofs.lemmas.List.Elements.{All-map}
 use Rattle.std.proofs.lemmas.Slice.Zip.{get_or-zip}
-use Rattle.exact_field.specs.Rational.{ℚ, zero_ℚ, one_ℚ}
+use Rattle.exact_field.specs.Rational.{ℚ, zero_ℚ}
 use Rattle.exact_field.specs.Order.{same_ℚ}
 use Rattle.exact_field.specs.Vector.{dot}
 use Rattle.incid_sets.specs.Marks.{has}
 use Rattle.polyhedra.specs.DoubleDescription.{is_zero}
-use Rattle.polyhedra.specs.Exactness.{SameMembers, homogenised, row_of}
+use Rattle.polyhedra.specs.Exactness.{SameMembers, row_of}
 use Rattle.polyhedra.specs.Inequality.{Inequality}
 use Rattle.polyhedra.proofs.Members.{all_of_members, member_of, Contains-map, Contains-map_source, Contains-filter, Contains-filter_source, pairs-map, pairs-filter, pairs-weaker}
-use Rattle.upper_image.specs.UpperImage.{front, signed, turned}
+use Rattle.upper_image.specs.UpperImage.{front, signed}
 use Rattle.vlp_reader.specs.declared.problem.Dir.{Dir}
 use Rattle.vlp_reader.specs.declared.problem.Problem.{Problem}
-use Rattle.deriv_log.specs.declared.entry.EndKind.TheVariants as kind
 use Rattle.deriv_log.specs.declared.entry.Entry.{Entry}
 use Rattle.log_rules.specs.Live.{Stated, State, state, rows_in_use, cut_row, inequality, cut_at, named}
 use Rattle.log_rules.specs.Proves.{Proves, IsSorting, facet_of, named_facets}

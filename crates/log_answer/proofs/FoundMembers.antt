@@ -1,5 +1,5 @@
 -- The points and directions among the kept generators are those of the log, and no two are equal.
-use Rattle.std.proofs.Common.{◌≡◌, ◌≢◌, ℕ, List, [], ◌∷◌, sym, ap, ap₂, ◌∙◌, subst, refl, cond, map, filter, Bool, true, false, true≢false, not, AllPairs, Contains}
+use Rattle.std.proofs.Common.{◌≡◌, ◌≢◌, ℕ, List, [], ◌∷◌, sym, ap, ap₂, ◌∙◌, subst, refl, cond, map, filter, Bool, true, false, not, AllPairs, Contains}
 use Rattle.exact_field.specs.Rational.{ℚ, zero_ℚ, one_ℚ}
 use Rattle.exact_field.specs.Order.{same_ℚ}
 use Rattle.polyhedra.specs.Exactness.{homogenised}
@@ -7,19 +7,19 @@ use Rattle.polyhedra.specs.LiveList.{Numbered}
 use Rattle.polyhedra.proofs.Generators.{described_are_distinct}
 use Rattle.polyhedra.proofs.Lists.{Contains-here, Contains-there}
 use Rattle.polyhedra.proofs.Members.{Contains-map, Contains-map_source, Contains-filter_source, pairs-map, pairs-filter, pairs-weaker}
-use Rattle.upper_image.specs.UpperImage.{front, turned}
+use Rattle.upper_image.specs.UpperImage.{front}
 use Rattle.upper_image.proofs.TurnedSets.{turned-same}
 use Rattle.upper_image.proofs.Widths.{map-map}
 use Rattle.vlp_reader.specs.declared.problem.Dir.{Dir}
 use Rattle.vlp_reader.specs.declared.problem.Problem.{Problem}
 use Rattle.deriv_log.specs.declared.entry.Entry.{Entry}
-use Rattle.log_rules.specs.Live.{rows_in_use, t_of}
+use Rattle.log_rules.specs.Live.{t_of}
 use Rattle.log_rules.specs.Proves.{IsSorting, shown, live_at}
 use Rattle.log_rules.specs.Right.{Rise}
 use Rattle.log_rules.specs.declared.answer.Gen.{Gen}
 use Rattle.log_rules.proofs.LiveNumbers.{pairs_from_map}
 use Rattle.log_tests.specs.declared.corner.Cut.{Cut}
-use Rattle.log_live.specs.Live.{numbered_of, live_of}
+use Rattle.log_live.specs.Live.{numbered_of}
 use Rattle.log_live.specs.declared.generator.Generator.{Generator}
 use Rattle.log_answer.specs.Members.{is_point, member, shown_of, points_of, directions_of}
 use Rattle.log_answer.specs.Supplies.{Supplies}

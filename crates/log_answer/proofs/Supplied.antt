@@ -1,5 +1,5 @@
 -- What stands after a solved log, for what a checker keeps of it.
-use Rattle.std.proofs.Common.{◌≡◌, ◌≢◌, ℕ, suc, ◌<◌, ◌≤◌, ◌-◌, List, [], ◌∷◌, sym, ap, ◌∙◌, subst, arith, refl, map, length, take, slice_index_or, true, not, All, Contains, Option, None, Some, IsTrue, ◌⊎◌, inl, inr}
+use Rattle.std.proofs.Common.{◌≡◌, ◌≢◌, ℕ, suc, ◌≤◌, ◌-◌, List, [], sym, ap, ◌∙◌, subst, arith, refl, map, length, take, slice_index_or, true, not, All, Contains, Option, None, Some, ◌⊎◌, inl, inr}
 use Rattle.std.specs.Prelude.{unwrap_or, IsSome}
 use Rattle.std.proofs.lemmas.List.{length-map}
 use Rattle.exact_field.specs.Rational.{ℚ, zero_ℚ, one_ℚ}
@@ -16,7 +16,7 @@ use Rattle.vlp_reader.specs.declared.problem.Dir.{Dir}
 use Rattle.vlp_reader.specs.declared.problem.Problem.{Problem}
 use Rattle.deriv_log.specs.declared.entry.Entry.{Entry}
 use Rattle.log_rules.specs.Laws.{Stands}
-use Rattle.log_rules.specs.Live.{Stated, State, state, in_use, rows_in_use, y_of, t_of, preimages}
+use Rattle.log_rules.specs.Live.{Stated, State, state, in_use, y_of, t_of, preimages}
 use Rattle.log_rules.specs.Meets.{MeetsSolved}
 use Rattle.log_rules.specs.Proves.{shown}
 use Rattle.log_rules.proofs.KeepsDescription.{IsKept, kept, rules_keep_description}
@@ -24,7 +24,7 @@ use Rattle.log_rules.proofs.NormedMembers.{IsPoint, IsNormedWay, one_of, one_not
 use Rattle.log_rules.proofs.SolvedIsSolved.{solved_met}
 use Rattle.log_tests.specs.Cuts.{stated}
 use Rattle.log_tests.specs.declared.corner.Cut.{Cut}
-use Rattle.log_live.specs.Live.{numbered_of, HasTightSet, HasPreimage, listed}
+use Rattle.log_live.specs.Live.{numbered_of, HasPreimage, listed}
 use Rattle.log_live.specs.declared.generator.Generator.{Generator}
 use Rattle.log_answer.specs.Members.{last, is_point, IsReached, member, shown_of}
 use Rattle.log_answer.specs.Supplies.{Supplies}

@@ -57,8 +57,9 @@ pub(crate) fn assembled(
 }
 
 /// The answer that the entries of a solved log prove, from what stands after them: the direction of the file, the duality
-/// vector, the live generators, the cuts, and the numbers of those in use and of those named as facets. It costs n log n
-/// comparisons of vectors for each list, and a test for each facet at each point and direction; no value is computed anew.
+/// vector, the live generators, the cuts (number k at place k - 1), the numbers of those in use, as they came into use, and
+/// of those named as facets. It costs n log n comparisons of vectors for each list, and a test for each facet at each point
+/// and direction; no value is computed anew.
 pub fn solved_answer(
     alloc: Global,
     dir: Dir,

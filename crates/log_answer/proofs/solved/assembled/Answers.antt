@@ -1,8 +1,7 @@
-use Rattle.std.proofs.Common.{◌≡◌, ◌≢◌, ◌≤◌, ℕ, List, length, map, sym, subst, ap, ◌∙◌, arith, All, AllPairs, Contains}
+use Rattle.std.proofs.Common.{◌≡◌, ◌≢◌, ◌≤◌, ℕ, List, length, map, sym, subst, ap, ◌∙◌, arith, All, AllPairs}
 use Rattle.exact_field.specs.Rational.{ℚ}
 use Rattle.log_rules.specs.Proves.{Proves, IsSorting}
 use Rattle.log_rules.specs.declared.answer.Answer.TheVariants.{Solved}
-use Rattle.log_rules.specs.declared.answer.Facet.{Facet}
 use Rattle.log_rules.specs.declared.answer.Gen.{Gen}
 use Rattle.log_answer.specs.Facets.{facets_at}
 use Rattle.log_answer.specs.Members.{shown_of, points_of, directions_of}

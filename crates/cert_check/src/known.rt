@@ -1,0 +1,46 @@
+//! What the tests of an entry need of the problem and of the entries before.
+ghost use Rattle.std.specs.Prelude.{List, [], ◌∷◌, ◌++◌, IfOk, OnOk, IsTrue};
+ghost use Rattle.deriv_log.specs.declared.entry.Entry.{Entry};
+ghost use Rattle.log_rules.specs.Order.{kind, in_order};
+ghost use Rattle.cert_check.specs.Standing.{IsKnown, FitsScale};
+ghost use Rattle.vlp_reader.specs.declared.problem.Problem.{Problem};
+
+use crate::found::keep_scale;
+use crate::kinds::Kinds;
+use deriv_log::Entry;
+use frac128::Vector;
+use vlp_matrices::Sheet;
+use src_sink::{Items, NoMemory};
+use std::alloc::Global;
+use vlp_reader::Problem;
+
+/// The problem by rows and columns, the kinds of the entries before, and the duality vector.
+#[derive(Debug, Drop)]
+pub struct Known {
+    pub sheet: Sheet,
+    pub kinds: Kinds,
+    pub c: Vector,
+}
+
+impl Known {
+    /// Where there is no entry.
+    pub fn new(alloc: Global, problem: &Problem) -> Result<Known, NoMemory>
+        ensures { IfOk result (IsKnown problem.now []) }
+    {
+        Ok(Known {
+            sheet: Sheet::of(alloc, problem)?,
+            kinds: Kinds::none(),
+            c: Items::new(alloc),
+        })
+    }
+
+    /// With one entry more.
+    pub fn keep(&mut self, alloc: Global, entry: &Entry) -> Result<(), NoMemory>
+        ensures { (file : Problem) (before : List Entry) → IsKnown file before self.old → IsTrue (in_order before (kind entry.now)) → FitsScale file entry.now
+            → OnOk result (IsKnown file (before ++ entry.now ∷ []) self.new) }
+    {
+        keep_scale(alloc, &mut self.c, entry)?;
+        self.kinds = self.kinds.with(entry);
+        Ok(())
+    }
+}
