@@ -9,9 +9,9 @@ use crate::found::keep_scale;
 use crate::kinds::Kinds;
 use deriv_log::Entry;
 use frac128::Vector;
-use vlp_matrices::Sheet;
 use src_sink::{Items, NoMemory};
 use std::alloc::Global;
+use vlp_matrices::Sheet;
 use vlp_reader::Problem;
 
 /// The problem by rows and columns, the kinds of the entries before, and the duality vector.
