@@ -12,6 +12,7 @@ use Rattle.incid_sets.specs.Marks.{has}
 use Rattle.polyhedra.specs.DoubleDescription.{is_zero}
 use Rattle.polyhedra.specs.Exactness.{SameMembers, row_of}
 use Rattle.polyhedra.specs.Inequality.{Inequality}
+use Rattle.polyhedra.proofs.Lists.{Contains-here, Contains-there}
 use Rattle.polyhedra.proofs.Members.{all_of_members, member_of, Contains-map, Contains-map_source, Contains-filter, Contains-filter_source, pairs-map, pairs-filter, pairs-weaker}
 use Rattle.upper_image.specs.UpperImage.{front, signed}
 use Rattle.vlp_reader.specs.declared.problem.Dir.{Dir}
@@ -49,11 +50,12 @@ some_at [] i l = absurd (omega (arith, l))
 some_at (x ∷ xs) zero l = (x, refl)
 some_at (x ∷ xs) (suc i) l = some_at xs i (omega (arith, l))
 
+-- a map through another one, where both give the same of each element
 map_through : {X Y Z : Type 0} (f : X → Z) (g : Y → Z) (y : X → Y) (xs : List X) → ((x : X) → Contains xs x → f x ≡ g (y x)) → map f xs ≡ map g (map y xs)
 map_through f g y [] h = refl
 map_through f g y (x ∷ xs) h =
-    ap₂ (λ z zs. z ∷ zs) (h x (Rattle.polyhedra.proofs.Lists.Contains-here x xs x refl))
-    (map_through f g y xs (λ w c. h w (Rattle.polyhedra.proofs.Lists.Contains-there x xs w c)))
+    ap₂ (λ z zs. z ∷ zs) (h x (Contains-here x xs x refl))
+    (map_through f g y xs (λ w c. h w (Contains-there x xs w c)))
 
 -- whether a generator's set has a place is the test of the row there
 tight_test : (rows : List (List ℚ)) (g : Generator) (place : ℕ) → HasTightSet rows g → place < length rows →
@@ -61,7 +63,7 @@ tight_test : (rows : List (List ℚ)) (g : Generator) (place : ℕ) → HasTight
 tight_test rows g place h l = ap (λ (s : List Bool). has s place) h ∙ get_or-map (λ r. is_zero (dot r g.vector)) rows place [] false l
 
 -- whether a pair of a cut and a place has a place other than 0
-has_place : Cut × ℕ → Bool
+abbrev has_place : Cut × ℕ → Bool
 has_place p = not (p.1 == 0)
 
 module _ (file : Problem) (entries : List Entry) (dir : Dir) (c : List ℚ) (generators : List Generator) (cuts : List Cut) (used facets : List ℕ)
@@ -150,7 +152,6 @@ module _ (file : Problem) (entries : List Entry) (dir : Dir) (c : List ℚ) (gen
     wide_at i l = cut_of (λ (x : Stated). length x.w ≡ file.objs) s.cuts (holds file entries dir c generators cuts used facets h).wide (suc i) (exists i l)
 
     at_pair : (i : ℕ) (d : Cut × ℕ) → i < length cuts → has_place (get_or pairs i d) ≡ true → IsNamedPair i (get_or pairs i d)
-    unfolding has_place
     at_pair i d l t =
         subst (IsNamedPair i) (sym split)
         (go (slice_index places i) (are.each i l) (sym (ap (λ (p : Cut × ℕ). not (p.1 == 0)) split ∙ ap (λ (n : ℕ). not (n == 0)) same) ∙ t) same)
@@ -218,7 +219,6 @@ module _ (file : Problem) (entries : List Entry) (dir : Dir) (c : List ℚ) (gen
         pub named_pair : IsNamedPair index p
 
       of_pair : (p : Cut × ℕ) → Contains (filter (λ p. not (p.1 == 0)) pairs) p → IsPair p
-      unfolding has_place
       of_pair p m =
           let a : Contains pairs p × (not (p.1 == 0) ≡ true) = Contains-filter_source (λ (p : Cut × ℕ). not (p.1 == 0)) pairs p m in
           let i = a.0.0 in
@@ -230,7 +230,6 @@ module _ (file : Problem) (entries : List Entry) (dir : Dir) (c : List ℚ) (gen
           }
 
       from_named : (k : ℕ) → Contains (named entries) k → Contains found (facet_of file ys ds (cut_at s.cuts k))
-      unfolding has_place
       from_named k m = go k (member_of (Exists s.cuts) (named entries) k (named_stand file entries h.meet).exist m) (subst (λ (ks : List ℕ). Contains ks k) (sym h.names) m)
         where
           go : (k : ℕ) → Exists s.cuts k → Contains facets k → Contains found (facet_of file ys ds (cut_at s.cuts k))
@@ -283,7 +282,6 @@ module _ (file : Problem) (entries : List Entry) (dir : Dir) (c : List ℚ) (gen
           omega (arith, number)
 
       pub differ : AllPairs (λ f g. key (right.stated f) ≢ key (right.stated g)) found
-      unfolding has_place
       differ =
           pairs-map (λ (f g : Facet). key (right.stated f) ≢ key (right.stated g)) facet_of_pair (filter (λ p. not (p.1 == 0)) pairs)
           (pairs-weaker (λ (p q : Cut × ℕ). has_place p ≡ true → has_place q ≡ true → key (right.stated (facet_of_pair p)) ≢ key (right.stated (facet_of_pair q)))

@@ -18,6 +18,8 @@ use Rattle.deriv_log.specs.declared.entry.Entry.{Entry}
 use Rattle.log_rules.specs.Laws.{Stands}
 use Rattle.log_rules.specs.Live.{Stated, State, state, in_use, y_of, t_of, preimages}
 use Rattle.log_rules.specs.Meets.{MeetsSolved}
+use Rattle.log_rules.specs.Order.{has}
+use Rattle.log_rules.specs.Order as order
 use Rattle.log_rules.specs.Proves.{shown}
 use Rattle.log_rules.proofs.KeepsDescription.{IsKept, kept, rules_keep_description}
 use Rattle.log_rules.proofs.NormedMembers.{IsPoint, IsNormedWay, one_of, one_not_zero}
@@ -50,7 +52,7 @@ module _ (file : Problem) (entries : List Entry) (dir : Dir) (c : List ℚ) (gen
   pub stands : Stands file s
   stands = rules_keep_description file entries h.meet met.started
 
-  pub holds : IsKept file s (Rattle.log_rules.specs.Order.has Rattle.log_rules.specs.Order.start entries)
+  pub holds : IsKept file s (has order.start entries)
   holds = kept file entries h.meet
 
   pub is_live : (g : Generator) → Contains generators g → Contains s.list.live (numbered_of g)

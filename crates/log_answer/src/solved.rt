@@ -18,7 +18,8 @@ use src_sink::{MOST_ITEMS, NoMemory};
 use std::alloc::Global;
 use vlp_reader::Dir;
 
-/// The answer of these, of which the numbers name what is there.
+/// What `solved_answer` gives, on conditions that a test can show: each generator has a pre-image, the numbers of those in use
+/// name cuts that are there, and those of facets name some in use.
 pub(crate) fn assembled(
     alloc: Global,
     dir: Dir,
