@@ -1,13 +1,12 @@
 -- What stands after the events of an `add` entry.
-use Rattle.std.proofs.Common.{◌≡◌, ℕ, suc, ◌+◌, ◌<◌, ◌≤◌, ◌^◌, ◌*◌, List, [], ◌∷◌, ◌++◌, refl, sym, ap, ap₂, ◌∙◌, subst, arith, Bool, true, length, map, filter, All, Contains, Option, Some, None, slice_index_or}
+use Rattle.std.proofs.Common.{◌≡◌, ℕ, suc, ◌+◌, ◌<◌, ◌≤◌, List, [], ◌∷◌, ◌++◌, refl, sym, ap, ap₂, ◌∙◌, subst, arith, length, map, All, slice_index_or}
 use Rattle.std.specs.List.{flat_map}
 use Rattle.std.proofs.lemmas.List.{length-map, map-append}
-use Rattle.std.proofs.lemmas.List.Elements.{All-append, All-weaker, All-head, All-tail, All-cons, All-nil}
-use Rattle.exact_field.specs.Rational.{ℚ, zero_ℚ, neg_ℚ}
+use Rattle.std.proofs.lemmas.List.Elements.{All-append, All-weaker}
+use Rattle.exact_field.specs.Rational.{ℚ, neg_ℚ}
 use Rattle.exact_field.specs.Vector.{dot}
 use Rattle.polyhedra.specs.Exactness.{homogenised, level, row_of}
-use Rattle.polyhedra.specs.Inequality.{Inequality}
-use Rattle.polyhedra.specs.LiveList.{Numbered, LiveList, LivePair, numbered, new_vectors, live_pairs, step, staying, vectors}
+use Rattle.polyhedra.specs.LiveList.{Numbered, numbered, new_vectors, live_pairs, step, staying, vectors}
 use Rattle.polyhedra.specs.TightSets.{IsDoubleDescriptionPair}
 use Rattle.polyhedra.proofs.Homogenised.{length-homogenised}
 use Rattle.polyhedra.proofs.Lists.{all_from_map}
@@ -19,7 +18,7 @@ use Rattle.deriv_log.specs.declared.entry.Entry.TheVariants.{Add}
 use Rattle.log_rules.specs.Events.{Event, same_pairs, value_steps}
 use Rattle.log_rules.specs.Events as events
 use Rattle.log_rules.specs.Events.Event.{test}
-use Rattle.log_rules.specs.Live.{State, after, cut_at, cut_row, in_use, inequality, preimages, required_pairs, rows_in_use}
+use Rattle.log_rules.specs.Live.{State, after, cut_at, cut_row, in_use, inequality, required_pairs, rows_in_use}
 use Rattle.log_rules.specs.declared.rule.Rule.TheVariants as rule
 use Rattle.log_live.specs.Adding.{AreAtRow, AreGenerators, AreNew, IsAddition, IsChange, added_events, all_value_events, all_values, kept_of, pair_named}
 use Rattle.log_live.specs.Adding as adding

@@ -1,5 +1,5 @@
 -- A new generator, from what the code reads of the two that it stands between.
-use Rattle.std.proofs.Common.{◌≡◌, ◌≢◌, ℕ, suc, ◌+◌, ◌<◌, ◌≤◌, List, [], ◌∷◌, ◌++◌, refl, sym, ap, ap₂, ◌∙◌, subst, arith, length, map, Bool, true, All, Contains, Option, Some, None, slice_index_or}
+use Rattle.std.proofs.Common.{◌≡◌, ◌≢◌, ℕ, suc, ◌+◌, ◌<◌, ◌≤◌, List, [], ◌∷◌, ◌++◌, sym, ap, ap₂, ◌∙◌, subst, arith, length, Bool, true, Contains, Option, Some, None, slice_index_or}
 use Rattle.std.proofs.lemmas.List.{length-map}
 use Rattle.exact_field.specs.Rational.{ℚ, zero_ℚ, neg_ℚ, ◌/ℚ◌, ◌<ℚ◌}
 use Rattle.exact_field.specs.Vector.{dot}

@@ -1,21 +1,19 @@
 -- The generators of a `start`, with their sets.
-use Rattle.std.proofs.Common.{◌≡◌, ◌≢◌, ℕ, zero, suc, ◌+◌, ◌-◌, ◌*◌, ◌<◌, ◌≤◌, List, [], ◌∷◌, ◌++◌, refl, sym, ap, ap₂, ◌∙◌, subst, arith, ◌⊎◌, inl, inr, Bool, true, false, not, nat_eq, length, map, take, drop, All, None, slice_index_or, length-append}
+use Rattle.std.proofs.Common.{◌≡◌, ◌≢◌, ℕ, zero, suc, ◌+◌, ◌-◌, ◌*◌, ◌<◌, ◌≤◌, List, [], ◌∷◌, ◌++◌, refl, sym, ap, ap₂, ◌∙◌, subst, arith, ◌⊎◌, inl, inr, Bool, false, not, nat_eq, length, map, take, drop, All, None, slice_index_or, length-append}
 use Rattle.std.proofs.lemmas.Bool.{cases_eq, cases_lt, eq-eqb, ne_eqb}
 use Rattle.std.proofs.lemmas.List.{length-map, map-append, get_or-map, take_more}
 use Rattle.std.proofs.lemmas.List.Elements.{All-nil, All-cons, All-append, All-weaker}
-use Rattle.exact_field.specs.Rational.{ℚ, zero_ℚ, one_ℚ, neg_ℚ, ◌+ℚ◌, ◌<ℚ◌}
+use Rattle.exact_field.specs.Rational.{ℚ, zero_ℚ, one_ℚ, neg_ℚ, ◌+ℚ◌}
 use Rattle.exact_field.specs.Vector.{dot}
 use Rattle.incid_sets.specs.Marks.{has}
 use Rattle.polyhedra.specs.DoubleDescription.{is_zero}
-use Rattle.polyhedra.specs.Exactness.{homogenised, level, row_of, rows_of, IsCornerOf}
+use Rattle.polyhedra.specs.Exactness.{homogenised, row_of, rows_of, IsCornerOf}
 use Rattle.polyhedra.specs.Inequality.{Inequality}
 use Rattle.polyhedra.specs.LiveList.{Numbered, numbered, starting}
-use Rattle.polyhedra.proofs.Algebra.{zero_add}
 use Rattle.polyhedra.proofs.Homogenised.{level_value, row_value_point, row_value_direction}
 use Rattle.polyhedra.proofs.Laws.{add_neg, zero_lt_one}
 use Rattle.polyhedra.proofs.Lists.{all_from_map}
 use Rattle.polyhedra.proofs.LiveList.{numbered_within}
-use Rattle.polyhedra.proofs.Members.{member_of}
 use Rattle.deriv_log.specs.declared.entry.Entry.{Entry}
 use Rattle.polyhedra.proofs.Order.{not_zero_of_positive}
 use Rattle.polyhedra.proofs.Tests.{test_of_other, test_of_zero}

@@ -1,5 +1,5 @@
 -- Sets of tight rows that grow by one row, and that of a new generator.
-use Rattle.std.proofs.Common.{◌≡◌, ℕ, zero, suc, List, [], ◌∷◌, ◌++◌, refl, sym, ap, ap₂, ◌∙◌, subst, arith, Bool, true, ◌&&◌, ◌↔◌, length, map, min, Contains}
+use Rattle.std.proofs.Common.{◌≡◌, ℕ, zero, suc, List, [], ◌∷◌, ◌++◌, refl, sym, ap₂, ◌∙◌, arith, Bool, true, ◌&&◌, ◌↔◌, length, min, Contains}
 use Rattle.std.proofs.lemmas.List.{length-map, map-append}
 use Rattle.exact_field.specs.Rational.{ℚ}
 use Rattle.exact_field.specs.Vector.{dot}

@@ -1,11 +1,10 @@
 -- A value that stands for what the log says: its generators as those of the live list.
-use Rattle.std.proofs.Common.{◌≡◌, ◌≢◌, ℕ, zero, suc, ◌+◌, ◌-◌, ◌<◌, ◌≤◌, List, [], ◌∷◌, ◌++◌, refl, sym, ap, ap₂, ◌∙◌, subst, arith, ◌⊎◌, inl, inr, Bool, true, false, true≢false, not, ◌&&◌, ◌==◌, length, map, All, AllPairs, Contains, Option, Some, None, slice_index_or, is_some}
-use Rattle.std.specs.List.{list_any, list_all}
+use Rattle.std.proofs.Common.{◌≡◌, ℕ, suc, ◌<◌, ◌≤◌, List, [], ◌∷◌, refl, sym, ap, ◌∙◌, subst, ◌⊎◌, inl, inr, Bool, true, false, true≢false, ◌&&◌, ◌==◌, length, All, AllPairs, Contains, Option, Some, None, slice_index_or, is_some}
+use Rattle.std.specs.List.{list_any}
 use Rattle.std.proofs.lemmas.Bool.{eqb-true, eq-eqb}
-use Rattle.std.proofs.lemmas.List.Elements.{All-weaker}
 use Rattle.exact_field.specs.Rational.{ℚ, zero_ℚ, one_ℚ}
 use Rattle.exact_field.specs.Order.{same_ℚ}
-use Rattle.exact_field.specs.Vector.{dot, entry}
+use Rattle.exact_field.specs.Vector.{entry}
 use Rattle.frac128.specs.Sparse.{is_zero}
 use Rattle.frac128.specs.declared.vectors.Spot.{Spot}
 use Rattle.polyhedra.specs.LiveList.{Numbered, vectors}
@@ -18,11 +17,11 @@ use Rattle.log_rules.specs.Events.{is_open}
 use Rattle.log_rules.specs.Live.{State, find, preimages, rows_in_use, t_of}
 use Rattle.log_rules.proofs.Kept.{find_is}
 use Rattle.log_rules.proofs.LiveNumbers.{pairs_from_map, same_number}
-use Rattle.log_rules.proofs.PassedTests.{passes_some, same_number as same_value, some_passes, zero_number, zero_passes}
+use Rattle.log_rules.proofs.PassedTests.{passes_some, same_number as same_value, some_passes, zero_passes}
 use Rattle.log_rules.proofs.HeldTests.{same_passes}
 use Rattle.polyhedra.proofs.Tests.{both_true, both_hold}
-use Rattle.log_live.specs.Adding.{AreGenerators, IsPointOrDirection}
-use Rattle.log_live.specs.Live.{HasPreimage, HasPreimages, HasTightSet, IsOpenAt, StandsFor, listed, live_of, numbered_of}
+use Rattle.log_live.specs.Adding.{AreGenerators}
+use Rattle.log_live.specs.Live.{HasPreimage, HasPreimages, StandsFor, listed, live_of, numbered_of}
 use Rattle.log_live.specs.declared.generator.Generator.{Generator}
 use Rattle.log_live.specs.declared.live.Live.{Live}
 use Rattle.log_live.proofs.KeptGenerators.{few_generators}

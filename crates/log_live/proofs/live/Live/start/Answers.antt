@@ -1,4 +1,4 @@
-use Rattle.std.proofs.Common.{◌≡◌, ◌+◌, ◌*◌, ◌-◌, ◌≤◌, ℕ, List, [], ◌∷◌, ◌++◌, refl, sym, ap, subst, ◌∙◌, arith, drop, map, take, length}
+use Rattle.std.proofs.Common.{◌≡◌, ◌+◌, ◌*◌, ◌-◌, ℕ, List, [], refl, sym, ap, subst, ◌∙◌, arith, drop, map, take}
 use Rattle.std.specs.Prelude.{suc}
 use Rattle.exact_field.specs.Rational.{ℚ, zero_ℚ, one_ℚ}
 use Rattle.polyhedra.specs.Exactness.{homogenised, rows_of, IsCornerOf}
@@ -7,7 +7,6 @@ use Rattle.upper_image.specs.Spots.{pieces}
 use Rattle.log_rules.specs.Live.{cut_at, first_vectors, inequality}
 use Rattle.log_live.specs.Live.{AreLive}
 use Rattle.log_live.specs.Starting.{IsFirst}
-use Rattle.log_live.specs.declared.generator.Generator.{Generator}
 use Rattle.log_live.proofs.FirstGenerators.{AreFirst, first_all, first_live, first_more, first_of, first_preimages, length-first, none_first, one_first}
 use Rattle.log_live.proofs.live.Live.start.Goals as goal
 
