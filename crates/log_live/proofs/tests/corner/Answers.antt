@@ -1,4 +1,4 @@
-use Rattle.std.proofs.Common.{◌≡◌, ℕ, suc, pos, negsuc, List, [], ◌∷◌, ◌++◌, refl, sym, ap, ap₂, subst, ◌∙◌, length, All, Option, None, Some}
+use Rattle.std.proofs.Common.{◌≡◌, ℕ, negsuc, List, [], ◌∷◌, ◌++◌, refl, sym, subst, ◌∙◌, length, Option, None, Some}
 use Rattle.std.proofs.Common.{Result, Ok, Err}
 use Rattle.std.specs.Prelude.{IfOk}
 use Rattle.exact_field.specs.Rational.{ℚ, whole}
@@ -7,12 +7,10 @@ use Rattle.vlp_reader.specs.declared.problem.Problem.{Problem}
 use Rattle.deriv_log.specs.declared.entry.Entry.{Entry}
 use Rattle.deriv_log.specs.declared.entry.Entry.TheVariants.{Start}
 use Rattle.log_rules.specs.Events.{Failing, log_failure}
-use Rattle.log_rules.specs.Examples.{SmallLogs, in_numbers, last_ray, n, minus_one, small_cuts, small_front, solved_end, half, third, at}
-use Rattle.log_rules.specs.Laws.{Stands}
-use Rattle.log_rules.specs.Live.{State, Stated, after, state}
-use Rattle.log_rules.specs.Meets.{Meets, MeetsStart}
+use Rattle.log_rules.specs.Examples.{SmallLogs, in_numbers, last_ray, n, minus_one, small_front, solved_end, half, third, at}
+use Rattle.log_rules.specs.Live.{State, after, state}
+use Rattle.log_rules.specs.Meets.{MeetsStart}
 use Rattle.log_rules.specs.Proves.{AllMeet}
-use Rattle.log_rules.proofs.CutsStay.{Exists}
 use Rattle.log_rules.proofs.Examples.{worked_logs}
 use Rattle.log_rules.proofs.KeepsDescription.{stands-cut}
 use Rattle.log_rules.proofs.LogMeets.{events_give_meets}
