@@ -1,5 +1,5 @@
 -- What stands behind one more entry.
-use Rattle.std.proofs.Common.{◌≡◌, ℕ, suc, ◌+◌, ◌<◌, ◌≤◌, List, [], ◌∷◌, ◌++◌, refl, sym, ap, ap₂, ◌∙◌, subst, arith, map, length, All, Bool, IsTrue, Option, None, Some, Contains, slice_index_or}
+use Rattle.std.proofs.Common.{◌≡◌, ℕ, ◌+◌, ◌≤◌, List, [], ◌∷◌, ◌++◌, refl, sym, ap, ap₂, ◌∙◌, subst, arith, map, length, All, Bool, IsTrue, Option, None, Some}
 use Rattle.std.specs.Prelude.{⊤, MatchOption}
 use Rattle.std.proofs.lemmas.List.{length-map, map-append}
 use Rattle.std.proofs.lemmas.List.Elements.{All-nil, All-cons, All-append, All-weaker}
@@ -11,15 +11,14 @@ use Rattle.polyhedra.specs.LiveList.{Numbered}
 use Rattle.polyhedra.proofs.Members.{member_of}
 use Rattle.incid_sets.specs.Marks.{has}
 use Rattle.vlp_reader.specs.declared.problem.Problem.{Problem}
-use Rattle.deriv_log.specs.declared.entry.LogPair.{LogPair}
 use Rattle.deriv_log.specs.declared.entry.Entry.{Entry}
-use Rattle.deriv_log.specs.declared.entry.Entry.TheVariants.{Cut, Start, Add, Point, Ray, Facet}
-use Rattle.log_rules.specs.Live.{Stated, State, state, after, contains, preimage_in, preimages, named_in, named, rows_in_use, in_use}
-use Rattle.log_rules.proofs.CutsStay.{Exists, stated_stay}
+use Rattle.deriv_log.specs.declared.entry.Entry.TheVariants.{Cut, Facet}
+use Rattle.log_rules.specs.Live.{Stated, State, state, after, contains, preimage_in, named_in, named, rows_in_use}
+use Rattle.log_rules.proofs.CutsStay.{stated_stay}
 use Rattle.log_rules.proofs.Entries.{state-push}
 use Rattle.log_tests.specs.Cuts as cuts
 use Rattle.log_tests.specs.declared.corner.Cut as kept
-use Rattle.log_live.specs.Live.{HasPreimage, HasPreimages, HasTightSet, IsListOf, live_of, numbered_of, tight_set}
+use Rattle.log_live.specs.Live.{HasPreimage, HasPreimages, HasTightSet, IsListOf, live_of, tight_set}
 use Rattle.log_live.specs.Tight.{AreColumns, AreTight, column}
 use Rattle.log_live.specs.declared.generator.Generator.{Generator}
 use Rattle.log_live.specs.declared.live.Live.{Live}
@@ -28,7 +27,7 @@ use Rattle.log_solved.specs.Places.{place_of}
 use Rattle.log_solved.specs.Solving.{IsSolving}
 use Rattle.log_solved.specs.Uses.{AreUses}
 use Rattle.log_solved.specs.declared.solving.Solving.{Solving}
-use Rattle.log_solved.proofs.Unstarted.{AreUnstarted, preimages-stay, named-stay, named-push}
+use Rattle.log_solved.proofs.Unstarted.{preimages-stay, named-stay, named-push}
 
 -- what is said of a value, where the state, the entries and the names of facets are given
 pub record IsTold (file : Problem) (st : State) (entries : List Entry) (ks : List ℕ) (s : Solving) : Type 0 where

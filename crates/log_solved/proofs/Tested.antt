@@ -1,26 +1,23 @@
 -- Calls behind tests, and what an entry meets that was gone through.
-use Rattle.std.proofs.Common.{◌≡◌, ℕ, zero, suc, ◌+◌, ◌-◌, ◌<◌, ◌≤◌, List, [], ◌∷◌, ◌++◌, refl, sym, ap, ◌∙◌, subst, arith, min, map, take, length, All, Bool, true, false, not, IsTrue, Option, None, Some, Contains, slice_index_or, get_or, inl, inr}
-use Rattle.std.specs.Prelude.{⊤, Result, Ok, Err}
-use Rattle.std.proofs.lemmas.List.{length-take, length-map}
+use Rattle.std.proofs.Common.{◌≡◌, ℕ, zero, suc, ◌-◌, ◌<◌, ◌≤◌, List, [], ◌∷◌, refl, sym, ap, ◌∙◌, subst, arith, map, take, length, All, Bool, true, false, IsTrue, None, Contains, slice_index_or, get_or, inl, inr}
+use Rattle.std.specs.Prelude.{Result}
+use Rattle.std.proofs.lemmas.List.{length-take}
 use Rattle.std.proofs.lemmas.List.Elements.{All-nil, Contains-get_or}
-use Rattle.exact_field.specs.Rational.{ℚ, zero_ℚ}
+use Rattle.exact_field.specs.Rational.{zero_ℚ}
 use Rattle.frac128.specs.Held.{is_held}
 use Rattle.polyhedra.specs.LiveList.{Numbered}
 use Rattle.polyhedra.proofs.Lists.{all_from_map}
 use Rattle.polyhedra.proofs.Members.{Contains-map}
-use Rattle.polyhedra.proofs.Tests.{not_true}
 use Rattle.vlp_reader.specs.declared.problem.Problem.{Problem}
 use Rattle.deriv_log.specs.declared.entry.Entry.{Entry}
-use Rattle.log_rules.specs.Events.{Event, first_failure, events, kind_events}
+use Rattle.log_rules.specs.Events.{Event, first_failure, kind_events}
 use Rattle.log_rules.specs.Events.Event.{test}
-use Rattle.log_rules.specs.Events.Failure.{wrong}
-use Rattle.log_rules.specs.Laws.{Stands}
-use Rattle.log_rules.specs.Live.{Stated, State, state, cut_at, duality_vector, y_of, in_use}
+use Rattle.log_rules.specs.Live.{Stated, State, state, cut_at, in_use}
 use Rattle.log_rules.specs.Meets.{Meets}
 use Rattle.log_rules.specs.Order.{Kind, kind, in_order, has}
 use Rattle.log_rules.specs.Order as order
 use Rattle.log_rules.specs.Proves.{AllMeet}
-use Rattle.log_rules.specs.Runs.{Runs, Stops, steps}
+use Rattle.log_rules.specs.Runs.{Runs, Stops}
 use Rattle.log_rules.specs.declared.rule.Rule.{Rule}
 use Rattle.log_rules.specs.declared.rule.Rule.TheVariants as rule
 use Rattle.log_rules.specs.declared.stop.Stop.{Stop}
@@ -32,10 +29,10 @@ use Rattle.log_rules.proofs.LogMeets.{IsWide, entry-meets, next_wide}
 use Rattle.log_rules.proofs.NormedMembers.{one_of}
 use Rattle.log_tests.specs.Cuts as cuts
 use Rattle.log_tests.specs.declared.corner.Cut as held
-use Rattle.log_live.specs.Live.{StandsFor, live_of, numbered_of}
+use Rattle.log_live.specs.Live.{StandsFor, numbered_of}
 use Rattle.log_live.specs.declared.generator.Generator.{Generator}
 use Rattle.log_live.specs.declared.live.Live.{Live}
-use Rattle.log_solved.specs.Solving.{IsSolving, StandsBefore}
+use Rattle.log_solved.specs.Solving.{StandsBefore}
 use Rattle.log_solved.specs.declared.solving.Solving.{Solving}
 
 -- ---- a test before a call

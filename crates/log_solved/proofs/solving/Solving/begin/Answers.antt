@@ -1,4 +1,4 @@
-use Rattle.std.proofs.Common.{◌≡◌, ℕ, length, arith, ap, ◌∙◌, refl, subst, List, [], ◌∷◌, ◌++◌}
+use Rattle.std.proofs.Common.{◌≡◌, ℕ, length, arith, ◌∙◌, refl, subst, [], ◌∷◌, ◌++◌}
 use Rattle.polyhedra.proofs.Tests.{not_true}
 use Rattle.deriv_log.specs.declared.entry.Entry.TheVariants.{Start}
 use Rattle.log_rules.specs.Live.{state}

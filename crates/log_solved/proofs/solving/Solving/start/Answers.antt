@@ -1,9 +1,7 @@
 use Rattle.std.proofs.Common.{◌≡◌, ◌≤◌, ℕ, ap, ◌∙◌, sym, refl, subst, rules, arith, List, length, All, map}
 use Rattle.std.proofs.lemmas.List.{length-map}
-use Rattle.frac128.specs.Held.{is_held}
 use Rattle.deriv_log.specs.declared.entry.Entry.TheVariants.{Start}
 use Rattle.log_rules.specs.Live.{Stated, state}
-use Rattle.log_rules.specs.Meets.{Meets}
 use Rattle.log_rules.specs.Order as order
 use Rattle.log_tests.specs.Cuts.{stated}
 use Rattle.log_tests.specs.declared.corner.Cut.{Cut}
