@@ -25,7 +25,7 @@ use src_sink::{Items, NoMemory};
 use std::alloc::Global;
 use vlp_reader::{Dir, Problem};
 
-/// What is known of a log's entries so far. It takes memory for the cuts and for the live generators with their tight
+/// What is known of a log's entries so far. Behind an error of `take` the value is of no use. It takes memory for the cuts and for the live generators with their tight
 /// sets and pre-images, and none for what is live no more.
 ///
 /// Each entry costs what its tests and operations cost, and what it gives is copied: `duality` the entries of the cone's

@@ -36,7 +36,8 @@ use std::alloc::Global;
 use vlp_matrices::Sheet;
 use vlp_reader::Problem;
 
-/// What stands of a solved log behind some of its entries.
+/// What stands of a solved log behind some of its entries. Behind an error of a call that changes it the value is of no
+/// use: the check of the log has ended.
 #[derive(Debug, Drop)]
 pub struct Solving {
     /// The cuts: number k stands at place k - 1.
