@@ -17,11 +17,11 @@ ghost use Rattle.upper_image.specs.Spots.{IsVector, dense};
 
 use crate::cone::{in_dual_cone, places_within, values_positive};
 use crate::image::spread;
-use vlp_matrices::Sheet;
 use crate::steps::{Steps, is_positive, is_zero, pass};
 use frac128::{Frac, Sparse, Spot};
 use log_rules::{Rule, Stop};
 use std::alloc::Global;
+use vlp_matrices::Sheet;
 use vlp_reader::Problem;
 
 /// In one column, the product of the sides with `u` is that of the objectives with `w`.

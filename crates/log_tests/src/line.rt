@@ -9,12 +9,12 @@ ghost use Rattle.vlp_matrices.specs.Sheets.{IsSheetOf};
 ghost use Rattle.polyhedra.specs.DoubleDescription.{leading};
 
 use crate::image::{above, append, in_feasible, in_recession};
-use vlp_matrices::Sheet;
 use crate::steps::{Steps, is_zero, pass};
 use exact_field::Field;
 use frac128::{Frac, Spot};
 use log_rules::{Rule, Stop};
 use std::alloc::Global;
+use vlp_matrices::Sheet;
 use vlp_reader::Problem;
 
 /// The negative of a vector.

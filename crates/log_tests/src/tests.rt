@@ -5,9 +5,7 @@ ghost use Rattle.frac128.specs.Sparse.{rises_above};
 ghost use Rattle.vlp_matrices.specs.Sheets.{IsSheetOf};
 
 use crate::steps::is_zero;
-use crate::{
-    Cut, check_cut, check_duality, check_farkas, check_line, check_start, check_whole,
-};
+use crate::{Cut, check_cut, check_duality, check_farkas, check_line, check_start, check_whole};
 use deriv_log::{Entry, read_log};
 use frac128::{Frac, Sparse, Spot, Vector};
 use log_rules::{Rule, Stop};
