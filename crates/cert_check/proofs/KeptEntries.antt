@@ -1,5 +1,5 @@
 -- One more entry keeps what the checker knows.
-use Rattle.std.proofs.Common.{◌≡◌, ℕ, List, [], ◌∷◌, ◌++◌, refl, sym, ap, ap₂, ◌∙◌, subst, false, ◌||◌, ◌==◌, IsTrue, Contains, Option, None, Some}
+use Rattle.std.proofs.Common.{◌≡◌, ℕ, List, [], ◌∷◌, ◌++◌, refl, sym, ap₂, ◌∙◌, subst, false, ◌||◌, ◌==◌, IsTrue, Contains, Option, None, Some}
 use Rattle.std.proofs.lemmas.List.Folds.{list_any-append}
 use Rattle.std.proofs.lemmas.List.Elements.{Contains-append_left, Contains-push}
 use Rattle.exact_field.specs.Rational.{ℚ}

@@ -1,5 +1,5 @@
 -- The first failure of entries behind entries without one.
-use Rattle.std.proofs.Common.{◌≡◌, ℕ, zero, suc, ◌+◌, ◌<◌, ◌≤◌, List, [], ◌∷◌, ◌++◌, length, take, drop, get_or, refl, sym, ap, ◌∙◌, subst, arith, true≢false, append-nil, append_assoc, Option, None, Some}
+use Rattle.std.proofs.Common.{◌≡◌, ℕ, zero, suc, ◌+◌, ◌<◌, List, [], ◌∷◌, ◌++◌, length, take, drop, get_or, refl, sym, ap, ◌∙◌, subst, arith, true≢false, append-nil, append_assoc, Option, None, Some}
 use Rattle.std.specs.Option.{is_some}
 use Rattle.std.proofs.lemmas.List.{length-take}
 use Rattle.frac128.specs.Held.{is_held}
@@ -10,7 +10,6 @@ use Rattle.log_rules.specs.Events.Failure.{wrong, left}
 use Rattle.log_rules.specs.Runs.{Stops}
 use Rattle.log_rules.specs.declared.stop.Stop.{Stop}
 use Rattle.log_rules.specs.declared.stop.Stop.TheVariants.{Wrong, Left, NoMemory}
-use Rattle.log_tests.proofs.Going.{drop-next-of}
 use Rattle.cert_check.specs.Verdict.{Refuses, refusal_of}
 
 -- the failure of an entry, or else that of those behind it

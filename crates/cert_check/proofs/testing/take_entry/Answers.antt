@@ -1,12 +1,10 @@
-use Rattle.std.proofs.Common.{◌≡◌, ◌∙◌, sym, ap, subst, refl, arith, List, length, IsTrue}
+use Rattle.std.proofs.Common.{◌∙◌, sym, ap, subst, refl, arith, List, length}
 use Rattle.std.specs.Prelude.{⊤}
 use Rattle.exact_field.specs.Rational.{ℚ}
 use Rattle.frac128.specs.Held.{is_held}
 use Rattle.frac128.specs.Sparse.{IsSparse}
-use Rattle.deriv_log.specs.declared.entry.Entry.{Entry}
 use Rattle.deriv_log.specs.declared.entry.Entry.TheVariants.{Version, Duality, Cut, Start, Add, Point, Ray, Farkas, Whole, Line, Facet, End}
 use Rattle.log_rules.specs.Events.{whole_events}
-use Rattle.log_rules.specs.Live.{duality_vector}
 use Rattle.log_rules.specs.Order as order
 use Rattle.log_rules.specs.Runs.{Runs, steps}
 use Rattle.log_rules.proofs.Entries.{order_of}

@@ -1,10 +1,9 @@
-use Rattle.std.proofs.Common.{◌≡◌, ◌∙◌, None, sym, subst, List, [], ◌∷◌, ◌++◌, take, ◌+◌, ap}
+use Rattle.std.proofs.Common.{◌≡◌, ◌∙◌, sym, subst, List, [], ◌∷◌, ◌++◌, take, ◌+◌, ap}
 use Rattle.std.proofs.lemmas.List.{take_all, take_more}
 use Rattle.deriv_log.specs.declared.entry.Entry.{Entry}
-use Rattle.log_rules.specs.declared.answer.Answer.{Answer}
 use Rattle.log_rules.proofs.ProvedIsRight.{proved_is_right}
 use Rattle.cert_check.specs.Standing.{IsAt}
-use Rattle.cert_check.specs.Verdict.{Accepts, Refuses, refusal_of}
+use Rattle.cert_check.specs.Verdict.{Refuses, refusal_of}
 use Rattle.cert_check.specs.declared.fault.Refusal.{Refusal}
 use Rattle.cert_check.proofs.Passing.{refuses_at}
 use Rattle.cert_check.proofs.verdict.check.Goals as goal

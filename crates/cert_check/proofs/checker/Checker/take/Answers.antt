@@ -1,4 +1,4 @@
-use Rattle.std.proofs.Common.{◌≡◌, ◌∙◌, sym, subst, rules, true, arith, List, [], ◌∷◌, ◌++◌}
+use Rattle.std.proofs.Common.{◌≡◌, ◌∙◌, sym, subst, rules, true, arith, [], ◌∷◌, ◌++◌}
 use Rattle.frac128.specs.Held.{is_held}
 use Rattle.log_rules.specs.Order.{kind, in_order}
 use Rattle.log_rules.specs.declared.rule.Rule.TheVariants as rule
