@@ -14,7 +14,7 @@ use Rattle.log_rules.specs.Order.{Kind, has, kind, place, in_order}
 use Rattle.log_rules.specs.Order as order
 use Rattle.log_rules.proofs.DualityStays.{duality_stays}
 use Rattle.log_rules.proofs.Entries.{state-push, has_before, order_of}
-use Rattle.log_tests.specs.Sheets.{IsSheetOf}
+use Rattle.vlp_matrices.specs.Sheets.{IsSheetOf}
 use Rattle.cert_check.specs.Keeping.{next_scale, or_one, next_first, next_farkas, next_whole, next_line, next_end}
 use Rattle.cert_check.specs.Kinds.{AreKinds}
 use Rattle.cert_check.specs.Standing.{IsAt, IsScale, IsFound, IsWholeOf, IsLineOf, FitsScale, listed_cut}

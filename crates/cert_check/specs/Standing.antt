@@ -17,7 +17,7 @@ use Rattle.deriv_log.specs.Formed.{IsLog}
 use Rattle.upper_image.specs.UpperImage.{signed}
 use Rattle.vlp_reader.specs.declared.problem.Dir.{Dir}
 use Rattle.cert_check.specs.Built.{is_built}
-use Rattle.log_tests.specs.Sheets.{IsSheetOf}
+use Rattle.vlp_matrices.specs.Sheets.{IsSheetOf}
 use Rattle.cert_check.specs.Kinds.{AreKinds}
 use Rattle.cert_check.specs.declared.checker.Checker.{Checker}
 use Rattle.cert_check.specs.declared.found.FirstCut.{FirstCut}

@@ -25,9 +25,10 @@ use deriv_log::{EndKind, Entry};
 use exact_field::Field;
 use frac128::{Sparse, Vector};
 use log_rules::{Answer, Facet, Rule, Stop};
-use log_tests::{Sheet, check_cut, check_duality, check_farkas, check_line, check_whole, pass};
+use log_tests::{check_cut, check_duality, check_farkas, check_line, check_whole, pass};
 use src_sink::{Items, NoMemory};
 use std::alloc::Global;
+use vlp_matrices::Sheet;
 use vlp_reader::{Dir, Problem};
 
 /// What is known of a log's entries so far.

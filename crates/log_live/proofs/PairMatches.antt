@@ -12,9 +12,10 @@ use Rattle.deriv_log.specs.declared.entry.LogPair.{LogPair}
 use Rattle.log_rules.specs.Events.{same_pairs}
 use Rattle.log_rules.specs.Live.{value, log_pair, required_pairs}
 use Rattle.log_live.specs.Adding.{Matches, pairs_with, pairs_from}
-use Rattle.log_tests.proofs.Going.{drop-next, any-default, map-at}
-use Rattle.log_tests.proofs.Matrices.{flat_map-more}
-use Rattle.log_tests.proofs.SheetEvents.{take_whole}
+use Rattle.vlp_matrices.proofs.Lists.{drop-next, map-at}
+use Rattle.std.proofs.lemmas.List.{get_or_default}
+use Rattle.vlp_matrices.proofs.Matrices.{flat_map-more}
+use Rattle.std.proofs.lemmas.List.{take_all}
 
 -- nothing is matched by nothing
 pub matches-none : (pairs : List LogPair) (a : ℕ) → Matches pairs a true a []
@@ -59,13 +60,13 @@ flat-split {X} {A} f xs i x h p =
     ∙ ap (λ (ys : List A). ys ++ flat_map f (drop (i + 1) xs)) (flat_map-more f xs i x h p)
 
 pub flat-whole : {X A : Type 0} (f : X → List A) (xs : List X) (i : ℕ) → i ≡ length xs → flat_map f (take i xs) ≡ flat_map f xs
-flat-whole {X} f xs i h = ap (λ (k : ℕ). flat_map f (take k xs)) h ∙ ap (flat_map f) (take_whole xs)
+flat-whole {X} f xs i h = ap (λ (k : ℕ). flat_map f (take k xs)) h ∙ ap (flat_map f) (take_all (length xs) xs (omega arith))
 
 pub mapped-at : {X Y : Type 0} (f : X → Y) (xs : List X) (ys : List Y) (i : ℕ) (x : X) (y : Y) → ys ≡ map f xs → i < length xs → x ≡ slice_index_or xs i x →
     y ≡ slice_index_or ys i y → y ≡ f x
 mapped-at {X} {Y} f xs ys i x y h l p q =
     let many = length-map xs f in
-    q ∙ ap (λ (zs : List Y). slice_index_or zs i y) h ∙ any-default (map f xs) i y (f x) (omega (arith, many, l)) ∙ sym (map-at f xs i x l p)
+    q ∙ ap (λ (zs : List Y). slice_index_or zs i y) h ∙ get_or_default (map f xs) i y (f x) (omega (arith, many, l)) ∙ sym (map-at f xs i x l p)
 
 -- ---- the pairs that a row asks for
 module _ (rows : List (List ℚ)) (live : List Numbered) (row : List ℚ) where

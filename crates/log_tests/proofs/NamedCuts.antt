@@ -12,7 +12,8 @@ use Rattle.log_rules.proofs.Failures.{steps-append}
 use Rattle.log_tests.specs.Cuts.{stated, named_from}
 use Rattle.log_tests.specs.Parts.{tight_events, tights_events, corner_events, corners_events, all_corners}
 use Rattle.log_tests.specs.declared.corner.Cut.{Cut}
-use Rattle.log_tests.proofs.Going.{any-default, map-at, drop-next}
+use Rattle.vlp_matrices.proofs.Lists.{map-at, drop-next}
+use Rattle.std.proofs.lemmas.List.{get_or_default}
 use Rattle.log_tests.proofs.RisingNumbers.{within-at, length-numbered, length-pieces}
 use Rattle.log_tests.proofs.StepBounds.{steps-all, steps-each, steps-dot_right, steps-tested, short_pieces, short_numbered}
 
@@ -22,10 +23,10 @@ pub cut-named : (cuts : List Cut) (ks : List ℕ) (i : ℕ) (cut : Cut) → all_
 cut-named cuts ks i cut h l p =
     let place = within-at (length cuts) ks i h l in
     let k : ℕ = slice_index_or ks i 0 in
-    let item : cut_at (map stated cuts) k ≡ slice_index_or (named_from (map stated cuts) ks) i (cut_at (map stated cuts) k) = map-at (cut_at (map stated cuts)) ks i k l (any-default ks i 0 k l) in
+    let item : cut_at (map stated cuts) k ≡ slice_index_or (named_from (map stated cuts) ks) i (cut_at (map stated cuts) k) = map-at (cut_at (map stated cuts)) ks i k l (get_or_default ks i 0 k l) in
     let here : stated cut ≡ slice_index_or (map stated cuts) (k - 1) (stated cut) = map-at stated cuts (k - 1) cut (omega (arith, place)) p in
     let many = length-map cuts stated in
-    let same : cut_at (map stated cuts) k ≡ stated cut = any-default (map stated cuts) (k - 1) _ (stated cut) (omega (arith, place, many)) ∙ sym here in
+    let same : cut_at (map stated cuts) k ≡ stated cut = get_or_default (map stated cuts) (k - 1) _ (stated cut) (omega (arith, place, many)) ∙ sym here in
     subst (λ (c : Stated). c ≡ slice_index_or (named_from (map stated cuts) ks) i c) same item
 
 -- a test of each item, from a place on

@@ -24,7 +24,8 @@ use Rattle.log_rules.specs.Events.Event.{step, test}
 use Rattle.log_rules.specs.Runs.{Runs, Stops, steps}
 use Rattle.log_rules.specs.declared.stop.Stop.{Stop}
 use Rattle.log_rules.proofs.Failures.{steps-append}
-use Rattle.log_tests.proofs.Going.{any-default, drop-next, drop-whole}
+use Rattle.vlp_matrices.proofs.Lists.{drop-next}
+use Rattle.std.proofs.lemmas.List.{get_or_default, drop_all}
 use Rattle.log_rules.proofs.SparseSteps.{end_at, product_steps-sparse}
 use Rattle.log_rules.proofs.Through.{IsThrough, through-start, through-more, through-stop, through-end, through-as}
 
@@ -121,7 +122,7 @@ module _ (fs : List (ℚ × ℚ)) (start i taken : ℕ) (total a b : ℚ) (h : i
 pub summed-end : (fs : List (ℚ × ℚ)) (start i taken : ℕ) (total : ℚ) → i ≡ length fs → IsSummed fs start i taken total →
     Runs is_held (sum_from zero_ℚ fs) start taken (λ t. t ≡ products fs) (Ok total)
 summed-end fs start i taken total h s =
-    let over : drop i fs ≡ [] = ap (λ (k : ℕ). drop k fs) h ∙ drop-whole fs in
+    let over : drop i fs ≡ [] = ap (λ (k : ℕ). drop k fs) h ∙ drop_all (length fs) fs (omega arith) in
     through-end (sum_from zero_ℚ fs) start taken (λ t. t ≡ products fs) total
     (through-as (sum_from zero_ℚ fs) start taken _ [] (ap (λ (gs : List (ℚ × ℚ)). sum_from total gs) over) s.through)
     (sym (add-zero_ℚ total) ∙ sym (ap (λ (gs : List (ℚ × ℚ)). total +ℚ products gs) over) ∙ s.sum)
@@ -240,13 +241,13 @@ place-within n spots i s h l p = (go 0 spots i s h.sparse l p, subst (λ (z : Sp
 pub spot-at : (w : List ℚ) (spots : List Spot) (i : ℕ) (s : Spot) (b : ℚ) → i < length spots → s ≡ slice_index_or spots i s →
     1 ≤ s.at → s.at ≤ length w → b ≡ slice_index_or w (s.at - 1) b → (s.value, b) ≡ slice_index_or (of_spots spots w) i (s.value, b)
 spot-at w [] i s b l p low high q = absurd (omega (arith, l))
-spot-at w (x ∷ spots) zero s b l p low high q = ap₂ (λ (c d : ℚ). (c, d)) (ap (λ (z : Spot). z.value) p) (q ∙ any-default w (s.at - 1) b zero_ℚ (omega arith) ∙ ap (λ (z : Spot). entry w z.at) p)
+spot-at w (x ∷ spots) zero s b l p low high q = ap₂ (λ (c d : ℚ). (c, d)) (ap (λ (z : Spot). z.value) p) (q ∙ get_or_default w (s.at - 1) b zero_ℚ (omega arith) ∙ ap (λ (z : Spot). entry w z.at) p)
 spot-at w (x ∷ spots) (suc i) s b l p low high q = spot-at w spots i s b (omega (arith, l)) p low high q
 
 pub at-spot : (w : List ℚ) (spots : List Spot) (i : ℕ) (s : Spot) (b : ℚ) → i < length spots → s ≡ slice_index_or spots i s →
     1 ≤ s.at → s.at ≤ length w → b ≡ slice_index_or w (s.at - 1) b → (b, s.value) ≡ slice_index_or (at_spots w spots) i (b, s.value)
 at-spot w [] i s b l p low high q = absurd (omega (arith, l))
-at-spot w (x ∷ spots) zero s b l p low high q = ap₂ (λ (c d : ℚ). (c, d)) (q ∙ any-default w (s.at - 1) b zero_ℚ (omega arith) ∙ ap (λ (z : Spot). entry w z.at) p) (ap (λ (z : Spot). z.value) p)
+at-spot w (x ∷ spots) zero s b l p low high q = ap₂ (λ (c d : ℚ). (c, d)) (q ∙ get_or_default w (s.at - 1) b zero_ℚ (omega arith) ∙ ap (λ (z : Spot). entry w z.at) p) (ap (λ (z : Spot). z.value) p)
 at-spot w (x ∷ spots) (suc i) s b l p low high q = at-spot w spots i s b (omega (arith, l)) p low high q
 
 -- ---- a number that is 0, by either test

@@ -29,6 +29,7 @@ use Rattle.vlp_reader.specs.declared.problem.Cone.{Cone}
 use Rattle.vlp_reader.specs.declared.problem.Cone.TheVariants.{Orthant, Gens, Dual}
 use Rattle.frac128.specs.Held.{is_held}
 use Rattle.log_tests.proofs.Going.{places-passed}
+use Rattle.vlp_matrices.proofs.Matrices.{few_sides}
 use Rattle.log_rules.specs.Events.{Event, first_failure, sum_from, dot_steps, product_steps, in_cone, in_feasible, in_recession, above, balance, farkas_events, cut_events, whole_events, line_events, duality_events, follows_given, interior, inverse_steps, has_lengths, rises, all_within}
 use Rattle.log_rules.specs.Events.Event.{test, step}
 use Rattle.log_rules.specs.Live.{duality_vector}
@@ -123,30 +124,6 @@ pub steps-dual_cone : (n : ℕ) (cone : Cone) (e : List ℚ) (m : List Spot) →
 steps-dual_cone n Orthant e m fits k = omega arith
 steps-dual_cone n (Gens vs) e m fits k = by_rows vs e m (few_vectors n vs fits) k
 steps-dual_cone n (Dual vs) e m fits k = generated vs e m (few_vectors n vs fits) k
-
--- ---- the sides
-few_of : (v : ℕ → List ℚ) (k : ℕ) (bounds : List Bound) → length (sides_from v k bounds) ≤ 2 * length bounds
-few_of v k [] = omega arith
-few_of v k (b ∷ bounds) = go b (few_of v (suc k) bounds)
-  where
-    go : (c : Bound) → length (sides_from v (suc k) bounds) ≤ 2 * length bounds → length (sides_of (v k) c ++ sides_from v (suc k) bounds) ≤ 2 * suc (length bounds)
-    go Unsaid h = omega (arith, h)
-    go Free h = omega (arith, h)
-    go (Lower low) h = omega (arith, h)
-    go (Upper high) h = omega (arith, h)
-    go (Double low high) h = omega (arith, h)
-    go (Fixed value) h = omega (arith, h)
-
-pub few_sides : (file : Problem) → length (sides file) ≤ 400000
-few_sides file =
-    let a = few_of (row_vector file) 1 file.row_bounds in
-    let b = few_of (unit file.cols) 1 file.col_bounds in
-    let both = length-append (sides_from (row_vector file) 1 file.row_bounds) (sides_from (unit file.cols) 1 file.col_bounds) in
-    let rows = file.row_count in
-    let cols = file.col_count in
-    let rows_few = file.rows_bounded in
-    let cols_few = file.cols_bounded in
-    omega (arith, a, b, both, rows, cols, rows_few, cols_few)
 
 -- ---- farkas and cut
 pub steps-farkas : (file : Problem) (u : List Spot) → steps (farkas_events file u) < 2 ^ 63

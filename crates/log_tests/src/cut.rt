@@ -12,12 +12,12 @@ ghost use Rattle.log_rules.specs.Live.{duality_vector};
 ghost use Rattle.log_rules.specs.Runs.{Runs, steps};
 ghost use Rattle.log_rules.specs.declared.rule.Rule.TheVariants as rule;
 ghost use Rattle.log_tests.specs.Parts.{balance_events, balances_events, vanishing_events, contradiction_events, scaled_events, bound_events, positive_events};
-ghost use Rattle.log_tests.specs.Sheets.{IsSheetOf};
+ghost use Rattle.vlp_matrices.specs.Sheets.{IsSheetOf};
 ghost use Rattle.upper_image.specs.Spots.{IsVector, dense};
 
 use crate::cone::{in_dual_cone, places_within, values_positive};
 use crate::image::spread;
-use crate::sheet::Sheet;
+use vlp_matrices::Sheet;
 use crate::steps::{Steps, is_positive, is_zero, pass};
 use frac128::{Frac, Sparse, Spot};
 use log_rules::{Rule, Stop};

@@ -8,9 +8,7 @@ mod cut;
 mod duality;
 mod image;
 mod line;
-mod matrix;
 mod numbers;
-mod sheet;
 mod steps;
 
 pub use cone::{in_cone, in_dual_cone};
@@ -19,7 +17,6 @@ pub use cut::{check_cut, check_farkas};
 pub use duality::check_duality;
 pub use image::{above, in_feasible, in_recession};
 pub use line::{check_line, check_whole, leading};
-pub use sheet::{Matrix, Sheet};
 pub use steps::{Steps, is_nonnegative, is_positive, is_zero, pass};
 
 #[cfg(test)]

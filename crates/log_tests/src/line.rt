@@ -5,11 +5,11 @@ ghost use Rattle.frac128.specs.Held.{is_held};
 ghost use Rattle.frac128.specs.Sparse.{IsSparse};
 ghost use Rattle.log_rules.specs.Events.{whole_events, line_events};
 ghost use Rattle.log_rules.specs.Runs.{Runs, steps};
-ghost use Rattle.log_tests.specs.Sheets.{IsSheetOf};
+ghost use Rattle.vlp_matrices.specs.Sheets.{IsSheetOf};
 ghost use Rattle.polyhedra.specs.DoubleDescription.{leading};
 
 use crate::image::{above, append, in_feasible, in_recession};
-use crate::sheet::Sheet;
+use vlp_matrices::Sheet;
 use crate::steps::{Steps, is_zero, pass};
 use exact_field::Field;
 use frac128::{Frac, Spot};

@@ -2,11 +2,11 @@
 ghost use Rattle.std.specs.Prelude.{◌≡◌, ◌==◌, length, map};
 ghost use Rattle.std.specs.List.{list_all};
 ghost use Rattle.frac128.specs.Sparse.{rises_above};
-ghost use Rattle.log_tests.specs.Sheets.{IsSheetOf};
+ghost use Rattle.vlp_matrices.specs.Sheets.{IsSheetOf};
 
 use crate::steps::is_zero;
 use crate::{
-    Cut, Sheet, check_cut, check_duality, check_farkas, check_line, check_start, check_whole,
+    Cut, check_cut, check_duality, check_farkas, check_line, check_start, check_whole,
 };
 use deriv_log::{Entry, read_log};
 use frac128::{Frac, Sparse, Spot, Vector};
@@ -14,6 +14,7 @@ use log_rules::{Rule, Stop};
 use src_sink::{Items, NoMemory};
 use std::alloc::Global;
 use std::test::Fail;
+use vlp_matrices::Sheet;
 use vlp_reader::{Problem, read_vlp};
 
 /// Two objectives over two sides of rows and two of columns.

@@ -9,7 +9,7 @@ use Rattle.log_live.proofs.PairMatches.{matches-then, matches-stop, flat-more, f
 use Rattle.log_rules.specs.Live.{value}
 use Rattle.log_rules.specs.Events.{same_pairs}
 use Rattle.deriv_log.specs.declared.entry.LogPair.{LogPair}
-use Rattle.log_tests.proofs.Going.{map-at}
+use Rattle.vlp_matrices.proofs.Lists.{map-at}
 use Rattle.log_live.proofs.matching.has_pairs.Goals as goal
 
 pub returns-then-not-match_at : goal.returns-then-not-match_at

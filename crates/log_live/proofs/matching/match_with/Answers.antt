@@ -8,7 +8,7 @@ use Rattle.log_live.proofs.Covering.{listed}
 use Rattle.log_live.proofs.PairMatches.{matches-then, matches-stop, flat-more, flat-split, flat-whole, mapped-at}
 use Rattle.log_rules.specs.Live.{value}
 use Rattle.deriv_log.specs.declared.entry.LogPair.{LogPair}
-use Rattle.log_tests.proofs.Going.{map-at}
+use Rattle.vlp_matrices.proofs.Lists.{map-at}
 use Rattle.log_live.proofs.matching.match_with.Goals as goal
 
 pub returns-then-not-match_pair-clause-matches : goal.returns-then-not-match_pair-clause-matches

@@ -1,7 +1,7 @@
 use Rattle.std.proofs.Common.{rules, arith, ◌∙◌, length, ◌<◌}
 use Rattle.std.specs.List.{zip}
 use Rattle.log_tests.proofs.Products.{summed-start, summed-more, summed-room, summed-stop, summed-end, products-zip}
-use Rattle.log_tests.proofs.Going.{zip-at, length-zip}
+use Rattle.vlp_matrices.proofs.Lists.{zip-at, length-zip}
 use Rattle.log_tests.proofs.steps.Steps.dot.Goals as goal
 
 pub loop-i-init : goal.loop-i-init

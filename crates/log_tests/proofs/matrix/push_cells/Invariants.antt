@@ -1,6 +1,0 @@
-use Rattle.std.proofs.Common.{◌≡◌, ◌++◌, take}
-use Rattle.log_tests.specs.Sheets.{row_cells}
-use Rattle.log_tests.proofs.matrix.push_cells.Given as goal
-
-abbrev pub invariant-loop-spot : goal.invariant-loop-spot
-invariant-loop-spot l = l.cells ≡ l.initial.cells ++ row_cells l.row (take l.spot-index l.spots)

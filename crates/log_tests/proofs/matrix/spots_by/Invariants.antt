@@ -1,7 +1,0 @@
-use Rattle.std.proofs.Common.{◌≡◌, map, take}
-use Rattle.vlp_reader.specs.Sides.{numbers_from}
-use Rattle.log_tests.specs.Sheets.{spots_in}
-use Rattle.log_tests.proofs.matrix.spots_by.Given as goal
-
-abbrev pub invariant-loop-cell : goal.invariant-loop-cell
-invariant-loop-cell l = l.lists.items ≡ map (spots_in l.axis l.dir (take l.cell-index l.cells)) (numbers_from 1 l.count)
