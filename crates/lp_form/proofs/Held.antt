@@ -18,7 +18,7 @@ use Rattle.lin_rows.proofs.Merging.{not_same}
 use Rattle.upper_image.specs.Spots.{IsVector, entry_of}
 use Rattle.upper_image.specs.UpperImage.{signed, normals, objective, objectives}
 use Rattle.vlp_reader.specs.Cells.{coefficient}
-use Rattle.vlp_reader.specs.Sides.{sides, sides_of, sides_from, side_bounds, numbers_from, row_vector, unit}
+use Rattle.vlp_reader.specs.Sides.{sides, sides_of, sides_from, side_bounds, numbers_from, row_vector, unit, at_least, at_most}
 use Rattle.vlp_reader.specs.declared.problem.Problem.{Problem}
 use Rattle.vlp_reader.specs.declared.problem.Bound.{Bound}
 use Rattle.vlp_reader.specs.declared.problem.Bound.TheVariants.{Unsaid, Free, Lower, Upper, Double, Fixed}
@@ -46,6 +46,13 @@ all_pieces P f (x ∷ xs) h =
 all_made : {X Y : Type 0} (P : Y → Type 0) (f : X → Y) (xs : List X) → ((x : X) → P (f x)) → All P (map f xs)
 all_made P f xs h = All-map P f xs (λ k d l. h _)
 
+pub spots_rise : (n low : ℕ) (spots : List Spot) → rises_above low spots ≡ true → All (λ s. s.at ≤ n) spots → Rises n low (map entry_of spots)
+spots_rise n low [] h k = tt
+spots_rise n low (s ∷ spots) h k =
+    let first = both_true (nat_lt low s.at) (not (is_zero s.value) && rises_above s.at spots) h in
+    let second = both_true (not (is_zero s.value)) (rises_above s.at spots) first.1 in
+    (ltb-true low s.at first.0, All-head (λ t. t.at ≤ n) s spots k, spots_rise n s.at spots second.1 (All-tail (λ t. t.at ≤ n) s spots k))
+
 -- ---- the first that is not held
 module _ (holds : ℚ → Bool) where
   abbrev IsHeld : ℚ → Type 0
@@ -53,21 +60,23 @@ module _ (holds : ℚ → Bool) where
 
   pub all_held : (numbers : List ℚ) → find (λ q. not (holds q)) numbers ≡ None → All IsHeld numbers
   all_held [] h = All-nil IsHeld
-  all_held (x ∷ numbers) h = by_test (holds x) refl h
+  all_held (x ∷ numbers) h = by_test (holds x) refl h (all_held numbers)
     where
-      by_test : (b : Bool) → holds x ≡ b → (if not b then Some x else find (λ q. not (holds q)) numbers) ≡ None → All IsHeld (x ∷ numbers)
-      by_test true e k = All-cons IsHeld x numbers e (all_held numbers k)
-      by_test false e k = absurd (cc)
+      by_test : (b : Bool) → holds x ≡ b → (if not b then Some x else find (λ q. not (holds q)) numbers) ≡ None → (find (λ q. not (holds q)) numbers ≡ None → All IsHeld numbers) →
+          All IsHeld (x ∷ numbers)
+      by_test true e k more = All-cons IsHeld x numbers e (more k)
+      by_test false e k more = absurd (cc)
 
   pub first_unheld : (numbers : List ℚ) (q : ℚ) → find (λ p. not (holds p)) numbers ≡ Some q → IsFirstUnheld holds numbers q
   first_unheld [] q h = absurd (cc)
-  first_unheld (x ∷ numbers) q h = by_test (holds x) refl h
+  first_unheld (x ∷ numbers) q h = by_test (holds x) refl h (first_unheld numbers q)
     where
-      by_test : (b : Bool) → holds x ≡ b → (if not b then Some x else find (λ p. not (holds p)) numbers) ≡ Some q → IsFirstUnheld holds (x ∷ numbers) q
-      by_test true e k =
-          let more = first_unheld numbers q k in
+      by_test : (b : Bool) → holds x ≡ b → (if not b then Some x else find (λ p. not (holds p)) numbers) ≡ Some q →
+          (find (λ p. not (holds p)) numbers ≡ Some q → IsFirstUnheld holds numbers q) → IsFirstUnheld holds (x ∷ numbers) q
+      by_test true e k found =
+          let more : IsFirstUnheld holds numbers q = found k in
           record { before = x ∷ more.before; behind = more.behind; place = ap (λ l. x ∷ l) more.place; held = All-cons IsHeld x more.before e more.held; unheld = more.unheld }
-      by_test false e k =
+      by_test false e k found =
           let same : x ≡ q = cc in
           record { before = []; behind = numbers; place = ap (λ y. y ∷ numbers) same; held = All-nil IsHeld; unheld = ap holds (sym same) ∙ e }
 
@@ -103,14 +112,14 @@ module _ (holds : ℚ → Bool) (zero_held : IsTrue (holds zero_ℚ)) (one_held 
   one_side : (v : List ℚ) (b : Bound) → All Held v → All Held (bound_numbers b) → All IsHeldSide (sides_of v b)
   one_side v Unsaid h k = All-nil IsHeldSide
   one_side v Free h k = All-nil IsHeldSide
-  one_side v (Lower low) h k = All-cons IsHeldSide _ [] (h, All-head Held low [] k) (All-nil IsHeldSide)
-  one_side v (Upper high) h k = All-cons IsHeldSide _ [] (negatives_held v h, neg_held high (All-head Held high [] k)) (All-nil IsHeldSide)
+  one_side v (Lower low) h k = All-cons IsHeldSide (at_least v low) [] (h, All-head Held low [] k) (All-nil IsHeldSide)
+  one_side v (Upper high) h k = All-cons IsHeldSide (at_most v high) [] (negatives_held v h, neg_held high (All-head Held high [] k)) (All-nil IsHeldSide)
   one_side v (Double low high) h k =
-      All-cons IsHeldSide _ _ (h, All-head Held low (high ∷ []) k)
-      (All-cons IsHeldSide _ [] (negatives_held v h, neg_held high (All-head Held high [] (All-tail Held low (high ∷ []) k))) (All-nil IsHeldSide))
+      All-cons IsHeldSide (at_least v low) (at_most v high ∷ []) (h, All-head Held low (high ∷ []) k)
+      (All-cons IsHeldSide (at_most v high) [] (negatives_held v h, neg_held high (All-head Held high [] (All-tail Held low (high ∷ []) k))) (All-nil IsHeldSide))
   one_side v (Fixed value) h k =
-      All-cons IsHeldSide _ _ (h, All-head Held value [] k)
-      (All-cons IsHeldSide _ [] (negatives_held v h, neg_held value (All-head Held value [] k)) (All-nil IsHeldSide))
+      All-cons IsHeldSide (at_least v value) (at_most v value ∷ []) (h, All-head Held value [] k)
+      (All-cons IsHeldSide (at_most v value) [] (negatives_held v h, neg_held value (All-head Held value [] k)) (All-nil IsHeldSide))
 
   some_sides : (v : ℕ → List ℚ) (k : ℕ) (bounds : List Bound) → ((j : ℕ) → All Held (v j)) → All Held (flat_map bound_numbers bounds) → All IsHeldSide (sides_from v k bounds)
   some_sides v k [] h n = All-nil IsHeldSide
@@ -196,13 +205,6 @@ module _ (holds : ℚ → Bool) (zero_held : IsTrue (holds zero_ℚ)) (one_held 
         | inl s ↦ subst (λ (i : ℕ). Held (f i)) s (All-head Held (f k) (values_from n (suc k) f) h)
         | inr o ↦ dense_held n (suc k) j f (All-tail Held (f k) (values_from n (suc k) f) h) (omega (arith, l, o)) (omega (arith, u))
       ]
-
-  pub spots_rise : (n low : ℕ) (spots : List Spot) → rises_above low spots ≡ true → All (λ s. s.at ≤ n) spots → Rises n low (map entry_of spots)
-  spots_rise n low [] h k = tt
-  spots_rise n low (s ∷ spots) h k =
-      let first = both_true (nat_lt low s.at) (not (is_zero s.value) && rises_above s.at spots) h in
-      let second = both_true (not (is_zero s.value)) (rises_above s.at spots) first.1 in
-      (ltb-true low s.at first.0, All-head (λ t. t.at ≤ n) s spots k, spots_rise n s.at spots second.1 (All-tail (λ t. t.at ≤ n) s spots k))
 
   one_held_list : (n : ℕ) (spots : List Spot) → IsVector n spots → All Held (dense n (map entry_of spots)) → All (λ s. Held s.value) spots
   one_held_list n spots v h =

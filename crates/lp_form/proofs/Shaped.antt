@@ -10,8 +10,11 @@ use Rattle.frac128.specs.Sparse.{is_zero, rises_above}
 use Rattle.frac128.specs.declared.vectors.Spot.{Spot}
 use Rattle.polyhedra.proofs.Tests.{both_true}
 use Rattle.lin_rows.specs.Lines.{Rises, entries}
+use Rattle.lin_rows.specs.Lines as lines
 use Rattle.lin_rows.specs.Read.{numbers}
 use Rattle.lin_rows.specs.Widths.{are_wide}
+use Rattle.polyhedra.specs.Vectors.{AreWide}
+use Rattle.lin_rows.proofs.EliminationEnds.{numbers-wide}
 use Rattle.lin_rows.specs.declared.cells.Cell.{Cell}
 use Rattle.upper_image.specs.Spots.{IsVector, entry_of}
 use Rattle.vlp_reader.specs.Cones.{each_has, cone_fits}
@@ -62,7 +65,8 @@ module _ {F : Type 0} (value : F → ℚ) where
   row_kept low [] spots e h = All-nil IsKept
   row_kept low (c ∷ cells) [] e h = absurd (cc)
   row_kept low (c ∷ cells) (s ∷ spots) e h =
-      let own : value c.value ≡ s.value = cc in
+      let same : lines.entry_of value c ≡ entry_of s = cc in
+      let own : value c.value ≡ s.value = ap (λ d. d.value) same in
       let rest : entries value cells ≡ map entry_of spots = cc in
       let first = both_true (nat_lt low s.at) (not (is_zero s.value) && rises_above s.at spots) h in
       let second = both_true (not (is_zero s.value)) (rises_above s.at spots) first.1 in
@@ -88,6 +92,9 @@ module _ {F : Type 0} (value : F → ℚ) where
       All-cons (λ t. All IsKept t.g) s all (row_kept 0 s.g l own first.sparse) (sides_kept n all lists rest (All-tail (IsVector n) l lists v))
 
   -- ---- the cone and the duality vector
+  fit_parts : (q : ℕ) (vectors : List (List F)) → are_vectors q vectors ≡ true → (nat_le (length vectors) 100000 ≡ true) × (are_wide q vectors ≡ true)
+  fit_parts q vectors h = both_true (nat_le (length vectors) 100000) (are_wide q vectors) (both_true (nat_lt 0 (length vectors)) (nat_le (length vectors) 100000 && are_wide q vectors) h).1
+
   wide_rows : (q : ℕ) (rows : List (List F)) (vs : List (List ℚ)) → numbers value rows ≡ vs → each_has q vs ≡ true → are_wide q rows ≡ true
   wide_rows q [] vs e h = refl
   wide_rows q (r ∷ rows) [] e h = absurd (cc)
@@ -112,3 +119,16 @@ module _ {F : Type 0} (value : F → ℚ) where
   pub duality_shaped : (q : ℕ) (f : Option (List F)) (given : Option (List ℚ)) → duality_of value f ≡ given → file_cone.duality_fits q given ≡ true → duality_fits q f ≡ true
   duality_shaped q None given e h = refl
   duality_shaped q (Some f) given e h = ap (λ n. n == q) (sym (length-map f value)) ∙ ap (file_cone.duality_fits q) e ∙ h
+
+  -- the vectors of a cone are wide
+  pub gens_wide : (q : ℕ) (c : ConeOf F) (vectors : List (List F)) → c ≡ Gens vectors → vectors_fit q c ≡ true → AreWide q (numbers value vectors)
+  gens_wide q c vectors e h = numbers-wide value q vectors (fit_parts q vectors (ap (vectors_fit q) (sym e) ∙ h)).1
+
+  pub dual_wide : (q : ℕ) (c : ConeOf F) (vectors : List (List F)) → c ≡ Dual vectors → vectors_fit q c ≡ true → AreWide q (numbers value vectors)
+  dual_wide q c vectors e h = numbers-wide value q vectors (fit_parts q vectors (ap (vectors_fit q) (sym e) ∙ h)).1
+
+  pub gens_few : (q : ℕ) (c : ConeOf F) (vectors : List (List F)) → c ≡ Gens vectors → vectors_fit q c ≡ true → length vectors ≤ 100000
+  gens_few q c vectors e h = leb-true (length vectors) 100000 (fit_parts q vectors (ap (vectors_fit q) (sym e) ∙ h)).0
+
+  pub dual_few : (q : ℕ) (c : ConeOf F) (vectors : List (List F)) → c ≡ Dual vectors → vectors_fit q c ≡ true → length vectors ≤ 100000
+  dual_few q c vectors e h = leb-true (length vectors) 100000 (fit_parts q vectors (ap (vectors_fit q) (sym e) ∙ h)).0

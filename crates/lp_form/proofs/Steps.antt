@@ -2,7 +2,7 @@
 use Rattle.std.proofs.Common.{◌≡◌, ℕ, zero, suc, arith, List, [], ◌∷◌, ◌++◌, ◌+◌, ◌-◌, ◌<◌, map, length, take, sym, ap, ap₂, ◌∙◌, slice_index_or, Bool, true, false, true≢false, refl, IsTrue}
 use Rattle.std.specs.Prelude.{filter, if◌then◌else◌, ◌&&◌, ◌↔◌}
 use Rattle.std.specs.List.{flat_map, list_all}
-use Rattle.exact_field.specs.Rational.{ℚ, zero_ℚ}
+use Rattle.exact_field.specs.Rational.{ℚ, zero_ℚ, whole}
 use Rattle.frac128.specs.Sparse.{is_zero}
 use Rattle.vlp_reader.proofs.Tables.{zero_is}
 use Rattle.tableaux.specs.Table.{row_of}
@@ -57,6 +57,7 @@ module _ {F : Type 0} (value : F → ℚ) where
 
 -- a number is 0 where its test says so
 pub nought : (q : ℚ) (b : Bool) → IsTrue b ↔ (q ≡ zero_ℚ) → b ≡ true → is_zero q ≡ true
+unfolding whole
 nought q b h e = ap is_zero (h.0 e)
 
 pub not_nought : (q : ℚ) (b : Bool) → IsTrue b ↔ (q ≡ zero_ℚ) → b ≡ false → is_zero q ≡ false

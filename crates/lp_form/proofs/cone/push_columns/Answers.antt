@@ -9,7 +9,7 @@ use Rattle.lp_form.proofs.Figures.{wide_enough}
 use Rattle.lp_form.proofs.cone.push_columns.Goals as goal
 
 pub column-requires-clause-high : goal.column-requires-clause-high
-column-requires-clause-high g c = wide_enough g.F.Field.value c.args.q (c.loop-i.i + 1) c.args.vectors.now c.requires.wide (omega arith)
+column-requires-clause-high g c = wide_enough g.F.Field.value c.args.q (c.loop-i.i + 1) c.args.vectors.now c.requires (omega arith)
 
 pub loop-i-preserved : goal.loop-i-preserved
 loop-i-preserved g c =

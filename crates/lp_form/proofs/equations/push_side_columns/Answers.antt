@@ -1,7 +1,9 @@
 use Rattle.std.proofs.Common.{◌≡◌, ◌++◌, ◌+◌, map, IsTrue, sym, ap, ◌∙◌, subst, arith}
 use Rattle.std.specs.List.{list_all}
+use Rattle.exact_field.specs.Rational.{ℚ}
 use Rattle.tableaux.specs.Table.{listed}
 use Rattle.lin_rows.specs.Lines.{entries, sum_at}
+use Rattle.lp_form.specs.declared.data.SideOf.{SideOf}
 use Rattle.vlp_reader.specs.Sides.{side_column}
 use Rattle.lp_form.specs.Building.{joined}
 use Rattle.lp_form.specs.Shapes.{are_places}
@@ -13,7 +15,7 @@ pub loop-j-preserved : goal.loop-j-preserved
 loop-j-preserved g c =
     let value = g.F.Field.value in
     let form = c.args.form.now in
-    let h = λ s. sum_at (entries value s.g) (c.loop-j.j + 1) in
+    let h : SideOf _ → ℚ = λ s. sum_at (entries value s.g) (c.loop-j.j + 1) in
     λ file stands.
       let same = c.as_slice.ensures.items in
       let more = c.in_ok-push_sides_at.ensures form.cols (subst (λ xs. IsTrue (list_all (λ s. are_places form.cols 0 s.g) xs)) (sym same) form.side_places) in
