@@ -129,3 +129,7 @@ pushed4 l0 l1 l2 l3 l4 u v w x h k l m = pushed2 l0 l3 l4 (u ++ v ++ w) x (pushe
 -- an equation on u, w and what stands behind, piece by piece
 pub parts_pushed : (l0 l1 l2 l3 u w behind : List ℚ) → l1 ≡ l0 ++ u → l2 ≡ (l1 ++ w) ++ negated w → l3 ≡ l2 ++ behind → l3 ≡ l0 ++ on_parts u w behind
 parts_pushed l0 l1 l2 l3 u w behind h k l = pushed4 l0 l1 (l1 ++ w) l2 l3 u w (negated w) behind h refl k l
+
+-- two rows behind others
+pub joined_two : (t : Table) (r s : List ℚ) → joined (t ++ r ∷ s ∷ []) ≡ (joined t ++ r) ++ s
+joined_two t r s = joined-append t (r ∷ s ∷ []) ∙ ap (λ x. joined t ++ (r ++ x)) (append-nil s) ∙ sym (append_assoc (joined t) r s)

@@ -3,6 +3,7 @@ pub mod Held
 pub mod InField
 pub mod Joined
 pub mod Shaped
+pub mod Signs
 pub mod Steps
 pub mod Systems
 pub mod Worked
