@@ -163,8 +163,8 @@ module _ (holds : ℚ → Bool) (zero_held : IsTrue (holds zero_ℚ)) (one_held 
     sides_held =
         All-append IsHeldSide (sides_from (row_vector file) 1 file.row_bounds) (sides_from (unit file.cols) 1 file.col_bounds)
         (some_sides (row_vector file) 1 file.row_bounds
-          (λ i. all_made Held (λ j. coefficient file.a i j) (numbers_from 1 file.cols) (λ j. coefficient_held file.a i j (all_front Held (values_of file.a) _ h)))
-          (all_front Held rows columns bounds_held))
+        (λ i. all_made Held (λ j. coefficient file.a i j) (numbers_from 1 file.cols) (λ j. coefficient_held file.a i j (all_front Held (values_of file.a) _ h)))
+        (all_front Held rows columns bounds_held))
         (some_sides (unit file.cols) 1 file.col_bounds (λ k. all_made Held _ (numbers_from 1 file.cols) (λ j. delta_held (j == k))) (all_back Held rows columns bounds_held))
 
     pub normals_held : All (λ v. All Held v) (normals file)
@@ -176,7 +176,7 @@ module _ (holds : ℚ → Bool) (zero_held : IsTrue (holds zero_ℚ)) (one_held 
     pub objectives_held : All (λ v. All Held v) (objectives file)
     objectives_held =
         all_made (λ v. All Held v) (objective file) (numbers_from 1 file.objs)
-          (λ i. all_made Held _ (numbers_from 1 file.cols) (λ j. signed_held file.dir (coefficient file.o i j) (coefficient_held file.o i j (all_front Held (values_of file.o) _ behind_a))))
+        (λ i. all_made Held _ (numbers_from 1 file.cols) (λ j. signed_held file.dir (coefficient file.o i j) (coefficient_held file.o i j (all_front Held (values_of file.o) _ behind_a))))
 
   -- ---- sparse vectors
   absent : (n low : ℕ) (es : List Entry) (k : ℕ) → Rises n low es → k ≤ low → value_at es k ≡ zero_ℚ
@@ -192,11 +192,11 @@ module _ (holds : ℚ → Bool) (zero_held : IsTrue (holds zero_ℚ)) (one_held 
       let inside : e.place ≤ n = r.1 in
       let own : value_at (e ∷ es) e.place ≡ e.value = ap (λ b. if b then e.value else value_at es e.place) (eq-eqb e.place e.place refl) in
       All-cons (λ d. Held d.value) e es (subst Held own (h e.place (omega (arith, above)) inside))
-        (values_held n e.place es r.2
-          (λ k low' high. elim (cases_eq e.place k) [
-            | inl s ↦ subst Held (sym (absent n e.place es k r.2 (omega (arith, s)))) zero_held
-            | inr o ↦ subst Held (ap (λ b. if b then e.value else value_at es k) (not_same e.place k o)) (h k low' high)
-          ]))
+      (values_held n e.place es r.2
+      (λ k low' high. elim (cases_eq e.place k) [
+        | inl s ↦ subst Held (sym (absent n e.place es k r.2 (omega (arith, s)))) zero_held
+        | inr o ↦ subst Held (ap (λ b. if b then e.value else value_at es k) (not_same e.place k o)) (h k low' high)
+      ]))
 
   dense_held : (n k j : ℕ) (f : ℕ → ℚ) → All Held (values_from n k f) → k ≤ j → j < k + n → Held (f j)
   dense_held zero k j f h l u = absurd (omega (arith, l, u))
@@ -209,11 +209,11 @@ module _ (holds : ℚ → Bool) (zero_held : IsTrue (holds zero_ℚ)) (one_held 
   one_held_list : (n : ℕ) (spots : List Spot) → IsVector n spots → All Held (dense n (map entry_of spots)) → All (λ s. Held s.value) spots
   one_held_list n spots v h =
       all_from_map (λ e. Held e.value) entry_of spots
-        (values_held n 0 (map entry_of spots) (spots_rise n 0 spots v.sparse v.places) (λ k low high. dense_held n 1 k (value_at (map entry_of spots)) h low (omega (arith, high))))
+      (values_held n 0 (map entry_of spots) (spots_rise n 0 spots v.sparse v.places) (λ k low high. dense_held n 1 k (value_at (map entry_of spots)) h low (omega (arith, high))))
 
   pub lists_held : (n : ℕ) (lists : List (List Spot)) → All (IsVector n) lists → All (λ v. All Held v) (map (λ l. dense n (map entry_of l)) lists) → All (λ l. All (λ s. Held s.value) l) lists
   lists_held n [] v h = All-nil _
   lists_held n (l ∷ lists) v h =
       All-cons (λ m. All (λ s. Held s.value) m) l lists
-        (one_held_list n l (All-head (IsVector n) l lists v) (All-head (λ u. All Held u) _ (map (λ m. dense n (map entry_of m)) lists) h))
-        (lists_held n lists (All-tail (IsVector n) l lists v) (All-tail (λ u. All Held u) _ (map (λ m. dense n (map entry_of m)) lists) h))
+      (one_held_list n l (All-head (IsVector n) l lists v) (All-head (λ u. All Held u) _ (map (λ m. dense n (map entry_of m)) lists) h))
+      (lists_held n lists (All-tail (IsVector n) l lists v) (All-tail (λ u. All Held u) _ (map (λ m. dense n (map entry_of m)) lists) h))

@@ -20,7 +20,7 @@ use Rattle.lp_form.specs.Programs.{on_parts}
 use Rattle.lp_form.specs.Building.{joined, IsWritten}
 
 -- a system by its parts, as one that has equal parts
-pub system : Table → List ℚ → List ℚ → System
+unfoldable pub system : Table → List ℚ → List ℚ → System
 system equations right cost = record { equations = equations; right = right; cost = cost }
 
 pub same_parts : {a b : Table} {r s c d : List ℚ} → a ≡ b → r ≡ s → c ≡ d → system a r c ≡ system b s d
@@ -65,12 +65,12 @@ cut_rows cols k front (r ∷ rows) wide long =
     let next : length (front ++ r) ≡ suc k * cols = length-append front r ∙ ap₂ (λ a b. a + b) long own ∙ omega arith in
     let back : suc k - 1 ≡ k = omega arith in
     ap₂ (λ a b. a ∷ b)
-      (ap (λ j. slice_range (front ++ (r ++ joined rows)) (j * cols) (j * cols + cols)) back ∙ cut_row front r (joined rows) (k * cols) cols long own)
-      (ap (λ l. list_from (suc (suc k)) (length rows) (λ i. slice_range l ((i - 1) * cols) ((i - 1) * cols + cols))) (sym (append_assoc front r (joined rows)))
-      ∙ cut_rows cols (suc k) (front ++ r) rows (wide-tail cols r rows wide) next)
+    (ap (λ j. slice_range (front ++ (r ++ joined rows)) (j * cols) (j * cols + cols)) back ∙ cut_row front r (joined rows) (k * cols) cols long own)
+    (ap (λ l. list_from (suc (suc k)) (length rows) (λ i. slice_range l ((i - 1) * cols) ((i - 1) * cols + cols))) (sym (append_assoc front r (joined rows)))
+    ∙ cut_rows cols (suc k) (front ++ r) rows (wide-tail cols r rows wide) next)
 
 module _ {F : Type 0} (value : F → ℚ) where
-  slice-map : (xs : List F) (i j : ℕ) → map value (slice_range xs i j) ≡ slice_range (map value xs) i j
+  pub slice-map : (xs : List F) (i j : ℕ) → map value (slice_range xs i j) ≡ slice_range (map value xs) i j
   slice-map xs i j = sym (ap (take (j - i)) (drop-map value i xs) ∙ take-map value (j - i) (drop i xs))
 
   -- lists that are a system's, its equations one behind the other, are a program that is this system in numbers
@@ -82,10 +82,10 @@ module _ {F : Type 0} (value : F → ℚ) where
       let width : p.cols ≡ length s.cost = cols ∙ sym (length-map p.cost value) ∙ ap length cost in
       let wide : AreWide p.cols s.equations = subst (λ (n : ℕ). AreWide n s.equations) (sym width) ok.wide in
       let equations : listed p.rows (λ i. map value (coefficients_of p i)) ≡ s.equations =
-        list_from-same 1 p.rows (λ i. map value (coefficients_of p i)) (λ i. slice_range (joined s.equations) ((i - 1) * p.cols) ((i - 1) * p.cols + p.cols))
-          (λ i low high. slice-map p.a ((i - 1) * p.cols) ((i - 1) * p.cols + p.cols) ∙ ap (λ l. slice_range l ((i - 1) * p.cols) ((i - 1) * p.cols + p.cols)) a)
-        ∙ ap (λ n. listed n (λ i. slice_range (joined s.equations) ((i - 1) * p.cols) ((i - 1) * p.cols + p.cols))) many
-        ∙ cut_rows p.cols 0 [] s.equations wide (omega arith) in
+      list_from-same 1 p.rows (λ i. map value (coefficients_of p i)) (λ i. slice_range (joined s.equations) ((i - 1) * p.cols) ((i - 1) * p.cols + p.cols))
+      (λ i low high. slice-map p.a ((i - 1) * p.cols) ((i - 1) * p.cols + p.cols) ∙ ap (λ l. slice_range l ((i - 1) * p.cols) ((i - 1) * p.cols + p.cols)) a)
+      ∙ ap (λ n. listed n (λ i. slice_range (joined s.equations) ((i - 1) * p.cols) ((i - 1) * p.cols + p.cols))) many
+      ∙ cut_rows p.cols 0 [] s.equations wide (omega arith) in
       record {
         lengths = record {
           coefficients = sym (length-map p.a value) ∙ ap length a ∙ length-joined p.cols s.equations wide ∙ ap (λ n. n * p.cols) (sym many);

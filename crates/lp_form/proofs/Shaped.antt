@@ -1,10 +1,11 @@
 -- The shapes of data that are made of a file's sparse vectors.
 use Rattle.std.proofs.Common.{◌≡◌, ℕ, zero, suc, List, [], ◌∷◌, length, map, refl, sym, ap, ap₂, ◌∙◌, subst, arith, ◌<◌, ◌≤◌, Bool, true, false, All, nat_lt, nat_le, IsTrue, not, Option, None, Some, eq-eqb}
-use Rattle.std.specs.Prelude.{◌&&◌, ◌==◌}
+use Rattle.std.specs.Prelude.{◌&&◌, ◌==◌, filter, if◌then◌else◌}
 use Rattle.std.specs.List.{list_all}
 use Rattle.std.proofs.lemmas.Bool.{lt-ltb, le-leb, ltb-true, leb-true, eqb-true}
 use Rattle.std.proofs.lemmas.List.{length-map}
-use Rattle.std.proofs.lemmas.List.Elements.{All-nil, All-cons, All-head, All-tail}
+use Rattle.std.proofs.lemmas.List.Elements.{All-nil, All-cons, All-head, All-tail, All-filter}
+use Rattle.polyhedra.proofs.Lists.{HasWidth}
 use Rattle.exact_field.specs.Rational.{ℚ}
 use Rattle.frac128.specs.Sparse.{is_zero, rises_above}
 use Rattle.frac128.specs.declared.vectors.Spot.{Spot}
@@ -27,6 +28,14 @@ use Rattle.lp_form.specs.declared.data.SideOf.{SideOf}
 use Rattle.lp_form.specs.Data.{cone_of, duality_of}
 use Rattle.lp_form.specs.Shapes.{are_places, are_vectors, vectors_fit, duality_fits}
 use Rattle.lp_form.proofs.Held.{spots_rise}
+
+filter_few : {X : Type 0} (p : X → Bool) (xs : List X) → length (filter p xs) ≤ length xs
+filter_few p [] = omega arith
+filter_few p (x ∷ xs) = by_test (p x) (filter_few p xs)
+  where
+    by_test : (b : Bool) → length (filter p xs) ≤ length xs → length (if b then x ∷ filter p xs else filter p xs) ≤ suc (length xs)
+    by_test true h = omega (arith, h)
+    by_test false h = omega (arith, h)
 
 module _ {F : Type 0} (value : F → ℚ) where
   places_of : (n low : ℕ) (cells : List (Cell F)) → Rises n low (entries value cells) → are_places n low cells ≡ true
@@ -132,3 +141,12 @@ module _ {F : Type 0} (value : F → ℚ) where
 
   pub dual_few : (q : ℕ) (c : ConeOf F) (vectors : List (List F)) → c ≡ Dual vectors → vectors_fit q c ≡ true → length vectors ≤ 100000
   dual_few q c vectors e h = leb-true (length vectors) 100000 (fit_parts q vectors (ap (vectors_fit q) (sym e) ∙ h)).0
+
+  -- the vectors that are not 0
+  pub kept_wide : (q : ℕ) (vectors kept : List (List F)) → numbers value kept ≡ filter (λ v. not (list_all is_zero v)) (numbers value vectors) → AreWide q (numbers value vectors) →
+      AreWide q (numbers value kept)
+  kept_wide q vectors kept e h = subst (λ rows. AreWide q rows) (sym e) (record { wide = All-filter (λ v. not (list_all is_zero v)) (HasWidth q) (numbers value vectors) h.wide })
+
+  pub kept_few : (n : ℕ) (vectors kept : List (List F)) → numbers value kept ≡ filter (λ v. not (list_all is_zero v)) (numbers value vectors) → length vectors ≤ n → length kept ≤ n
+  kept_few n vectors kept e h =
+      omega (arith, h, length-map kept (map value), ap length e, filter_few (λ v. not (list_all is_zero v)) (numbers value vectors), length-map vectors (map value))

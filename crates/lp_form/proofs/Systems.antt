@@ -93,11 +93,11 @@ members_wide m q Orthant h =
 members_wide m q (Gens vectors) h =
     let n = length vectors in
     wide_listed _ n _
-      (λ g low high. length-parts (zeros m) (row_of vectors g) (negated (unit n g)) m q n (length-zeros m) (row-wide q vectors g h low high) (length-negated (unit n g) n (length-unit n g)))
+    (λ g low high. length-parts (zeros m) (row_of vectors g) (negated (unit n g)) m q n (length-zeros m) (row-wide q vectors g h low high) (length-negated (unit n g) n (length-unit n g)))
 members_wide m q (Dual vectors) h =
     let n = length vectors in
     wide_listed _ q _
-      (λ i low high. length-parts (zeros m) (unit q i) (negated (column_of vectors i)) m q n (length-zeros m) (length-unit q i) (length-negated (column_of vectors i) n (length-column vectors i)))
+    (λ i low high. length-parts (zeros m) (unit q i) (negated (column_of vectors i)) m q n (length-zeros m) (length-unit q i) (length-negated (column_of vectors i) n (length-column vectors i)))
 
 members_many : (m q : ℕ) (cone : Cone) → length (dual_members m q cone) ≡ dual_equations q cone
 members_many m q Orthant = length-listed q _
@@ -117,8 +117,8 @@ weight_many m q (Dual vectors) = members_many m q (Dual vectors)
 balances_wide : (file : Problem) (more : ℕ) → AreWide (side_total file + file.objs + file.objs + more) (balances file more)
 balances_wide file more =
     wide_listed _ file.cols _
-      (λ j low high. length-parts (side_column file j) (negated (objective_column file j)) (zeros more) (side_total file) file.objs more (length-side_column file j)
-        (length-negated (objective_column file j) file.objs (length-objectives file j)) (length-zeros more))
+    (λ j low high. length-parts (side_column file j) (negated (objective_column file j)) (zeros more) (side_total file) file.objs more (length-side_column file j)
+    (length-negated (objective_column file j) file.objs (length-objectives file j)) (length-zeros more))
 
 side_costs : (file : Problem) (t : Bool) → length (if t then side_bounds file else zeros (side_total file)) ≡ side_total file
 side_costs file true = length-side_bounds file
@@ -139,8 +139,8 @@ benson_ok file c v t c_long v_long =
           (wide_append _ (balances file more) members (balances_wide file more) (members_wide m q file.cone (cone_wide q file.cone file.cone_vectors)))
           (wide_one _ last (length-parts (zeros m) c (zeros more) m q more (length-zeros m) c_long (length-zeros more))));
       right_each =
-        length-append (zeros (file.cols + dual_equations q file.cone)) (one_ℚ ∷ []) ∙ ap (λ n. n + 1) (length-zeros (file.cols + dual_equations q file.cone))
-        ∙ omega (arith, length-append (balances file more ++ members) (last ∷ []), length-append (balances file more) members, length-listed file.cols (λ j. on_parts (side_column file j) (negated (objective_column file j)) (zeros more)), members_many m q file.cone);
+          length-append (zeros (file.cols + dual_equations q file.cone)) (one_ℚ ∷ []) ∙ ap (λ n. n + 1) (length-zeros (file.cols + dual_equations q file.cone))
+          ∙ omega (arith, length-append (balances file more ++ members) (last ∷ []), length-append (balances file more) members, length-listed file.cols (λ j. on_parts (side_column file j) (negated (objective_column file j)) (zeros more)), members_many m q file.cone);
     }
 
 pub weight_ok : (file : Problem) (w : List ℚ) → length w ≡ file.objs → IsSystem (weight_system file w)
@@ -156,11 +156,11 @@ weight_ok file w w_long =
       wide = subst (λ (n : ℕ). AreWide n s.equations) (sym cost)
           (wide_append _ (balances file more ++ listed q fixed) members
           (wide_append _ (balances file more) (listed q fixed) (balances_wide file more)
-            (wide_listed _ q fixed (λ i low high. length-parts (zeros m) (unit q i) (zeros more) m q more (length-zeros m) (length-unit q i) (length-zeros more))))
+          (wide_listed _ q fixed (λ i low high. length-parts (zeros m) (unit q i) (zeros more) m q more (length-zeros m) (length-unit q i) (length-zeros more))))
           (weight_wide m q file.cone (cone_wide q file.cone file.cone_vectors)));
       right_each =
-        length-three (zeros file.cols) w (zeros (weight_equations q file.cone)) file.cols q (weight_equations q file.cone) (length-zeros file.cols) w_long (length-zeros (weight_equations q file.cone))
-        ∙ sym (length-append (balances file more ++ listed q fixed) members ∙ ap₂ (λ a b. a + b)
+          length-three (zeros file.cols) w (zeros (weight_equations q file.cone)) file.cols q (weight_equations q file.cone) (length-zeros file.cols) w_long (length-zeros (weight_equations q file.cone))
+          ∙ sym (length-append (balances file more ++ listed q fixed) members ∙ ap₂ (λ a b. a + b)
           (length-append (balances file more) (listed q fixed) ∙ ap₂ (λ a b. a + b) (length-listed file.cols _) (length-listed q fixed)) (weight_many m q file.cone));
     }
 
@@ -171,7 +171,7 @@ empty_ok = record { wide = wide-nil 0; right_each = refl }
 gaps_wide : (n more : ℕ) → AreWide (n + n + suc more) (generator_gaps n more)
 gaps_wide n more =
     wide_listed _ n _
-      (λ g low high. length-three (unit n g) (negated (unit n g)) (neg_ℚ one_ℚ ∷ zeros more) n n (suc more) (length-unit n g) (length-negated (unit n g) n (length-unit n g)) (ap suc (length-zeros more)))
+    (λ g low high. length-three (unit n g) (negated (unit n g)) (neg_ℚ one_ℚ ∷ zeros more) n n (suc more) (length-unit n g) (length-negated (unit n g) n (length-unit n g)) (ap suc (length-zeros more)))
 
 -- zeros and one number, or two
 length-one : (n : ℕ) (x : ℚ) → length (zeros n ++ x ∷ []) ≡ n + 1
@@ -190,8 +190,8 @@ given_ok q vectors f long =
           (wide_append _ (generator_gaps n 0) (listed q columns) (gaps_wide n 0)
           (wide_listed _ q columns (λ i low high. length-append (column_of vectors i) (zeros (suc n)) ∙ ap₂ (λ a b. a + b) (length-column vectors i) (length-zeros (suc n)) ∙ omega arith)));
       right_each =
-        length-append (zeros n) f ∙ ap₂ (λ a b. a + b) (length-zeros n) long
-        ∙ sym (length-append (generator_gaps n 0) (listed q columns) ∙ ap₂ (λ a b. a + b) (length-listed n _) (length-listed q columns));
+          length-append (zeros n) f ∙ ap₂ (λ a b. a + b) (length-zeros n) long
+          ∙ sym (length-append (generator_gaps n 0) (listed q columns) ∙ ap₂ (λ a b. a + b) (length-listed n _) (length-listed q columns));
     }
 
 pub found_ok : (q : ℕ) (vectors : List (List ℚ)) → IsSystem (interior_of_generators q vectors None)
@@ -206,8 +206,8 @@ found_ok q vectors =
           (wide-cons _ last (sum ∷ []) (length-append (column_of vectors q) (zeros (n + 2)) ∙ ap₂ (λ a b. a + b) (length-column vectors q) (length-zeros (n + 2)) ∙ omega arith)
           (wide_one _ sum (length-two (n + n) one_ℚ one_ℚ))));
       right_each =
-        length-two n one_ℚ one_ℚ
-        ∙ sym (length-append (generator_gaps n 1) (last ∷ sum ∷ []) ∙ ap (λ a. a + 2) (length-listed n _));
+          length-two n one_ℚ one_ℚ
+          ∙ sym (length-append (generator_gaps n 1) (last ∷ sum ∷ []) ∙ ap (λ a. a + 2) (length-listed n _));
     }
 
 pub dual_ok : (q : ℕ) (vectors : List (List ℚ)) → AreWide q vectors → IsSystem (interior_of_dual q vectors)
@@ -217,18 +217,18 @@ dual_ok q vectors h =
     let sum = zeros (q + q + n) ++ one_ℚ ∷ one_ℚ ∷ [] in
     let cost : length (zeros (q + q + n) ++ one_ℚ ∷ zero_ℚ ∷ []) ≡ q + q + n + 2 = length-two (q + q + n) one_ℚ zero_ℚ in
     let rows : AreWide (q + q + n + 2) (dual_gaps vectors) =
-      wide_listed _ n _
-        (λ d low high. length-four (row_of vectors d) (negated (row_of vectors d)) (negated (unit n d)) (neg_ℚ one_ℚ ∷ zero_ℚ ∷ []) q q n 2 (row-wide q vectors d h low high)
-          (length-negated (row_of vectors d) q (row-wide q vectors d h low high)) (length-negated (unit n d) n (length-unit n d)) refl) in
+    wide_listed _ n _
+    (λ d low high. length-four (row_of vectors d) (negated (row_of vectors d)) (negated (unit n d)) (neg_ℚ one_ℚ ∷ zero_ℚ ∷ []) q q n 2 (row-wide q vectors d h low high)
+    (length-negated (row_of vectors d) q (row-wide q vectors d h low high)) (length-negated (unit n d) n (length-unit n d)) refl) in
     record {
       wide = subst (λ (k : ℕ). AreWide k (dual_gaps vectors ++ last ∷ sum ∷ [])) (sym cost)
           (wide_append _ (dual_gaps vectors) (last ∷ sum ∷ []) rows
           (wide-cons _ last (sum ∷ [])
-            (length-three (unit q q) (negated (unit q q)) (zeros (n + 2)) q q (n + 2) (length-unit q q) (length-negated (unit q q) q (length-unit q q)) (length-zeros (n + 2)) ∙ omega arith)
-            (wide_one _ sum (length-two (q + q + n) one_ℚ one_ℚ))));
+          (length-three (unit q q) (negated (unit q q)) (zeros (n + 2)) q q (n + 2) (length-unit q q) (length-negated (unit q q) q (length-unit q q)) (length-zeros (n + 2)) ∙ omega arith)
+          (wide_one _ sum (length-two (q + q + n) one_ℚ one_ℚ))));
       right_each =
-        length-two n one_ℚ one_ℚ
-        ∙ sym (length-append (dual_gaps vectors) (last ∷ sum ∷ []) ∙ ap (λ a. a + 2) (length-listed n _));
+          length-two n one_ℚ one_ℚ
+          ∙ sym (length-append (dual_gaps vectors) (last ∷ sum ∷ []) ∙ ap (λ a. a + 2) (length-listed n _));
     }
 
 pub combination_ok : (q : ℕ) (vectors : List (List ℚ)) → IsSystem (zero_combination q vectors)

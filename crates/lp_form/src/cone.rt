@@ -132,12 +132,7 @@ fn interior_given<F: Field>(
 }
 
 /// Appends the costs or the coefficients of e and k behind `n` zeros.
-fn push_last_two<F: Field>(
-    list: &mut Items<F>,
-    n: u32,
-    e: F,
-    k: F,
-) -> Result<(), NoMemory>
+fn push_last_two<F: Field>(list: &mut Items<F>, n: u32, e: F, k: F) -> Result<(), NoMemory>
     ensures { OnOk result (map F.value list.new ≡ map F.value list.old ++ (zero_vector n ++ F.value e ∷ F.value k ∷ [])) }
 {
     push_zeros(list, n)?;
@@ -216,11 +211,7 @@ fn interior_in_dual<F: Field>(
 }
 
 /// Multipliers that sum to 1 and combine vectors to 0.
-fn combination<F: Field>(
-    alloc: Global,
-    q: u32,
-    vectors: &[Items<F>],
-) -> Result<System<F>, NoMemory>
+fn combination<F: Field>(alloc: Global, q: u32, vectors: &[Items<F>]) -> Result<System<F>, NoMemory>
     requires few { length vectors.now ≤ 100000 }
     requires wide { AreWide q (numbers F.value vectors.now) }
     ensures { IfOk result (IsWritten F.value (zero_combination q (numbers F.value vectors.now))) }
@@ -271,11 +262,7 @@ pub fn interior<F: Field>(
 }
 
 /// The program of a line in the cone or its dual.
-pub fn pointed<F: Field>(
-    alloc: Global,
-    q: u32,
-    cone: &ConeOf<F>,
-) -> Result<System<F>, NoMemory>
+pub fn pointed<F: Field>(alloc: Global, q: u32, cone: &ConeOf<F>) -> Result<System<F>, NoMemory>
     requires { IsTrue (vectors_fit q cone.now) }
     ensures { IfOk result (IsWritten F.value (pointed_system q (cone_of F.value cone.now))) }
 {

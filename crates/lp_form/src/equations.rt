@@ -12,7 +12,9 @@ ghost use Rattle.lp_form.specs.Programs.{balances, dual_equations, dual_members,
 ghost use Rattle.lp_form.specs.Shapes.{vectors_fit};
 
 use crate::data::{ConeOf, Data};
-use crate::pieces::{column, negative, negative_at, push_difference, push_on_w, push_sides_at, push_zeros, unit};
+use crate::pieces::{
+    column, negative, negative_at, push_difference, push_on_w, push_sides_at, push_zeros, unit,
+};
 use exact_field::Field;
 use lin_rows::System;
 use src_sink::{Items, NoMemory};

@@ -79,10 +79,7 @@ fn line_in<F: Field>(alloc: Global, spots: &[Spot]) -> Result<Items<At<F>>, NoMe
 }
 
 /// Sparse vectors in the field.
-pub fn lines_in<F: Field>(
-    alloc: Global,
-    rows: &[Sparse],
-) -> Result<Items<Items<At<F>>>, NoMemory>
+pub fn lines_in<F: Field>(alloc: Global, rows: &[Sparse]) -> Result<Items<Items<At<F>>>, NoMemory>
     requires { All (λ r. All (λ s. IsTrue (F.holds s.value)) r) rows.now }
     ensures { IfOk result (λ lines. map (entries F.value) lines ≡ map (map entry_of) rows.now) }
 {

@@ -11,6 +11,8 @@ mod numbers;
 mod pieces;
 mod programs;
 mod reading;
+#[cfg(test)]
+mod tests;
 
 pub use data::{At, ConeOf, Data, DataFault, SideOf};
 pub use name::{LpName, Parts};

@@ -81,11 +81,7 @@ pub fn negative<F: Field>(alloc: Global, vector: &[F]) -> Result<Items<F>, NoMem
 }
 
 /// Entry `i` of each vector.
-pub fn column<F: Field>(
-    alloc: Global,
-    vectors: &[Items<F>],
-    i: u32,
-) -> Result<Items<F>, NoMemory>
+pub fn column<F: Field>(alloc: Global, vectors: &[Items<F>], i: u32) -> Result<Items<F>, NoMemory>
     requires low { 1 ≤ i }
     requires high { All (λ v. i ≤ length v) vectors.now }
     ensures { IfOk result (λ v. map F.value v ≡ column_of (numbers F.value vectors.now) i) }

@@ -10,7 +10,10 @@ ghost use Rattle.lp_form.specs.Programs.{benson_system, feasible_system, named_s
 
 use crate::cone::{interior, pointed};
 use crate::data::Data;
-use crate::equations::{dual_equations, dual_unknowns, push_balances, push_entries_of_w, push_members, push_side_columns, push_weight_members, system, weight_equations, weight_unknowns};
+use crate::equations::{
+    dual_equations, dual_unknowns, push_balances, push_entries_of_w, push_members,
+    push_side_columns, push_weight_members, system, weight_equations, weight_unknowns,
+};
 use crate::name::LpName;
 use crate::pieces::{negative, push_bounds, push_difference, push_on_w, push_zeros, zeros};
 use exact_field::Field;

@@ -45,11 +45,7 @@ fn difference<F: Field>(alloc: Global, plus: &[F], negative: &[F]) -> Result<Ite
 }
 
 /// What stands behind w, where the cone is in dual form.
-fn behind<F: Field>(
-    alloc: Global,
-    cone: &ConeOf<F>,
-    list: &[F],
-) -> Result<Items<F>, NoMemory>
+fn behind<F: Field>(alloc: Global, cone: &ConeOf<F>, list: &[F]) -> Result<Items<F>, NoMemory>
     ensures { IfOk result (λ v. map F.value v ≡ kept_behind (cone_of F.value cone.now) (map F.value list.now)) }
 {
     match cone {

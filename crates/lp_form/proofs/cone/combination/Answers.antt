@@ -23,9 +23,9 @@ returns g c =
     let columns : Table = listed q (column_of rows) in
     let flat : joined (listed q (λ i. column_of rows i ++ zeros 0)) ≡ joined columns = ap joined (list_from-same 1 q (λ i. column_of rows i ++ zeros 0) (column_of rows) (λ i l u. append-nil (column_of rows i))) in
     c.system.ensures (zero_combination q rows) (combination_ok q rows)
-      (two_pieces value c.new-a.result c.push_columns.new.list c.push_ones.new.list (joined columns) (replicate k one_ℚ) c.new-a.ensures
-        (c.in_ok-push_columns.ensures ∙ ap (λ l. map value c.new-a.result ++ l) flat) (c.in_ok-push_ones.ensures ∙ ap (λ n. map value c.push_columns.new.list ++ replicate n one_ℚ) n_is)
-      ∙ sym (joined-append columns (replicate k one_ℚ ∷ []) ∙ ap (λ x. joined columns ++ x) (joined-one (replicate k one_ℚ))))
-      (two_pieces value c.new-b.result c.push_zeros.new.list c.push.new.self (zeros q) (one_ℚ ∷ []) c.new-b.ensures c.in_ok-push_zeros.ensures
-        (value_pushed value c.push_zeros.new.list c.push.new.self c.one.result one_ℚ c.in_ok-push.ensures.ok c.one.ensures))
-      (one_piece value c.new-cost.result c.push_zeros-2.new.list (zeros k) c.new-cost.ensures (c.in_ok-push_zeros-2.ensures ∙ ap (λ n. map value c.new-cost.result ++ zeros n) n_is))
+    (two_pieces value c.new-a.result c.push_columns.new.list c.push_ones.new.list (joined columns) (replicate k one_ℚ) c.new-a.ensures
+    (c.in_ok-push_columns.ensures ∙ ap (λ l. map value c.new-a.result ++ l) flat) (c.in_ok-push_ones.ensures ∙ ap (λ n. map value c.push_columns.new.list ++ replicate n one_ℚ) n_is)
+    ∙ sym (joined-append columns (replicate k one_ℚ ∷ []) ∙ ap (λ x. joined columns ++ x) (joined-one (replicate k one_ℚ))))
+    (two_pieces value c.new-b.result c.push_zeros.new.list c.push.new.self (zeros q) (one_ℚ ∷ []) c.new-b.ensures c.in_ok-push_zeros.ensures
+    (value_pushed value c.push_zeros.new.list c.push.new.self c.one.result one_ℚ c.in_ok-push.ensures.ok c.one.ensures))
+    (one_piece value c.new-cost.result c.push_zeros-2.new.list (zeros k) c.new-cost.ensures (c.in_ok-push_zeros-2.ensures ∙ ap (λ n. map value c.new-cost.result ++ zeros n) n_is))

@@ -17,6 +17,6 @@ loop-i-preserved g c =
     let vectors = numbers value c.args.vectors.now in
     let row : List ℚ = map value c.as_slice.result.now in
     joined_more (map value c.args.list.now) (map value c.loop-i.list) (map value c.push_zeros.new.list) (row ++ zeros c.args.more) c.loop-i.i (λ i. column_of vectors i ++ zeros c.args.more) c.loop-i.invariant
-      (pushed2 (map value c.loop-i.list) (map value c.append.new.self) (map value c.push_zeros.new.list) row (zeros c.args.more) (appended value c.loop-i.list c.append.new.self c.as_slice.result.now c.in_ok-append.ensures.ok)
-      c.in_ok-push_zeros.ensures)
-      (ap (λ l. l ++ zeros c.args.more) (ap (map value) c.as_slice.ensures.items ∙ c.in_ok-entries.ensures))
+    (pushed2 (map value c.loop-i.list) (map value c.append.new.self) (map value c.push_zeros.new.list) row (zeros c.args.more) (appended value c.loop-i.list c.append.new.self c.as_slice.result.now c.in_ok-append.ensures.ok)
+    c.in_ok-push_zeros.ensures)
+    (ap (λ l. l ++ zeros c.args.more) (ap (map value) c.as_slice.ensures.items ∙ c.in_ok-entries.ensures))

@@ -22,6 +22,6 @@ loop-d-preserved g c =
     let tail : List ℚ = neg_ℚ one_ℚ ∷ zero_ℚ ∷ [] in
     let pair : l3 ≡ l2 ++ tail = c.in_ok-push_last_two.ensures ∙ ap₂ (λ x y. l2 ++ x ∷ y ∷ []) (c.neg.ensures ∙ ap neg_ℚ c.one.ensures) c.zero.ensures in
     joined_more (map value c.args.list.now) l0 l3 (r ++ negated r ++ negated e ++ tail) c.loop-d.d (λ d. row_of vectors d ++ negated (row_of vectors d) ++ negated (unit n d) ++ neg_ℚ one_ℚ ∷ zero_ℚ ∷ []) c.loop-d.invariant
-      (pushed4 l0 (l0 ++ r) l1 l2 l3 r (negated r) (negated e) tail refl c.in_ok-push_difference.ensures c.in_ok-push_negated.ensures pair)
-      (ap₂ (λ a b. a ++ negated a ++ negated b ++ neg_ℚ one_ℚ ∷ zero_ℚ ∷ []) (ap (map value) c.as_slice.ensures.items ∙ row_at value c.args.vectors.now c.loop-d.d c.index-vectors-d.result (omega arith) c.index-vectors-d.is)
-        (ap (map value) c.as_slice-in-loop-d.ensures.items ∙ c.in_ok-e.ensures))
+    (pushed4 l0 (l0 ++ r) l1 l2 l3 r (negated r) (negated e) tail refl c.in_ok-push_difference.ensures c.in_ok-push_negated.ensures pair)
+    (ap₂ (λ a b. a ++ negated a ++ negated b ++ neg_ℚ one_ℚ ∷ zero_ℚ ∷ []) (ap (map value) c.as_slice.ensures.items ∙ row_at value c.args.vectors.now c.loop-d.d c.index-vectors-d.result (omega arith) c.index-vectors-d.is)
+    (ap (map value) c.as_slice-in-loop-d.ensures.items ∙ c.in_ok-e.ensures))

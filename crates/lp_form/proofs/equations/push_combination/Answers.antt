@@ -16,5 +16,5 @@ loop-i-preserved g c =
     let value = g.F.Field.value in
     let vectors = numbers value c.args.vectors.now in
     joined_more (map value c.args.list.now) (map value c.loop-i.list) (map value c.push_on_w.new.list) (on_parts (zeros c.args.m) (map value c.as_slice-in-loop-i.result.now) (map value c.as_slice-in-loop-i-2.result.now)) c.loop-i.i
-      (λ i. on_parts (zeros c.args.m) (unit c.args.q i) (negated (column_of vectors i))) c.loop-i.invariant c.in_ok-push_on_w.ensures
-      (ap₂ (on_parts (zeros c.args.m)) (ap (map value) c.as_slice-in-loop-i.ensures.items ∙ c.in_ok-e.ensures) (ap (map value) c.as_slice-in-loop-i-2.ensures.items ∙ c.in_ok-minus.ensures ∙ ap negated (ap (map value) c.as_slice.ensures.items ∙ c.in_ok-entries.ensures)))
+    (λ i. on_parts (zeros c.args.m) (unit c.args.q i) (negated (column_of vectors i))) c.loop-i.invariant c.in_ok-push_on_w.ensures
+    (ap₂ (on_parts (zeros c.args.m)) (ap (map value) c.as_slice-in-loop-i.ensures.items ∙ c.in_ok-e.ensures) (ap (map value) c.as_slice-in-loop-i-2.ensures.items ∙ c.in_ok-minus.ensures ∙ ap negated (ap (map value) c.as_slice.ensures.items ∙ c.in_ok-entries.ensures)))

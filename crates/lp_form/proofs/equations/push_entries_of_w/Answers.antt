@@ -9,5 +9,5 @@ pub loop-i-preserved : goal.loop-i-preserved
 loop-i-preserved g c =
     let value = g.F.Field.value in
     joined_more (map value c.args.list.now) (map value c.loop-i.list) (map value c.push_on_w.new.list) (on_parts (zeros c.args.m) (map value c.as_slice.result.now) (map value c.args.behind.now)) c.loop-i.i
-      (λ i. on_parts (zeros c.args.m) (unit c.args.q i) (map value c.args.behind.now)) c.loop-i.invariant c.in_ok-push_on_w.ensures
-      (ap₂ (on_parts (zeros c.args.m)) (ap (map value) c.as_slice.ensures.items ∙ c.in_ok-e.ensures) refl)
+    (λ i. on_parts (zeros c.args.m) (unit c.args.q i) (map value c.args.behind.now)) c.loop-i.invariant c.in_ok-push_on_w.ensures
+    (ap₂ (on_parts (zeros c.args.m)) (ap (map value) c.as_slice.ensures.items ∙ c.in_ok-e.ensures) refl)

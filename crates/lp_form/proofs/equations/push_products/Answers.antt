@@ -13,5 +13,5 @@ loop-g-preserved g c =
     let value = g.F.Field.value in
     let vectors = numbers value c.args.vectors.now in
     joined_more (map value c.args.list.now) (map value c.loop-g.list) (map value c.push_on_w.new.list) (on_parts (zeros c.args.m) (map value c.as_slice-in-loop-g.result.now) (map value c.as_slice-in-loop-g-2.result.now)) c.loop-g.g
-      (λ i. on_parts (zeros c.args.m) (row_of vectors i) (negated (unit (length c.args.vectors.now) i))) c.loop-g.invariant c.in_ok-push_on_w.ensures
-      (ap₂ (on_parts (zeros c.args.m)) (ap (map value) c.as_slice-in-loop-g.ensures.items ∙ row_at value c.args.vectors.now c.loop-g.g c.index-vectors-g.result (omega arith) c.index-vectors-g.is) (ap (map value) c.as_slice-in-loop-g-2.ensures.items ∙ c.in_ok-minus.ensures ∙ ap negated (ap (map value) c.as_slice.ensures.items ∙ c.in_ok-e.ensures)))
+    (λ i. on_parts (zeros c.args.m) (row_of vectors i) (negated (unit (length c.args.vectors.now) i))) c.loop-g.invariant c.in_ok-push_on_w.ensures
+    (ap₂ (on_parts (zeros c.args.m)) (ap (map value) c.as_slice-in-loop-g.ensures.items ∙ row_at value c.args.vectors.now c.loop-g.g c.index-vectors-g.result (omega arith) c.index-vectors-g.is) (ap (map value) c.as_slice-in-loop-g-2.ensures.items ∙ c.in_ok-minus.ensures ∙ ap negated (ap (map value) c.as_slice.ensures.items ∙ c.in_ok-e.ensures)))

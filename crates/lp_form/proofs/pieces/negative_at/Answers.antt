@@ -14,12 +14,12 @@ loop-row-preserved g c =
     let value = g.F.Field.value in
     let rows = c.args.rows.now in
     λ n h.
-      let item = c.row-item.result in
-      let places : are_places n 0 item ≡ true = each_passes (are_places n 0) rows c.loop-row.row-index item h c.loop-row-test.true c.row-item.is in
-      let own = c.entry_at-value.ensures n (subst (λ (cells : List (Cell _)). Rises n 0 (entries value cells)) (sym c.as_slice.ensures.items) (places_rise value n 0 item places))
-        ∙ ap (λ cells. sum_at (entries value cells) c.args.place) c.as_slice.ensures.items in
-      taken_more (λ r. neg_ℚ (sum_at (entries value r) c.args.place)) [] (map value c.loop-row.column) (map value c.push.new.self) rows c.loop-row.row-index item c.loop-row-test.true
-        c.row-item.is (c.loop-row.invariant n h) (value_pushed value c.loop-row.column c.push.new.self c.neg.result _ c.in_ok-push.ensures.ok (c.neg.ensures ∙ ap neg_ℚ own))
+    let item = c.row-item.result in
+    let places : are_places n 0 item ≡ true = each_passes (are_places n 0) rows c.loop-row.row-index item h c.loop-row-test.true c.row-item.is in
+    let own = c.entry_at-value.ensures n (subst (λ (cells : List (Cell _)). Rises n 0 (entries value cells)) (sym c.as_slice.ensures.items) (places_rise value n 0 item places))
+    ∙ ap (λ cells. sum_at (entries value cells) c.args.place) c.as_slice.ensures.items in
+    taken_more (λ r. neg_ℚ (sum_at (entries value r) c.args.place)) [] (map value c.loop-row.column) (map value c.push.new.self) rows c.loop-row.row-index item c.loop-row-test.true
+    c.row-item.is (c.loop-row.invariant n h) (value_pushed value c.loop-row.column c.push.new.self c.neg.result _ c.in_ok-push.ensures.ok (c.neg.ensures ∙ ap neg_ℚ own))
 
 pub returns : goal.returns
 returns g c =

@@ -35,9 +35,9 @@ returns g c = λ file stands.
     let a2 = map value c.push_members.new.list in
     let h1 : a1 ≡ a0 ++ joined (balances file more) = c.in_ok-push_balances.ensures file stands ∙ ap (λ n. a0 ++ joined (balances file n)) more_is in
     let h2 : a2 ≡ a1 ++ joined members =
-      c.in_ok-push_members.ensures ∙ ap (λ n. a1 ++ joined (dual_members n c.len-q.result (cone_of value form.cone))) m_is ∙ ap₂ (λ n k. a1 ++ joined (dual_members (side_total file) n k)) q_is stands.cone in
+    c.in_ok-push_members.ensures ∙ ap (λ n. a1 ++ joined (dual_members n c.len-q.result (cone_of value form.cone))) m_is ∙ ap₂ (λ n k. a1 ++ joined (dual_members (side_total file) n k)) q_is stands.cone in
     let h3 : map value c.push_on_w.new.list ≡ a2 ++ last =
-      c.in_ok-push_on_w.ensures ∙ ap₂ (λ n b. a2 ++ on_parts (zeros n) cv b) m_is (ap (map value) c.as_slice.ensures.items ∙ c.in_ok-behind.ensures ∙ ap zeros more_is) in
+    c.in_ok-push_on_w.ensures ∙ ap₂ (λ n b. a2 ++ on_parts (zeros n) cv b) m_is (ap (map value) c.as_slice.ensures.items ∙ c.in_ok-behind.ensures ∙ ap zeros more_is) in
     let b0 = map value c.new-b.result in
     let b1 = map value c.push_zeros.new.list in
     let k1 : b1 ≡ b0 ++ zeros file.cols = c.in_ok-push_zeros.ensures ∙ ap (λ n. b0 ++ zeros n) stands.cols in
@@ -51,9 +51,9 @@ returns g c = λ file stands.
     let l2 : c2 ≡ (c1 ++ negated vv) ++ negated (negated vv) = c.in_ok-push_difference.ensures ∙ ap (λ w. (c1 ++ w) ++ negated w) w_is in
     let l3 : map value c.push_zeros-3.new.list ≡ c2 ++ zeros more = c.in_ok-push_zeros-3.ensures ∙ ap (λ n. c2 ++ zeros n) more_is in
     c.system.ensures (benson_system file cv vv c.args.t) (benson_ok file cv vv c.args.t (length-map c.args.c.now value ∙ c.requires.c ∙ objs_is) (length-map c.args.v.now value ∙ c.requires.v ∙ objs_is))
-      (three_pieces value c.new-a.result c.push_balances.new.list c.push_members.new.list c.push_on_w.new.list (joined (balances file more)) (joined members) last c.new-a.ensures h1 h2 h3
-      ∙ sym (joined-append (balances file more ++ members) (last ∷ []) ∙ ap₂ (λ x y. x ++ y) (joined-append (balances file more) members) (joined-one last)))
-      (three_pieces value c.new-b.result c.push_zeros.new.list c.push_zeros-2.new.list c.push.new.self (zeros file.cols) (zeros eqs) (one_ℚ ∷ []) c.new-b.ensures k1 k2 k3
-      ∙ ap (λ z. z ++ one_ℚ ∷ []) (replicate-append-replicate file.cols eqs zero_ℚ))
-      (parts_pushed c0 c1 c2 (map value c.push_zeros-3.new.list) costs (negated vv) (zeros more) (c.in_ok-push_side_costs.ensures file stands) l2 l3
-      ∙ ap (λ l. map value l ++ on_parts costs (negated vv) (zeros more)) c.new-cost.ensures)
+    (three_pieces value c.new-a.result c.push_balances.new.list c.push_members.new.list c.push_on_w.new.list (joined (balances file more)) (joined members) last c.new-a.ensures h1 h2 h3
+    ∙ sym (joined-append (balances file more ++ members) (last ∷ []) ∙ ap₂ (λ x y. x ++ y) (joined-append (balances file more) members) (joined-one last)))
+    (three_pieces value c.new-b.result c.push_zeros.new.list c.push_zeros-2.new.list c.push.new.self (zeros file.cols) (zeros eqs) (one_ℚ ∷ []) c.new-b.ensures k1 k2 k3
+    ∙ ap (λ z. z ++ one_ℚ ∷ []) (replicate-append-replicate file.cols eqs zero_ℚ))
+    (parts_pushed c0 c1 c2 (map value c.push_zeros-3.new.list) costs (negated vv) (zeros more) (c.in_ok-push_side_costs.ensures file stands) l2 l3
+    ∙ ap (λ l. map value l ++ on_parts costs (negated vv) (zeros more)) c.new-cost.ensures)

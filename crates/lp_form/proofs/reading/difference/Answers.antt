@@ -18,6 +18,6 @@ loop-i-preserved g c =
     value_pushed value c.loop-i.w c.push.new.self c.signed.result _ c.in_ok-push.ensures.ok c.signed.ensures
     ∙ ap (λ l. l ++ (value c.index-plus-i.result -ℚ value c.index-negative-i.result) ∷ []) c.loop-i.invariant
     ∙ sym (ap₂ minus (ap (map value) (take_next plus i c.index-plus-i.result inside c.index-plus-i.is) ∙ map_push value (take i plus) c.index-plus-i.result)
-        (ap (map value) (take_next negative i c.index-negative-i.result (omega arith) c.index-negative-i.is) ∙ map_push value (take i negative) c.index-negative-i.result)
-      ∙ minus-push (map value (take i plus)) (map value (take i negative)) (value c.index-plus-i.result) (value c.index-negative-i.result)
-        (length-map (take i plus) value ∙ length-take-le i plus (omega arith) ∙ sym (length-map (take i negative) value ∙ length-take-le i negative (omega arith))))
+    (ap (map value) (take_next negative i c.index-negative-i.result (omega arith) c.index-negative-i.is) ∙ map_push value (take i negative) c.index-negative-i.result)
+    ∙ minus-push (map value (take i plus)) (map value (take i negative)) (value c.index-plus-i.result) (value c.index-negative-i.result)
+    (length-map (take i plus) value ∙ length-take-le i plus (omega arith) ∙ sym (length-map (take i negative) value ∙ length-take-le i negative (omega arith))))
