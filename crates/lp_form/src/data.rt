@@ -57,7 +57,7 @@ pub struct Data<F: Drop> {
 }
 
 /// Why a problem has no data in a field.
-#[derive(Debug, Drop)]
+#[derive(Clone, Copy, Debug, PartialEq, Eq)]
 pub enum DataFault {
     /// The first number of the problem, in the order of printing, that the field does not hold.
     NotHeld(Frac),
