@@ -1,5 +1,5 @@
 -- Columns of the sides and of the objectives, as the data have them.
-use Rattle.std.proofs.Common.{◌≡◌, ℕ, zero, suc, List, [], ◌∷◌, ◌++◌, length, map, refl, sym, ap, ap₂, ◌∙◌, subst, arith, ◌<◌, ◌≤◌, ◌+◌, ◌-◌, Bool, true, false, All, nat_lt, nat_le, IsTrue, slice_index_or}
+use Rattle.std.proofs.Common.{◌≡◌, ℕ, List, [], ◌∷◌, length, map, refl, sym, ap, ap₂, ◌∙◌, subst, arith, ◌≤◌, true, All, nat_lt, nat_le, slice_index_or}
 use Rattle.std.proofs.lemmas.Bool.{ltb-true, leb-true}
 use Rattle.std.specs.Prelude.{◌&&◌}
 use Rattle.std.specs.List.{list_all}
@@ -9,16 +9,15 @@ use Rattle.lin_rows.specs.Read.{numbers}
 use Rattle.exact_field.specs.Rational.{ℚ, zero_ℚ, neg_ℚ}
 use Rattle.exact_field.specs.Vector.{entry}
 use Rattle.polyhedra.specs.Negatives.{negated}
-use Rattle.polyhedra.specs.Sparse.{dense}
 use Rattle.polyhedra.proofs.Tests.{both_true}
 use Rattle.tableaux.proofs.Places.{listed-place}
 use Rattle.lin_rows.specs.Lines.{Rises, entries, sum_at}
 use Rattle.lin_rows.specs.declared.cells.Cell.{Cell}
 use Rattle.lin_rows.proofs.Pivoted.{dense_is}
 use Rattle.upper_image.specs.Spots.{column}
-use Rattle.upper_image.specs.UpperImage.{normals, objectives, objective_column}
-use Rattle.upper_image.proofs.Widths.{map-map, objective_columns, side_columns, length-numbers}
-use Rattle.vlp_reader.specs.Sides.{sides, side_column, side_bounds, numbers_from}
+use Rattle.upper_image.specs.UpperImage.{objective_column}
+use Rattle.upper_image.proofs.Widths.{objective_columns, side_columns, length-numbers}
+use Rattle.vlp_reader.specs.Sides.{sides, side_column, numbers_from}
 use Rattle.vlp_reader.specs.declared.problem.Problem.{Problem}
 use Rattle.lp_form.specs.declared.data.Data.{Data}
 use Rattle.lp_form.specs.declared.data.SideOf.{SideOf}

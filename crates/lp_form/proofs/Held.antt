@@ -1,9 +1,8 @@
 -- What is held of a file: with all its numbers the entries of its sides and objectives.
-use Rattle.std.proofs.Common.{◌≡◌, ℕ, zero, suc, List, [], ◌∷◌, ◌++◌, length, map, refl, sym, ap, ap₂, ◌∙◌, subst, arith, ◌<◌, ◌≤◌, ◌+◌, ◌-◌, Bool, true, false, All, nat_lt, nat_le, nat_eq, IsTrue, IsFalse, not, Option, None, Some, eq-eqb, inl, inr}
+use Rattle.std.proofs.Common.{◌≡◌, ℕ, zero, suc, List, [], ◌∷◌, ◌++◌, map, refl, sym, ap, ◌∙◌, subst, arith, ◌<◌, ◌≤◌, ◌+◌, Bool, true, false, All, nat_lt, IsTrue, not, None, Some, eq-eqb, inl, inr}
 use Rattle.std.specs.Prelude.{◌&&◌, ◌==◌, if◌then◌else◌}
-use Rattle.std.specs.List.{list_all, flat_map, find}
-use Rattle.std.proofs.lemmas.Bool.{ltb-true, leb-true, cases_eq, eqb-true}
-use Rattle.std.proofs.lemmas.List.{length-map}
+use Rattle.std.specs.List.{flat_map, find}
+use Rattle.std.proofs.lemmas.Bool.{ltb-true, cases_eq}
 use Rattle.std.proofs.lemmas.List.Elements.{All-nil, All-cons, All-head, All-tail, All-append, All-map}
 use Rattle.exact_field.specs.Rational.{ℚ, zero_ℚ, one_ℚ, neg_ℚ}
 use Rattle.frac128.specs.Sparse.{is_zero, rises_above}
@@ -12,8 +11,7 @@ use Rattle.polyhedra.specs.Sparse.{Entry, value_at, values_from, dense}
 use Rattle.polyhedra.specs.Inequality.{Inequality}
 use Rattle.polyhedra.proofs.Lists.{all_from_map}
 use Rattle.polyhedra.proofs.Tests.{both_true}
-use Rattle.lin_rows.specs.Lines.{Rises, entries}
-use Rattle.lin_rows.specs.declared.cells.Cell.{Cell}
+use Rattle.lin_rows.specs.Lines.{Rises}
 use Rattle.lin_rows.proofs.Merging.{not_same}
 use Rattle.upper_image.specs.Spots.{IsVector, entry_of}
 use Rattle.upper_image.specs.UpperImage.{signed, normals, objective, objectives}
@@ -27,7 +25,6 @@ use Rattle.vlp_reader.specs.declared.problem.Dir.{Dir}
 use Rattle.vlp_reader.specs.declared.problem.Dir.TheVariants.{Min, Max}
 use Rattle.vlp_printer.specs.Printing.{bound_numbers, printed_numbers, cone_vectors, duality_entries}
 use Rattle.lp_form.specs.Data.{IsFirstUnheld}
-use Rattle.lp_form.specs.Shapes.{are_places}
 
 -- ---- lists in pieces
 all_front : {X : Type 0} (P : X → Type 0) (xs ys : List X) → All P (xs ++ ys) → All P xs

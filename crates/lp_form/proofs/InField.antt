@@ -1,5 +1,5 @@
 -- A fraction in a field, by its numerator and denominator.
-use Rattle.std.proofs.Common.{◌≡◌, ℕ, ℤ, pos, sym, ap, ap₂, ◌∙◌, subst, arith, ◌<◌, ◌≤ℤ◌, ◌<ℤ◌, Bool, IsTrue, IsFalse, Option, None, Some, inl, inr, unsigned_abs}
+use Rattle.std.proofs.Common.{◌≡◌, ℤ, pos, ap₂, ◌∙◌, subst, arith, ◌<◌, Bool, IsTrue, IsFalse, Option, None, Some, inl, inr, unsigned_abs}
 use Rattle.std.proofs.lemmas.Int.{ints}
 use Rattle.exact_field.specs.Field.{AnswersFraction, AnswersHeld}
 use Rattle.exact_field.specs.Rational.{ℚ, fraction}

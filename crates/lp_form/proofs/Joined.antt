@@ -1,10 +1,9 @@
 -- Tables whose rows stand one behind the other in one list.
-use Rattle.std.proofs.Common.{◌≡◌, ℕ, zero, suc, List, [], ◌∷◌, ◌++◌, length, map, take, drop, refl, sym, ap, ap₂, ◌∙◌, subst, arith, ◌<◌, ◌≤◌, ◌+◌, ◌-◌, ◌*◌}
-use Rattle.std.specs.List.{slice_range, flat_map}
+use Rattle.std.proofs.Common.{◌≡◌, ℕ, suc, List, [], ◌∷◌, ◌++◌, length, map, take, drop, refl, sym, ap, ap₂, ◌∙◌, subst, arith, ◌+◌, ◌-◌, ◌*◌}
+use Rattle.std.specs.List.{slice_range}
 use Rattle.std.proofs.Math.ListN.{length-append}
 use Rattle.std.proofs.lemmas.List.{append_assoc, append-nil, length-map, map-append, take-map, drop-map}
 use Rattle.std.proofs.Math.Seq.{drop-append_seam, take-append_seam}
-use Rattle.std.proofs.lemmas.List.Concat.{flat_map-cons}
 use Rattle.std.proofs.lemmas.Grind.{flat_map-append}
 use Rattle.exact_field.specs.Rational.{ℚ}
 use Rattle.polyhedra.specs.Vectors.{AreWide}
@@ -14,7 +13,7 @@ use Rattle.lin_rows.proofs.Lists.{listed-push}
 use Rattle.tableaux.proofs.Found.{list_from-same}
 use Rattle.vlp_printer.proofs.Lists.{flat_map-one}
 use Rattle.lin_rows.specs.declared.system.System.{System as Program}
-use Rattle.exact_simplex.specs.Program.{HasLengths, coefficients_of, system_of}
+use Rattle.exact_simplex.specs.Program.{coefficients_of}
 use Rattle.polyhedra.specs.Negatives.{negated}
 use Rattle.lp_form.specs.Programs.{on_parts}
 use Rattle.lp_form.specs.Building.{joined, IsWritten}

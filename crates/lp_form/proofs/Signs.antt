@@ -1,5 +1,5 @@
 -- Differences of numbers of which one is 0.
-use Rattle.std.proofs.Common.{◌≡◌, ℕ, suc, List, [], ◌∷◌, ◌++◌, ◌+◌, ◌-◌, ◌<◌, length, map, take, drop, refl, sym, ap, ap₂, ◌∙◌, arith, slice_index_or}
+use Rattle.std.proofs.Common.{◌≡◌, ℕ, List, [], ◌∷◌, ◌++◌, ◌+◌, ◌-◌, length, take, drop, refl, ap, ◌∙◌, arith}
 use Rattle.exact_field.specs.Rational.{ℚ, zero_ℚ, ◌+ℚ◌, ◌-ℚ◌, neg_ℚ}
 use Rattle.exact_field.proofs.Rationals.{add-zero_ℚ, zero-add_ℚ, neg-zero_ℚ}
 use Rattle.tableaux.specs.Table.{minus}

@@ -1,6 +1,6 @@
 -- A loop that appends: one element more.
 use Rattle.std.proofs.Common.{◌≡◌, ℕ, zero, suc, arith, List, [], ◌∷◌, ◌++◌, ◌+◌, ◌-◌, ◌<◌, map, length, take, sym, ap, ap₂, ◌∙◌, slice_index_or, Bool, true, false, true≢false, refl, IsTrue}
-use Rattle.std.specs.Prelude.{filter, if◌then◌else◌, ◌&&◌, ◌↔◌}
+use Rattle.std.specs.Prelude.{◌&&◌, ◌↔◌}
 use Rattle.std.specs.List.{flat_map, list_all}
 use Rattle.exact_field.specs.Rational.{ℚ, zero_ℚ, whole}
 use Rattle.frac128.specs.Sparse.{is_zero}
@@ -10,7 +10,6 @@ use Rattle.lin_rows.specs.Read.{numbers}
 use Rattle.lin_rows.proofs.Building.{number_row}
 use Rattle.polyhedra.proofs.Tests.{both_true}
 use Rattle.std.proofs.lemmas.List.{map_push, take_more, append_assoc}
-use Rattle.std.proofs.lemmas.List.Elements.{filter-append}
 use Rattle.vlp_printer.proofs.Lists.{flat_map_take}
 
 pub take_next : {X : Type 0} (xs : List X) (i : ℕ) (x : X) → i < length xs → x ≡ slice_index_or xs i x → take (i + 1) xs ≡ take i xs ++ x ∷ []

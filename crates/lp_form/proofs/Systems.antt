@@ -1,18 +1,18 @@
 -- The named programs are systems: each equation has a coefficient for each unknown, and a right side.
-use Rattle.std.proofs.Common.{◌≡◌, ℕ, zero, suc, List, [], ◌∷◌, ◌++◌, length, map, replicate, refl, sym, ap, ap₂, ◌∙◌, subst, arith, ◌<◌, ◌≤◌, ◌+◌, ◌-◌, Bool, true, false, Option, None, Some}
+use Rattle.std.proofs.Common.{◌≡◌, ℕ, zero, suc, List, [], ◌∷◌, ◌++◌, length, replicate, refl, sym, ap, ap₂, ◌∙◌, subst, arith, ◌<◌, ◌≤◌, ◌+◌, Bool, true, false, None, Some}
 use Rattle.std.specs.Prelude.{if◌then◌else◌, ⊤}
 use Rattle.std.proofs.Math.ListN.{length-append, length-replicate}
 use Rattle.std.proofs.lemmas.List.{length-map}
-use Rattle.std.proofs.lemmas.List.Elements.{All-append, All-filter}
+use Rattle.std.proofs.lemmas.List.Elements.{All-append}
 use Rattle.exact_field.specs.Rational.{ℚ, zero_ℚ, one_ℚ, neg_ℚ}
 use Rattle.exact_field.specs.Vector.{entry}
 use Rattle.polyhedra.specs.Negatives.{negated}
 use Rattle.polyhedra.specs.Vectors.{AreWide, zeros}
 use Rattle.polyhedra.proofs.Lists.{HasWidth, wide-nil, wide-cons}
-use Rattle.tableaux.specs.Table.{Table, System, IsSystem, row_of, column_of, list_from, listed, unit}
+use Rattle.tableaux.specs.Table.{Table, IsSystem, row_of, column_of, list_from, listed, unit}
 use Rattle.tableaux.proofs.Places.{length-list_from, row-wide}
 use Rattle.vlp_reader.specs.Sides.{sides, side_column, side_bounds, numbers_from}
-use Rattle.vlp_reader.specs.Cones.{are_vectors, cone_fits, duality_fits}
+use Rattle.vlp_reader.specs.Cones.{cone_fits}
 use Rattle.vlp_reader.specs.declared.problem.Problem.{Problem}
 use Rattle.vlp_reader.specs.declared.problem.Cone.{Cone}
 use Rattle.vlp_reader.specs.declared.problem.Cone.TheVariants.{Orthant, Gens, Dual}

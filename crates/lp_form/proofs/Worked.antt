@@ -1,8 +1,8 @@
 -- The worked programs, computed: systems are tested for equality.
-use Rattle.std.proofs.Common.{◌≡◌, [], ◌∷◌, refl, ap₂, sym, Bool, true, false, true≢false, List}
+use Rattle.std.proofs.Common.{◌≡◌, [], ◌∷◌, refl, ap₂, sym, Bool, true, false, true≢false}
 use Rattle.std.specs.Prelude.{◌&&◌}
 use Rattle.exact_field.specs.Gcd.{gcd}
-use Rattle.exact_field.specs.Rational.{ℚ, whole, fraction, ◌+ℚ◌, ◌*ℚ◌, neg_ℚ, inverse_ℚ, le_ℚ}
+use Rattle.exact_field.specs.Rational.{whole, fraction, ◌+ℚ◌, ◌*ℚ◌, neg_ℚ, inverse_ℚ, le_ℚ}
 use Rattle.polyhedra.specs.DoubleDescription.{same_vector}
 use Rattle.polyhedra.proofs.Tests.{both_true, same_vector_is}
 use Rattle.tableaux.specs.Table.{Table, System}

@@ -1,5 +1,5 @@
 -- Programs as they are built: equations that stand one behind the other in one list.
-use Rattle.std.specs.Prelude.{◌≡◌, ℕ, List}
+use Rattle.std.specs.Prelude.{◌≡◌, List}
 use Rattle.std.specs.List.{flat_map}
 use Rattle.exact_field.specs.Rational.{ℚ}
 use Rattle.tableaux.specs.Table.{Table, System}

@@ -1,5 +1,5 @@
 -- What data in a field stand for, and why a problem has none.
-use Rattle.std.specs.Prelude.{◌≡◌, ℕ, ◌++◌, ◌∷◌, List, [], map, not, All, IsTrue, IsFalse, Bool, Option, None, Some}
+use Rattle.std.specs.Prelude.{◌≡◌, ℕ, ◌++◌, ◌∷◌, List, map, not, All, IsTrue, IsFalse, Bool, Option, None, Some}
 use Rattle.exact_field.specs.Rational.{ℚ}
 use Rattle.frac128.specs.Sparse.{is_zero}
 use Rattle.polyhedra.specs.Sparse.{dense}

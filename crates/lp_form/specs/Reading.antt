@@ -1,5 +1,5 @@
 -- The lengths of solutions and multipliers of named programs in a field, and what is read off them.
-use Rattle.std.specs.Prelude.{◌≡◌, ℕ, suc, ◌+◌, ◌<◌, ◌≤◌, ◌⊎◌, ⊤, List, [], map, length, slice_index_or}
+use Rattle.std.specs.Prelude.{◌≡◌, ℕ, suc, ◌+◌, ◌<◌, ◌⊎◌, ⊤, List, [], map, length, slice_index_or}
 use Rattle.exact_field.specs.Rational.{ℚ, zero_ℚ}
 use Rattle.vlp_reader.specs.declared.problem.Problem.{Problem}
 use Rattle.vlp_reader.specs.declared.problem.Cone.{Cone}

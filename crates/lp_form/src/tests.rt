@@ -39,12 +39,11 @@ fn problem_of(alloc: Global, text: &[u8]) -> Result<Problem, Fail> {
     Ok(read_vlp(alloc, bytes.as_slice())?)
 }
 
-/// The first number of a problem that the field does not hold.
-fn unheld<F: Field>(alloc: Global, problem: &Problem) -> Result<Option<Frac>, DataFault> {
-    match Data::<F>::of(alloc, problem) {
-        Ok(_) => Ok(None),
-        Err(DataFault::NotHeld(number)) => Ok(Some(number)),
-        Err(fault) => Err(fault),
+/// The fault that names a number.
+fn fault_of(number: Option<i64>) -> Option<DataFault> {
+    match number {
+        Some(number) => Some(DataFault::NotHeld(Frac::from(number))),
+        None => None,
     }
 }
 
@@ -60,19 +59,22 @@ fn numbers<F: Field>(rt: &impl Abort, alloc: Global, values: &[i64]) -> Result<I
 /// The program of a file whose sides contradict each other, and what is read off a solution of it.
 fn contradicts<F: Field>(rt: &impl Abort, alloc: Global, problem: &Problem) -> Result<(), Fail> {
     let form = Data::<F>::of(alloc, problem)?;
-    let name = LpName::Feasible;
-    let system = program(alloc, &form, &[], &name)?;
+    let system = program(alloc, &form, &[], &LpName::Feasible)?;
     let row = numbers::<F>(rt, alloc, &[-1, 1])?;
     let cost = numbers::<F>(rt, alloc, &[0, 1])?;
     assert!(rt; system.rows == 1 && system.cols == 2);
-    assert!(rt; system.a.as_slice() == row.as_slice() && system.cost.as_slice() == cost.as_slice());
-    let z = numbers::<F>(rt, alloc, &[1, 1])?;
-    let dual = numbers::<F>(rt, alloc, &[0])?;
-    assert!(rt; form.sides.len() == 2 && form.cols == 1);
-    let split = parts(alloc, &form, &name, z.as_slice())?;
-    assert!(rt; split.u.as_slice() == z.as_slice() && split.w.len() == 0 && split.v.len() == 0);
-    let x = choice(alloc, &form, &name, dual.as_slice())?;
-    assert!(rt; x.as_slice() == dual.as_slice());
+    assert!(rt; system.a.as_slice() == row.as_slice());
+    assert!(rt; system.cost.as_slice() == cost.as_slice());
+    let list = numbers::<F>(rt, alloc, &[1, 1])?;
+    let z = list.as_slice();
+    assert!(rt; z.len() == form.sides.len());
+    let split = parts(alloc, &form, &LpName::Feasible, z)?;
+    assert!(rt; split.u.as_slice() == z);
+    let zero = numbers::<F>(rt, alloc, &[0])?;
+    let dual = zero.as_slice();
+    assert!(rt; dual.len() == form.cols as usize);
+    let x = choice(alloc, &form, &LpName::Feasible, dual)?;
+    assert!(rt; x.as_slice() == dual);
     Ok(())
 }
 
@@ -80,11 +82,10 @@ fn contradicts<F: Field>(rt: &impl Abort, alloc: Global, problem: &Problem) -> R
 fn names_the_first_number_that_is_not_held(rt: HostRuntime) -> Result<(), Fail> {
     for (text, number) in FILES {
         let problem = problem_of(rt.alloc(), text)?;
-        assert_eq!(rt;
-            unheld::<Tiny>(rt.alloc(), &problem)?,
-            number.map(Frac::from)
-        );
-        assert_eq!(rt; unheld::<Frac>(rt.alloc(), &problem)?, None);
+        let fault = Data::<Tiny>::of(rt.alloc(), &problem).err();
+        assert_eq!(rt; fault, fault_of(number));
+        let fault = Data::<Frac>::of(rt.alloc(), &problem).err();
+        assert_eq!(rt; fault, None);
     }
     Ok(())
 }

@@ -1,6 +1,6 @@
 use Rattle.std.proofs.Common.{◌≡◌, ℕ, [], ◌∷◌, ◌++◌, map, length, sym, ap, ◌∙◌}
 use Rattle.std.specs.Prelude.{replicate}
-use Rattle.exact_field.specs.Rational.{ℚ, one_ℚ}
+use Rattle.exact_field.specs.Rational.{one_ℚ}
 use Rattle.polyhedra.specs.Vectors.{zeros}
 use Rattle.tableaux.specs.Table.{listed, column_of, Table}
 use Rattle.lin_rows.specs.Read.{numbers}
@@ -8,7 +8,7 @@ use Rattle.lp_form.specs.Building.{joined}
 use Rattle.lp_form.specs.Programs.{zero_combination}
 use Rattle.lp_form.proofs.Systems.{combination_ok}
 use Rattle.std.proofs.lemmas.List.{append-nil, length-map}
-use Rattle.lp_form.proofs.Joined.{one_piece, two_pieces, three_pieces, appended, pushed2, pushed3, joined-append, joined-one, joined_two}
+use Rattle.lp_form.proofs.Joined.{one_piece, two_pieces, joined-append, joined-one}
 use Rattle.lp_form.proofs.Steps.{value_pushed}
 use Rattle.tableaux.proofs.Found.{list_from-same}
 use Rattle.lp_form.proofs.cone.combination.Goals as goal

@@ -1,7 +1,7 @@
 use Rattle.std.proofs.Common.{◌≤◌, length, sym, ap, ◌∙◌, subst}
 use Rattle.polyhedra.specs.Vectors.{AreWide}
 use Rattle.lin_rows.specs.Read.{numbers}
-use Rattle.lp_form.proofs.Shaped.{gens_wide, dual_wide, gens_few, dual_few, kept_wide, kept_few}
+use Rattle.lp_form.proofs.Shaped.{gens_wide, dual_wide, dual_few, kept_wide, kept_few}
 use Rattle.lp_form.proofs.cone.interior.Goals as goal
 
 pub interior_given-requires-clause-wide : goal.interior_given-requires-clause-wide

@@ -7,7 +7,7 @@ use Rattle.lp_form.specs.Building.{joined}
 use Rattle.lp_form.specs.Programs.{generator_gaps, interior_of_generators}
 use Rattle.lp_form.proofs.Systems.{found_ok}
 use Rattle.std.proofs.lemmas.List.{length-map}
-use Rattle.lp_form.proofs.Joined.{one_piece, two_pieces, three_pieces, appended, pushed2, pushed3, joined-append, joined-one, joined_two}
+use Rattle.lp_form.proofs.Joined.{one_piece, three_pieces, appended, pushed2, joined_two}
 use Rattle.lp_form.proofs.Figures.{wide_enough}
 use Rattle.lp_form.proofs.cone.interior_found.Goals as goal
 

@@ -7,7 +7,7 @@ use Rattle.lp_form.specs.Building.{joined}
 use Rattle.lp_form.specs.Programs.{generator_gaps, interior_of_generators}
 use Rattle.lp_form.proofs.Systems.{given_ok}
 use Rattle.std.proofs.lemmas.List.{length-map}
-use Rattle.lp_form.proofs.Joined.{one_piece, two_pieces, three_pieces, appended, pushed2, pushed3, joined-append, joined-one, joined_two}
+use Rattle.lp_form.proofs.Joined.{two_pieces, appended, joined-append}
 use Rattle.lp_form.proofs.Steps.{value_pushed}
 use Rattle.std.proofs.Common.{suc}
 use Rattle.lp_form.proofs.cone.interior_given.Goals as goal

@@ -8,7 +8,7 @@ use Rattle.lp_form.specs.Building.{joined}
 use Rattle.lp_form.specs.Programs.{dual_gaps, interior_of_dual}
 use Rattle.lp_form.proofs.Systems.{dual_ok}
 use Rattle.std.proofs.lemmas.List.{length-map}
-use Rattle.lp_form.proofs.Joined.{one_piece, two_pieces, three_pieces, appended, pushed2, pushed3, joined-append, joined-one, joined_two}
+use Rattle.lp_form.proofs.Joined.{one_piece, three_pieces, pushed3, joined_two}
 use Rattle.lp_form.proofs.cone.interior_in_dual.Goals as goal
 
 pub returns : goal.returns

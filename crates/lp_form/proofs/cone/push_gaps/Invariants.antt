@@ -1,5 +1,5 @@
 use Rattle.std.proofs.Common.{◌≡◌, ◌∷◌, ◌++◌, map}
-use Rattle.exact_field.specs.Rational.{ℚ, one_ℚ, neg_ℚ}
+use Rattle.exact_field.specs.Rational.{one_ℚ, neg_ℚ}
 use Rattle.polyhedra.specs.Negatives.{negated}
 use Rattle.polyhedra.specs.Vectors.{zeros}
 use Rattle.tableaux.specs.Table.{listed, unit}

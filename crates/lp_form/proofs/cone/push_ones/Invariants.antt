@@ -1,6 +1,6 @@
 use Rattle.std.proofs.Common.{◌≡◌, ◌++◌, map}
 use Rattle.std.specs.Prelude.{replicate}
-use Rattle.exact_field.specs.Rational.{ℚ, one_ℚ}
+use Rattle.exact_field.specs.Rational.{one_ℚ}
 use Rattle.lp_form.proofs.cone.push_ones.Given as goal
 
 abbrev pub invariant-loop-k : goal.invariant-loop-k

@@ -4,7 +4,7 @@ use Rattle.polyhedra.specs.Negatives.{negated}
 use Rattle.tableaux.specs.Table.{unit, row_of}
 use Rattle.lin_rows.specs.Read.{numbers}
 use Rattle.lp_form.proofs.Joined.{joined_more}
-use Rattle.lp_form.proofs.Joined.{pushed2, pushed4}
+use Rattle.lp_form.proofs.Joined.{pushed4}
 use Rattle.lp_form.proofs.Steps.{row_at}
 use Rattle.lp_form.proofs.cone.push_products.Goals as goal
 

@@ -1,5 +1,5 @@
 use Rattle.std.proofs.Common.{◌≡◌, [], ◌∷◌, ◌++◌, map}
-use Rattle.exact_field.specs.Rational.{ℚ, zero_ℚ, one_ℚ, neg_ℚ}
+use Rattle.exact_field.specs.Rational.{zero_ℚ, one_ℚ, neg_ℚ}
 use Rattle.polyhedra.specs.Negatives.{negated}
 use Rattle.tableaux.specs.Table.{listed, unit, row_of}
 use Rattle.lin_rows.specs.Read.{numbers}

@@ -1,11 +1,11 @@
 use Rattle.std.proofs.Common.{◌≡◌, List, [], map, true, sym, ap, ◌∙◌, subst, arith}
-use Rattle.exact_field.specs.Rational.{ℚ, neg_ℚ}
+use Rattle.exact_field.specs.Rational.{neg_ℚ}
 use Rattle.lin_rows.specs.Lines.{entries, sum_at}
 use Rattle.lin_rows.specs.declared.cells.Cell.{Cell}
 use Rattle.lp_form.specs.Shapes.{are_places}
 use Rattle.lp_form.proofs.Figures.{places_rise}
 use Rattle.std.proofs.lemmas.List.{take_all}
-use Rattle.lp_form.proofs.Steps.{taken_more, value_pushed, each_passes, prefix_more, flat_more, take_next}
+use Rattle.lp_form.proofs.Steps.{taken_more, value_pushed, each_passes}
 use Rattle.lin_rows.specs.Lines.{Rises}
 use Rattle.lp_form.proofs.pieces.negative_at.Goals as goal
 

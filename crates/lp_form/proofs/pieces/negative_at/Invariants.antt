@@ -1,6 +1,6 @@
 use Rattle.std.proofs.Common.{◌≡◌, ℕ, map, take, IsTrue}
 use Rattle.std.specs.List.{list_all}
-use Rattle.exact_field.specs.Rational.{ℚ, neg_ℚ}
+use Rattle.exact_field.specs.Rational.{neg_ℚ}
 use Rattle.lin_rows.specs.Lines.{entries, sum_at}
 use Rattle.lp_form.specs.Shapes.{are_places}
 use Rattle.lp_form.proofs.pieces.negative_at.Given as goal

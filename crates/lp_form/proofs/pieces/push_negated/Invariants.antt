@@ -1,5 +1,5 @@
 use Rattle.std.proofs.Common.{◌≡◌, ◌++◌, map, take}
-use Rattle.exact_field.specs.Rational.{ℚ, neg_ℚ}
+use Rattle.exact_field.specs.Rational.{neg_ℚ}
 use Rattle.lp_form.proofs.pieces.push_negated.Given as goal
 
 abbrev pub invariant-loop-x : goal.invariant-loop-x

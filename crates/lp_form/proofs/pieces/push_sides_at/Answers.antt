@@ -4,7 +4,7 @@ use Rattle.lin_rows.specs.declared.cells.Cell.{Cell}
 use Rattle.lp_form.specs.Shapes.{are_places}
 use Rattle.lp_form.proofs.Figures.{places_rise}
 use Rattle.std.proofs.lemmas.List.{take_all}
-use Rattle.lp_form.proofs.Steps.{taken_more, value_pushed, each_passes, prefix_more, flat_more, take_next}
+use Rattle.lp_form.proofs.Steps.{taken_more, value_pushed, each_passes}
 use Rattle.lin_rows.specs.Lines.{Rises}
 use Rattle.lp_form.proofs.pieces.push_sides_at.Goals as goal
 

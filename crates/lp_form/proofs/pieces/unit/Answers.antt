@@ -1,5 +1,5 @@
 use Rattle.std.specs.Prelude.{◌==◌, if◌then◌else◌}
-use Rattle.exact_field.specs.Rational.{ℚ, zero_ℚ, one_ℚ}
+use Rattle.exact_field.specs.Rational.{zero_ℚ, one_ℚ}
 use Rattle.lin_rows.proofs.Lists.{mapped_more}
 use Rattle.lp_form.proofs.pieces.unit.Goals as goal
 

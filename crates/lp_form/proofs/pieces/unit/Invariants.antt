@@ -1,6 +1,6 @@
 use Rattle.std.proofs.Common.{◌≡◌, map}
 use Rattle.std.specs.Prelude.{◌==◌, if◌then◌else◌}
-use Rattle.exact_field.specs.Rational.{ℚ, zero_ℚ, one_ℚ}
+use Rattle.exact_field.specs.Rational.{zero_ℚ, one_ℚ}
 use Rattle.tableaux.specs.Table.{listed}
 use Rattle.lp_form.proofs.pieces.unit.Given as goal
 

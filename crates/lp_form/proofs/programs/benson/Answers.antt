@@ -11,7 +11,7 @@ use Rattle.lp_form.specs.Programs.{on_parts, balances, dual_members, dual_unknow
 use Rattle.lp_form.proofs.Systems.{benson_ok}
 use Rattle.lp_form.proofs.Figures.{side_number, objective_number}
 use Rattle.std.proofs.lemmas.List.{length-map, replicate-append-replicate}
-use Rattle.lp_form.proofs.Joined.{one_piece, two_pieces, three_pieces, appended, parts_pushed, joined-append, joined-one}
+use Rattle.lp_form.proofs.Joined.{three_pieces, parts_pushed, joined-append, joined-one}
 use Rattle.lp_form.proofs.Steps.{value_pushed}
 use Rattle.lp_form.proofs.programs.benson.Goals as goal
 

@@ -5,7 +5,7 @@ use Rattle.vlp_reader.specs.Sides.{side_column, side_bounds}
 use Rattle.lp_form.specs.Building.{joined}
 use Rattle.lp_form.specs.Programs.{feasible_system}
 use Rattle.lp_form.proofs.Systems.{feasible_ok}
-use Rattle.lp_form.proofs.Joined.{one_piece, two_pieces, three_pieces, appended, parts_pushed, joined-append, joined-one}
+use Rattle.lp_form.proofs.Joined.{one_piece}
 use Rattle.lp_form.proofs.programs.feasible.Goals as goal
 
 pub returns : goal.returns

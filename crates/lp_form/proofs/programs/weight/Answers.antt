@@ -10,8 +10,7 @@ use Rattle.lp_form.specs.Programs.{on_parts, balances, weight_members, weight_un
 use Rattle.lp_form.proofs.Systems.{weight_ok}
 use Rattle.lp_form.proofs.Figures.{side_number, objective_number}
 use Rattle.std.proofs.lemmas.List.{length-map}
-use Rattle.lp_form.proofs.Joined.{one_piece, two_pieces, three_pieces, appended, parts_pushed, joined-append, joined-one}
-use Rattle.lp_form.proofs.Steps.{value_pushed}
+use Rattle.lp_form.proofs.Joined.{three_pieces, appended, parts_pushed, joined-append}
 use Rattle.lp_form.proofs.programs.weight.Goals as goal
 
 pub returns : goal.returns

@@ -1,5 +1,5 @@
 use Rattle.std.proofs.Common.{◌≡◌, [], ◌∷◌, ◌++◌, ◌<◌, map, length, take, sym, ap, ap₂, ◌∙◌, arith}
-use Rattle.exact_field.specs.Rational.{ℚ, ◌-ℚ◌}
+use Rattle.exact_field.specs.Rational.{◌-ℚ◌}
 use Rattle.tableaux.specs.Table.{minus}
 use Rattle.std.proofs.lemmas.List.{map_push, length-map}
 use Rattle.lp_form.proofs.Signs.{minus-push}

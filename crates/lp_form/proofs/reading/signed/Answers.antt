@@ -1,5 +1,4 @@
-use Rattle.std.proofs.Common.{true, false, sym, ◌∙◌, inl, inr}
-use Rattle.std.specs.Prelude.{if◌then◌else◌}
+use Rattle.std.proofs.Common.{sym, ◌∙◌, inl, inr}
 use Rattle.lp_form.proofs.Signs.{less_zero, zero_less}
 use Rattle.std.proofs.Common.{true≢false}
 use Rattle.lp_form.proofs.reading.signed.Goals as goal
