@@ -1,6 +1,6 @@
 -- Licences from what calls tell of their overflows.
-use Rattle.std.proofs.Common.{◌≡◌, ◌≢◌, ℕ, suc, ◌+◌, ◌-◌, ◌<◌, ◌≤◌, Bool, true, false, List, [], ◌∷◌, ◌++◌, length, refl, sym, ap, ap₂, ◌∙◌, subst, arith, true≢false, IsTrue, ◌⊎◌, inl, inr, slice_get, Some, length-append}
-use Rattle.std.specs.Prelude.{IsFalse, Contains, Option, None, ⊤}
+use Rattle.std.proofs.Common.{◌≡◌, ◌≢◌, ℕ, suc, ◌+◌, ◌-◌, ◌≤◌, Bool, true, false, List, [], ◌∷◌, ◌++◌, length, refl, sym, ap, ◌∙◌, subst, arith, true≢false, IsTrue, ◌⊎◌, inl, inr, slice_get, Some, length-append}
+use Rattle.std.specs.Prelude.{IsFalse, Option, None, ⊤}
 use Rattle.std.proofs.lemmas.Option.{slice_get-get_or}
 use Rattle.std.proofs.Math.Seq.{get_or-append_seam}
 use Rattle.exact_field.specs.Rational.{ℚ, zero_ℚ, ◌+ℚ◌, ◌-ℚ◌, ◌*ℚ◌, ◌/ℚ◌, inverse_ℚ, one_ℚ, whole, fraction}
@@ -214,8 +214,10 @@ failing_unheld holds file before (e ∷ entries) =
     go (failing_unheld holds file (before ++ e ∷ []) entries) (first_failure holds 1 (events file before e)) (first_unheld holds 1 (events file before e))
   where
     go : UnheldIn holds (first_failing holds file (before ++ e ∷ []) entries) → (o : Option Failure) → Unheld holds o →
-        UnheldIn holds (elim o [ Some failure ↦ Some (record { entry = suc (length before); failure = failure })
-          | None ↦ first_failing holds file (before ++ e ∷ []) entries ])
+        UnheldIn holds (elim o [
+          | Some failure ↦ Some (record { entry = suc (length before); failure = failure })
+          | None ↦ first_failing holds file (before ++ e ∷ []) entries
+        ])
     go further (Some failure) h = h
     go further None h = further
 
@@ -237,18 +239,21 @@ overflow_laws = record {
   elimination = elimination;
   norming = λ holds s rows basis inverse corner col zero allowed is low high low' high' h. record {
     not_held = not_held holds (operation Div (entry (column_of inverse corner) col) (magnitude (norming (column_of inverse corner)))) zero h;
-    operands = inr (refl, IsListStep.normed (record {
-      allowed = allowed;
-      inverse = inverse;
-      is = is;
-      corner = corner;
-      corner_from_one = low;
-      corner_to_end = high;
-      from_one = low';
-      to_end = high';
-      first = refl;
-      same = refl;
-    }));
+    operands = inr (
+      refl,
+      IsListStep.normed (record {
+        allowed = allowed;
+        inverse = inverse;
+        is = is;
+        corner = corner;
+        corner_from_one = low;
+        corner_to_end = high;
+        from_one = low';
+        to_end = high';
+        first = refl;
+        same = refl;
+      }),
+    );
   };
   term = term;
   value = λ holds s family before last list g done rest o a b zero allowed live same h. record {

@@ -6,16 +6,15 @@ use Rattle.vlp_reader.specs.declared.problem.Problem.{Problem}
 use Rattle.upper_image.specs.Shows.{ShowsFitting, ShowsCut}
 use Rattle.deriv_log.specs.declared.entry.Entry.{Entry}
 use Rattle.deriv_log.specs.declared.entry.Entry.TheVariants.{Version, Duality, Cut}
-use Rattle.polyhedra.proofs.Tests.{both_hold, not_true}
+use Rattle.polyhedra.proofs.Tests.{both_hold}
 use Rattle.log_rules.specs.Live.{duality_vector}
 use Rattle.log_rules.specs.Meets.{Meets}
 use Rattle.log_rules.specs.Order.{has, in_order}
 use Rattle.log_rules.specs.Order as order
-use Rattle.log_rules.specs.Proves.{AllMeet}
 use Rattle.log_rules.proofs.Entries.{meets_front}
 use Rattle.licence.specs.Base.{IsBaseCut}
 use Rattle.licence.specs.Laws.{TrailLaws}
-use Rattle.licence.specs.Licence.{opening, IsHeldDuality, IsPossible, Completes, StandsFor}
+use Rattle.licence.specs.Licence.{opening, Completes, StandsFor}
 use Rattle.licence.specs.Trails.{IsBaseDuality, IsBaseEntry, AllBase, IsBaseTrail}
 
 -- ---- what holds of each entry behind those before it

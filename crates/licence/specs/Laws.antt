@@ -3,7 +3,7 @@ use Rattle.std.specs.Prelude.{ℕ, suc, ◌≤◌, ◌-◌, Bool, IsTrue, IsFals
 use Rattle.exact_field.specs.Rational.{ℚ, zero_ℚ, ◌/ℚ◌}
 use Rattle.exact_field.specs.Vector.{entry}
 use Rattle.exact_field.specs.declared.op.Op.{Op}
-use Rattle.exact_field.specs.declared.op.Op.TheVariants.{Add, Sub, Mul, Div}
+use Rattle.exact_field.specs.declared.op.Op.TheVariants.{Mul, Div}
 use Rattle.exact_field.specs.declared.op.Left.{Left}
 use Rattle.frac128.specs.declared.vectors.Spot.{Spot}
 use Rattle.polyhedra.specs.DoubleDescription.{magnitude, norming}
@@ -21,7 +21,6 @@ use Rattle.deriv_log.specs.declared.entry.Entry.TheVariants.{Cut}
 use Rattle.deriv_log.specs.declared.licence.Program.{Program}
 use Rattle.deriv_log.specs.declared.licence.Family.{Family}
 use Rattle.deriv_log.specs.declared.licence.Place.TheVariants.{Pivot, Elim, Pair, Exchange, Scale, Step}
-use Rattle.deriv_log.specs.declared.licence.Licence.{Licence}
 use Rattle.log_rules.specs.Events.{Event, exact, log_failure}
 use Rattle.log_rules.specs.Events.Event.{step}
 use Rattle.log_rules.specs.Events.Failure.{left as overflows}
@@ -31,6 +30,7 @@ use Rattle.log_rules.specs.Order.{has}
 use Rattle.log_rules.specs.Order as order
 use Rattle.licence.specs.Base.{IsBaseRow, IsBaseCut}
 use Rattle.licence.specs.Licence.{IsOverflow, opening, IsHeldDuality, IsPossible, StandsFor, Licensed, LicensedWithout}
+use Rattle.deriv_log.specs.declared.licence.Licence.{Licence}
 use Rattle.licence.specs.Operands.{Setting, Knows, IsAllowed, system_in, AreElimRows, IsElimTable, IsAddition, AreMultiplied, IsScaled, IsDivisor}
 use Rattle.licence.specs.Steps.{operation, value_steps, pair_steps, exchange_row, exchange_steps}
 use Rattle.licence.specs.Trails.{IsBaseDuality, IsBaseEntry, IsBaseTrail}
@@ -110,3 +110,14 @@ pub record OverflowLaws : Type 0 where
   pub check : (holds : ℚ → Bool) (s : Setting) (number k : ℕ) (o : Op) (a b : ℚ) → IsTrue (holds zero_ℚ) →
       log_failure holds s.file s.trail ≡ Some (record { entry = number; failure = overflows k o a b }) →
       IsOverflow holds s (Step number k) (operation o a b)
+
+-- ---- licences
+pub record LicenceLaws : Type 0 where
+  -- an overflow in a setting that the trail stands for is licensed
+  pub licensed : (holds : ℚ → Bool) (file : Problem) (c weights : List ℚ) (whole : List Entry) (licence : Licence) →
+      StandsFor holds file c weights licence.trail whole →
+      IsOverflow holds (record { file = file; c = Some c; weights = weights; trail = whole }) licence.place licence.left →
+      Licensed holds file c licence
+  -- a licence without a duality vector is one with each that is possible
+  pub without : (holds : ℚ → Bool) (file : Problem) (c weights : List ℚ) (licence : Licence) → IsPossible holds file c weights →
+      LicensedWithout holds file licence → Licensed holds file c licence

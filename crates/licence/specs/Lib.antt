@@ -4,3 +4,4 @@ pub mod Trails
 pub mod Operands
 pub mod Licence
 pub mod Laws
+pub mod Examples

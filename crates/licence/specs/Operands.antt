@@ -1,7 +1,7 @@
 -- The operands of an overflow, by the place where the operation stood: they stand in dictionaries, generators, rows and sums that the
 -- file and the duality vector fix.
-use Rattle.std.specs.Prelude.{ℕ, suc, ◌+◌, ◌-◌, ◌≤◌, ⊤, Bool, true, List, [], ◌∷◌, ◌++◌, ◌≡◌, ◌≢◌, ◌⊎◌, map, length, take, All, Contains, Option, None, Some}
-use Rattle.exact_field.specs.Rational.{ℚ, zero_ℚ, one_ℚ, ◌*ℚ◌, neg_ℚ, ◌<ℚ◌}
+use Rattle.std.specs.Prelude.{ℕ, suc, ◌+◌, ◌-◌, ◌≤◌, ⊤, Bool, List, [], ◌∷◌, ◌++◌, ◌≡◌, ◌≢◌, ◌⊎◌, map, length, take, All, Contains, Option, None, Some}
+use Rattle.exact_field.specs.Rational.{ℚ, zero_ℚ, one_ℚ, ◌*ℚ◌, ◌<ℚ◌}
 use Rattle.exact_field.specs.Vector.{entry, dot}
 use Rattle.exact_field.specs.declared.op.Op.TheVariants.{Add, Mul, Div}
 use Rattle.exact_field.specs.declared.op.Left.{Left}
@@ -18,7 +18,7 @@ use Rattle.tableaux.specs.Dictionary.{IsDictionary, IsDictionaryOf, basic_column
 use Rattle.tableaux.specs.Elimination.{AreInverse, IsClearAt, ray_of}
 use Rattle.lin_rows.specs.Pivot.{IsPivotStep}
 use Rattle.exact_simplex.specs.Ends.{IsSystemStep}
-use Rattle.vlp_reader.specs.Sides.{sides, side_bounds, IsFeasible, IsRecession}
+use Rattle.vlp_reader.specs.Sides.{side_bounds, IsFeasible, IsRecession}
 use Rattle.vlp_reader.specs.declared.problem.Problem.{Problem}
 use Rattle.vlp_printer.specs.Printing.{cone_vectors}
 use Rattle.upper_image.specs.Spots.{dense, column}

@@ -1,6 +1,6 @@
 -- Base trails: entries of a log that meet their rules as far as they go, and whose numbers are read off dictionaries that the file
 -- and the duality vector fix.
-use Rattle.std.specs.Prelude.{ℕ, ◌≤◌, ◌+◌, true, false, Bool, ⊤, List, [], ◌∷◌, ◌++◌, ◌≡◌, length, replicate, take, drop, All, Option, None, Some}
+use Rattle.std.specs.Prelude.{ℕ, ◌≤◌, true, false, Bool, ⊤, List, [], ◌∷◌, ◌++◌, ◌≡◌, length, replicate, take, drop, All, Option, None, Some}
 use Rattle.exact_field.specs.Rational.{ℚ, one_ℚ, inverse_ℚ}
 use Rattle.exact_field.specs.Vector.{entry}
 use Rattle.frac128.specs.declared.vectors.Spot.{Spot}

@@ -2,7 +2,8 @@
 //! the statement.
 #![tactic(auto)]
 
-ghost use Rattle.licence.specs.Laws.{OverflowLaws, TrailLaws};
+ghost use Rattle.licence.specs.Examples.{WorkedLicences};
+ghost use Rattle.licence.specs.Laws.{LicenceLaws, OverflowLaws, TrailLaws};
 
 /// How trails begin and grow, and what they stand for.
 pub fn trails_grow()
@@ -12,4 +13,14 @@ pub fn trails_grow()
 /// What calls tell of their overflows is what a licence asks, place by place.
 pub fn overflows_are_licensed()
     ensures { OverflowLaws }
+{}
+
+/// Licences from overflows, and those before a duality vector is known.
+pub fn licences_are_given()
+    ensures { LicenceLaws }
+{}
+
+/// Overflows of a small file that are licensed, and near ones that are not.
+pub fn worked_licences()
+    ensures { WorkedLicences }
 {}
