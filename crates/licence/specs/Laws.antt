@@ -52,10 +52,13 @@ pub record TrailLaws : Type 0 where
   pub cut : (file : Problem) (c weights : List ℚ) (trail : List Entry) (w : List ℚ) (gamma : ℚ) (u v : List Spot) → IsBaseTrail file c weights trail →
       IsTrue (has order.duality trail) → ShowsCut file c w gamma u v → IsBaseCut file c w u v →
       IsBaseTrail file c weights (trail ++ Cut w gamma u v ∷ [])
-  -- what a call without entries stands for, and how that grows
+  -- what the trail of a call stands for that has no entries yet, or these two of its own; and how that grows
   pub begins : (holds : ℚ → Bool) (file : Problem) (c weights : List ℚ) (picks : List ℕ) (inverse : List ℚ) → IsHeldDuality holds c weights inverse →
       ShowsFitting file c weights picks inverse → IsBaseDuality file file.cone file.duality c weights →
       StandsFor holds file c weights [] (opening c weights picks inverse)
+  pub own : (holds : ℚ → Bool) (file : Problem) (c weights : List ℚ) (picks : List ℕ) (inverse : List ℚ) → IsHeldDuality holds c weights inverse →
+      ShowsFitting file c weights picks inverse → IsBaseDuality file file.cone file.duality c weights →
+      StandsFor holds file c weights (opening c weights picks inverse) (opening c weights picks inverse)
   pub goes_on : (holds : ℚ → Bool) (file : Problem) (c weights : List ℚ) (trail whole : List Entry) (e : Entry) →
       StandsFor holds file c weights trail whole → Meets file whole e → IsBaseEntry file c weights whole e →
       StandsFor holds file c weights (trail ++ e ∷ []) (whole ++ e ∷ [])
