@@ -7,6 +7,7 @@ pub mod Exchanges
 pub mod FirstCut
 pub mod Given
 pub mod Growing
+pub mod Making
 pub mod Multipliers
 pub mod Pivots
 pub mod RowTurns
