@@ -1,8 +1,8 @@
 -- The worked licences, computed.
-use Rattle.std.proofs.Common.{◌≡◌, ℕ, ◌-◌, ◌≤◌, true, List, [], ◌∷◌, length, refl, sym, ap, ◌∙◌, arith, IsTrue, ◌⊎◌, inl, inr, None, pos, negsuc, codes}
+use Rattle.std.proofs.Common.{◌≡◌, ℕ, ◌-◌, ◌≤◌, true, List, [], ◌∷◌, length, refl, sym, ap, ◌∙◌, arith, IsTrue, ◌⊎◌, inl, inr, None, pos, negsuc, codes, true≢false}
 use Rattle.std.specs.Prelude.{◌==◌, Contains, if◌then◌else◌}
 use Rattle.std.specs.List.{list_all}
-use Rattle.std.proofs.Math.Dec.{lit≤, lit<}
+use Rattle.std.proofs.Math.Dec.{lit≤}
 use Rattle.std.proofs.lemmas.List.Elements.{All-nil, All-cons}
 use Rattle.exact_field.specs.Gcd.{gcd}
 use Rattle.exact_field.specs.Rational.{ℚ, zero_ℚ, one_ℚ, whole, fraction, ◌+ℚ◌, ◌*ℚ◌, neg_ℚ, inverse_ℚ, le_ℚ}
@@ -10,7 +10,7 @@ use Rattle.exact_field.specs.Vector.{entry}
 use Rattle.exact_field.specs.declared.op.Op.{Op}
 use Rattle.exact_field.specs.declared.op.Op.TheVariants.{Add, Mul, Div}
 use Rattle.polyhedra.specs.DoubleDescription.{magnitude}
-use Rattle.polyhedra.proofs.Lists.{Contains-here, Contains-there}
+use Rattle.polyhedra.proofs.Lists.{Contains-here, Contains-there, Contains-nil}
 use Rattle.polyhedra.proofs.Tests.{same_vector_is}
 use Rattle.tableaux.specs.Table.{Table, System, at, beside_unit, table_of, right_column, first_cost}
 use Rattle.tableaux.specs.Dictionary.{IsDictionaryOf, basic_column}
@@ -18,7 +18,7 @@ use Rattle.tableaux.specs.Elimination.{AreInverse, product_entry}
 use Rattle.tableaux.proofs.Eliminated.{starts}
 use Rattle.vlp_reader.specs.declared.problem.Problem.{Problem}
 use Rattle.deriv_log.specs.declared.entry.Entry.TheVariants.{Version, Duality}
-use Rattle.deriv_log.specs.declared.licence.Program.TheVariants.{Feasible}
+use Rattle.deriv_log.specs.declared.licence.Program.TheVariants.{Feasible, Benson}
 use Rattle.deriv_log.specs.declared.licence.Place.TheVariants.{Pivot, Elim}
 use Rattle.lin_rows.specs.Pivot.{IsPivotStep}
 use Rattle.lin_rows.specs.Sums.{partial}
@@ -28,10 +28,11 @@ use Rattle.upper_image.specs.Shows.{ShowsFitting}
 use Rattle.log_rules.specs.Events.{log_failure}
 use Rattle.log_rules.proofs.LogMeets.{events_give_meets}
 use Rattle.lp_form.specs.Examples.{numbers, rows, plain, dual_form}
-use Rattle.lp_form.specs.Programs.{feasible_system, value_of, share_of}
+use Rattle.lp_form.specs.Programs.{benson_system, feasible_system, value_of, share_of}
+use Rattle.licence.specs.Base.{IsBaseStart}
 use Rattle.licence.specs.Examples.{n, is_few, ones, scaled_given, trail_of, setting, OverflowsPlain, OverflowsDual, DictionaryExamples}
 use Rattle.licence.specs.Licence.{StandsFor}
-use Rattle.licence.specs.Operands.{Setting, IsProgramStep, IsElimStep, IsElimTable, AreElimRows, AreMultiplied, IsBesideCone, IsShareStep, IsListStep}
+use Rattle.licence.specs.Operands.{Setting, IsAllowed, IsProgramStep, IsElimStep, IsElimTable, AreElimRows, AreMultiplied, IsBesideCone, IsShareStep, IsListStep}
 use Rattle.licence.specs.Steps.{operation, IsProductStep}
 use Rattle.licence.specs.Trails.{IsBaseTrail, IsBaseDuality}
 use Rattle.licence.proofs.Given.{overflow_laws}
@@ -71,12 +72,16 @@ no_names k = no_column 0 (k - 1)
 abbrev feasible : System
 feasible = feasible_system plain
 
+-- the table of a system is its dictionary at the basis without columns
+start_dictionary : (s : System) → list_all (λ r. length r == right_column s) (table_of s) ≡ true → IsDictionaryOf s [] (table_of s)
+start_dictionary s h = record {
+  columns = record { within = λ i l. below (right_column s) [] (i - 1) (omega arith) refl; equations_only = λ i l. no_names i };
+  dictionary = starts (right_column s) (table_of s) [] (wide_test (right_column s) (table_of s) h) no_names;
+}
+
 first_dictionary : IsDictionaryOf feasible [] (table_of feasible)
 unfolding whole fraction gcd ◌+ℚ◌ ◌*ℚ◌ neg_ℚ inverse_ℚ le_ℚ
-first_dictionary = record {
-  columns = record { within = λ i l. below (right_column feasible) [] (i - 1) (lit< tt) refl; equations_only = λ i l. no_names i };
-  dictionary = starts (right_column feasible) (table_of feasible) [] (wide_test (right_column feasible) (table_of feasible) refl) no_names;
-}
+first_dictionary = start_dictionary feasible refl
 
 pivot : OverflowsPlain (Pivot Feasible [] 1 1 1) (operation Div (n 1) (n 2))
 unfolding whole fraction gcd ◌+ℚ◌ ◌*ℚ◌ neg_ℚ inverse_ℚ le_ℚ
@@ -145,6 +150,49 @@ no_dictionary h =
     let one : at o.dictionary 1 1 ≡ one_ℚ = d.unit_columns 1 1 (lit≤ tt) (lit≤ tt) (lit≤ tt) (lit≤ tt) (λ (e : 1 ≡ 0). omega (arith, e)) in
     let none : at o.dictionary 1 1 ≡ zero_ℚ = d.unit_columns 1 2 (lit≤ tt) (lit≤ tt) (lit≤ tt) (lit≤ tt) (λ (e : 1 ≡ 0). omega (arith, e)) in
     apart one_ℚ zero_ℚ refl (sym one ∙ none)
+
+-- ---- start vectors
+abbrev at_origin : System
+at_origin = benson_system plain ones (n 0 ∷ n 0 ∷ []) true
+
+origin_dictionary : IsDictionaryOf at_origin [] (table_of at_origin)
+unfolding whole fraction gcd ◌+ℚ◌ ◌*ℚ◌ neg_ℚ inverse_ℚ le_ℚ
+origin_dictionary = start_dictionary at_origin refl
+
+origin_allowed : IsAllowed (setting plain ones) (Benson (n 0 ∷ n 0 ∷ []) true)
+unfolding whole
+origin_allowed = (ones, refl, IsBaseStart.origin refl refl)
+
+origin : OverflowsPlain (Pivot (Benson (n 0 ∷ n 0 ∷ []) true) [] 1 1 1) (operation Div (n 1) (n 2))
+unfolding whole fraction gcd ◌+ℚ◌ ◌*ℚ◌ neg_ℚ inverse_ℚ le_ℚ
+origin = overflow_laws.program is_few (setting plain ones) (Benson (n 0 ∷ n 0 ∷ []) true) [] 1 1 1 (operation Div (n 1) (n 2)) refl refl origin_allowed (
+  table_of at_origin,
+  origin_dictionary,
+  inl (
+    lit≤ tt,
+    lit≤ tt,
+    lit≤ tt,
+    lit≤ tt,
+    (
+      2,
+      lit≤ tt,
+      lit≤ tt,
+      inl (refl, refl, equal (n 1) (at (table_of at_origin) 1 2) refl, equal (n 2) (at (table_of at_origin) 1 1) refl, refl),
+    ),
+  ),
+)
+
+not_allowed : IsBaseStart plain.objs (trail_of ones) (n 5 ∷ n 7 ∷ []) true → ⊥
+unfolding whole le_ℚ
+not_allowed (IsBaseStart.origin e f) = apart (n 5) zero_ℚ refl (ap (λ (v : List ℚ). entry v 1) e)
+not_allowed (IsBaseStart.live g live e) = Contains-nil g live
+not_allowed (IsBaseStart.side side e) = true≢false e
+not_allowed (IsBaseStart.other_side d side e f) = true≢false f
+
+no_start : OverflowsPlain (Pivot (Benson (n 5 ∷ n 7 ∷ []) true) [] 1 1 1) (operation Div (n 1) (n 2)) → ⊥
+no_start h =
+    let o : IsProgramStep is_few (setting plain ones) (Benson (n 5 ∷ n 7 ∷ []) true) [] 1 1 1 (operation Div (n 1) (n 2)) = h.operands in
+    not_allowed o.allowed.2
 
 -- ---- eliminations
 abbrev pub cone_rows : List (List ℚ)
@@ -287,6 +335,8 @@ dictionary_examples = record {
   other_step = other_step;
   no_pivot = λ h. h.not_held.defined refl refl;
   no_dictionary = no_dictionary;
+  origin = origin;
+  no_start = no_start;
   licence = record { weights = []; whole = trail_of ones; stands = plain_begins; overflow = pivot };
   elimination = elimination;
   turned_elimination = turned_elimination;

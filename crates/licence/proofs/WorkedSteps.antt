@@ -1,5 +1,5 @@
 -- The worked licences of double description, of rows, of norming and of the check, computed.
-use Rattle.std.proofs.Common.{◌≡◌, ◌≢◌, slice_index_or, ℕ, zero, suc, ◌<◌, List, [], ◌∷◌, length, refl, sym, ap, ◌∙◌, subst, arith, slice_get, None, Some, Option, codes, All, false}
+use Rattle.std.proofs.Common.{◌≡◌, ◌≢◌, slice_index_or, ℕ, zero, suc, ◌<◌, List, [], ◌∷◌, length, refl, sym, ap, ◌∙◌, subst, arith, slice_get, None, Some, Option, codes, All, false, true, ◌++◌}
 use Rattle.std.specs.Prelude.{Contains}
 use Rattle.std.proofs.Math.Dec.{lit≤}
 use Rattle.std.proofs.lemmas.List.Elements.{All-nil, All-cons}
@@ -21,12 +21,15 @@ use Rattle.log_rules.specs.Events.Failure.{wrong, left as overflows}
 use Rattle.lp_form.specs.Examples.{numbers, rows, plain, dual_form}
 use Rattle.lp_form.specs.Programs.{nonzero_vectors}
 use Rattle.licence.specs.Base.{IsBaseRow, image_of}
-use Rattle.licence.specs.Examples.{n, minus_half, four_fifths, is_few, ones, scaled_given, trail_of, setting, square_rows, square_list, OverflowsPlain, OverflowsDual, StepExamples, WorkedLicences}
+use Rattle.licence.specs.Examples.{n, minus_half, four_fifths, cut_entry, is_few, ones, scaled_given, trail_of, setting, square_rows, square_list, OverflowsPlain, OverflowsDual, StepExamples, WorkedLicences}
 use Rattle.licence.specs.Operands.{vector_of, IsMadeOver, IsAddition, IsPairStep, IsExchangeStep, IsScaled, IsDivisor, IsScaleStep}
 use Rattle.licence.specs.Steps.{operation, exchange_row, exchange_steps, value_steps, pair_steps}
 use Rattle.licence.proofs.Given.{not_held, overflow_laws}
 use Rattle.licence.proofs.Values.{equal, apart, wide_test, two_below, op_number, step_is, overflow_is}
+use Rattle.log_rules.specs.Meets.{Meets}
+use Rattle.log_rules.proofs.LogMeets.{events_give_meets}
 use Rattle.licence.proofs.FirstCut.{first_cut}
+use Rattle.licence.proofs.Growing.{trail_laws}
 use Rattle.licence.proofs.Worked.{given, cone_rows, first, second, plain_begins, given_begins, other, dictionary_examples}
 
 -- ---- a value
@@ -227,9 +230,14 @@ step_examples = record {
   earlier_step = earlier_step;
 }
 
+-- ---- the trail with the first cut
+cut_meets : Meets plain (trail_of ones) cut_entry
+unfolding whole fraction gcd ◌+ℚ◌ ◌*ℚ◌ neg_ℚ inverse_ℚ le_ℚ
+cut_meets = events_give_meets (λ q. true) plain (trail_of ones ++ cut_entry ∷ []) refl (trail_of ones) cut_entry [] refl
+
 pub worked_licences : WorkedLicences
 worked_licences = record {
-  trails = record { begins = plain_begins; given = given_begins; other = other; first_cut = first_cut };
+  trails = record { begins = plain_begins; given = given_begins; other = other; first_cut = first_cut; with_cut = trail_laws.grows plain ones [] (trail_of ones) cut_entry plain_begins.base cut_meets first_cut };
   dictionaries = dictionary_examples;
   steps = step_examples;
 }

@@ -1,5 +1,5 @@
 -- Overflows that are licensed in a small file, and near ones that are not: each example would fail if a definition were wrong.
-use Rattle.std.specs.Prelude.{ℕ, pos, negsuc, codes, Bool, false, ◌||◌, List, [], ◌∷◌, Some}
+use Rattle.std.specs.Prelude.{ℕ, pos, negsuc, codes, Bool, false, true, ◌||◌, List, [], ◌∷◌, ◌++◌, Some}
 use Rattle.exact_field.specs.Rational.{ℚ, one_ℚ, whole, fraction}
 use Rattle.exact_field.specs.Order.{same_ℚ}
 use Rattle.exact_field.specs.declared.op.Op.TheVariants.{Sub, Mul, Div}
@@ -8,7 +8,8 @@ use Rattle.polyhedra.specs.DoubleDescription.{is_zero}
 use Rattle.polyhedra.specs.LiveList.{LiveList, starting}
 use Rattle.vlp_reader.specs.declared.problem.Problem.{Problem}
 use Rattle.deriv_log.specs.declared.entry.Entry.{Entry}
-use Rattle.deriv_log.specs.declared.licence.Program.TheVariants.{Feasible}
+use Rattle.deriv_log.specs.declared.entry.Entry.TheVariants.{Cut}
+use Rattle.deriv_log.specs.declared.licence.Program.TheVariants.{Feasible, Benson}
 use Rattle.deriv_log.specs.declared.licence.Family.TheVariants.{ConeRows}
 use Rattle.deriv_log.specs.declared.licence.Place.{Place}
 use Rattle.deriv_log.specs.declared.licence.Place.TheVariants.{Pivot, Elim, Pair, Exchange, Scale, Step}
@@ -56,6 +57,10 @@ abbrev pub OverflowsDual : Place → Left ℚ → Type 0
 OverflowsDual place left = IsOverflow is_few (setting dual_form scaled_given) place left
 
 -- ---- trails
+-- the entry of the first cut
+abbrev pub cut_entry : Entry
+cut_entry = Cut (fraction (pos 1) 2 ∷ fraction (pos 1) 2 ∷ []) (n 0) (record { at = 3; value = n 1 } ∷ []) []
+
 pub record TrailExamples : Type 0 where
   pub begins : StandsFor is_few plain ones [] [] (trail_of ones)
   pub given : StandsFor is_few dual_form scaled_given [] [] (trail_of scaled_given)
@@ -63,6 +68,7 @@ pub record TrailExamples : Type 0 where
   pub other : IsBaseTrail plain (n 2 ∷ n 1 ∷ []) [] (trail_of (n 2 ∷ n 1 ∷ [])) → ⊥
   -- the first cut of Benson's program, (y_1 + y_2) / 2 ≥ 0, by the third side
   pub first_cut : IsBaseCut plain ones (fraction (pos 1) 2 ∷ fraction (pos 1) 2 ∷ []) (record { at = 3; value = n 1 } ∷ []) []
+  pub with_cut : IsBaseTrail plain ones [] (trail_of ones ++ cut_entry ∷ [])
 
 -- ---- programs and eliminations
 -- the first equation of the program of feasibility is 2 u_1 + u_2 + u_3 = 0: at its first column 1 is divided by 2, and not 2 by 1,
@@ -74,6 +80,9 @@ pub record DictionaryExamples : Type 0 where
   pub no_pivot : OverflowsPlain (Pivot Feasible [] 1 4 1) (operation Div (n 2) (n 0)) → ⊥
   pub no_dictionary : OverflowsPlain (Pivot Feasible (1 ∷ 1 ∷ []) 1 1 1) (operation Div (n 1) (n 2)) → ⊥
   pub licence : Licensed is_few plain ones (record { place = Pivot Feasible [] 1 1 1; left = operation Div (n 1) (n 2); trail = [] })
+  -- Benson's program at the origin has the same first row; at another point it is not allowed, as none is live
+  pub origin : OverflowsPlain (Pivot (Benson (n 0 ∷ n 0 ∷ []) true) [] 1 1 1) (operation Div (n 1) (n 2))
+  pub no_start : OverflowsPlain (Pivot (Benson (n 5 ∷ n 7 ∷ []) true) [] 1 1 1) (operation Div (n 1) (n 2)) → ⊥
   -- vectors of the cone, and the norming of the second column (-1/6, 1/3) of their inverse
   pub elimination : OverflowsDual (Elim (rows (codes "2 1" ∷ codes "0 3" ∷ [])) [] 1 1 1) (operation Div (n 1) (n 2))
   pub turned_elimination : OverflowsDual (Elim (rows (codes "2 1" ∷ codes "0 3" ∷ [])) [] 1 1 1) (operation Div (n 2) (n 1)) → ⊥
