@@ -7,6 +7,7 @@ use Rattle.polyhedra.specs.DoubleDescription.{same_vector}
 use Rattle.polyhedra.proofs.Tests.{both_true, same_vector_is}
 use Rattle.tableaux.specs.Table.{Table, System}
 use Rattle.lp_form.specs.Examples.{Examples}
+use Rattle.lp_form.proofs.Joined.{system, same_parts}
 
 same_table : Table → Table → Bool
 same_table [] [] = true
@@ -22,12 +23,6 @@ same_table_is (x ∷ d) [] h = absurd (true≢false (sym h))
 same_table_is (x ∷ d) (y ∷ e) h =
     let b : (same_vector x y ≡ true) × (same_table d e ≡ true) = both_true (same_vector x y) (same_table d e) h in
     ap₂ (λ p q. p ∷ q) (same_vector_is x y b.0) (same_table_is d e b.1)
-
-system : Table → List ℚ → List ℚ → System
-system equations right cost = record { equations = equations; right = right; cost = cost }
-
-same_parts : {a b : Table} {r s c d : List ℚ} → a ≡ b → r ≡ s → c ≡ d → system a r c ≡ system b s d
-same_parts e f g = cc
 
 same_system : System → System → Bool
 same_system s t = same_table s.equations t.equations && (same_vector s.right t.right && same_vector s.cost t.cost)

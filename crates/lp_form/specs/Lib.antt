@@ -1,2 +1,9 @@
+-- The subject: Programs, with Examples; Data and Names (data and names in a field), with Shapes.
+-- What only serves proofs: Building.
+pub mod Building
+pub mod Data
 pub mod Examples
+pub mod Names
 pub mod Programs
+pub mod Reading
+pub mod Shapes

@@ -54,6 +54,12 @@ dual_unknowns q Orthant = q
 dual_unknowns q (Gens vectors) = length vectors
 dual_unknowns q (Dual vectors) = length vectors
 
+-- and how many equations they are
+abbrev pub dual_equations : ℕ → Cone → ℕ
+dual_equations q Orthant = q
+dual_equations q (Gens vectors) = length vectors
+dual_equations q (Dual vectors) = q
+
 -- the same where w is fixed: of the three only the vectors of the dual form have to be combined to w
 abbrev pub weight_members : (m q : ℕ) → Cone → Table
 weight_members m q Orthant = []
@@ -64,6 +70,11 @@ abbrev pub weight_unknowns : Cone → ℕ
 weight_unknowns Orthant = 0
 weight_unknowns (Gens vectors) = 0
 weight_unknowns (Dual vectors) = length vectors
+
+abbrev pub weight_equations : ℕ → Cone → ℕ
+weight_equations q Orthant = 0
+weight_equations q (Gens vectors) = 0
+weight_equations q (Dual vectors) = q
 
 -- ---- the programs of the sides
 -- whether the sides contradict each other: the greatest bounds . u over the u of at least 0 with which the sides sum to 0
@@ -76,10 +87,9 @@ abbrev pub benson_system : Problem → List ℚ → List ℚ → Bool → System
 benson_system file c v t =
     let m = side_total file in
     let more = dual_unknowns file.objs file.cone in
-    let members = dual_members m file.objs file.cone in
     record {
-      equations = balances file more ++ members ++ on_parts (zeros m) c (zeros more) ∷ [];
-      right = zeros (file.cols + length members) ++ one_ℚ ∷ [];
+      equations = balances file more ++ dual_members m file.objs file.cone ++ on_parts (zeros m) c (zeros more) ∷ [];
+      right = zeros (file.cols + dual_equations file.objs file.cone) ++ one_ℚ ∷ [];
       cost = on_parts (if t then side_bounds file else zeros m) (negated v) (zeros more);
     }
 
@@ -89,10 +99,9 @@ abbrev pub weight_system : Problem → List ℚ → System
 weight_system file w =
     let m = side_total file in
     let more = weight_unknowns file.cone in
-    let members = weight_members m file.objs file.cone in
     record {
-      equations = balances file more ++ listed file.objs (λ i. on_parts (zeros m) (unit file.objs i) (zeros more)) ++ members;
-      right = zeros file.cols ++ w ++ zeros (length members);
+      equations = balances file more ++ listed file.objs (λ i. on_parts (zeros m) (unit file.objs i) (zeros more)) ++ weight_members m file.objs file.cone;
+      right = zeros file.cols ++ w ++ zeros (weight_equations file.objs file.cone);
       cost = on_parts (side_bounds file) (zeros file.objs) (zeros more);
     }
 
@@ -123,15 +132,19 @@ interior_of_generators q vectors None =
       cost = zeros (n + n) ++ one_ℚ ∷ zero_ℚ ∷ [];
     }
 
--- an interior vector c with last entry 1, as a difference of two lists of unknowns, whose products with the vectors of the dual form
--- are at least e, which is made the greatest: each product, less its lam, is e, and e + k = 1
+-- for vectors of the dual form, of unknowns c (as a difference of two lists), lam, e and k in this order: the product of each with c,
+-- less its lam, is e
+abbrev pub dual_gaps : List (List ℚ) → Table
+dual_gaps vectors =
+    let n = length vectors in
+    listed n (λ d. row_of vectors d ++ negated (row_of vectors d) ++ negated (unit n d) ++ neg_ℚ one_ℚ ∷ zero_ℚ ∷ [])
+
+-- an interior vector c with last entry 1, whose products with the vectors are at least e, which is made the greatest; e + k = 1
 abbrev pub interior_of_dual : ℕ → List (List ℚ) → System
 interior_of_dual q vectors =
     let n = length vectors in
     record {
-      equations =
-          listed n (λ d. row_of vectors d ++ negated (row_of vectors d) ++ negated (unit n d) ++ neg_ℚ one_ℚ ∷ zero_ℚ ∷ [])
-          ++ (unit q q ++ negated (unit q q) ++ zeros (n + 2)) ∷ (zeros (q + q + n) ++ one_ℚ ∷ one_ℚ ∷ []) ∷ [];
+      equations = dual_gaps vectors ++ (unit q q ++ negated (unit q q) ++ zeros (n + 2)) ∷ (zeros (q + q + n) ++ one_ℚ ∷ one_ℚ ∷ []) ∷ [];
       right = zeros n ++ one_ℚ ∷ one_ℚ ∷ [];
       cost = zeros (q + q + n) ++ one_ℚ ∷ zero_ℚ ∷ [];
     }

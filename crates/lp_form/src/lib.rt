@@ -1,4 +1,20 @@
 //! The named programs of a file: linear programs in equations over its sides, its objectives and its ordering cone.
 #![tactic(auto)]
 
+mod cone;
+mod data;
+mod equations;
+mod field;
 pub mod laws;
+mod name;
+mod numbers;
+mod pieces;
+mod programs;
+mod reading;
+#[cfg(test)]
+mod tests;
+
+pub use data::{At, ConeOf, Data, DataFault, SideOf};
+pub use name::{LpName, Parts};
+pub use programs::program;
+pub use reading::{choice, parts};

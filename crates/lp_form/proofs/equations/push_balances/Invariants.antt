@@ -1,0 +1,17 @@
+use Rattle.std.proofs.Common.{◌≡◌, ◌++◌, map}
+use Rattle.polyhedra.specs.Negatives.{negated}
+use Rattle.polyhedra.specs.Vectors.{zeros}
+use Rattle.tableaux.specs.Table.{listed}
+use Rattle.upper_image.specs.UpperImage.{objective_column}
+use Rattle.vlp_reader.specs.Sides.{side_column}
+use Rattle.vlp_reader.specs.declared.problem.Problem.{Problem}
+use Rattle.lp_form.specs.Building.{joined}
+use Rattle.lp_form.specs.Data.{IsDataOf}
+use Rattle.lp_form.specs.Programs.{on_parts}
+use Rattle.lp_form.proofs.equations.push_balances.Given as goal
+
+abbrev pub invariant-loop-j : goal.invariant-loop-j
+invariant-loop-j g l =
+    let value = g.F.Field.value in
+    (file : Problem) → IsDataOf value file l.form →
+    map value l.list ≡ map value l.initial.list ++ joined (listed l.j (λ j. on_parts (side_column file j) (negated (objective_column file j)) (zeros l.more)))

@@ -1,0 +1,14 @@
+use Rattle.std.proofs.Common.{◌≡◌, ◌++◌, map}
+use Rattle.polyhedra.specs.Negatives.{negated}
+use Rattle.polyhedra.specs.Vectors.{zeros}
+use Rattle.tableaux.specs.Table.{listed, unit, row_of}
+use Rattle.lin_rows.specs.Read.{numbers}
+use Rattle.lp_form.specs.Building.{joined}
+use Rattle.lp_form.specs.Programs.{on_parts}
+use Rattle.lp_form.proofs.equations.push_products.Given as goal
+
+abbrev pub invariant-loop-g : goal.invariant-loop-g
+invariant-loop-g g l =
+    let value = g.F.Field.value in
+    let vectors = numbers value l.vectors in
+    map value l.list ≡ map value l.initial.list ++ joined (listed l.g (λ g. on_parts (zeros l.m) (row_of vectors g) (negated (unit l.n g))))
