@@ -5,7 +5,7 @@ use Rattle.std.specs.Prelude.{if◌then◌else◌}
 use Rattle.std.proofs.Math.ListN.{length-append}
 use Rattle.exact_field.specs.Rational.{ℚ, zero_ℚ, one_ℚ, ◌+ℚ◌, ◌*ℚ◌, ◌≤ℚ◌, ◌<ℚ◌}
 use Rattle.exact_field.specs.Vector.{dot}
-use Rattle.polyhedra.specs.Vectors.{AreWide, zeros}
+use Rattle.polyhedra.specs.Vectors.{zeros}
 use Rattle.polyhedra.specs.Exactness.{homogenised, row_of as row_of_cut}
 use Rattle.polyhedra.proofs.Laws.{add_zero}
 use Rattle.polyhedra.proofs.Algebra.{zero_add, one_mul}
@@ -16,11 +16,11 @@ use Rattle.vlp_reader.specs.declared.problem.Problem.{Problem}
 use Rattle.vlp_reader.specs.Sides.{side_bounds}
 use Rattle.frac128.specs.declared.vectors.Spot.{Spot}
 use Rattle.upper_image.specs.Spots.{dense}
-use Rattle.lp_form.specs.Programs.{side_total, generators, dual_members, benson_system, value_of, u_of, w_of}
+use Rattle.lp_form.specs.Programs.{side_total, dual_equations, benson_system, value_of, u_of, w_of}
 use Rattle.licence.specs.Base.{IsBaseCut}
 use Rattle.licence.specs.Turns.{said_row, CutTurnsEnd, CutsAreBase}
 use Rattle.licence.proofs.Cuts.{benson_cost, length-benson_cost, solution_moves, cuts_left, cuts_left-falls}
-use Rattle.licence.proofs.Widths.{benson_ok, generators_wide}
+use Rattle.lp_form.proofs.Systems.{benson_ok}
 use Rattle.licence.proofs.Violated.{dot-append, said_violated}
 
 one_there : (k : ℕ) (y : List ℚ) → dot (one_ℚ ∷ []) (drop k y) ≡ slice_index_or y k zero_ℚ
@@ -40,7 +40,7 @@ module _ (file : Problem) (c v : List ℚ) (t : Bool) (z y : List ℚ) where
   -- the optimal value is the last multiplier
   pub optimal_value : IsSystem (benson_system file c v t) → IsOptimal (benson_system file c v t) z y → dot (benson_cost file v t) z ≡ value_of y
   optimal_value ok h =
-      let k : ℕ = file.cols + length (dual_members (side_total file) file.objs file.cone) in
+      let k : ℕ = file.cols + dual_equations file.objs file.cone in
       h.equal ∙ last_value k y (omega (arith, h.one_each, ok.right_each, length-append (zeros k) (one_ℚ ∷ []), length-zeros k))
 
   pub turn_falls : (basis : List ℕ) (d : Table) (rows : List (List ℚ)) → length c ≡ file.objs → length v ≡ file.objs →
@@ -48,11 +48,10 @@ module _ (file : Problem) (c v : List ℚ) (t : Bool) (z y : List ℚ) where
       All (λ a. zero_ℚ ≤ℚ dot a (homogenised v (if t then one_ℚ else zero_ℚ))) rows →
       cuts_left file c (rows ++ said_row file z ∷ []) < cuts_left file c rows
   turn_falls basis d rows c_long v_long optimal read above holds =
-      let w : AreWide file.objs (generators file.cone) = generators_wide file in
-      cuts_left-falls file c v t z rows (homogenised v (if t then one_ℚ else zero_ℚ)) (benson_ok file c v t c_long v_long w) v_long
+      cuts_left-falls file c v t z rows (homogenised v (if t then one_ℚ else zero_ℚ)) (benson_ok file c v t c_long v_long) v_long
       (record { basis = basis; dictionary = d; full = read.feasible.full; reads = read.x_read }) holds
       (said_violated file v t z v_long (optimal.wide ∙ length-benson_cost file v t v_long)
-      (subst (λ (x : ℚ). zero_ℚ <ℚ x) (sym (optimal_value (benson_ok file c v t c_long v_long w) optimal)) above))
+      (subst (λ (x : ℚ). zero_ℚ <ℚ x) (sym (optimal_value (benson_ok file c v t c_long v_long) optimal)) above))
 
 -- the row of a cut whose parts are those of z
 pub row_pushed : (file : Problem) (z w : List ℚ) (gamma : ℚ) (u : List Spot) → w ≡ w_of file z → dense (side_total file) u ≡ u_of file z →
@@ -67,7 +66,7 @@ cut_turns_end file c =
 pub cuts_are_base : CutsAreBase
 cuts_are_base file c v t z y basis d u m c_long v_long optimal read parts =
     IsBaseCut.of_benson z (
-      solution_moves file c v t (benson_ok file c v t c_long v_long (generators_wide file)) v_long z
+      solution_moves file c v t (benson_ok file c v t c_long v_long) v_long z
           (record { basis = basis; dictionary = d; full = read.feasible.full; reads = read.x_read }),
       optimal.solves,
     )
