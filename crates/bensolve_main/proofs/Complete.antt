@@ -1,7 +1,6 @@
 -- Where the outside is honest, a run ends with an answer, unless memory is wanting.
-use Rattle.std.proofs.Common.{◌≡◌, ℕ, ◌≤◌, ◌<◌, List, length, Option, Some, None, ap, ◌∙◌, true, false, true≢false, ◌⊎◌, inl, inr, refl, subst, sym, arith}
-use Rattle.std.specs.Option.{is_some}
-use Rattle.src_sink.specs.Ends.{TakesCount}
+use Rattle.std.proofs.Common.{◌≡◌, ℕ, ◌≤◌, List, length, Option, Some, None, ap, ◌∙◌, true, false, true≢false, ◌⊎◌, IfSome, inl, inr, refl, subst, sym, arith}
+use Rattle.std.specs.Option.{is_some, option_map}
 use Rattle.src_sink.proofs.Known.{Consumes-to_end, TakesCount-known}
 use Rattle.vlp_reader.specs.FirstFault.{Reads}
 use Rattle.vlp_reader.proofs.Faults.{never_both}
@@ -13,19 +12,27 @@ use Rattle.frac128.specs.declared.frac.Frac.{Frac}
 use Rattle.deriv_log.specs.declared.entry.Entry.{Entry}
 use Rattle.vlp_reader.specs.declared.problem.Problem.{Problem}
 use Rattle.log_rules.specs.Events.{Failing, log_failure}
-use Rattle.bensolve_main.specs.Outcome.{Sources, Output, ReadWhole, GoodFile, Checked, Outcome, Honest, log_limit}
+use Rattle.bensolve_main.specs.Shapes.{Shape, shape_seen}
+use Rattle.bensolve_main.specs.Shapes.Shape.{check}
+use Rattle.bensolve_main.specs.World.{Channel, World, ReadWhole, ReadPast, sources_of}
+use Rattle.bensolve_main.specs.Reply.{DeliversWith}
+use Rattle.bensolve_main.specs.Check.{GoodFile, Checked, Told, CheckHalts, HonestCheck, log_limit}
+use Rattle.bensolve_main.specs.Outcome.{Outcome, Honest}
+use Rattle.bensolve_main.proofs.Outcomes.{seen}
+use Rattle.bensolve_main.specs.declared.command.Command.{Command}
+use Rattle.bensolve_main.specs.declared.command.Command.TheVariants.{Check}
 use Rattle.bensolve_main.specs.declared.status.LogRefusal.{LogRefusal}
 use Rattle.bensolve_main.specs.declared.status.LogRefusal.TheVariants.{Text, Wrong}
 use Rattle.bensolve_main.specs.declared.status.Status.{Status}
 use Rattle.bensolve_main.specs.declared.status.Status.TheVariants.{Done, Words, FileFault, Left, NoMemory, ReadFault, WriteFault, Refused, TooLong}
 
 -- bytes that are told are those that are read
-same_bytes : (old new : Option (List ℕ)) (limit : ℕ) (told bytes : List ℕ) → old ≡ Some told → ReadWhole old new limit bytes → bytes ≡ told
-same_bytes old new limit told bytes is read = (Consumes-to_end old new told bytes is read.consumed read.at_end).0
+same_bytes : (old new : Channel) (limit : ℕ) (told bytes : List ℕ) → old.bytes ≡ Some told → ReadWhole old new limit bytes → bytes ≡ told
+same_bytes old new limit told bytes is read = (Consumes-to_end old.bytes new.bytes told bytes is read.consumed read.at_end).0
 
 -- the entries of an honest log have no failure for the file that was read
-passes : {v w : Sources} {a b : Output} (bytes : List ℕ) (file : Problem) (entries : List Entry) → IsTextOf bytes entries → ReadWhole v.log w.log log_limit bytes → GoodFile file v w →
-    Honest v w a b → log_failure is_held file entries ≡ None
+passes : {v w : World} (bytes : List ℕ) (file : Problem) (entries : List Entry) → IsTextOf bytes entries → ReadWhole v.log_in w.log_in log_limit bytes → GoodFile file (sources_of v) (sources_of w) →
+    HonestCheck v w → log_failure is_held file entries ≡ None
 passes bytes file entries log read good honest =
     let same = one_reading.one_log honest.log_bytes entries honest.entries
     (subst (λ (l : List ℕ). IsTextOf l entries) (same_bytes _ _ _ _ _ honest.log read) log) honest.is_log in
@@ -35,33 +42,69 @@ not_failed : (file : Problem) (entries : List Entry) (f : Failing) → log_failu
 not_failed file entries f none some = true≢false (sym (ap (λ (o : Option Failing). is_some o) (sym none ∙ some)))
 
 -- an honest log is not refused
-not_refused : (why : LogRefusal) (text : List ℕ) (v w : Sources) (a b : Output) → Honest v w a b → Checked (Refused why) text v w → ⊥
-not_refused (Text f) text v w a b honest checked =
+not_refused : (why : LogRefusal) (text : List ℕ) (v w : World) → HonestCheck v w → Checked (Refused why) text (sources_of v) (sources_of w) → ⊥
+not_refused (Text f) text v w honest checked =
     one_reading.apart checked.bytes honest.entries f (subst (λ (l : List ℕ). IsTextOf l honest.entries) (sym (same_bytes _ _ _ _ _ honest.log checked.read)) honest.is_log) checked.verdict.fault
-not_refused (Wrong entry rule) text v w a b honest checked =
+not_refused (Wrong entry rule) text v w honest checked =
     not_failed checked.file checked.verdict.entries _ (passes checked.bytes checked.file checked.verdict.entries checked.verdict.log checked.read checked.good honest) checked.verdict.wrong
 
 -- nor does a step of it stop
-not_stopped : (entry step : ℕ) (l : AStep Frac) (text : List ℕ) (v w : Sources) (a b : Output) → Honest v w a b → Checked (Left entry step l) text v w → ⊥
-not_stopped entry step l text v w a b honest checked =
+not_stopped : (entry step : ℕ) (l : AStep Frac) (text : List ℕ) (v w : World) → HonestCheck v w → Checked (Left entry step l) text (sources_of v) (sources_of w) → ⊥
+not_stopped entry step l text v w honest checked =
     not_failed checked.file checked.verdict.entries _ (passes checked.bytes checked.file checked.verdict.entries checked.verdict.log checked.read checked.good honest) checked.verdict.stops
 
 -- a source within its limit is not too long
-not_long : (old new : Option (List ℕ)) (told : List ℕ) (limit k : ℕ) → old ≡ Some told → length told ≤ limit → limit < k → TakesCount old new k → ⊥
-not_long old new told limit k is within above taken = let most = (TakesCount-known old new told k is taken).0 in omega arith
+not_long : (old new : Channel) (told : List ℕ) (limit k : ℕ) → old.bytes ≡ Some told → length told ≤ limit → ReadPast old new limit k → ⊥
+not_long old new told limit k is within past = let above = past.above in let most = (TakesCount-known old.bytes new.bytes told k is past.taken).0 in omega arith
 
-pub complete : (status : Status) (v w : Sources) (a b : Output) → Honest v w a b → Outcome status v w a b → (status ≡ Done) ⊎ (status ≡ NoMemory)
-complete Done v w a b honest outcome = inl refl
-complete Words v w a b honest outcome = absurd outcome
-complete (FileFault f) v w a b honest outcome =
-    absurd (never_both outcome.told.bytes honest.file f.line f.kind
-    (subst (λ (l : List ℕ). Reads l honest.file) (sym (same_bytes _ _ _ _ _ honest.problem outcome.told.read)) honest.reads) outcome.told.fault)
-complete (Left entry step l) v w a b honest outcome = absurd (not_stopped entry step l outcome.text v w a b honest outcome.told)
-complete NoMemory v w a b honest outcome = inr refl
-complete (ReadFault false) v w a b honest outcome = absurd (honest.problem_steady outcome.0.rose)
-complete (ReadFault true) v w a b honest outcome = absurd (honest.log_steady outcome.0.rose)
-complete (WriteFault false sent) v w a b honest outcome = absurd (honest.out_steady outcome.part.rose)
-complete (WriteFault true sent) v w a b honest outcome = absurd outcome
-complete (Refused why) v w a b honest outcome = absurd (not_refused why outcome.text v w a b honest outcome.told)
-complete (TooLong false read) v w a b honest outcome = absurd (not_long _ _ _ _ _ honest.problem honest.problem_within outcome.told.above outcome.told.taken)
-complete (TooLong true read) v w a b honest outcome = absurd (not_long _ _ _ _ _ honest.log honest.log_within outcome.told.above outcome.told.taken)
+-- what is told of an honest world is an answer
+told_done : (status : Status) (text : List ℕ) (v w : World) → HonestCheck v w → Told status text (sources_of v) (sources_of w) → status ≡ Done
+told_done Done text v w honest told = refl
+told_done Words text v w honest told = absurd told
+told_done (FileFault f) text v w honest told =
+    absurd (never_both told.bytes honest.file f.line f.kind
+    (subst (λ (l : List ℕ). Reads l honest.file) (sym (same_bytes _ _ _ _ _ honest.problem told.read)) honest.reads) told.fault)
+told_done (Left entry step l) text v w honest told = absurd (not_stopped entry step l text v w honest told)
+told_done NoMemory text v w honest told = absurd told
+told_done (ReadFault log) text v w honest told = absurd told
+told_done (WriteFault log sent) text v w honest told = absurd told
+told_done (Refused why) text v w honest told = absurd (not_refused why text v w honest told)
+told_done (TooLong false read) text v w honest told = absurd (not_long _ _ _ _ _ honest.problem honest.problem_within told.past)
+told_done (TooLong true read) text v w honest told = absurd (not_long _ _ _ _ _ honest.log honest.log_within told.past)
+
+-- where the sources are honest, only want of memory halts
+halts_for_memory : (result : Status) (v w : World) → HonestCheck v w → CheckHalts result (sources_of v) (sources_of w) → result ≡ NoMemory
+halts_for_memory Done v w honest halts = absurd halts
+halts_for_memory Words v w honest halts = absurd halts
+halts_for_memory (FileFault f) v w honest halts = absurd halts
+halts_for_memory (Left entry step l) v w honest halts = absurd halts
+halts_for_memory NoMemory v w honest halts = refl
+halts_for_memory (ReadFault false) v w honest halts = absurd (honest.problem_steady halts.problem.rose)
+halts_for_memory (ReadFault true) v w honest halts = absurd (honest.log_steady halts.log_in.rose)
+halts_for_memory (WriteFault log sent) v w honest halts = absurd halts
+halts_for_memory (Refused why) v w honest halts = absurd halts
+halts_for_memory (TooLong log read) v w honest halts = absurd halts
+
+-- a reply without a log reaches an honest output
+delivered : (status result : Status) (text : List ℕ) (v w : World) → HonestCheck v w → DeliversWith None status text result v w → result ≡ status
+delivered status result text v w honest delivers =
+    elim delivers.0 [
+      | inl whole ↦ whole.0
+      | inr failed ↦ absurd (honest.out_steady failed.2.rose)
+    ]
+
+complete : (file log : List ℕ) (result : Status) (v w : World) → HonestCheck v w → Outcome (check file log) result v w → (result ≡ Done) ⊎ (result ≡ NoMemory)
+complete file log result v w honest outcome =
+    elim outcome [
+      | inl replied ↦
+          inl (delivered replied.0.status result replied.0.text v w honest
+          (subst (λ (l : Option (List ℕ)). DeliversWith l replied.0.status replied.0.text result v w) replied.1.no_log replied.2)
+          ∙ told_done replied.0.status replied.0.text v w honest replied.1.told)
+      | inr halts ↦ inr (halts_for_memory result v w honest halts.cause)
+    ]
+
+pub complete_at : (o : Option Command) (k : Command) (s : Option Shape) (result : Status) (v w : World) → option_map shape_seen o ≡ s → o ≡ Some k →
+    ((file log : List ℕ) → Outcome (check file log) result v w) → IfSome s (λ shape. Honest shape v w → (result ≡ Done) ⊎ (result ≡ NoMemory))
+complete_at o (Check file log) s result v w shape is every =
+    subst (λ (x : Option Shape). IfSome x (λ shape. Honest shape v w → (result ≡ Done) ⊎ (result ≡ NoMemory))) (seen o (Check file log) s shape is)
+    (λ honest. complete file.now log.now result v w honest (every file.now log.now))

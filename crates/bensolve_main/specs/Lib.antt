@@ -1,4 +1,7 @@
 pub mod Shapes
 pub mod Text
 pub mod Codes
+pub mod World
+pub mod Reply
+pub mod Check
 pub mod Outcome

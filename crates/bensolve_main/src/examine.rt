@@ -1,7 +1,8 @@
 //! Reading and checking: what is to be told of a problem and a log.
 ghost use Rattle.std.specs.Prelude.{◌≡◌, ◌≤◌, length, IfOk, IfErr};
-ghost use Rattle.bensolve_main.specs.Outcome.{LogVerdict, Told, Silent, sources};
-ghost use Rattle.bensolve_main.specs.Text.{fault_text};
+ghost use Rattle.bensolve_main.specs.World.{channel, sources};
+ghost use Rattle.bensolve_main.specs.Check.{LogVerdict, Told, CheckHalts};
+ghost use Rattle.bensolve_main.specs.Text.{left_text};
 
 use crate::status::{LogRefusal, Status};
 use crate::text;
@@ -29,7 +30,7 @@ pub(crate) struct Reply {
 
 /// What is told of a step whose exact result is not held.
 fn step_reply(alloc: Global, entry: u32, step: u64, left: Left<Frac>) -> Result<Reply, NoMemory>
-    ensures { IfOk result (λ r. (r.status ≡ Status.Left entry step left) × (r.text ≡ fault_text (Status.Left entry step left))) }
+    ensures { IfOk result (λ r. (r.status ≡ Status.Left entry step left) × (r.text ≡ left_text entry step left)) }
 {
     let text = text::step_line(alloc, entry, step, &left)?;
     let status = Status::Left { entry, step, left };
@@ -40,7 +41,7 @@ fn step_reply(alloc: Global, entry: u32, step: u64, left: Left<Frac>) -> Result<
 fn examine_log(alloc: Global, file: &Problem, bytes: &[u8]) -> Result<Reply, Status>
     requires { length bytes.now ≤ MOST_ITEMS }
     ensures told { IfOk result (λ r. LogVerdict file.now bytes.now r.status r.text) }
-    ensures silent { IfErr result (λ s. s ≡ Status.NoMemory) }
+    ensures halts { IfErr result (λ s. s ≡ Status.NoMemory) }
 {
     let entries = match read_log(alloc, bytes) {
         Ok(entries) => entries,
@@ -78,11 +79,11 @@ pub(crate) fn examine<S: Source, L: Source>(
 ) -> Result<Reply, Status>
     ensures counts { (S.faults problem.old ≤ S.faults problem.new) × (L.faults log_in.old ≤ L.faults log_in.new) }
     ensures told { IfOk result (λ r. Told r.status r.text
-        (sources (S.left problem.old) (S.faults problem.old) (L.left log_in.old) (L.faults log_in.old))
-        (sources (S.left problem.new) (S.faults problem.new) (L.left log_in.new) (L.faults log_in.new))) }
-    ensures silent { IfErr result (λ s. Silent s
-        (sources (S.left problem.old) (S.faults problem.old) (L.left log_in.old) (L.faults log_in.old))
-        (sources (S.left problem.new) (S.faults problem.new) (L.left log_in.new) (L.faults log_in.new))) }
+        (sources (channel (S.left problem.old) (S.faults problem.old)) (channel (L.left log_in.old) (L.faults log_in.old)))
+        (sources (channel (S.left problem.new) (S.faults problem.new)) (channel (L.left log_in.new) (L.faults log_in.new)))) }
+    ensures halts { IfErr result (λ s. CheckHalts s
+        (sources (channel (S.left problem.old) (S.faults problem.old)) (channel (L.left log_in.old) (L.faults log_in.old)))
+        (sources (channel (S.left problem.new) (S.faults problem.new)) (channel (L.left log_in.new) (L.faults log_in.new)))) }
 {
     let bytes = match read_all(alloc, problem, PROBLEM_LIMIT) {
         Ok(bytes) => bytes,

@@ -1,8 +1,8 @@
 //! The fault lines that a run writes.
 ghost use Rattle.std.specs.Prelude.{◌≡◌, IfOk};
-ghost use Rattle.bensolve_main.specs.Text.{fault_text, operation_name};
+ghost use Rattle.bensolve_main.specs.Text.{file_fault_text, left_text, refusal_text, too_long_text, operation_name};
 
-use crate::status::{LogRefusal, Status};
+use crate::status::LogRefusal;
 use cert_check::Rule;
 use deriv_log::LogFault;
 use exact_field::{Left, Op};
@@ -13,7 +13,7 @@ use vlp_reader::FileFault;
 
 /// The fault line of a refused problem.
 pub(crate) fn file_fault_line(alloc: Global, fault: FileFault) -> Result<Bytes, NoMemory>
-    ensures { IfOk result (λ text. text ≡ fault_text (Status.FileFault fault)) }
+    ensures { IfOk result (λ text. text ≡ file_fault_text fault) }
 {
     let line = fault.line;
     let kind = fault.kind.number();
@@ -25,7 +25,7 @@ pub(crate) fn file_fault_line(alloc: Global, fault: FileFault) -> Result<Bytes, 
 
 /// The fault line of a log's text.
 pub(crate) fn log_fault_line(alloc: Global, fault: LogFault) -> Result<Bytes, NoMemory>
-    ensures { IfOk result (λ text. text ≡ fault_text (Status.Refused (LogRefusal.Text fault))) }
+    ensures { IfOk result (λ text. text ≡ refusal_text (LogRefusal.Text fault)) }
 {
     let line = fault.line;
     let kind = fault.kind.number();
@@ -37,7 +37,7 @@ pub(crate) fn log_fault_line(alloc: Global, fault: LogFault) -> Result<Bytes, No
 
 /// The fault line of a rule that an entry fails.
 pub(crate) fn wrong_line(alloc: Global, entry: u32, rule: Rule) -> Result<Bytes, NoMemory>
-    ensures { IfOk result (λ text. text ≡ fault_text (Status.Refused (LogRefusal.Wrong entry rule))) }
+    ensures { IfOk result (λ text. text ≡ refusal_text (LogRefusal.Wrong entry rule)) }
 {
     let number = rule.number();
     let name = rule.name();
@@ -65,7 +65,7 @@ pub(crate) fn step_line(
     step: u64,
     left: &Left<Frac>,
 ) -> Result<Bytes, NoMemory>
-    ensures { IfOk result (λ text. text ≡ fault_text (Status.Left entry step left.now)) }
+    ensures { IfOk result (λ text. text ≡ left_text entry step left.now) }
 {
     let name = operation_name(left.op);
     let head = format!(in alloc; "fault 5 step {entry} {step} {name} ")?;
@@ -79,7 +79,7 @@ pub(crate) fn step_line(
 
 /// The fault line of a source with more bytes than the limit.
 pub(crate) fn too_long_line(alloc: Global, log: bool, read: u64) -> Result<Bytes, NoMemory>
-    ensures { IfOk result (λ text. text ≡ fault_text (Status.TooLong log read)) }
+    ensures { IfOk result (λ text. text ≡ too_long_text log read) }
 {
     let source = if log { "log" } else { "problem" };
     let text = format!(in alloc; "fault 10 {source} {read}\n")?;

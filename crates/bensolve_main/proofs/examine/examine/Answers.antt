@@ -7,19 +7,17 @@ returns-in-Err-TooLong-read_all-clause-told g c =
     record {
       file = c.in-Ok-read_vlp.file;
       good = good_file _ _ _ _ _ c.as_slice.ensures.items c.in-Ok.ensures.all c.in-Ok.ensures.end c.in-Ok.ensures.within c.in-Ok-read_vlp.ensures;
-      above = taken.0;
-      taken = taken.1;
+      past = record { above = taken.0; taken = taken.1 };
       line = c.in_ok-text-in-Err-TooLong-read_all.ensures;
     }
 
-pub returns-in-Err-Fault-read_all-clause-silent : goal.returns-in-Err-Fault-read_all-clause-silent
-returns-in-Err-Fault-read_all-clause-silent g c =
+pub returns-in-Err-Fault-read_all-clause-halts : goal.returns-in-Err-Fault-read_all-clause-halts
+returns-in-Err-Fault-read_all-clause-halts g c =
     let failed = rw c.in-Err-Fault-read_all.field-0-is at c.in-Err-Fault-read_all.ensures.err in
     record {
       file = c.in-Ok-read_vlp.file;
       good = good_file _ _ _ _ _ c.as_slice.ensures.items c.in-Ok.ensures.all c.in-Ok.ensures.end c.in-Ok.ensures.within c.in-Ok-read_vlp.ensures;
-      within = failed.1;
-      rose = failed.0;
+      log_in = record { within = failed.1; rose = failed.0 };
     }
 
 pub returns-clause-told : goal.returns-clause-told

@@ -1,5 +1,8 @@
-use Rattle.bensolve_main.proofs.Outcomes.{outcome_of_told}
+use Rattle.bensolve_main.proofs.Outcomes.{replied, halted}
 use Rattle.bensolve_main.proofs.top.run_check.Goals as goal
 
 pub returns-in-Ok-clause-outcome : goal.returns-in-Ok-clause-outcome
-returns-in-Ok-clause-outcome g c = outcome_of_told _ _ _ _ _ _ _ c.in-Ok.ensures.told c.tell.ensures.told
+returns-in-Ok-clause-outcome g c = λ file log log_out. replied file log _ _ _ _ _ _ _ _ _ log_out c.in-Ok.ensures.told c.tell.ensures.sent
+
+pub returns-in-Err-clause-outcome : goal.returns-in-Err-clause-outcome
+returns-in-Err-clause-outcome g c = λ file log log_out. halted file log _ _ _ _ _ _ log_out c.in-Err.ensures.halts
