@@ -27,10 +27,9 @@ use Rattle.vlp_printer.specs.Printing.{cone_vectors}
 use Rattle.upper_image.specs.Shows.{ShowsFitting}
 use Rattle.log_rules.specs.Events.{log_failure}
 use Rattle.log_rules.proofs.LogMeets.{events_give_meets}
-use Rattle.lp_form.specs.Examples.{numbers, rows, plain, dual_form}
+use Rattle.licence.specs.Examples.{numbers, rows, plain, dual_form, n, is_few, ones, scaled_given, trail_of, setting, OverflowsPlain, OverflowsDual, DictionaryExamples}
 use Rattle.lp_form.specs.Programs.{benson_system, feasible_system, value_of, share_of}
 use Rattle.licence.specs.Base.{IsBaseStart}
-use Rattle.licence.specs.Examples.{n, is_few, ones, scaled_given, trail_of, setting, OverflowsPlain, OverflowsDual, DictionaryExamples}
 use Rattle.licence.specs.Licence.{StandsFor}
 use Rattle.licence.specs.Operands.{Setting, IsAllowed, IsProgramStep, IsElimStep, IsElimTable, AreElimRows, AreMultiplied, IsBesideCone, IsShareStep, IsListStep}
 use Rattle.licence.specs.Steps.{operation, IsProductStep}
