@@ -4,7 +4,7 @@ ghost use Rattle.std.specs.List.{list_all};
 ghost use Rattle.lp_form.specs.Shapes.{are_places, vectors_fit, duality_fits};
 
 use crate::field::{cone_in, duality_in, lines_in, sides_in};
-use crate::numbers::{first_unheld, printed};
+use crate::numbers::test_numbers;
 use exact_field::Field;
 use frac128::Frac;
 use lin_rows::cells::Cell;
@@ -87,10 +87,7 @@ impl<F: Field> Data<F> {
         ensures held { IfOk result (λ form. All (λ q. IsTrue (F.holds q)) (printed_numbers problem.now)) }
         ensures refused { IfErr result (RefusesNumber F.holds problem.now) }
     {
-        let numbers = printed(alloc, problem)?;
-        if let Some(number) = first_unheld::<F>(numbers.as_slice()) {
-            return Err(DataFault::NotHeld(number));
-        }
+        test_numbers::<F>(alloc, problem)?;
         let sheet = Sheet::of(alloc, problem)?;
         let sides = sides_in(alloc, sheet.sides.rows.as_slice(), sheet.bounds.as_slice())?;
         let p = lines_in(alloc, sheet.objectives.rows.as_slice())?;

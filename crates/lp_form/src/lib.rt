@@ -11,8 +11,6 @@ mod numbers;
 mod pieces;
 mod programs;
 mod reading;
-#[cfg(test)]
-mod tests;
 
 pub use data::{At, ConeOf, Data, DataFault, SideOf};
 pub use name::{LpName, Parts};

@@ -1,10 +1,12 @@
 //! The numbers of a problem, in the order of printing.
-ghost use Rattle.std.specs.Prelude.{◌≡◌, ◌++◌, map, not, find, IfOk, OnOk, IsTrue};
+ghost use Rattle.std.specs.Prelude.{◌≡◌, ◌++◌, map, not, find, All, IfOk, IfErr, OnOk, IsTrue};
 ghost use Rattle.std.specs.List.{flat_map};
 ghost use Rattle.exact_field.specs.Field.{AnswersHeld};
 ghost use Rattle.exact_field.specs.Rational.{ℚ};
 ghost use Rattle.vlp_printer.specs.Printing.{bound_numbers, printed_numbers, cone_vectors};
+ghost use Rattle.lp_form.specs.Data.{RefusesNumber};
 
+use crate::data::DataFault;
 use exact_field::Field;
 use frac128::{Frac, Vector};
 use src_sink::{Items, NoMemory};
@@ -66,7 +68,7 @@ fn push_bounds(numbers: &mut Vector, bounds: &[Bound]) -> Result<(), NoMemory>
 }
 
 /// All numbers of a problem.
-pub fn printed(alloc: Global, problem: &Problem) -> Result<Vector, NoMemory>
+fn printed(alloc: Global, problem: &Problem) -> Result<Vector, NoMemory>
     ensures { IfOk result (λ numbers. numbers ≡ printed_numbers problem.now) }
 {
     let mut numbers = Items::new(alloc);
@@ -110,7 +112,7 @@ fn is_held<F: Field>(number: Frac) -> bool
 }
 
 /// The first of these numbers that the field does not hold.
-pub fn first_unheld<F: Field>(numbers: &[Frac]) -> Option<Frac>
+fn first_unheld<F: Field>(numbers: &[Frac]) -> Option<Frac>
     ensures { result ≡ find (λ q. not (F.holds q)) numbers.now }
 {
     for number in numbers {
@@ -119,4 +121,16 @@ pub fn first_unheld<F: Field>(numbers: &[Frac]) -> Option<Frac>
         }
     }
     None
+}
+
+/// Whether the field holds each number of a problem, or which is the first, in the order of printing, that it does not hold.
+pub fn test_numbers<F: Field>(alloc: Global, problem: &Problem) -> Result<(), DataFault>
+    ensures held { OnOk result (All (λ q. IsTrue (F.holds q)) (printed_numbers problem.now)) }
+    ensures refused { IfErr result (RefusesNumber F.holds problem.now) }
+{
+    let numbers = printed(alloc, problem)?;
+    match first_unheld::<F>(numbers.as_slice()) {
+        Some(number) => Err(DataFault::NotHeld(number)),
+        None => Ok(()),
+    }
 }

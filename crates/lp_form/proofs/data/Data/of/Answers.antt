@@ -1,12 +1,11 @@
 use Rattle.std.proofs.Common.{◌≡◌, ℕ, map, length, IsTrue, not, All, refl, sym, ap, ◌∙◌, subst, arith}
-use Rattle.std.specs.List.{find}
 use Rattle.lin_rows.specs.Lines.{entries}
 use Rattle.upper_image.specs.Spots.{entry_of}
 use Rattle.vlp_printer.specs.Printing.{printed_numbers}
 use Rattle.lp_form.specs.Programs.{side_total}
 use Rattle.lp_form.specs.Shapes.{vectors_fit, duality_fits}
 use Rattle.std.proofs.lemmas.List.{length-map}
-use Rattle.lp_form.proofs.Held.{all_held, first_unheld, lists_held, normals_held, side_bounds_held, objectives_held, cone_held, duality_held}
+use Rattle.lp_form.proofs.Held.{lists_held, normals_held, side_bounds_held, objectives_held, cone_held, duality_held}
 use Rattle.lp_form.proofs.Shaped.{sides_places, rows_places, cone_shaped, duality_shaped, sides_kept, rows_kept}
 use Rattle.lp_form.proofs.Systems.{length-side_bounds}
 use Rattle.upper_image.proofs.Widths.{map-map, length-numbers}
@@ -17,72 +16,47 @@ use Rattle.vlp_reader.specs.Sides.{numbers_from}
 use Rattle.vlp_matrices.proofs.Matrices.{few_sides}
 use Rattle.lp_form.proofs.data.Data.of.Goals as goal
 
-pub returns-in-Some-clause-refused : goal.returns-in-Some-clause-refused
-returns-in-Some-clause-refused g c =
-    let holds = g.F.Field.holds in
-    let file = c.args.problem.now in
-    first_unheld holds (printed_numbers file) c.in-Some.number (sym (ap (find (λ q. not (holds q))) (c.as_slice.ensures.items ∙ c.in_ok-numbers.ensures)) ∙ sym c.first_unheld.ensures ∙ c.in-Some.is)
-
 pub sides_in-requires-clause-rows : goal.sides_in-requires-clause-rows
 sides_in-requires-clause-rows g c =
     let holds = g.F.Field.holds in
     let laws = g.met.F.Field in
     let file = c.args.problem.now in
-    let all : All (λ q. IsTrue (holds q)) (printed_numbers file) =
-    all_held holds (printed_numbers file) (sym (ap (find (λ q. not (holds q))) (c.as_slice.ensures.items ∙ c.in_ok-numbers.ensures)) ∙ sym c.first_unheld.ensures ∙ c.in_default.is) in
     let sheet = c.in_ok-sheet.ensures in
-    subst (λ ls. All (λ l. All (λ s. IsTrue (holds s.value)) l) ls) (sym c.as_slice-2.ensures.items)
+    subst (λ ls. All (λ l. All (λ s. IsTrue (holds s.value)) l) ls) (sym c.as_slice.ensures.items)
     (lists_held holds laws.holds_zero laws.holds_one laws.holds_neg file.cols c.in_ok-sheet.sheet.sides.rows sheet.side_rows.sparse
-    (subst (λ vs. All (λ v. All (λ q. IsTrue (holds q)) v) vs) (sym sheet.side_rows.stand) (normals_held holds laws.holds_zero laws.holds_one laws.holds_neg file all)))
+    (subst (λ vs. All (λ v. All (λ q. IsTrue (holds q)) v) vs) (sym sheet.side_rows.stand) (normals_held holds laws.holds_zero laws.holds_one laws.holds_neg file c.in_ok-test_numbers.ensures.held)))
 
 pub sides_in-requires-clause-bounds : goal.sides_in-requires-clause-bounds
 sides_in-requires-clause-bounds g c =
     let holds = g.F.Field.holds in
     let laws = g.met.F.Field in
     let file = c.args.problem.now in
-    let all : All (λ q. IsTrue (holds q)) (printed_numbers file) =
-    all_held holds (printed_numbers file) (sym (ap (find (λ q. not (holds q))) (c.as_slice.ensures.items ∙ c.in_ok-numbers.ensures)) ∙ sym c.first_unheld.ensures ∙ c.in_default.is) in
     let sheet = c.in_ok-sheet.ensures in
-    subst (λ b. All (λ q. IsTrue (holds q)) b) (sym (c.as_slice-3.ensures.items ∙ sheet.bounds)) (side_bounds_held holds laws.holds_zero laws.holds_one laws.holds_neg file all)
+    subst (λ b. All (λ q. IsTrue (holds q)) b) (sym (c.as_slice-2.ensures.items ∙ sheet.bounds)) (side_bounds_held holds laws.holds_zero laws.holds_one laws.holds_neg file c.in_ok-test_numbers.ensures.held)
 
 pub lines_in-requires : goal.lines_in-requires
 lines_in-requires g c =
     let holds = g.F.Field.holds in
     let laws = g.met.F.Field in
     let file = c.args.problem.now in
-    let all : All (λ q. IsTrue (holds q)) (printed_numbers file) =
-    all_held holds (printed_numbers file) (sym (ap (find (λ q. not (holds q))) (c.as_slice.ensures.items ∙ c.in_ok-numbers.ensures)) ∙ sym c.first_unheld.ensures ∙ c.in_default.is) in
     let sheet = c.in_ok-sheet.ensures in
-    subst (λ ls. All (λ l. All (λ s. IsTrue (holds s.value)) l) ls) (sym c.as_slice-4.ensures.items)
+    subst (λ ls. All (λ l. All (λ s. IsTrue (holds s.value)) l) ls) (sym c.as_slice-3.ensures.items)
     (lists_held holds laws.holds_zero laws.holds_one laws.holds_neg file.cols c.in_ok-sheet.sheet.objectives.rows sheet.objective_rows.sparse
-    (subst (λ vs. All (λ v. All (λ q. IsTrue (holds q)) v) vs) (sym sheet.objective_rows.stand) (objectives_held holds laws.holds_zero laws.holds_one laws.holds_neg file all)))
+    (subst (λ vs. All (λ v. All (λ q. IsTrue (holds q)) v) vs) (sym sheet.objective_rows.stand) (objectives_held holds laws.holds_zero laws.holds_one laws.holds_neg file c.in_ok-test_numbers.ensures.held)))
 
 pub cone_in-requires : goal.cone_in-requires
 cone_in-requires g c =
     let holds = g.F.Field.holds in
     let laws = g.met.F.Field in
     let file = c.args.problem.now in
-    let all : All (λ q. IsTrue (holds q)) (printed_numbers file) =
-    all_held holds (printed_numbers file) (sym (ap (find (λ q. not (holds q))) (c.as_slice.ensures.items ∙ c.in_ok-numbers.ensures)) ∙ sym c.first_unheld.ensures ∙ c.in_default.is) in
-    cone_held holds laws.holds_zero laws.holds_one laws.holds_neg file all
+    cone_held holds laws.holds_zero laws.holds_one laws.holds_neg file c.in_ok-test_numbers.ensures.held
 
 pub duality_in-requires : goal.duality_in-requires
 duality_in-requires g c =
     let holds = g.F.Field.holds in
     let laws = g.met.F.Field in
     let file = c.args.problem.now in
-    let all : All (λ q. IsTrue (holds q)) (printed_numbers file) =
-    all_held holds (printed_numbers file) (sym (ap (find (λ q. not (holds q))) (c.as_slice.ensures.items ∙ c.in_ok-numbers.ensures)) ∙ sym c.first_unheld.ensures ∙ c.in_default.is) in
-    duality_held holds laws.holds_zero laws.holds_one laws.holds_neg file all
-
-pub returns-clause-held : goal.returns-clause-held
-returns-clause-held g c =
-    let holds = g.F.Field.holds in
-    let laws = g.met.F.Field in
-    let file = c.args.problem.now in
-    let all : All (λ q. IsTrue (holds q)) (printed_numbers file) =
-    all_held holds (printed_numbers file) (sym (ap (find (λ q. not (holds q))) (c.as_slice.ensures.items ∙ c.in_ok-numbers.ensures)) ∙ sym c.first_unheld.ensures ∙ c.in_default.is) in
-    all
+    duality_held holds laws.holds_zero laws.holds_one laws.holds_neg file c.in_ok-test_numbers.ensures.held
 
 pub invariant_of-result : goal.invariant_of-result
 invariant_of-result g c =
@@ -91,10 +65,10 @@ invariant_of-result g c =
     let file = c.args.problem.now in
     let sides = c.in_ok-sides.sides in
     let p = c.in_ok-p.p in
-    let vectors : map (λ s. entries value s.g) sides ≡ map (map entry_of) c.in_ok-sheet.sheet.sides.rows = c.in_ok-sides.ensures.vectors ∙ ap (map (map entry_of)) c.as_slice-2.ensures.items in
-    let lines : map (entries value) p ≡ map (map entry_of) c.in_ok-sheet.sheet.objectives.rows = c.in_ok-p.ensures ∙ ap (map (map entry_of)) c.as_slice-4.ensures.items in
+    let vectors : map (λ s. entries value s.g) sides ≡ map (map entry_of) c.in_ok-sheet.sheet.sides.rows = c.in_ok-sides.ensures.vectors ∙ ap (map (map entry_of)) c.as_slice.ensures.items in
+    let lines : map (entries value) p ≡ map (map entry_of) c.in_ok-sheet.sheet.objectives.rows = c.in_ok-p.ensures ∙ ap (map (map entry_of)) c.as_slice-3.ensures.items in
     let many : length sides ≡ side_total file =
-    sym (length-map sides (λ s. value s.beta)) ∙ ap length (c.in_ok-sides.ensures.bounds ∙ c.as_slice-3.ensures.items ∙ sheet.bounds) ∙ length-side_bounds file in
+    sym (length-map sides (λ s. value s.beta)) ∙ ap length (c.in_ok-sides.ensures.bounds ∙ c.as_slice-2.ensures.items ∙ sheet.bounds) ∙ length-side_bounds file in
     let objs : length p ≡ file.objs =
     sym (length-map p (entries value)) ∙ ap length lines ∙ length-map c.in_ok-sheet.sheet.objectives.rows (map entry_of)
     ∙ sym (length-map c.in_ok-sheet.sheet.objectives.rows (dense file.cols)) ∙ ap length sheet.objective_rows.stand ∙ length-map (numbers_from 1 file.objs) (objective file) ∙ length-numbers 1 file.objs in
@@ -117,12 +91,12 @@ returns-clause-ok g c =
     let file = c.args.problem.now in
     let sides = c.in_ok-sides.sides in
     let p = c.in_ok-p.p in
-    let vectors : map (λ s. entries value s.g) sides ≡ map (map entry_of) c.in_ok-sheet.sheet.sides.rows = c.in_ok-sides.ensures.vectors ∙ ap (map (map entry_of)) c.as_slice-2.ensures.items in
-    let lines : map (entries value) p ≡ map (map entry_of) c.in_ok-sheet.sheet.objectives.rows = c.in_ok-p.ensures ∙ ap (map (map entry_of)) c.as_slice-4.ensures.items in
+    let vectors : map (λ s. entries value s.g) sides ≡ map (map entry_of) c.in_ok-sheet.sheet.sides.rows = c.in_ok-sides.ensures.vectors ∙ ap (map (map entry_of)) c.as_slice.ensures.items in
+    let lines : map (entries value) p ≡ map (map entry_of) c.in_ok-sheet.sheet.objectives.rows = c.in_ok-p.ensures ∙ ap (map (map entry_of)) c.as_slice-3.ensures.items in
     record {
       cols = refl;
       normals = sym (map-map (sparse.dense file.cols) (λ s. entries value s.g) sides) ∙ ap (map (sparse.dense file.cols)) vectors ∙ map-map (sparse.dense file.cols) (map entry_of) c.in_ok-sheet.sheet.sides.rows ∙ sheet.side_rows.stand;
-      bounds = c.in_ok-sides.ensures.bounds ∙ c.as_slice-3.ensures.items ∙ sheet.bounds;
+      bounds = c.in_ok-sides.ensures.bounds ∙ c.as_slice-2.ensures.items ∙ sheet.bounds;
       objectives = sym (map-map (sparse.dense file.cols) (entries value) p) ∙ ap (map (sparse.dense file.cols)) lines ∙ map-map (sparse.dense file.cols) (map entry_of) c.in_ok-sheet.sheet.objectives.rows ∙ sheet.objective_rows.stand;
       cone = c.in_ok-cone.ensures;
       duality = c.in_ok-duality.ensures;

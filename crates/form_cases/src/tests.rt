@@ -1,7 +1,7 @@
 //! The data of files, their programs, and what is read off.
-use crate::{Data, DataFault, LpName, choice, parts, program};
 use exact_field::Field;
 use frac128::{Frac, Tiny};
+use lp_form::{Data, DataFault, LpName, choice, parts, program};
 use src_sink::Items;
 use std::alloc::Global;
 use std::process::Abort;

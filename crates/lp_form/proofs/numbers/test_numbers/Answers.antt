@@ -1,0 +1,15 @@
+use Rattle.std.proofs.Common.{IsTrue, not, All, sym, ap, ◌∙◌}
+use Rattle.std.specs.List.{find}
+use Rattle.vlp_printer.specs.Printing.{printed_numbers}
+use Rattle.lp_form.proofs.Held.{all_held, first_unheld}
+use Rattle.lp_form.proofs.numbers.test_numbers.Goals as goal
+
+pub returns-in-Some-clause-refused : goal.returns-in-Some-clause-refused
+returns-in-Some-clause-refused g c =
+    let holds = g.F.Field.holds in
+    first_unheld holds (printed_numbers c.args.problem.now) c.in-Some.number (sym (ap (find (λ q. not (holds q))) (c.as_slice.ensures.items ∙ c.in_ok-numbers.ensures)) ∙ sym c.first_unheld.ensures ∙ c.in-Some.is)
+
+pub returns-in-None-clause-held : goal.returns-in-None-clause-held
+returns-in-None-clause-held g c =
+    let holds = g.F.Field.holds in
+    all_held holds (printed_numbers c.args.problem.now) (sym (ap (find (λ q. not (holds q))) (c.as_slice.ensures.items ∙ c.in_ok-numbers.ensures)) ∙ sym c.first_unheld.ensures ∙ c.in-None.is)
