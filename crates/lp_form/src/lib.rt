@@ -14,7 +14,9 @@ mod reading;
 #[cfg(test)]
 mod tests;
 
+pub use cone::{interior, is_zero_vector, pointed, push_ones};
 pub use data::{At, ConeOf, Data, DataFault, SideOf};
 pub use name::{LpName, Parts};
+pub use pieces::{column, negative, unit};
 pub use programs::program;
-pub use reading::{choice, parts};
+pub use reading::{choice, difference, parts};
