@@ -4,6 +4,7 @@ pub mod MadePairs
 pub mod MarkedSoFar
 pub mod NextLists
 pub mod NormedCorners
+pub mod NormingLeft
 pub mod NotZero
 pub mod Reading
 pub mod SignTests

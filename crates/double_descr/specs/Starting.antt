@@ -1,11 +1,15 @@
 -- The start of a double description: as many independent rows as they have entries, with their corners, normed.
-use Rattle.std.specs.Prelude.{ℕ, ◌+◌, ◌<◌, ◌≡◌, ◌⊎◌, List, [], ◌∷◌, ◌++◌, All, Bool, not, nat_eq, length}
-use Rattle.exact_field.specs.Rational.{ℚ}
+use Rattle.std.specs.Prelude.{ℕ, ◌+◌, ◌-◌, ◌<◌, ◌≤◌, ◌≡◌, ◌⊎◌, List, [], ◌∷◌, ◌++◌, All, Bool, IsFalse, not, nat_eq, length, take}
+use Rattle.exact_field.specs.Rational.{ℚ, ◌/ℚ◌}
+use Rattle.exact_field.specs.Vector.{entry}
+use Rattle.exact_field.specs.declared.op.Op.TheVariants.{Div}
+use Rattle.exact_field.specs.declared.op.Left.{Left}
 use Rattle.polyhedra.specs.Dependence.{AreCorners}
 use Rattle.polyhedra.specs.DoubleDescription.{IsNormed, magnitude, norming}
 use Rattle.polyhedra.specs.LiveList.{starting}
 use Rattle.incid_sets.specs.Marks.{has}
-use Rattle.tableaux.specs.Table.{beside_unit}
+use Rattle.tableaux.specs.Table.{Table, beside_unit, column_of}
+use Rattle.tableaux.specs.Elimination.{AreInverse, columns_of}
 use Rattle.lin_rows.specs.Eliminate.{IsElimFault}
 use Rattle.lin_rows.specs.declared.fault.RowFault.TheVariants.{Left as Stopped, NoMemory as Want}
 use Rattle.double_descr.specs.State.{State}
@@ -54,11 +58,29 @@ AreNotNormed value holds vectors (Elim fault) = IsFirstNormingFault value holds 
 AreNotNormed value holds vectors (Stuck first second step left) = ⊥
 AreNotNormed value holds vectors NoMemory = Unit {0}
 
--- a start was given up: at a step of the elimination of the rows with the unit matrix beside them, or at the norming of a corner
+-- a quotient of the norming of the columns of the inverse of these rows is not held, and is the first: that of the entry at this place
+-- of a column by the magnitude that norms the column
+pub record IsNormingLeft {F : Type 0} (value : F → ℚ) (holds : ℚ → Bool) (n : ℕ) (rows : List (List ℚ)) (col : ℕ) (left : Left F) : Type 0 where
+  pub inverse : Table
+  pub is : AreInverse n rows inverse
+  pub corner : ℕ
+  pub corner_from_one : 1 ≤ corner
+  pub corner_to_end : corner ≤ n
+  pub from_one : 1 ≤ col
+  pub to_end : col ≤ n
+  pub op : left.op ≡ Div
+  pub dividend : value left.a ≡ entry (column_of inverse corner) col
+  pub divisor : value left.b ≡ magnitude (norming (column_of inverse corner))
+  pub not_held : IsFalse (holds (entry (column_of inverse corner) col /ℚ magnitude (norming (column_of inverse corner))))
+  pub columns_before : All (λ v. All (IsHeld holds) (norming_steps v)) (take (corner - 1) (columns_of n inverse))
+  pub entries_before : All (IsHeld holds) (take (col - 1) (norming_steps (column_of inverse corner)))
+
+-- a start was given up: at a step of the elimination of the rows with the unit matrix beside them, or, with no basis and row 0, at the
+-- norming of a column of the inverse
 abbrev pub IsStartFault : {F : Type 0} → (F → ℚ) → (ℚ → Bool) → ℕ → List (List ℚ) → DdFault F → Type 0
 IsStartFault value holds n rows (Elim (Stopped basis row col step left)) =
     IsElimFault value holds (n + n) (beside_unit rows) (Stopped basis row col step left)
-    ⊎ ((vectors : List (List ℚ)) × AreCorners n rows vectors × AreNotNormed value holds vectors (Elim (Stopped basis row col step left)))
+    ⊎ ((basis ≡ []) × (row ≡ 0) × (step ≡ 1) × IsNormingLeft value holds n rows col left)
 IsStartFault value holds n rows (Elim Want) = ⊥
 IsStartFault value holds n rows (Stuck first second step left) = ⊥
 IsStartFault value holds n rows NoMemory = Unit {0}

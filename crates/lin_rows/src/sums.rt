@@ -14,7 +14,7 @@ use src_sink::Items;
 use std::alloc::Global;
 
 /// The total and a product, which is not formed where a factor is 0.
-fn add_product<F: Field>(total: F, x: F, y: F) -> Result<F, Left<F>>
+pub fn add_product<F: Field>(total: F, x: F, y: F) -> Result<F, Left<F>>
     ensures ok { IfOk result (λ r. F.value r ≡ F.value total +ℚ F.value x *ℚ F.value y) }
     ensures held { IfOk result (λ r. F.value x ≢ zero_ℚ → F.value y ≢ zero_ℚ → IsTrue (F.holds (F.value x *ℚ F.value y)) × IsTrue (F.holds (F.value total +ℚ F.value x *ℚ F.value y))) }
     ensures first { IfErr result (λ left. F.value x ≢ zero_ℚ) }

@@ -21,7 +21,7 @@ use src_sink::{Items, NoMemory};
 use std::alloc::Global;
 
 /// Appends ones.
-fn push_ones<F: Field>(list: &mut Items<F>, n: u32) -> Result<(), NoMemory>
+pub fn push_ones<F: Field>(list: &mut Items<F>, n: u32) -> Result<(), NoMemory>
     ensures { OnOk result (map F.value list.new ≡ map F.value list.old ++ replicate n one_ℚ) }
 {
     for _k in 0..n {
@@ -31,7 +31,7 @@ fn push_ones<F: Field>(list: &mut Items<F>, n: u32) -> Result<(), NoMemory>
 }
 
 /// Whether all entries are 0.
-fn is_zero_vector<F: Field>(vector: &[F]) -> bool
+pub fn is_zero_vector<F: Field>(vector: &[F]) -> bool
     ensures { result ≡ list_all is_nought (map F.value vector.now) }
 {
     for x in vector {

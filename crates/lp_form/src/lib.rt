@@ -12,7 +12,9 @@ mod pieces;
 mod programs;
 mod reading;
 
+pub use cone::{interior, is_zero_vector, pointed, push_ones};
 pub use data::{At, ConeOf, Data, DataFault, SideOf};
 pub use name::{LpName, Parts};
+pub use pieces::{column, negative, unit};
 pub use programs::program;
-pub use reading::{choice, parts};
+pub use reading::{choice, difference, parts};

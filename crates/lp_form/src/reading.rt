@@ -32,7 +32,7 @@ fn signed<F: Field>(plus: F, minus: F) -> F
 }
 
 /// The difference of two lists, where at each place at most one of the two numbers is not 0.
-fn difference<F: Field>(alloc: Global, plus: &[F], negative: &[F]) -> Result<Items<F>, NoMemory>
+pub fn difference<F: Field>(alloc: Global, plus: &[F], negative: &[F]) -> Result<Items<F>, NoMemory>
     requires one_each { length negative.now ≡ length plus.now }
     requires apart { AreDisjoint F.value plus.now negative.now }
     ensures { IfOk result (λ w. map F.value w ≡ minus (map F.value plus.now) (map F.value negative.now)) }

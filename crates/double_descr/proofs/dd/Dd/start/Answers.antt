@@ -1,10 +1,12 @@
 use Rattle.std.proofs.Common.{ℕ, ◌+◌, ◌<◌, List, map, sym, ap, ◌∙◌, subst}
 use Rattle.polyhedra.specs.Dependence.{AreCorners}
 use Rattle.lin_rows.specs.Read.{numbers as table}
+use Rattle.lin_rows.proofs.Errors.{err_holds}
 use Rattle.double_descr.specs.Starting.{IsStart}
 use Rattle.double_descr.specs.State.{IsKept, list_of}
 use Rattle.double_descr.specs.Steps.{values}
 use Rattle.double_descr.specs.declared.generator.Generator.{Generator}
+use Rattle.double_descr.proofs.NormingLeft.{start_fault}
 use Rattle.double_descr.proofs.StartState.{is_start, kept_start}
 use Rattle.double_descr.proofs.dd.Dd.start.Goals as goal
 
@@ -31,3 +33,12 @@ returns-clause-ok g c =
     subst (λ (p : ℕ × (List (List _) × ℕ)). IsStart rows.width (table value rows.list) (record { width = p.0; rows = map (values value) p.1.0; list = list_of value gens p.1.1 }))
     (λ i. (sym c.width.ensures i, (sym c.in_ok-lines.ensures i, sym c.len.ensures.value i + 1)))
     (is_start value rows.width rows.list vectors c.in_ok-vectors.ensures.ok gens c.in_ok-generators.ensures.live)
+
+pub returns-in_err-generators-clause-left : goal.returns-in_err-generators-clause-left
+returns-in_err-generators-clause-left g c =
+    let value = g.F.Field.value in
+    let holds = g.F.Field.holds in
+    let rows = c.args.rows.now in
+    let vectors = table value c.in_ok-vectors.vectors.list in
+    err_holds c.from_residual-in_err-generators.result c.in_err-generators.field-0.0 _ c.from_residual-in_err-generators.ensures.1
+    (start_fault value holds rows.width (table value rows.list) vectors c.in_ok-vectors.ensures.inverse c.in_err-generators.field-0.0 c.in_err-generators.ensures.left)

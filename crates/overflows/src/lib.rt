@@ -1,0 +1,12 @@
+//! Licences from what calls tell of their overflows, in any exact field.
+#![tactic(auto)]
+
+mod fault;
+mod licences;
+mod numbers;
+mod sums;
+
+pub use fault::{SolveFault, SumFault};
+pub use licences::{elimination_fault, program_fault, scale_fault, term_fault};
+pub use numbers::{fractions, operation};
+pub use sums::sum_of_products;

@@ -1,0 +1,165 @@
+//! Faults of calls as licences.
+ghost use Rattle.std.specs.Prelude.{◌≡◌, ◌⊎◌, ℕ, List, [], map, IfOk, IsTrue};
+ghost use Rattle.exact_field.specs.Rational.{ℚ};
+ghost use Rattle.exact_simplex.specs.Ends.{IsLpFault};
+ghost use Rattle.deriv_log.specs.declared.licence.Place.TheVariants as place_of;
+ghost use Rattle.licence.specs.Laws.{term_number};
+ghost use Rattle.licence.specs.Operands.{AreElimRows, AreMultiplied, IsAllowed, IsDivisor, IsElimTable, IsScaled, Setting, system_in};
+ghost use Rattle.licence.specs.Steps.{in_numbers};
+ghost use Rattle.lin_rows.specs.Eliminate.{IsElimFault};
+ghost use Rattle.lin_rows.specs.Read.{numbers};
+ghost use Rattle.lp_form.specs.Names.{named};
+ghost use Rattle.overflows.specs.Faults.{IsEliminationLeft, IsLeftAt, IsProgramLeft, IsQuotientAt, IsTermAt, Overflows};
+ghost use Rattle.overflows.specs.declared.fault.SolveFault.TheVariants as fault_of;
+ghost use Rattle.tableaux.specs.Table.{Table};
+
+use crate::fault::{SolveFault, SumFault};
+use crate::numbers::{fractions, operation, row_vectors};
+use deriv_log::{Entries, Licence, Place, Program};
+use exact_field::{Field, Left, Op};
+use exact_simplex::LpFault;
+use lin_rows::{RowFault, Rows};
+use lp_form::LpName;
+use src_sink::{Items, NoMemory};
+use std::alloc::Global;
+
+/// The name of a program in fractions.
+fn program_name<F: Field>(alloc: Global, name: &LpName<F>) -> Result<Program, NoMemory>
+    ensures { IfOk result (λ program. program ≡ named F.value name.now) }
+{
+    match name {
+        LpName::Feasible => Ok(Program::Feasible),
+        LpName::Benson { v, t } => {
+            let v = fractions(alloc, v.as_slice())?;
+            Ok(Program::Benson { v, t: *t })
+        }
+        LpName::Weight { w } => {
+            let w = fractions(alloc, w.as_slice())?;
+            Ok(Program::Weight { w })
+        }
+        LpName::Interior => Ok(Program::Interior),
+        LpName::Pointed => Ok(Program::Pointed),
+    }
+}
+
+/// The overflow of an operation at a place.
+fn left_at<F: Field>(place: Place, left: Left<F>, trail: Entries) -> SolveFault
+    ensures told { result ≡ fault_of.Left (record { place = place; left = in_numbers F.value left; trail = trail }) }
+    ensures held { IsTrue (F.holds (F.value left.a)) }
+{
+    SolveFault::Left(Licence {
+        place,
+        left: operation(left),
+        trail,
+    })
+}
+
+/// The fault of the linear program `name`, behind the entries of a trail.
+pub fn program_fault<F: Field>(
+    alloc: Global,
+    name: &LpName<F>,
+    fault: LpFault<F>,
+    trail: Entries,
+) -> SolveFault
+    ensures told { IsProgramLeft F.value (named F.value name.now) trail fault result }
+    ensures licensed { (s : Setting) → IsAllowed s (named F.value name.now) → IsLpFault F.value F.holds (system_in s (named F.value name.now)) fault → Overflows F.holds s trail result }
+{
+    match fault {
+        LpFault::NoMemory => SolveFault::NoMemory,
+        LpFault::Left {
+            basis,
+            row,
+            col,
+            step,
+            left,
+        } => match program_name(alloc, name) {
+            Err(_) => SolveFault::NoMemory,
+            Ok(program) => {
+                let place = Place::Pivot {
+                    program,
+                    basis,
+                    row,
+                    col,
+                    step,
+                };
+                left_at(place, left, trail)
+            }
+        },
+    }
+}
+
+/// The fault of an elimination of rows, behind the entries of a trail.
+pub fn elimination_fault<F: Field>(
+    alloc: Global,
+    rows: &Rows<F>,
+    fault: RowFault<F>,
+    trail: Entries,
+) -> SolveFault
+    ensures told { IsEliminationLeft F.value (numbers F.value rows.now.list) trail fault result }
+    ensures licensed { (s : Setting) (width columns : ℕ) (t : Table) → AreElimRows s (numbers F.value rows.now.list) width → IsElimTable (numbers F.value rows.now.list) width t columns → IsElimFault F.value F.holds columns t fault → Overflows F.holds s trail result }
+{
+    match fault {
+        RowFault::NoMemory => SolveFault::NoMemory,
+        RowFault::Left {
+            basis,
+            row,
+            col,
+            step,
+            left,
+        } => match row_vectors(alloc, rows) {
+            Err(_) => SolveFault::NoMemory,
+            Ok(rows) => {
+                let place = Place::Elim {
+                    rows,
+                    basis,
+                    row,
+                    col,
+                    step,
+                };
+                left_at(place, left, trail)
+            }
+        },
+    }
+}
+
+/// The overflow of a quotient of an entry of a vector, behind the entries of a trail.
+pub fn scale_fault<F: Field>(
+    alloc: Global,
+    vector: &[F],
+    entry: u32,
+    left: Left<F>,
+    trail: Entries,
+) -> SolveFault
+    ensures told { IsLeftAt (place_of.Scale (map F.value vector.now) entry) (in_numbers F.value left) trail result }
+    ensures licensed { (s : Setting) → IsScaled s (map F.value vector.now) → IsDivisor s (map F.value vector.now) (F.value left.b) → IsQuotientAt F.value F.holds (map F.value vector.now) entry left → Overflows F.holds s trail result }
+{
+    match fractions(alloc, vector) {
+        Err(_) => SolveFault::NoMemory,
+        Ok(vector) => left_at(Place::Scale { vector, entry }, left, trail),
+    }
+}
+
+/// The number of a step of a sum of products.
+fn step_number(op: Op) -> u8
+    ensures { result ≡ term_number op }
+{
+    match op {
+        Op::Mul => 2,
+        _ => 3,
+    }
+}
+
+/// The overflow of a sum of products, behind the entries of a trail. No memory is taken.
+pub fn term_fault<F: Field>(alloc: Global, fault: SumFault<F>, trail: Entries) -> SolveFault
+    ensures told { result ≡ fault_of.Left (record { place = place_of.Elim [] [] 0 fault.place (term_number fault.left.op); left = in_numbers F.value fault.left; trail = trail }) }
+    ensures licensed { (s : Setting) (xs ys : List ℚ) → AreMultiplied s xs ys ⊎ AreMultiplied s ys xs → IsTermAt F.value F.holds xs ys fault → Overflows F.holds s trail result }
+{
+    let place = Place::Elim {
+        rows: Items::new(alloc),
+        basis: Items::new(alloc),
+        row: 0,
+        col: fault.place,
+        step: step_number(fault.left.op),
+    };
+    left_at(place, fault.left, trail)
+}
