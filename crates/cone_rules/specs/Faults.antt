@@ -1,5 +1,5 @@
 -- The faults of an ordering cone and its duality vector, by what shows them: tests on given numbers, over exact arithmetic.
-use Rattle.std.specs.Prelude.{◌≡◌, ◌≢◌, ℕ, List, [], ◌∷◌, map, length, All, Option, None, Some, ⊥}
+use Rattle.std.specs.Prelude.{◌≡◌, ◌≢◌, ℕ, List, [], ◌∷◌, map, length, All, Option, None, Some}
 use Rattle.exact_field.specs.Rational.{ℚ, zero_ℚ, one_ℚ, ◌≤ℚ◌, ◌<ℚ◌}
 use Rattle.exact_field.specs.Vector.{entry, dot, sum_ℚ}
 use Rattle.frac128.specs.declared.vectors.Spot.{Spot}
@@ -73,10 +73,10 @@ ShowsLine q (Gens vectors) d m = IsZeroCombination q vectors m d
 ShowsLine q (Dual vectors) d m = IsAcross q vectors d m
 
 -- f is not interior to the cone: w is in the dual cone, as v shows, is not 0, and has a product of at most 0 with f
-pub record ShowsOutside (q : ℕ) (cone : Cone) (f w : List ℚ) (v : List Spot) : Type 0 where
+pub record ShowsOutside (q : ℕ) (ordering : Cone) (f w : List ℚ) (v : List Spot) : Type 0 where
   pub lengths : length w ≡ q
   pub not_zero : w ≢ zeros q
-  pub cone : ShowsIn (dual_of cone) w v
+  pub cone : ShowsIn (dual_of ordering) w v
   pub sign : dot w f ≤ℚ zero_ℚ
 
 -- the combination of the vectors with the multipliers m, which are positive, is minus the last unit vector
