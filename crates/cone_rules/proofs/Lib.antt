@@ -3,3 +3,6 @@ pub mod Opposite
 pub mod Ranks
 pub mod Rows
 pub mod Pointed
+pub mod Gaps
+pub mod Lineality
+pub mod Given

@@ -32,3 +32,8 @@ pub fn row_tests()
 pub fn pointed_program()
     ensures { PointedProgram }
 {}
+
+/// What the program of an interior vector of generators says where the vector is given.
+pub fn given_program()
+    ensures { GivenProgram }
+{}
