@@ -1,0 +1,8 @@
+pub mod Parts
+pub mod Opposite
+pub mod Ranks
+pub mod Rows
+pub mod Pointed
+pub mod Gaps
+pub mod Lineality
+pub mod Given
