@@ -9,7 +9,7 @@ returns-in-Some-clause-refused g c =
     let holds = g.F.Field.holds in
     first_unheld holds (printed_numbers c.args.problem.now) c.in-Some.number (sym (ap (find (λ q. not (holds q))) (c.as_slice.ensures.items ∙ c.in_ok-numbers.ensures)) ∙ sym c.first_unheld.ensures ∙ c.in-Some.is)
 
-pub returns-in-None-clause-held : goal.returns-in-None-clause-held
-returns-in-None-clause-held g c =
+pub returns-clause-held : goal.returns-clause-held
+returns-clause-held g c =
     let holds = g.F.Field.holds in
     all_held holds (printed_numbers c.args.problem.now) (sym (ap (find (λ q. not (holds q))) (c.as_slice.ensures.items ∙ c.in_ok-numbers.ensures)) ∙ sym c.first_unheld.ensures ∙ c.in-None.is)
