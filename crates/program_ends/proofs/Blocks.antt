@@ -1,14 +1,14 @@
 -- The equations of Benson's program at a solution u, a, b, h, where w is a - b: the sides times u less the objectives times w, what the
 -- ordering cone asks of w and h, and w . c.
-use Rattle.std.proofs.Common.{◌≡◌, ℕ, zero, suc, List, [], ◌∷◌, ◌++◌, map, length, refl, sym, ap, ap₂, ◌∙◌, subst, arith, ◌≤◌, ◌+◌, ◌-◌, length-append, slice_index_or}
+use Rattle.std.proofs.Common.{◌≡◌, ℕ, zero, suc, List, [], ◌∷◌, ◌++◌, length, refl, sym, ap, ap₂, ◌∙◌, arith, ◌≤◌, ◌-◌, slice_index_or}
 use Rattle.std.proofs.lemmas.List.{map-append, length-map}
-use Rattle.exact_field.specs.Rational.{ℚ, zero_ℚ, ◌+ℚ◌, ◌*ℚ◌, neg_ℚ}
+use Rattle.exact_field.specs.Rational.{ℚ, zero_ℚ, ◌+ℚ◌, neg_ℚ}
 use Rattle.exact_field.specs.Vector.{dot, entry}
 use Rattle.polyhedra.specs.Negatives.{negated}
-use Rattle.polyhedra.specs.Vectors.{AreWide, zeros, plus, combination, values}
+use Rattle.polyhedra.specs.Vectors.{zeros, plus, combination, values}
 use Rattle.polyhedra.proofs.Laws.{add_zero, add_assoc}
 use Rattle.polyhedra.proofs.Algebra.{zero_add, neg_zero}
-use Rattle.polyhedra.proofs.Linear.{dot_comm, dot-zeros, dot-combination, dot-plus, length-combination, length-plus, length-zeros}
+use Rattle.polyhedra.proofs.Linear.{dot_comm, dot-zeros, length-combination, length-plus, length-zeros}
 use Rattle.tableaux.specs.Table.{Table, row_of, column_of, listed, unit, minus}
 use Rattle.tableaux.proofs.Definition.{value_at}
 use Rattle.tableaux.proofs.Found.{map-list_from}
@@ -21,7 +21,7 @@ use Rattle.vlp_reader.specs.declared.problem.Cone.TheVariants.{Orthant, Gens, Du
 use Rattle.upper_image.specs.UpperImage.{normals, objectives, objective_column}
 use Rattle.upper_image.proofs.Widths.{length-numbers, wide_normals, wide_objectives, objective_columns, side_columns}
 use Rattle.lp_form.specs.Programs.{side_total, on_parts, balances, dual_members, dual_unknowns, dual_equations}
-use Rattle.lp_form.proofs.Systems.{IsWideCone, length-unit, length-negated, length-column, length-side_column}
+use Rattle.lp_form.proofs.Systems.{IsWideCone, length-unit, length-negated, length-side_column}
 use Rattle.licence.proofs.Violated.{dot-negated, length-minus}
 use Rattle.program_ends.proofs.Vectors.{dot-parts, dot-minus}
 

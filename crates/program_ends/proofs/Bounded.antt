@@ -1,5 +1,5 @@
 -- Where the duality vector is interior to the ordering cone, Benson's program is bounded.
-use Rattle.std.proofs.Common.{◌≡◌, ℕ, List, [], ◌∷◌, ◌++◌, length, refl, sym, ap, ap₂, ◌∙◌, subst, arith, ◌+◌, Bool, true, false, length-append}
+use Rattle.std.proofs.Common.{◌≡◌, ℕ, List, [], ◌∷◌, ◌++◌, length, sym, ap, ap₂, ◌∙◌, subst, arith, ◌+◌, Bool, true, false, length-append}
 use Rattle.std.specs.Prelude.{if◌then◌else◌}
 use Rattle.std.proofs.lemmas.List.{length-map, replicate-append-replicate}
 use Rattle.exact_field.specs.Rational.{ℚ, zero_ℚ, one_ℚ, ◌+ℚ◌, ◌*ℚ◌, neg_ℚ, ◌<ℚ◌}
@@ -21,7 +21,7 @@ use Rattle.upper_image.proofs.Absorbing.{zero_at_interior}
 use Rattle.upper_image.proofs.ConvexCones.{ordering_cone_convex}
 use Rattle.upper_image.proofs.Widths.{wide_objectives}
 use Rattle.upper_image.proofs.WorkingImage.{feasible_meets}
-use Rattle.lp_form.specs.Programs.{side_total, dual_equations, benson_system, u_of, w_of, behind_of}
+use Rattle.lp_form.specs.Programs.{dual_equations, benson_system, u_of, w_of, behind_of}
 use Rattle.lp_form.proofs.Systems.{benson_ok}
 use Rattle.licence.proofs.Cuts.{benson_cost, benson_unknowns, length-benson_cost}
 use Rattle.licence.proofs.Violated.{said_value}

@@ -1,5 +1,5 @@
 -- Answers that exclude each other.
-use Rattle.std.proofs.Common.{◌≡◌, ℕ, List, [], ◌∷◌, map, length, All, refl, sym, ap, ◌∙◌, subst, slice_index_or}
+use Rattle.std.proofs.Common.{◌≡◌, List, [], ◌∷◌, map, length, All, refl, sym, ap, ◌∙◌, subst, slice_index_or}
 use Rattle.std.specs.Prelude.{pos}
 use Rattle.std.proofs.lemmas.List.{length-map}
 use Rattle.exact_field.specs.Rational.{ℚ, zero_ℚ, one_ℚ, ◌+ℚ◌, ◌*ℚ◌, neg_ℚ, ◌≤ℚ◌}
@@ -35,7 +35,7 @@ whole_or_cut file c w x ray h (gamma, u, v, k) =
     let y : List ℚ = scaled s c in
     let wide : length y ≡ file.objs = length-scaled s c ∙ (ordering_cone_convex file).wide c h.fits.interior.member in
     let inside : IsInWorkingImage file y = subst (IsInWorkingImage file) (turned-twice file.dir y)
-        (whole_is_all file c x ray h (turned file.dir y) (length-turned file.dir y ∙ wide)) in
+    (whole_is_all file c x ray h (turned file.dir y) (length-turned file.dir y ∙ wide)) in
     let value : dot w y ≡ s = dot-scaled w s c ∙ ap (λ q. s *ℚ q) k.scaled ∙ mul_one s in
     not_lt_of_le gamma s (subst (λ (q : ℚ). gamma ≤ℚ q) value ((cut_valid file c w gamma u v k).valid.holds y inside))
     (lt_of_difference s gamma one_ℚ zero_lt_one (ring rationals (gamma ∷ []) ((v0 ⊕ ⊖ (num (pos 1))) ⊕ num (pos 1)) v0 refl))

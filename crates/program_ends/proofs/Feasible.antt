@@ -1,11 +1,11 @@
 -- The ends of the program that asks whether the sides contradict each other.
-use Rattle.std.proofs.Common.{◌≡◌, ℕ, suc, List, length, take, All, sym, ap, ◌∙◌, subst, arith, ◌<◌, ◌≤◌, slice_index_or, take_all}
+use Rattle.std.proofs.Common.{◌≡◌, ℕ, suc, List, length, sym, ap, ◌∙◌, subst, arith, slice_index_or, take_all}
 use Rattle.std.proofs.lemmas.List.{length-map}
 use Rattle.exact_field.specs.Rational.{ℚ, zero_ℚ, ◌≤ℚ◌, ◌<ℚ◌}
 use Rattle.exact_field.specs.Vector.{dot, entry}
 use Rattle.frac128.specs.declared.vectors.Spot.{Spot}
 use Rattle.polyhedra.specs.Vectors.{AreWide, AtLeastZero, zeros, values, combination}
-use Rattle.polyhedra.proofs.Linear.{dot_comm, dot-combination, dot-zeros, length-combination, length-zeros, same_wide}
+use Rattle.polyhedra.proofs.Linear.{dot_comm, dot-combination, dot-zeros, length-combination, same_wide}
 use Rattle.polyhedra.proofs.Order.{lt_irrefl}
 use Rattle.tableaux.specs.Simplex.{IsOptimal, IsInfeasible, IsUnbounded}
 use Rattle.tableaux.specs.Table.{Table, column_of, listed}
@@ -13,9 +13,8 @@ use Rattle.tableaux.proofs.Places.{length-list_from}
 use Rattle.tableaux.proofs.Unique.{entry-combination}
 use Rattle.vlp_reader.specs.Sides.{sides, side_column, side_bounds, IsFeasible}
 use Rattle.vlp_reader.specs.declared.problem.Problem.{Problem}
-use Rattle.upper_image.specs.Spots.{dense, product, IsVector}
+use Rattle.upper_image.specs.Spots.{dense, IsVector}
 use Rattle.upper_image.specs.UpperImage.{normals}
-use Rattle.upper_image.specs.Witnesses as witnesses
 use Rattle.upper_image.proofs.Widths.{wide_normals, side_columns, product_is}
 use Rattle.log_rules.specs.Meets.{MeetsFarkas}
 use Rattle.log_rules.proofs.ByEntries.{entry-suc}

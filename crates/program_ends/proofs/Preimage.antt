@@ -1,20 +1,20 @@
 -- The multipliers of an optimum of Benson's program are a pre-image of the start vector, where the last of them is not positive.
-use Rattle.std.proofs.Common.{◌≡◌, ℕ, suc, List, [], ◌∷◌, ◌++◌, map, length, take, drop, All, refl, sym, ap, ap₂, ◌∙◌, subst, arith, ◌≤◌, ◌+◌, ◌⊎◌, inl, inr, Bool, true, false, not, length-append}
-use Rattle.std.specs.Prelude.{⊤, IsTrue, if◌then◌else◌}
+use Rattle.std.proofs.Common.{◌≡◌, ℕ, suc, List, [], ◌∷◌, map, length, take, drop, refl, sym, ap, ◌∙◌, subst, arith, ◌≤◌, ◌+◌, inl, inr, Bool, true, false, length-append}
+use Rattle.std.specs.Prelude.{if◌then◌else◌}
 use Rattle.exact_field.specs.Rational.{ℚ, zero_ℚ, one_ℚ, ◌+ℚ◌, ◌*ℚ◌, neg_ℚ, lt_ℚ, ◌≤ℚ◌, ◌<ℚ◌}
 use Rattle.exact_field.specs.Vector.{dot, entry}
 use Rattle.frac128.specs.declared.vectors.Spot.{Spot}
 use Rattle.polyhedra.specs.Inequality.{Inequality}
 use Rattle.polyhedra.specs.Negatives.{negated}
-use Rattle.polyhedra.specs.Vectors.{AtLeastZero, zeros, plus, scaled, combination, values}
+use Rattle.polyhedra.specs.Vectors.{AtLeastZero, zeros, plus, scaled, values}
 use Rattle.polyhedra.proofs.Algebra.{zero_mul, neg_zero}
 use Rattle.polyhedra.proofs.Laws.{add_zero, le_antisymm, le_of_lt}
-use Rattle.polyhedra.proofs.Linear.{dot-combination, dot-plus_left, dot-scaled, dot-scaled_left, length-scaled, length-zeros}
+use Rattle.polyhedra.proofs.Linear.{dot-combination, dot-plus_left, dot-scaled, dot-scaled_left, length-zeros}
 use Rattle.polyhedra.proofs.Order.{le_or_lt, lt_irrefl, neg_nonneg}
 use Rattle.std.proofs.lemmas.List.Elements.{All-weaker}
 use Rattle.tableaux.specs.Simplex.{IsOptimal}
 use Rattle.tableaux.specs.Table.{column_of}
-use Rattle.vlp_reader.specs.Sides.{sides, side_bounds, IsFeasible, IsRecession}
+use Rattle.vlp_reader.specs.Sides.{sides, side_bounds, IsRecession}
 use Rattle.vlp_reader.specs.declared.problem.Problem.{Problem}
 use Rattle.vlp_reader.specs.declared.problem.Cone.{Cone}
 use Rattle.vlp_reader.specs.declared.problem.Cone.TheVariants.{Orthant, Gens, Dual}
@@ -149,9 +149,9 @@ module _ (file : Problem) (c v : List ℚ) (t : Bool) (z y : List ℚ) (c_long :
 pub benson_preimage : BensonPreimage
 benson_preimage = record {
   feasible = λ file c v z y c_long v_long h. record {
-      width = choice_long file c v true z y c_long v_long h;
-      meets = sides_hold (λ s. s.bound) (choice_of file y) (sides file) (normals_at file c v true z y c_long v_long h);
-    };
+    width = choice_long file c v true z y c_long v_long h;
+    meets = sides_hold (λ s. s.bound) (choice_of file y) (sides file) (normals_at file c v true z y c_long v_long h);
+  };
   recedes = λ file c v z y c_long v_long h.
       sides_rise file (choice_of file y) (choice_long file c v false z y c_long v_long h) (normals_at file c v false z y c_long v_long h);
   above = λ file c weights picks inverse v t z y x m fitting v_long h below vector same full.

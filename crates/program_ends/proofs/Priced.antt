@@ -1,6 +1,6 @@
 -- The columns of Benson's program priced with multipliers x, p, theta of its equations: the normals at x; at each place of w, and of its
 -- negative, minus the objectives at x plus what the cone's equations give with p plus theta c; and minus what they give behind.
-use Rattle.std.proofs.Common.{◌≡◌, ℕ, zero, suc, List, [], ◌∷◌, ◌++◌, length, take, drop, refl, sym, ap, ap₂, ◌∙◌, subst, arith, ◌<◌, ◌≤◌, ◌+◌, ◌-◌, slice_index_or, append_assoc, drop-drop, length-append, true}
+use Rattle.std.proofs.Common.{◌≡◌, ℕ, zero, suc, List, [], ◌∷◌, ◌++◌, length, take, drop, refl, sym, ap, ap₂, ◌∙◌, subst, arith, ◌≤◌, ◌+◌, slice_index_or, append_assoc, drop-drop, length-append, true}
 use Rattle.std.specs.Prelude.{pos, negsuc}
 use Rattle.std.proofs.lemmas.List.{length-take-le, length-drop, length-map, take-append-drop}
 use Rattle.exact_field.specs.Rational.{ℚ, zero_ℚ, ◌+ℚ◌, ◌*ℚ◌, neg_ℚ, ◌≤ℚ◌}
@@ -21,7 +21,7 @@ use Rattle.vlp_reader.specs.declared.problem.Cone.{Cone}
 use Rattle.vlp_reader.specs.declared.problem.Cone.TheVariants.{Orthant, Gens, Dual}
 use Rattle.upper_image.specs.UpperImage.{normals, objectives, rest}
 use Rattle.upper_image.proofs.Widths.{wide_normals, wide_objectives}
-use Rattle.upper_image.proofs.WorkingImage.{rest_wide, value_wide}
+use Rattle.upper_image.proofs.WorkingImage.{value_wide}
 use Rattle.log_rules.proofs.ByEntries.{entry-suc}
 use Rattle.lp_form.specs.Programs.{side_total, on_parts, dual_unknowns, dual_equations, choice_of, value_of}
 use Rattle.lp_form.proofs.Systems.{IsWideCone, cone_wide, benson_ok, length-negated}
@@ -145,8 +145,13 @@ module _ (file : Problem) (c y : List ℚ) (c_long : length c ≡ file.objs) (y_
   priced-long : length priced ≡ benson_unknowns file
   priced-long =
       omega (
-        arith, normals-long, at_weights-long, pushed-long, length-negated at_weights file.objs at_weights-long,
-        length-append (values (normals file) x) at_weights, length-append (values (normals file) x ++ at_weights) (negated at_weights),
+        arith,
+        normals-long,
+        at_weights-long,
+        pushed-long,
+        length-negated at_weights file.objs at_weights-long,
+        length-append (values (normals file) x) at_weights,
+        length-append (values (normals file) x ++ at_weights) (negated at_weights),
         length-append (values (normals file) x ++ at_weights ++ negated at_weights) (negated (pushed file.cone p)),
       )
 
@@ -276,8 +281,16 @@ module _ (file : Problem) (c y : List ℚ) (c_long : length c ≡ file.objs) (y_
     three = at_most_parts (front ++ negated v ++ negated (negated v)) (zeros more) (values (normals file) x ++ at_weights ++ negated at_weights)
         (negated (pushed file.cone p))
         (omega (
-          arith, front_long, negated_long, twice_long, normals-long, at_weights-long, length-negated at_weights file.objs at_weights-long,
-          length-append front (negated v), length-append (front ++ negated v) (negated (negated v)), length-append (values (normals file) x) at_weights,
+          arith,
+          front_long,
+          negated_long,
+          twice_long,
+          normals-long,
+          at_weights-long,
+          length-negated at_weights file.objs at_weights-long,
+          length-append front (negated v),
+          length-append (front ++ negated v) (negated (negated v)),
+          length-append (values (normals file) x) at_weights,
           length-append (values (normals file) x ++ at_weights) (negated at_weights),
         )) four
 

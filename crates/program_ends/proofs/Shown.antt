@@ -1,13 +1,12 @@
 -- What the tests of membership in a cone ask of a vector, beyond the places and the signs of its multipliers.
-use Rattle.std.proofs.Common.{◌≡◌, ℕ, List, length, All, refl, sym, ap, ◌∙◌, subst, slice_index_or}
+use Rattle.std.proofs.Common.{◌≡◌, ℕ, List, length, All, refl, sym, ap, ◌∙◌, subst}
 use Rattle.std.specs.Prelude.{⊤, IsTrue}
 use Rattle.exact_field.specs.Rational.{ℚ, zero_ℚ, ◌+ℚ◌, ◌≤ℚ◌}
 use Rattle.exact_field.specs.Vector.{dot}
 use Rattle.frac128.specs.declared.vectors.Spot.{Spot}
 use Rattle.polyhedra.specs.Vectors.{AtLeastZero, combination, plus, values}
-use Rattle.polyhedra.proofs.Linear.{dot-combination, dot-plus, length-combination, length-plus, same_wide}
+use Rattle.polyhedra.proofs.Linear.{dot-combination, dot-plus, length-combination, same_wide}
 use Rattle.polyhedra.proofs.Lists.{HoldsAt, all_from_map}
-use Rattle.polyhedra.proofs.Order.{add_nonneg}
 use Rattle.vlp_reader.specs.Cones.{cone_fits}
 use Rattle.vlp_reader.specs.declared.problem.Cone.{Cone}
 use Rattle.vlp_reader.specs.declared.problem.Cone.TheVariants.{Orthant, Gens, Dual}

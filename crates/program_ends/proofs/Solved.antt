@@ -1,6 +1,6 @@
 -- What a solution of the equations of Benson's program says of its parts: u balances w, w is in the dual cone, and w . c is the last right
 -- side.
-use Rattle.std.proofs.Common.{◌≡◌, ℕ, List, [], ◌∷◌, ◌++◌, length, take, drop, All, refl, sym, ap, ap₂, ◌∙◌, subst, arith, ◌+◌, length-append}
+use Rattle.std.proofs.Common.{◌≡◌, ℕ, List, [], ◌∷◌, ◌++◌, length, take, drop, refl, sym, ap, ◌∙◌, subst, arith, ◌+◌, length-append}
 use Rattle.std.specs.Prelude.{IsTrue, pos}
 use Rattle.std.proofs.lemmas.List.{length-take-le, length-drop, replicate-append-replicate}
 use Rattle.std.proofs.lemmas.List.Elements.{All-take, All-drop}
@@ -17,8 +17,6 @@ use Rattle.polyhedra.proofs.Linear.{dot_comm, dot-plus, dot-zeros, length-combin
 use Rattle.polyhedra.proofs.Lists.{all_from_map}
 use Rattle.polyhedra.proofs.Negatives.{dot-negated}
 use Rattle.polyhedra.proofs.Support.{dot_nonneg}
-use Rattle.tableaux.specs.Simplex.{IsSolution}
-use Rattle.tableaux.specs.Table.{minus}
 use Rattle.vlp_reader.specs.Cones.{cone_fits}
 use Rattle.vlp_reader.specs.declared.problem.Problem.{Problem}
 use Rattle.vlp_reader.specs.declared.problem.Cone.{Cone}

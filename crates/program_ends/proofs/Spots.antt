@@ -1,8 +1,8 @@
 -- A sparse vector whose entries are at least 0 has positive values, and one without places is empty.
-use Rattle.std.proofs.Common.{◌≡◌, ℕ, zero, suc, List, [], ◌∷◌, map, length, All, refl, sym, ap, ◌∙◌, subst, arith, ◌<◌, ◌≤◌, ◌+◌, ◌⊎◌, inl, inr, Bool, true, not, nat_lt, true≢false, eq-eqb}
+use Rattle.std.proofs.Common.{◌≡◌, ℕ, zero, suc, List, [], ◌∷◌, map, All, refl, sym, ap, ◌∙◌, subst, arith, ◌<◌, ◌≤◌, ◌+◌, inl, inr, true, not, nat_lt, true≢false, eq-eqb}
 use Rattle.std.specs.Prelude.{◌&&◌, if◌then◌else◌}
 use Rattle.std.proofs.lemmas.Bool.{ltb-true, cases_eq}
-use Rattle.std.proofs.lemmas.List.Elements.{All-nil, All-cons, All-head, All-tail}
+use Rattle.std.proofs.lemmas.List.Elements.{All-nil, All-cons, All-head}
 use Rattle.exact_field.specs.Rational.{ℚ, whole, zero_ℚ, ◌≤ℚ◌, ◌<ℚ◌}
 use Rattle.polyhedra.specs.Sparse.{Entry, value_at, values_from}
 use Rattle.polyhedra.specs.Vectors.{AtLeastZero}

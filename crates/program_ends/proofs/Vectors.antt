@@ -1,5 +1,5 @@
 -- Vectors by their parts: lists that are cut at one place, products part by part, and orders entry by entry.
-use Rattle.std.proofs.Common.{◌≡◌, ℕ, zero, suc, List, [], ◌∷◌, ◌++◌, map, length, take, drop, All, refl, sym, ap, ap₂, ◌∙◌, subst, arith, ◌<◌, ◌+◌, slice_index_or, append_assoc, drop-drop, length-append}
+use Rattle.std.proofs.Common.{◌≡◌, ℕ, zero, suc, List, [], ◌∷◌, ◌++◌, map, length, take, drop, All, refl, sym, ap, ap₂, ◌∙◌, arith, ◌<◌, ◌+◌, slice_index_or, append_assoc, drop-drop, length-append}
 use Rattle.std.specs.List.{AllZip}
 use Rattle.std.proofs.lemmas.List.{take-append-drop}
 use Rattle.std.proofs.lemmas.List.Elements.{All-nil, All-cons}
@@ -8,9 +8,9 @@ use Rattle.exact_field.specs.Vector.{dot}
 use Rattle.exact_field.proofs.Inequalities.{neg-le}
 use Rattle.polyhedra.specs.Inequality.{Inequality}
 use Rattle.polyhedra.specs.Negatives.{negated}
-use Rattle.polyhedra.specs.Vectors.{zeros, plus, AtLeastZero, values}
+use Rattle.polyhedra.specs.Vectors.{zeros, AtLeastZero, values}
 use Rattle.polyhedra.proofs.Laws.{add_zero, le_antisymm}
-use Rattle.polyhedra.proofs.Algebra.{zero_add, one_mul, zero_mul, neg_neg}
+use Rattle.polyhedra.proofs.Algebra.{zero_add, one_mul, zero_mul}
 use Rattle.polyhedra.proofs.Linear.{dot_comm, dot-zeros, dot-plus, length-zeros}
 use Rattle.polyhedra.proofs.Lists.{nonneg-nil, nonneg-cons}
 use Rattle.polyhedra.proofs.Negatives.{dot-negated}

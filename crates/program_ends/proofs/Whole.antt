@@ -1,7 +1,7 @@
 -- Where Benson's program has no solution, its multipliers, divided by the magnitude of the last, are a pre-image of the direction -c.
-use Rattle.std.proofs.Common.{◌≡◌, ℕ, suc, List, [], ◌∷◌, ◌++◌, map, length, take, drop, All, refl, sym, ap, ap₂, ◌∙◌, subst, arith, ◌≤◌, ◌+◌, ◌-◌, zero, Bool, true, false, not, true≢false}
+use Rattle.std.proofs.Common.{◌≡◌, ℕ, suc, List, [], ◌∷◌, ◌++◌, map, length, take, drop, refl, sym, ap, ap₂, ◌∙◌, subst, arith, ◌≤◌, ◌+◌, ◌-◌, zero, Bool, true, false, not, true≢false}
 use Rattle.std.specs.Prelude.{pos, if◌then◌else◌}
-use Rattle.std.proofs.lemmas.List.{length-map, replicate-append-replicate}
+use Rattle.std.proofs.lemmas.List.{replicate-append-replicate}
 use Rattle.exact_field.specs.Rational.{ℚ, zero_ℚ, one_ℚ, ◌+ℚ◌, ◌*ℚ◌, neg_ℚ, inverse_ℚ, le_ℚ, ◌≤ℚ◌, ◌<ℚ◌}
 use Rattle.exact_field.specs.Vector.{dot, entry}
 use Rattle.exact_field.specs.Ring.{v0, v1, v2, v3, v4, ◌⊕◌, ◌⊗◌, ⊖, num}
@@ -9,30 +9,29 @@ use Rattle.exact_field.proofs.RingTool.{ring_by_two}
 use Rattle.exact_field.proofs.Rationals.{rationals}
 use Rattle.frac128.specs.declared.vectors.Spot.{Spot}
 use Rattle.polyhedra.specs.DoubleDescription.{magnitude}
-use Rattle.polyhedra.specs.Inequality.{Inequality}
 use Rattle.polyhedra.specs.Negatives.{negated}
-use Rattle.polyhedra.specs.Vectors.{AtLeastZero, zeros, plus, scaled, combination, values}
+use Rattle.polyhedra.specs.Vectors.{AtLeastZero, zeros, scaled, combination, values}
 use Rattle.polyhedra.proofs.Algebra.{neg_zero, zero_add}
 use Rattle.polyhedra.proofs.Laws.{add_zero, le_of_lt, mul_comm, mul_inverse, mul_nonneg}
-use Rattle.polyhedra.proofs.Linear.{dot_comm, dot-combination, dot-plus, dot-scaled, dot-scaled_left, dot-zeros, length-scaled, length-zeros}
+use Rattle.polyhedra.proofs.Linear.{dot-combination, dot-plus, dot-scaled, dot-scaled_left, dot-zeros, length-scaled, length-zeros}
 use Rattle.polyhedra.proofs.Negatives.{dot-negated}
 use Rattle.polyhedra.proofs.Order.{inverse_positive, neg_positive}
 use Rattle.tableaux.specs.Simplex.{IsInfeasible}
 use Rattle.tableaux.specs.Table.{column_of}
 use Rattle.tableaux.proofs.Unique.{slice-zeros}
-use Rattle.vlp_reader.specs.Sides.{sides, IsFeasible, IsRecession}
+use Rattle.vlp_reader.specs.Sides.{IsFeasible, IsRecession}
 use Rattle.vlp_reader.specs.declared.problem.Problem.{Problem}
 use Rattle.vlp_reader.specs.declared.problem.Cone.{Cone}
 use Rattle.vlp_reader.specs.declared.problem.Cone.TheVariants.{Orthant, Gens, Dual}
 use Rattle.upper_image.specs.OrderingCone.{IsInOrderingCone, Fits}
-use Rattle.upper_image.specs.Shows.{ShowsIn, ShowsRecession, ShowsAbove}
+use Rattle.upper_image.specs.Shows.{ShowsIn, ShowsAbove}
 use Rattle.upper_image.specs.Spots.{dense, IsVector}
-use Rattle.upper_image.specs.UpperImage.{normals, objectives, rest}
+use Rattle.upper_image.specs.UpperImage.{objectives, rest}
 use Rattle.upper_image.specs.Witnesses.{IsWhole}
 use Rattle.upper_image.proofs.ConvexCones.{cone_convex, ordering_cone_convex}
 use Rattle.upper_image.proofs.WorkingImage.{rest_wide}
 use Rattle.lp_form.specs.Programs.{side_total, on_parts, dual_unknowns, dual_equations, generators, benson_system, choice_of, value_of, share_of}
-use Rattle.lp_form.proofs.Systems.{cone_wide, length-negated}
+use Rattle.lp_form.proofs.Systems.{length-negated}
 use Rattle.licence.specs.Trails.{divided_by}
 use Rattle.licence.proofs.Cuts.{benson_unknowns, length-benson_cost}
 use Rattle.licence.proofs.CutTurns.{last_value}
@@ -41,7 +40,6 @@ use Rattle.program_ends.proofs.Blocks.{asked, benson_equations}
 use Rattle.program_ends.proofs.Preimage.{shares, multipliers_long, sides_rise}
 use Rattle.program_ends.proofs.Priced.{pulled, pulled-value, pushed, x_long, p_long, normals_at_least, shares_positive, rest_value}
 use Rattle.program_ends.proofs.Shown.{IsMade, AreMade, made_member, shows_made}
-use Rattle.program_ends.proofs.Vectors.{AreAtMost}
 
 -- ---- multiples
 pulled-scaled : (q : ℕ) (cone : Cone) (s : ℚ) (p r : List ℚ) → dot r (pulled q cone (scaled s p)) ≡ s *ℚ dot r (pulled q cone p)

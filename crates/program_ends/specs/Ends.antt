@@ -21,6 +21,7 @@ use Rattle.licence.specs.Base.{AreCutParts}
 use Rattle.licence.specs.Trails.{divided_by}
 
 -- ---- the program `Feasible`
+-- what each of its three ends shows
 pub record FeasibleEnds : Type 0 where
   -- it has a solution
   pub solvable : (file : Problem) (y : List ℚ) → IsInfeasible (feasible_system file) y → ⊥
