@@ -1,0 +1,12 @@
+pub mod Blocks
+pub mod Bounded
+pub mod Cut
+pub mod Excluded
+pub mod Feasible
+pub mod Preimage
+pub mod Priced
+pub mod Shown
+pub mod Solved
+pub mod Spots
+pub mod Vectors
+pub mod Whole
