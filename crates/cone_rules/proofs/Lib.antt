@@ -6,3 +6,4 @@ pub mod Pointed
 pub mod Gaps
 pub mod Lineality
 pub mod Given
+pub mod FoundGenerators

@@ -37,3 +37,8 @@ pub fn pointed_program()
 pub fn given_program()
     ensures { GivenProgram }
 {}
+
+/// What it says where none is given.
+pub fn found_program()
+    ensures { FoundProgram }
+{}
