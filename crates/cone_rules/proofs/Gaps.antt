@@ -27,7 +27,7 @@ gap_long n a b e h k =
     length-plus n (plus a (negated b)) (scaled (neg_ℚ e) (ones n)) (length-plus n a (negated b) h (length-map b neg_ℚ ∙ k))
     (length-scaled (neg_ℚ e) (ones n) ∙ length-replicate n one_ℚ)
 
-gap_at : (n : ℕ) (a b : List ℚ) (e : ℚ) (g : ℕ) → 1 ≤ g → g ≤ n → entry (gap n a b e) g ≡ (entry a g +ℚ neg_ℚ (entry b g)) +ℚ neg_ℚ e
+pub gap_at : (n : ℕ) (a b : List ℚ) (e : ℚ) (g : ℕ) → 1 ≤ g → g ≤ n → entry (gap n a b e) g ≡ (entry a g +ℚ neg_ℚ (entry b g)) +ℚ neg_ℚ e
 gap_at n a b e g l u =
     entry-plus (plus a (negated b)) (scaled (neg_ℚ e) (ones n)) g
     ∙ ap₂ (λ x y. x +ℚ y) (entry-plus a (negated b) g ∙ ap (λ x. entry a g +ℚ x) (entry-negated b g))

@@ -7,3 +7,4 @@ pub mod Gaps
 pub mod Lineality
 pub mod Given
 pub mod FoundGenerators
+pub mod FoundRows

@@ -70,6 +70,20 @@ kept_or_zero q P (v ∷ vectors) w h = go (list_all is_zero v) refl h (kept_or_z
     go true e k more = All-cons (λ u. P u ⊎ (u ≡ zeros q)) v vectors (inr (zero_vector q v (wide-head q v vectors w) e)) (more k)
     go false e k more = All-cons (λ u. P u ⊎ (u ≡ zeros q)) v vectors (inl (All-head P v (kept vectors) k)) (more (All-tail P v (kept vectors) k))
 
+-- and what holds of each vector that is not 0 holds of those that are kept
+pub kept_nonzero : (q : ℕ) (P : List ℚ → Type 0) (vectors : List (List ℚ)) → All (λ v. v ≢ zeros q → P v) vectors → All P (kept vectors)
+kept_nonzero q P [] h = All-nil P
+kept_nonzero q P (v ∷ vectors) h = go (list_all is_zero v) refl (kept_nonzero q P vectors (All-tail (λ u. u ≢ zeros q → P u) v vectors h))
+  where
+    no : true ≡ false → ⊥
+    no p = cc
+
+    go : (b : Bool) → list_all is_zero v ≡ b → All P (kept vectors) → All P (cond (not b) (v ∷ kept vectors) (kept vectors))
+    go true e more = more
+    go false e more =
+        All-cons P v (kept vectors)
+        (All-head (λ u. u ≢ zeros q → P u) v vectors h (λ z. no (sym (zeros_pass q) ∙ ap (λ u. list_all is_zero u) (sym z) ∙ e))) more
+
 -- ---- numbers spread over the vectors
 pub spread_dot : (f : List ℚ → ℚ) (vectors : List (List ℚ)) (xs : List ℚ) → dot (spread vectors xs) (map f vectors) ≡ dot xs (map f (kept vectors))
 spread_dot f [] xs = sym (dot-nil xs)

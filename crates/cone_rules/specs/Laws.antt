@@ -129,7 +129,7 @@ pub record RowsProgram : Type 0 where
       IsSpread vectors
       (scaled (inverse_ℚ (entry y (suc (length (nonzero_vectors (Dual vectors)))))) (take (length (nonzero_vectors (Dual vectors))) y)) m →
       CombinesToMinusLast q vectors m
-  pub bounded : (q : ℕ) (vectors : List (List ℚ)) (x ray : List ℚ) → AreWide q vectors → IsUnbounded (interior_of_dual q vectors) x ray → ⊥
+  pub bounded : (q : ℕ) (vectors : List (List ℚ)) (x ray : List ℚ) → AreWide q vectors → 1 ≤ q → IsUnbounded (interior_of_dual q vectors) x ray → ⊥
 
 -- ---- what shows that a duality vector fits
 -- f divided by its last entry of q

@@ -42,3 +42,8 @@ pub fn given_program()
 pub fn found_program()
     ensures { FoundProgram }
 {}
+
+/// What the program of an interior vector of rows says.
+pub fn rows_program()
+    ensures { RowsProgram }
+{}
