@@ -8,3 +8,5 @@ pub mod Lineality
 pub mod Given
 pub mod FoundGenerators
 pub mod FoundRows
+pub mod Excluding
+pub mod Fitting

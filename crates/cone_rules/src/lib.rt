@@ -47,3 +47,13 @@ pub fn found_program()
 pub fn rows_program()
     ensures { RowsProgram }
 {}
+
+/// No sound file has a fault, and two faults of a file are of one kind.
+pub fn faults_exclude()
+    ensures { FaultsExclude }
+{}
+
+/// What shows that a duality vector fits a file.
+pub fn duality_shown()
+    ensures { FittingLaws }
+{}
