@@ -1,24 +1,23 @@
 -- Each fault excludes what a file without it has: so no sound file has a fault, and two faults of a file are of one kind.
-use Rattle.std.proofs.Common.{◌≡◌, ◌≢◌, ℕ, suc, List, [], ◌∷◌, length, map, All, refl, sym, ap, ap₂, ◌∙◌, subst, arith, ◌<◌, ◌≤◌, ◌-◌, Option, None, Some}
+use Rattle.std.proofs.Common.{◌≡◌, ◌≢◌, ℕ, List, [], ◌∷◌, length, map, All, refl, sym, ap, ap₂, ◌∙◌, subst, arith, ◌<◌, ◌≤◌, ◌-◌, Option, None, Some}
 use Rattle.std.specs.Prelude.{IsTrue, slice_index_or}
 use Rattle.std.proofs.lemmas.List.Elements.{All-head}
-use Rattle.exact_field.specs.Rational.{ℚ, zero_ℚ, one_ℚ, inverse_ℚ, ◌+ℚ◌, ◌*ℚ◌, ◌/ℚ◌, neg_ℚ, ◌≤ℚ◌, ◌<ℚ◌}
+use Rattle.exact_field.specs.Rational.{ℚ, zero_ℚ, one_ℚ, inverse_ℚ, ◌*ℚ◌, ◌/ℚ◌, neg_ℚ, ◌≤ℚ◌, ◌<ℚ◌}
 use Rattle.exact_field.specs.Vector.{entry, dot}
 use Rattle.frac128.specs.declared.vectors.Spot.{Spot}
 use Rattle.polyhedra.specs.Cone.{IsGenerated, IsInCone, IsInDual, IsInterior}
 use Rattle.polyhedra.specs.Negatives.{negated}
-use Rattle.polyhedra.specs.Vectors.{AreWide, zeros, scaled, values, combination}
+use Rattle.polyhedra.specs.Vectors.{AreWide, zeros, scaled, values}
 use Rattle.polyhedra.proofs.Algebra.{mul_zero, neg_zero}
 use Rattle.polyhedra.proofs.Duality.{dual_cones}
 use Rattle.polyhedra.proofs.Generated.{generated_value, generated_generator}
 use Rattle.polyhedra.proofs.Laws.{le_of_lt, mul_comm, zero_lt_one}
 use Rattle.polyhedra.proofs.Linear.{dot-scaled, dot-combination_left}
-use Rattle.polyhedra.proofs.Lists.{HoldsAt, HasWidth, values_nonneg}
-use Rattle.polyhedra.proofs.Members.{all_of_members, member_of}
+use Rattle.polyhedra.proofs.Lists.{HasWidth, values_nonneg}
+use Rattle.polyhedra.proofs.Members.{member_of}
 use Rattle.polyhedra.proofs.Negatives.{dot-negated}
 use Rattle.polyhedra.proofs.Order.{lt_irrefl, le_of_eq, mul_le, not_lt_of_le, inverse_positive}
 use Rattle.polyhedra.proofs.Support.{InSupport, support_listed, support_zero, support_positive, dot_nonneg}
-use Rattle.tableaux.specs.Elimination.{IsOrthogonal}
 use Rattle.tableaux.specs.Table.{row_of, unit}
 use Rattle.tableaux.proofs.Unique.{dot-unit, slice-zeros}
 use Rattle.vlp_reader.specs.Cones.{cone_fits}
@@ -26,10 +25,10 @@ use Rattle.vlp_reader.specs.declared.problem.Problem.{Problem}
 use Rattle.vlp_reader.specs.declared.problem.Cone.{Cone}
 use Rattle.vlp_reader.specs.declared.problem.Cone.TheVariants.{Orthant, Gens, Dual}
 use Rattle.upper_image.specs.OrderingCone.{IsIn, FollowsFile}
-use Rattle.upper_image.specs.Spots.{entry_of, dense}
+use Rattle.upper_image.specs.Spots.{dense}
 use Rattle.upper_image.proofs.Shown.{nonneg-dense, dual_shown}
 use Rattle.upper_image.proofs.Widths.{vectors_wide, length-dense}
-use Rattle.cone_rules.specs.Faults.{HasInterior, HasNoLine, IsSound, IsZeroCombination, IsAcross, ShowsFlat, ShowsLine, ShowsOutside, CombinesToMinusLast, ShowsLast, IsGivenOutside, IsGivenInside, HasFault, place_of}
+use Rattle.cone_rules.specs.Faults.{HasInterior, HasNoLine, IsSound, IsZeroCombination, IsAcross, ShowsFlat, ShowsLine, ShowsOutside, ShowsLast, IsGivenOutside, IsGivenInside, HasFault, place_of}
 use Rattle.cone_rules.specs.Laws.{FaultsExclude}
 use Rattle.cone_rules.specs.declared.fault.ConeFault.{ConeFault}
 use Rattle.cone_rules.specs.declared.fault.ConeFault.TheVariants.{NotSolid, HasLine, NotInterior, LastNotPositive}

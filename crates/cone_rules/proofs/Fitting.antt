@@ -1,19 +1,18 @@
 -- What shows that a duality vector fits a file: the parts of a duality entry.
 use Rattle.std.proofs.Common.{◌≡◌, ◌≢◌, ℕ, zero, suc, List, [], ◌∷◌, ◌++◌, length, map, take, drop, replicate, All, refl, sym, ap, ap₂, ◌∙◌, subst, arith, ◌<◌, ◌≤◌, ◌+◌, ◌-◌, ◌*◌, ◌⊎◌, inl, inr, Option, None, Some, true}
-use Rattle.std.specs.Prelude.{IsTrue, slice_index_or, ◌==◌}
+use Rattle.std.specs.Prelude.{slice_index_or}
 use Rattle.std.proofs.Math.ListN.{length-append, length-replicate}
 use Rattle.std.proofs.Math.Seq.{take-append_seam, drop-append_seam}
 use Rattle.std.proofs.lemmas.Bool.{eqb-true}
-use Rattle.std.proofs.lemmas.List.{length-map}
 use Rattle.std.proofs.lemmas.List.Elements.{All-replicate, All-weaker}
-use Rattle.exact_field.specs.Rational.{ℚ, zero_ℚ, one_ℚ, inverse_ℚ, ◌*ℚ◌, ◌/ℚ◌, ◌<ℚ◌}
+use Rattle.exact_field.specs.Rational.{ℚ, zero_ℚ, one_ℚ, inverse_ℚ, ◌<ℚ◌}
 use Rattle.exact_field.specs.Vector.{entry, dot}
-use Rattle.polyhedra.specs.Vectors.{AreWide, zeros, scaled, combination}
+use Rattle.polyhedra.specs.Vectors.{AreWide, zeros, scaled}
 use Rattle.polyhedra.proofs.Laws.{mul_comm, mul_inverse, zero_lt_one}
 use Rattle.polyhedra.proofs.Linear.{dot-scaled, length-scaled}
 use Rattle.polyhedra.proofs.Lists.{wide-head, wide-tail, wide-nil, wide-cons}
 use Rattle.polyhedra.proofs.Order.{inverse_positive, mul_positive}
-use Rattle.tableaux.specs.Table.{Table, row_of, column_of, list_from, listed}
+use Rattle.tableaux.specs.Table.{Table, row_of, column_of, list_from}
 use Rattle.tableaux.specs.Elimination.{AreIndependent, AreInverse, columns_of}
 use Rattle.tableaux.proofs.Matrix.{combination-scaled}
 use Rattle.tableaux.proofs.Places.{length-list_from, list_from-place, entry-scaled, delta-same, delta-other}

@@ -1,5 +1,5 @@
 -- The program of an interior vector of generators where no vector is given: one with the last entry 1 is looked for.
-use Rattle.std.proofs.Common.{◌≡◌, ℕ, suc, List, [], ◌∷◌, ◌++◌, length, take, drop, All, refl, sym, ap, ap₂, ◌∙◌, subst, arith, ◌<◌, ◌≤◌, ◌+◌, ◌-◌, ◌⊎◌, inl, inr, None, append_assoc, slice_index_or}
+use Rattle.std.proofs.Common.{◌≡◌, ℕ, suc, List, [], ◌∷◌, ◌++◌, length, take, drop, All, refl, sym, ap, ap₂, ◌∙◌, subst, arith, ◌≤◌, ◌+◌, ◌-◌, ◌⊎◌, inl, inr, None, append_assoc, slice_index_or}
 use Rattle.std.proofs.Math.ListN.{length-append}
 use Rattle.std.proofs.lemmas.List.{length-drop}
 use Rattle.std.proofs.lemmas.List.Elements.{All-take, All-drop}
@@ -11,7 +11,7 @@ use Rattle.polyhedra.proofs.Laws.{add_zero, le_refl, le_of_lt, mul_one, mul_comm
 use Rattle.polyhedra.proofs.Linear.{dot_comm, dot-zeros, length-zeros}
 use Rattle.polyhedra.proofs.Lists.{Nonneg, nonneg-nil, nonneg-cons}
 use Rattle.polyhedra.proofs.Order.{lt_irrefl, le_or_lt, lt_of_le_of_lt, le_of_difference, not_lt_of_le, mul_negative, zero_or_positive, add_positive_right, add_zero_left, add_zero_right}
-use Rattle.tableaux.specs.Table.{Table, System, row_of, column_of, listed, unit}
+use Rattle.tableaux.specs.Table.{System, column_of, unit}
 use Rattle.tableaux.specs.Simplex.{IsOptimal, IsInfeasible, IsUnbounded}
 use Rattle.tableaux.proofs.Inverse.{dot-append}
 use Rattle.tableaux.proofs.Places.{length-list_from}

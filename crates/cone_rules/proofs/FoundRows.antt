@@ -1,15 +1,13 @@
 -- The program of an interior vector of the cone of rows: one with the last entry 1 is looked for.
-use Rattle.std.proofs.Common.{◌≡◌, ◌≢◌, ℕ, zero, suc, List, [], ◌∷◌, ◌++◌, length, take, drop, All, Contains, Bool, true, false, not, cond, refl, sym, ap, ap₂, ◌∙◌, subst, arith, ◌<◌, ◌≤◌, ◌+◌, ◌-◌, ◌⊎◌, inl, inr, append_assoc, slice_index_or, pos}
-use Rattle.std.specs.List.{list_all}
+use Rattle.std.proofs.Common.{◌≡◌, ◌≢◌, ℕ, suc, List, [], ◌∷◌, ◌++◌, length, take, drop, All, refl, sym, ap, ap₂, ◌∙◌, subst, arith, ◌<◌, ◌≤◌, ◌+◌, ◌-◌, ◌⊎◌, inl, inr, append_assoc, slice_index_or, pos}
 use Rattle.std.proofs.Math.ListN.{length-append, length-replicate}
 use Rattle.std.proofs.lemmas.List.{length-map, length-drop, length-take-le, take-append-drop}
-use Rattle.std.proofs.lemmas.List.Elements.{All-nil, All-cons, All-head, All-tail, All-take, All-drop, All-append}
+use Rattle.std.proofs.lemmas.List.Elements.{All-take, All-drop, All-append}
 use Rattle.exact_field.specs.Rational.{ℚ, zero_ℚ, one_ℚ, inverse_ℚ, ◌+ℚ◌, ◌*ℚ◌, neg_ℚ, ◌-ℚ◌, ◌≤ℚ◌, ◌<ℚ◌}
 use Rattle.exact_field.specs.Ring.{v0, v1, v2, v3, v4, v5, var, num, ◌⊕◌, ◌⊗◌, ⊖}
 use Rattle.exact_field.specs.Vector.{entry, dot}
 use Rattle.exact_field.proofs.RingTool.{ring}
 use Rattle.exact_field.proofs.Rationals.{rationals, mul-inverse_ℚ}
-use Rattle.frac128.specs.Sparse.{is_zero}
 use Rattle.frac128.specs.declared.vectors.Spot.{Spot}
 use Rattle.polyhedra.specs.Cone.{IsInCone, IsInterior}
 use Rattle.polyhedra.specs.Negatives.{negated}
@@ -17,14 +15,14 @@ use Rattle.polyhedra.specs.Vectors.{AreWide, AtLeastZero, zeros, plus, scaled, v
 use Rattle.polyhedra.proofs.Algebra.{zero_add, zero_mul, one_mul, mul_zero, neg_mul, neg_neg, neg_zero, add_cancel}
 use Rattle.polyhedra.proofs.Duality.{dual_cones}
 use Rattle.polyhedra.proofs.Generated.{generated_generator}
-use Rattle.polyhedra.proofs.Laws.{add_assoc, add_comm, add_neg, add_zero, le_refl, le_of_lt, mul_assoc, mul_comm, mul_one, zero_lt_one}
-use Rattle.polyhedra.proofs.Linear.{dot_comm, dot-plus, dot-scaled_left, dot-zeros, dot-combination_left, length-combination, length-plus, length-scaled, length-zeros}
+use Rattle.polyhedra.proofs.Laws.{add_assoc, add_comm, add_neg, add_zero, le_refl, le_of_lt, mul_assoc, mul_one, zero_lt_one}
+use Rattle.polyhedra.proofs.Linear.{dot-plus, dot-scaled_left, dot-zeros, dot-combination_left, length-combination, length-plus, length-scaled, length-zeros}
 use Rattle.polyhedra.proofs.Lists.{HoldsAt, Nonneg, nonneg-nil, nonneg-cons}
-use Rattle.polyhedra.proofs.Members.{all_of_members, member_of}
+use Rattle.polyhedra.proofs.Members.{all_of_members}
 use Rattle.polyhedra.proofs.Negatives.{dot-negated}
 use Rattle.polyhedra.proofs.Order.{lt_irrefl, le_of_eq, le_or_lt, lt_of_le_of_lt, le_of_difference, not_lt_of_le, not_zero_of_negative, neg_positive, mul_positive, zero_or_positive, add_positive_right, add_zero_left, add_zero_right}
-use Rattle.polyhedra.proofs.Support.{InSupport, support_zero}
-use Rattle.tableaux.specs.Table.{Table, System, row_of, listed, unit, minus}
+use Rattle.polyhedra.proofs.Support.{support_zero}
+use Rattle.tableaux.specs.Table.{Table, System, row_of, unit, minus}
 use Rattle.tableaux.specs.Simplex.{IsOptimal, IsInfeasible, IsUnbounded}
 use Rattle.tableaux.proofs.Back.{length-values}
 use Rattle.tableaux.proofs.Definition.{slice_eq, unit_entry, delta_sym, value_at}
@@ -33,14 +31,13 @@ use Rattle.tableaux.proofs.Inverse.{dot-append}
 use Rattle.tableaux.proofs.Matrix.{combination-scaled}
 use Rattle.tableaux.proofs.Places.{length-list_from, listed-is, entry-plus, entry-scaled, row-wide, delta}
 use Rattle.tableaux.proofs.Unique.{dot-unit, slice-zeros}
-use Rattle.vlp_reader.specs.declared.problem.Cone.TheVariants.{Dual}
 use Rattle.lp_form.specs.Programs.{dual_gaps, interior_of_dual}
 use Rattle.lp_form.proofs.Systems.{dual_ok}
-use Rattle.cone_rules.specs.Faults.{HasInterior, CombinesToMinusLast}
+use Rattle.cone_rules.specs.Faults.{CombinesToMinusLast}
 use Rattle.cone_rules.specs.Laws.{RowsProgram, IsSpread, interior_said}
-use Rattle.cone_rules.proofs.Parts.{ones, append_parts, two_left, slice-drop, zeros-append, slice-negated, entry-negated, entry-ones, all_entries, all_at, all_rows, row_at, zero_of_both, nonneg_at, dot_parts_at, dot-negated_left, dot-zeros_left, dot-unit_right, dot_three, values-append, values-listed, optimal_at, infeasible_at}
-use Rattle.cone_rules.proofs.Gaps.{gap, gap_at, gap_long, gap_value, gap_product, gap_none, no_number}
-use Rattle.cone_rules.proofs.Given.{nonneg_zeros, nonneg_ones, unit_long}
+use Rattle.cone_rules.proofs.Parts.{ones, append_parts, two_left, slice-drop, zeros-append, slice-negated, entry-negated, all_entries, all_at, all_rows, zero_of_both, nonneg_at, dot_parts_at, dot-negated_left, dot-zeros_left, dot-unit_right, dot_three, values-append, values-listed, optimal_at, infeasible_at}
+use Rattle.cone_rules.proofs.Gaps.{gap, gap_at, gap_long, gap_product, gap_none, no_number}
+use Rattle.cone_rules.proofs.Given.{nonneg_zeros, unit_long}
 use Rattle.cone_rules.proofs.Lineality.{support_at}
 use Rattle.cone_rules.proofs.Ranks.{unit_nonneg}
 use Rattle.cone_rules.proofs.Rows.{kept, kept_wide, kept_nonzero, spread_combination, spread_well}

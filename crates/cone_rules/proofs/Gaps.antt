@@ -1,22 +1,21 @@
 -- The equations that each multiplier, less its surplus, is one number, and what their multipliers say.
-use Rattle.std.proofs.Common.{◌≡◌, ℕ, suc, List, [], ◌∷◌, ◌++◌, length, take, drop, refl, sym, ap, ap₂, ◌∙◌, subst, arith, ◌<◌, ◌≤◌, ◌+◌, ◌-◌, slice_index_or, append_assoc}
-use Rattle.std.proofs.Math.ListN.{length-append, length-replicate}
+use Rattle.std.proofs.Common.{◌≡◌, ℕ, suc, List, [], ◌∷◌, ◌++◌, length, take, drop, sym, ap, ap₂, ◌∙◌, arith, ◌≤◌, ◌+◌, ◌-◌, slice_index_or}
+use Rattle.std.proofs.Math.ListN.{length-replicate}
 use Rattle.std.proofs.lemmas.List.{length-map, take-append-drop, length-take-le, length-drop}
-use Rattle.exact_field.specs.Rational.{ℚ, zero_ℚ, one_ℚ, ◌+ℚ◌, ◌*ℚ◌, neg_ℚ, ◌≤ℚ◌, ◌<ℚ◌}
+use Rattle.exact_field.specs.Rational.{ℚ, zero_ℚ, one_ℚ, ◌+ℚ◌, ◌*ℚ◌, neg_ℚ, ◌≤ℚ◌}
 use Rattle.exact_field.specs.Vector.{entry, dot}
 use Rattle.polyhedra.specs.Negatives.{negated}
 use Rattle.polyhedra.specs.Vectors.{zeros, plus, scaled, values}
-use Rattle.polyhedra.proofs.Algebra.{zero_add, zero_mul, one_mul, mul_zero, neg_mul, neg_zero, cancel, add_cancel}
+use Rattle.polyhedra.proofs.Algebra.{zero_add, zero_mul, one_mul, neg_mul, neg_zero, cancel, add_cancel}
 use Rattle.polyhedra.proofs.Laws.{add_assoc, add_comm, add_zero, add_neg, mul_one, le_trans, zero_lt_one}
-use Rattle.polyhedra.proofs.Linear.{dot-plus, dot-scaled, dot-zeros, length-plus, length-scaled, length-zeros}
+use Rattle.polyhedra.proofs.Linear.{dot-plus, dot-scaled, dot-zeros, length-plus, length-scaled}
 use Rattle.polyhedra.proofs.Negatives.{dot-negated}
 use Rattle.polyhedra.proofs.Order.{le_of_difference, not_lt_of_le}
-use Rattle.tableaux.specs.Table.{listed, unit}
-use Rattle.tableaux.proofs.Inverse.{dot-append}
+use Rattle.tableaux.specs.Table.{unit}
 use Rattle.tableaux.proofs.Places.{length-list_from, listed-is, entry-plus, entry-scaled}
 use Rattle.tableaux.proofs.Unique.{dot-unit, slice-zeros}
 use Rattle.lp_form.specs.Programs.{generator_gaps}
-use Rattle.cone_rules.proofs.Parts.{ones, entry-ones, entry-negated, dot-negated_left, dot-zeros_left, dot-unit_right, dot_three, values-listed, one_left, two_left, slice-drop}
+use Rattle.cone_rules.proofs.Parts.{ones, entry-ones, entry-negated, dot-negated_left, dot-zeros_left, dot_three, values-listed, one_left, two_left, slice-drop}
 
 -- a - b, less e in each entry
 abbrev pub gap : ℕ → List ℚ → List ℚ → ℚ → List ℚ
