@@ -196,16 +196,16 @@ last_not_fitting q (Dual vectors) None m c some h inner one follows =
     lt_irrefl zero_ℚ (subst (λ (x : ℚ). zero_ℚ <ℚ x) (zero_of_both one_ℚ (le_of_lt zero_ℚ one_ℚ zero_lt_one) below) zero_lt_one)
 
 -- ---- the faults of a file
+some_objective : (file : Problem) → 1 ≤ file.objs
+some_objective file = let one : 0 < file.objs = file.some_objective in omega (arith, one)
+
 sound : (file : Problem) (fault : ConeFault) → HasFault file fault → IsSound file → ⊥
 sound file (NotSolid w m) h s = flat_not_solid file.objs file.cone w m file.cone_vectors h s.solid
 sound file (HasLine d m) h s = line_not_pointed file.objs file.cone d m file.cone_vectors h.1 s.pointed
 sound file (NotInterior w v) h s =
     outside_not_fitting file.objs file.cone file.duality w s.duality.0 v file.cone_vectors h.2 s.duality.1.interior s.duality.1.follows
 sound file (LastNotPositive m) h s =
-    last_not_fitting file.objs file.cone file.duality m s.duality.0 some h.3 s.duality.1.interior s.duality.1.last s.duality.1.follows
-  where
-    some : 1 ≤ file.objs
-    some = let one : 0 < file.objs = file.some_objective in omega (arith, one)
+    last_not_fitting file.objs file.cone file.duality m s.duality.0 (some_objective file) h.3 s.duality.1.interior s.duality.1.last s.duality.1.follows
 
 one_kind : (file : Problem) (a b : ConeFault) → HasFault file a → HasFault file b → place_of a ≡ place_of b
 one_kind file (NotSolid w m) (NotSolid w' m') h k = refl
@@ -226,4 +226,12 @@ one_kind file (LastNotPositive m) (NotInterior w v) h k = absurd (given_both fil
 one_kind file (LastNotPositive m) (LastNotPositive m') h k = refl
 
 pub faults_exclude : FaultsExclude
-faults_exclude = record { sound = sound; one_kind = one_kind }
+faults_exclude =
+    record {
+      flat = λ file w m h s. flat_not_solid file.objs file.cone w m file.cone_vectors h s;
+      line = λ file d m h p. line_not_pointed file.objs file.cone d m file.cone_vectors h p;
+      outside = λ file f w v h k. outside_not_inside file.objs file.cone f w v file.cone_vectors h k;
+      last = λ file c m h k. last_not_fitting file.objs file.cone file.duality m c (some_objective file) h k.interior k.last k.follows;
+      sound = sound;
+      one_kind = one_kind;
+    }

@@ -1,14 +1,13 @@
 -- The program of an interior vector of generators where no vector is given: one with the last entry 1 is looked for.
 use Rattle.std.proofs.Common.{◌≡◌, ℕ, suc, List, [], ◌∷◌, ◌++◌, length, take, drop, All, refl, sym, ap, ap₂, ◌∙◌, subst, arith, ◌≤◌, ◌+◌, ◌-◌, ◌⊎◌, inl, inr, None, append_assoc, slice_index_or}
 use Rattle.std.proofs.Math.ListN.{length-append}
-use Rattle.std.proofs.lemmas.List.{length-drop}
 use Rattle.std.proofs.lemmas.List.Elements.{All-take, All-drop}
 use Rattle.exact_field.specs.Rational.{ℚ, zero_ℚ, one_ℚ, ◌+ℚ◌, ◌*ℚ◌, neg_ℚ, ◌≤ℚ◌, ◌<ℚ◌}
 use Rattle.exact_field.specs.Vector.{entry, dot}
 use Rattle.polyhedra.specs.Vectors.{AreWide, AtLeastZero, zeros, values, combination}
 use Rattle.polyhedra.proofs.Algebra.{zero_add, zero_mul, one_mul, mul_zero}
 use Rattle.polyhedra.proofs.Laws.{add_zero, le_refl, le_of_lt, mul_one, mul_comm, zero_lt_one}
-use Rattle.polyhedra.proofs.Linear.{dot_comm, dot-zeros, length-zeros}
+use Rattle.polyhedra.proofs.Linear.{dot_comm, length-zeros}
 use Rattle.polyhedra.proofs.Lists.{Nonneg, nonneg-nil, nonneg-cons}
 use Rattle.polyhedra.proofs.Order.{lt_irrefl, le_or_lt, lt_of_le_of_lt, le_of_difference, not_lt_of_le, mul_negative, zero_or_positive, add_positive_right, add_zero_left, add_zero_right}
 use Rattle.tableaux.specs.Table.{System, column_of, unit}
@@ -18,11 +17,11 @@ use Rattle.tableaux.proofs.Places.{length-list_from}
 use Rattle.tableaux.proofs.Ties.{column_entry}
 use Rattle.tableaux.proofs.Unique.{entry-combination, column-long, dot-unit}
 use Rattle.lp_form.specs.Programs.{generator_gaps, interior_of_generators}
-use Rattle.lp_form.proofs.Systems.{found_ok}
+use Rattle.lp_form.proofs.Systems.{found_ok, length-unit}
 use Rattle.cone_rules.specs.Laws.{FoundProgram, IsPositiveCombination}
-use Rattle.cone_rules.proofs.Parts.{ones, append_parts, two_left, zeros-append, all_entries, all_at, all_rows, nonneg_at, dot_parts_at, dot-zeros_left, values-append, optimal_at, infeasible_at}
-use Rattle.cone_rules.proofs.Gaps.{gap, gap_long, gap_value, gap_product, gaps_values, gap_none, gap_first, gap_second, gap_third, gap_nothing, no_number, front_long, middle_long, four_parts}
-use Rattle.cone_rules.proofs.Given.{nonneg_zeros, nonneg_ones, ones_long, unit_long, nonneg_three}
+use Rattle.cone_rules.proofs.Parts.{ones, append_parts, zeros-append, all_entries, all_at, all_rows, nonneg_at, dot_parts_at, dot-zeros_left, values-append, optimal_at, infeasible_at}
+use Rattle.cone_rules.proofs.Gaps.{gap, gap_long, gap_value, gap_product, gaps_values, gap_none, gap_first, gap_second, gap_third, gap_nothing, no_number, front_long, middle_long, four_parts, on_last, on_sum, two_behind, ones_right}
+use Rattle.cone_rules.proofs.Given.{nonneg_zeros, nonneg_ones, ones_long, nonneg_three}
 use Rattle.cone_rules.proofs.Ranks.{unit_nonneg}
 
 -- ---- what the multipliers say: p on the gaps, t on the last entry, k on the equation that bounds e
@@ -85,8 +84,8 @@ module _ (n : ℕ) (p col : List ℚ) (t k bound : ℚ)
       product : zero_ℚ ≤ℚ entry col g *ℚ t
       product =
           subst (λ (x : ℚ). zero_ℚ ≤ℚ x) (mul_comm t (dot (unit n g) col) ∙ ap (λ x. x *ℚ t) (dot-unit n g col l u))
-          (nonneg_at (dot p (unit n g)) (t *ℚ dot (unit n g) col) (second (unit n g) (unit_long n g) (unit_nonneg n g))
-          (first (unit n g) (unit_long n g) (unit_nonneg n g)))
+          (nonneg_at (dot p (unit n g)) (t *ℚ dot (unit n g) col) (second (unit n g) (length-unit n g) (unit_nonneg n g))
+          (first (unit n g) (length-unit n g) (unit_nonneg n g)))
 
       go : (entry col g ≤ℚ zero_ℚ) ⊎ (zero_ℚ <ℚ entry col g) → entry col g ≤ℚ zero_ℚ
       go (inl h) = h
@@ -132,29 +131,11 @@ module _ (q : ℕ) (vectors : List (List ℚ)) (w : AreWide q vectors) where
       ap (λ v. dot s.cost v) (four_parts n z long)
       ∙ cost_is (take n z) (take n (drop n z)) (entry z (suc (n + n))) (entry z (suc (suc (n + n)))) (front_long n 2 z long) (middle_long n 2 z long)
 
-  -- the multipliers behind those of the gaps
-  abbrev on_last : List ℚ → ℚ
-  on_last y = slice_index_or (drop n y) 0 zero_ℚ
-
-  abbrev on_sum : List ℚ → ℚ
-  on_sum y = slice_index_or (drop n y) 1 zero_ℚ
-
-  behind : (y : List ℚ) → length y ≡ length s.equations → (x z : ℚ) → dot (drop n y) (x ∷ z ∷ []) ≡ on_last y *ℚ x +ℚ on_sum y *ℚ z
-  behind y h x z =
-      ap (λ v. dot v (x ∷ z ∷ [])) (two_left (drop n y) (length-drop n y ∙ omega (arith, h, equations_many)))
-      ∙ ap (λ b. on_last y *ℚ x +ℚ b) (add_zero (on_sum y *ℚ z))
-
   said : (y a b : List ℚ) (e r : ℚ) → length y ≡ length s.equations → length a ≡ n → length b ≡ n →
-      dot y (values s.equations (a ++ (b ++ e ∷ r ∷ []))) ≡ gap_value n (take n y) a b e +ℚ (on_last y *ℚ dot a col +ℚ on_sum y *ℚ (e +ℚ r))
+      dot y (values s.equations (a ++ (b ++ e ∷ r ∷ []))) ≡ gap_value n (take n y) a b e +ℚ (on_last n y *ℚ dot a col +ℚ on_sum n y *ℚ (e +ℚ r))
   said y a b e r i h k =
       ap (λ v. dot y v) (found_values a b e r h k) ∙ dot_parts_at n y (gap n a b e) (dot a col ∷ (e +ℚ r) ∷ []) (gap_long n a b e h k)
-      ∙ ap₂ (λ x z. x +ℚ z) (gap_product n (take n y) a b e) (behind y i (dot a col) (e +ℚ r))
-
-  right_is : (y : List ℚ) → length y ≡ length s.equations → dot y s.right ≡ on_last y +ℚ on_sum y
-  right_is y h =
-      dot_parts_at n y (zeros n) (one_ℚ ∷ one_ℚ ∷ []) (length-zeros n)
-      ∙ ap₂ (λ x z. x +ℚ z) (dot-zeros (take n y) n) (behind y h one_ℚ one_ℚ ∙ ap₂ (λ x z. x +ℚ z) (mul_one (on_last y)) (mul_one (on_sum y)))
-      ∙ zero_add (on_last y +ℚ on_sum y)
+      ∙ ap₂ (λ x z. x +ℚ z) (gap_product n (take n y) a b e) (two_behind n y (dot a col) (e +ℚ r) (i ∙ equations_many))
 
   part_long : (a b : List ℚ) (e r : ℚ) → length a ≡ n → length b ≡ n → length (a ++ (b ++ e ∷ r ∷ [])) ≡ length s.cost
   part_long a b e r h k = omega (arith, length-append a (b ++ e ∷ r ∷ []), length-append b (e ∷ r ∷ []), unknowns, h, k)
@@ -163,14 +144,14 @@ module _ (q : ℕ) (vectors : List (List ℚ)) (w : AreWide q vectors) where
   two_nonneg e r h k = nonneg-cons e (r ∷ []) h (nonneg-cons r [] k nonneg-nil)
 
   optimal_low : (x y a b : List ℚ) (e r : ℚ) → IsOptimal s x y → length a ≡ n → length b ≡ n → AtLeastZero a → AtLeastZero b → zero_ℚ ≤ℚ e → zero_ℚ ≤ℚ r →
-      one_ℚ *ℚ e ≤ℚ gap_value n (take n y) a b e +ℚ (on_last y *ℚ dot a col +ℚ on_sum y *ℚ (e +ℚ r))
+      one_ℚ *ℚ e ≤ℚ gap_value n (take n y) a b e +ℚ (on_last n y *ℚ dot a col +ℚ on_sum n y *ℚ (e +ℚ r))
   optimal_low x y a b e r h a_long b_long i j k l =
       subst (λ (c : ℚ). one_ℚ *ℚ e ≤ℚ c) (said y a b e r h.one_each a_long b_long)
       (subst (λ (c : ℚ). c ≤ℚ dot y (values s.equations (a ++ (b ++ e ∷ r ∷ [])))) (cost_is a b e r a_long b_long ∙ sym (one_mul e))
       (optimal_at s x y (a ++ (b ++ e ∷ r ∷ [])) (found_ok q vectors) h (part_long a b e r a_long b_long) (nonneg_three a b (e ∷ r ∷ []) i j (two_nonneg e r k l))))
 
   infeasible_low : (y a b : List ℚ) (e r : ℚ) → IsInfeasible s y → length a ≡ n → length b ≡ n → AtLeastZero a → AtLeastZero b → zero_ℚ ≤ℚ e → zero_ℚ ≤ℚ r →
-      zero_ℚ *ℚ e ≤ℚ gap_value n (take n y) a b e +ℚ (on_last y *ℚ dot a col +ℚ on_sum y *ℚ (e +ℚ r))
+      zero_ℚ *ℚ e ≤ℚ gap_value n (take n y) a b e +ℚ (on_last n y *ℚ dot a col +ℚ on_sum n y *ℚ (e +ℚ r))
   infeasible_low y a b e r h a_long b_long i j k l =
       subst (λ (c : ℚ). zero_ℚ *ℚ e ≤ℚ c) (said y a b e r h.one_each a_long b_long)
       (subst (λ (c : ℚ). c ≤ℚ dot y (values s.equations (a ++ (b ++ e ∷ r ∷ [])))) (sym (zero_mul e))
@@ -200,11 +181,11 @@ module _ (q : ℕ) (vectors : List (List ℚ)) (w : AreWide q vectors) where
 
       go : (entry x (suc (n + n)) ≡ zero_ℚ) ⊎ (zero_ℚ <ℚ entry x (suc (n + n))) → zero_ℚ <ℚ entry x (suc (n + n))
       go (inr p) = p
-      go (inl e) = absurd (positive_sum n (take n dual) col (on_last dual) (on_sum dual) one_ℚ
+      go (inl e) = absurd (positive_sum n (take n dual) col (on_last n dual) (on_sum n dual) one_ℚ
           (λ a b e r i j k l f g. optimal_low x dual a b e r h i j k l f g)
           (take n x) (front_long n 2 x long) (All-take Nonneg n x h.solves.at_least_zero)
           (ap (λ v. slice_index_or v 0 zero_ℚ) (solved x one_ℚ one_ℚ long h.solves.equal).1) refl
-          (sym (right_is dual h.one_each) ∙ sym h.equal ∙ cost_at x long ∙ e))
+          (sym (ones_right n dual (h.one_each ∙ equations_many)) ∙ sym h.equal ∙ cost_at x long ∙ e))
 
   optimal : (x dual : List ℚ) → IsOptimal s x dual →
       IsPositiveCombination q vectors (take n x) (combination q (take n x) vectors) × (entry (combination q (take n x) vectors) q ≡ one_ℚ)
@@ -223,18 +204,18 @@ module _ (q : ℕ) (vectors : List (List ℚ)) (w : AreWide q vectors) where
         entry-combination q (take n x) vectors q ∙ ap (λ v. slice_index_or v 0 zero_ℚ) (solved x one_ℚ one_ℚ long h.solves.equal).1,
       )
 
-  last_below : (y : List ℚ) → IsInfeasible s y → on_last y <ℚ zero_ℚ
+  last_below : (y : List ℚ) → IsInfeasible s y → on_last n y <ℚ zero_ℚ
   last_below y h =
-      lt_of_le_of_lt (on_last y) (on_last y +ℚ on_sum y) zero_ℚ
-      (le_of_difference (on_last y) (on_last y +ℚ on_sum y) (on_sum y)
-      (fourth n (take n y) col (on_last y) (on_sum y) zero_ℚ (λ a b e r i j k l f g. infeasible_low y a b e r h i j k l f g)) refl)
-      (subst (λ (c : ℚ). c <ℚ zero_ℚ) (right_is y h.one_each) h.below)
+      lt_of_le_of_lt (on_last n y) (on_last n y +ℚ on_sum n y) zero_ℚ
+      (le_of_difference (on_last n y) (on_last n y +ℚ on_sum n y) (on_sum n y)
+      (fourth n (take n y) col (on_last n y) (on_sum n y) zero_ℚ (λ a b e r i j k l f g. infeasible_low y a b e r h i j k l f g)) refl)
+      (subst (λ (c : ℚ). c <ℚ zero_ℚ) (ones_right n y (h.one_each ∙ equations_many)) h.below)
 
   infeasible : (y : List ℚ) → IsInfeasible s y → All (λ v. entry v q ≤ℚ zero_ℚ) vectors
   infeasible y h =
       all_rows (λ v. entry v q ≤ℚ zero_ℚ) vectors
       (λ g l u. subst (λ (c : ℚ). c ≤ℚ zero_ℚ) (column_entry vectors q (g - 1) (omega (arith, l, u)))
-      (none_positive n (take n y) col (on_last y) (on_sum y) zero_ℚ (λ a b e r i j k l f g. infeasible_low y a b e r h i j k l f g) (last_below y h) g l u))
+      (none_positive n (take n y) col (on_last n y) (on_sum n y) zero_ℚ (λ a b e r i j k l f g. infeasible_low y a b e r h i j k l f g) (last_below y h) g l u))
 
   never_unbounded : (x ray : List ℚ) → IsUnbounded s x ray → ⊥
   never_unbounded x ray h =

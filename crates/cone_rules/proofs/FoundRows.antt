@@ -32,12 +32,12 @@ use Rattle.tableaux.proofs.Matrix.{combination-scaled}
 use Rattle.tableaux.proofs.Places.{length-list_from, listed-is, entry-plus, entry-scaled, row-wide, delta}
 use Rattle.tableaux.proofs.Unique.{dot-unit, slice-zeros}
 use Rattle.lp_form.specs.Programs.{dual_gaps, interior_of_dual}
-use Rattle.lp_form.proofs.Systems.{dual_ok}
+use Rattle.lp_form.proofs.Systems.{dual_ok, length-unit}
 use Rattle.cone_rules.specs.Faults.{CombinesToMinusLast}
 use Rattle.cone_rules.specs.Laws.{RowsProgram, IsSpread, interior_said}
 use Rattle.cone_rules.proofs.Parts.{ones, append_parts, two_left, slice-drop, zeros-append, slice-negated, entry-negated, all_entries, all_at, all_rows, zero_of_both, nonneg_at, dot_parts_at, dot-negated_left, dot-zeros_left, dot-unit_right, dot_three, values-append, values-listed, optimal_at, infeasible_at}
-use Rattle.cone_rules.proofs.Gaps.{gap, gap_at, gap_long, gap_product, gap_none, no_number}
-use Rattle.cone_rules.proofs.Given.{nonneg_zeros, unit_long}
+use Rattle.cone_rules.proofs.Gaps.{gap, gap_at, gap_long, gap_product, gap_none, no_number, on_last, on_sum, two_behind, ones_right}
+use Rattle.cone_rules.proofs.Given.{nonneg_zeros}
 use Rattle.cone_rules.proofs.Lineality.{support_at}
 use Rattle.cone_rules.proofs.Ranks.{unit_nonneg}
 use Rattle.cone_rules.proofs.Rows.{kept, kept_wide, kept_nonzero, spread_combination, spread_well}
@@ -126,7 +126,7 @@ module _ (q n : ℕ) (vectors : Table) (p : List ℚ) (t k bound : ℚ) (wide : 
   pub combines_to : combination q p vectors ≡ scaled (neg_ℚ t) (unit q q)
   combines_to =
       slice_eq (combination q p vectors) (scaled (neg_ℚ t) (unit q q))
-      (length-combination q p vectors wide ∙ sym (length-scaled (neg_ℚ t) (unit q q) ∙ unit_long q q))
+      (length-combination q p vectors wide ∙ sym (length-scaled (neg_ℚ t) (unit q q) ∙ length-unit q q))
       (λ i l. subst (λ (j : ℕ). slice_index_or (combination q p vectors) j zero_ℚ ≡ slice_index_or (scaled (neg_ℚ t) (unit q q)) j zero_ℚ) (back i)
       (each (suc i) (omega arith) (omega (arith, l, length-combination q p vectors wide))))
     where
@@ -137,7 +137,7 @@ module _ (q n : ℕ) (vectors : Table) (p : List ℚ) (t k bound : ℚ) (wide : 
       each j l u =
           let none : entry (combination q p vectors) j +ℚ t *ℚ delta j q ≡ zero_ℚ =
           ap₂ (λ x y. x +ℚ t *ℚ y) (sym (dot-unit_right q j (combination q p vectors) l u)) (sym (unit_entry q j q some (omega arith)))
-          ∙ zero_of_both (on_vector q vectors p t (unit q j)) (first (unit q j) (unit_long q j) (unit_nonneg q j)) (second (unit q j) (unit_long q j) (unit_nonneg q j)) in
+          ∙ zero_of_both (on_vector q vectors p t (unit q j)) (first (unit q j) (length-unit q j) (unit_nonneg q j)) (second (unit q j) (length-unit q j) (unit_nonneg q j)) in
           add_cancel (entry (combination q p vectors) j) (neg_ℚ (t *ℚ delta j q)) (t *ℚ delta j q)
           (none ∙ sym (add_comm (neg_ℚ (t *ℚ delta j q)) (t *ℚ delta j q) ∙ add_neg (t *ℚ delta j q)))
           ∙ sym (neg_mul t (delta j q)) ∙ ap (λ x. neg_ℚ t *ℚ x) (delta_sym j q ∙ sym (unit_entry q q j l u))
@@ -188,7 +188,7 @@ module _ (q n : ℕ) (vectors : Table) (p : List ℚ) (t k bound : ℚ) (wide : 
       turned_nonneg =
           all_entries Nonneg (negated p)
           (λ j l u. let high : j ≤ n = omega (arith, u, turned_long) in
-          subst (λ (a : ℚ). zero_ℚ ≤ℚ a) (ap neg_ℚ (dot-unit_right n j p l high) ∙ sym (entry-negated p j)) (surplus (unit n j) (unit_long n j) (unit_nonneg n j)))
+          subst (λ (a : ℚ). zero_ℚ ≤ℚ a) (ap neg_ℚ (dot-unit_right n j p l high) ∙ sym (entry-negated p j)) (surplus (unit n j) (length-unit n j) (unit_nonneg n j)))
 
       holds : All (HoldsAt y) vectors
       holds i d l = le_of_lt zero_ℚ (dot (slice_index_or vectors i d) y) (positive i d l)
@@ -232,7 +232,7 @@ module _ (q : ℕ) (vectors : List (List ℚ)) (w : AreWide q vectors) (some : 1
       ∙ dot_three (row_of vectors g) (negated (row_of vectors g)) (negated (unit n g) ++ neg_ℚ one_ℚ ∷ zero_ℚ ∷ []) c d (b ++ e ∷ r ∷ []) (long ∙ sym c_long)
       (length-map (row_of vectors g) neg_ℚ ∙ long ∙ sym d_long)
       ∙ ap₂ (λ x y. dot (row_of vectors g) c +ℚ (x +ℚ y)) (dot-negated_left (row_of vectors g) d)
-      (dot-append (negated (unit n g)) (neg_ℚ one_ℚ ∷ zero_ℚ ∷ []) b (e ∷ r ∷ []) (length-map (unit n g) neg_ℚ ∙ unit_long n g ∙ sym b_long)
+      (dot-append (negated (unit n g)) (neg_ℚ one_ℚ ∷ zero_ℚ ∷ []) b (e ∷ r ∷ []) (length-map (unit n g) neg_ℚ ∙ length-unit n g ∙ sym b_long)
       ∙ ap₂ (λ x y. x +ℚ y) (dot-negated_left (unit n g) b ∙ ap neg_ℚ (dot-unit n g b l u))
       (ap₂ (λ x y. x +ℚ y) (neg_mul one_ℚ e ∙ ap neg_ℚ (one_mul e)) (add_zero (zero_ℚ *ℚ r) ∙ zero_mul r) ∙ add_zero (neg_ℚ e)))
       ∙ sym (add_assoc (dot (row_of vectors g) c) (neg_ℚ (dot (row_of vectors g) d)) (neg_ℚ (entry b g) +ℚ neg_ℚ e))
@@ -261,7 +261,7 @@ module _ (q : ℕ) (vectors : List (List ℚ)) (w : AreWide q vectors) (some : 1
       ∙ listed-is n (λ g. dot (row_of vectors g ++ negated (row_of vectors g) ++ negated (unit n g) ++ neg_ℚ one_ℚ ∷ zero_ℚ ∷ []) (c ++ (d ++ (b ++ e ∷ r ∷ []))))
       (gap n (values vectors (plus c (negated d))) b e) (gap_of_long c d b e l) (λ g low high. row_value g c d b e r low high h k l))
       (ap₂ (λ x y. x ∷ y ∷ [])
-      (dot_three (unit q q) (negated (unit q q)) (zeros (n + 2)) c d (b ++ e ∷ r ∷ []) (unit_long q q ∙ sym h) (length-map (unit q q) neg_ℚ ∙ unit_long q q ∙ sym k)
+      (dot_three (unit q q) (negated (unit q q)) (zeros (n + 2)) c d (b ++ e ∷ r ∷ []) (length-unit q q ∙ sym h) (length-map (unit q q) neg_ℚ ∙ length-unit q q ∙ sym k)
       ∙ ap₂ (λ x y. x +ℚ y) (dot-unit q q c some (omega arith))
       (ap₂ (λ x y. x +ℚ y) (dot-negated_left (unit q q) d ∙ ap neg_ℚ (dot-unit q q d some (omega arith))) (dot-zeros_left (n + 2) (b ++ e ∷ r ∷ []))
       ∙ add_zero (neg_ℚ (entry d q)))
@@ -285,30 +285,19 @@ module _ (q : ℕ) (vectors : List (List ℚ)) (w : AreWide q vectors) (some : 1
       ∙ ap₂ (λ x y. x +ℚ y) (dot-zeros_left (q + q + n) ((c ++ d) ++ b)) (ap₂ (λ x y. x +ℚ y) (one_mul e) (add_zero (zero_ℚ *ℚ r) ∙ zero_mul r) ∙ add_zero e) ∙ zero_add e
 
   -- ---- the multipliers
-  abbrev on_last : List ℚ → ℚ
-  on_last y = slice_index_or (drop n y) 0 zero_ℚ
-
-  abbrev on_sum : List ℚ → ℚ
-  on_sum y = slice_index_or (drop n y) 1 zero_ℚ
-
-  behind : (y : List ℚ) → length y ≡ length s.equations → (x z : ℚ) → dot (drop n y) (x ∷ z ∷ []) ≡ on_last y *ℚ x +ℚ on_sum y *ℚ z
-  behind y h x z =
-      ap (λ v. dot v (x ∷ z ∷ [])) (two_left (drop n y) (length-drop n y ∙ omega (arith, h, equations_many)))
-      ∙ ap (λ b. on_last y *ℚ x +ℚ b) (add_zero (on_sum y *ℚ z))
-
   said : (y c d b : List ℚ) (e r : ℚ) → length y ≡ length s.equations → length c ≡ q → length d ≡ q → length b ≡ n →
       dot y (values s.equations (c ++ (d ++ (b ++ e ∷ r ∷ []))))
-      ≡ rows_value (dot (take n y) (ones n)) (on_sum y) (on_vector q vectors (take n y) (on_last y) c) (on_vector q vectors (take n y) (on_last y) d) (dot (take n y) b) e r
+      ≡ rows_value (dot (take n y) (ones n)) (on_sum n y) (on_vector q vectors (take n y) (on_last n y) c) (on_vector q vectors (take n y) (on_last n y) d) (dot (take n y) b) e r
   said y c d b e r i h k l =
       ap (λ v. dot y v) (found_values c d b e r h k l)
       ∙ dot_parts_at n y (gap n (values vectors (plus c (negated d))) b e) (entry (plus c (negated d)) q ∷ (e +ℚ r) ∷ []) (gap_of_long c d b e l)
-      ∙ ap₂ (λ x z. x +ℚ z) (gap_product n (take n y) (values vectors (plus c (negated d))) b e) (behind y i (entry (plus c (negated d)) q) (e +ℚ r))
-      ∙ ap₂ (λ x z. ((x +ℚ neg_ℚ (dot (take n y) b)) +ℚ neg_ℚ e *ℚ dot (take n y) (ones n)) +ℚ (on_last y *ℚ z +ℚ on_sum y *ℚ (e +ℚ r)))
+      ∙ ap₂ (λ x z. x +ℚ z) (gap_product n (take n y) (values vectors (plus c (negated d))) b e) (two_behind n y (entry (plus c (negated d)) q) (e +ℚ r) (i ∙ equations_many))
+      ∙ ap₂ (λ x z. ((x +ℚ neg_ℚ (dot (take n y) b)) +ℚ neg_ℚ e *ℚ dot (take n y) (ones n)) +ℚ (on_last n y *ℚ z +ℚ on_sum n y *ℚ (e +ℚ r)))
       (sym (dot-combination_left q (take n y) vectors (plus c (negated d))) ∙ dot-plus (combination q (take n y) vectors) c (negated d)
       ∙ ap (λ x. dot (combination q (take n y) vectors) c +ℚ x) (dot-negated (combination q (take n y) vectors) d))
       (entry-plus c (negated d) q ∙ ap (λ x. entry c q +ℚ x) (entry-negated d q))
-      ∙ shuffled (dot (combination q (take n y) vectors) c) (dot (combination q (take n y) vectors) d) (dot (take n y) b) (neg_ℚ e *ℚ dot (take n y) (ones n)) (on_last y)
-      (entry c q) (entry d q) (on_sum y *ℚ (e +ℚ r))
+      ∙ shuffled (dot (combination q (take n y) vectors) c) (dot (combination q (take n y) vectors) d) (dot (take n y) b) (neg_ℚ e *ℚ dot (take n y) (ones n)) (on_last n y)
+      (entry c q) (entry d q) (on_sum n y *ℚ (e +ℚ r))
     where
       shuffled : (a a' x g t z z' m : ℚ) →
           (((a +ℚ neg_ℚ a') +ℚ neg_ℚ x) +ℚ g) +ℚ (t *ℚ (z +ℚ neg_ℚ z') +ℚ m) ≡ ((((a +ℚ t *ℚ z) +ℚ neg_ℚ (a' +ℚ t *ℚ z')) +ℚ neg_ℚ x) +ℚ g) +ℚ m
@@ -316,12 +305,6 @@ module _ (q : ℕ) (vectors : List (List ℚ)) (w : AreWide q vectors) (some : 1
           ring rationals (a ∷ a' ∷ x ∷ g ∷ t ∷ z ∷ z' ∷ m ∷ [])
           ((((v0 ⊕ ⊖ v1) ⊕ ⊖ v2) ⊕ v3) ⊕ (v4 ⊗ (v5 ⊕ ⊖ (var 6)) ⊕ var 7))
           (((((v0 ⊕ v4 ⊗ v5) ⊕ ⊖ (v1 ⊕ v4 ⊗ var 6)) ⊕ ⊖ v2) ⊕ v3) ⊕ var 7) refl
-
-  right_is : (y : List ℚ) → length y ≡ length s.equations → dot y s.right ≡ on_last y +ℚ on_sum y
-  right_is y h =
-      dot_parts_at n y (zeros n) (one_ℚ ∷ one_ℚ ∷ []) (length-zeros n)
-      ∙ ap₂ (λ x z. x +ℚ z) (dot-zeros (take n y) n) (behind y h one_ℚ one_ℚ ∙ ap₂ (λ x z. x +ℚ z) (mul_one (on_last y)) (mul_one (on_sum y)))
-      ∙ zero_add (on_last y +ℚ on_sum y)
 
   part_long : (c d b : List ℚ) (e r : ℚ) → length c ≡ q → length d ≡ q → length b ≡ n → length (c ++ (d ++ (b ++ e ∷ r ∷ []))) ≡ length s.cost
   part_long c d b e r h k l =
@@ -334,7 +317,7 @@ module _ (q : ℕ) (vectors : List (List ℚ)) (w : AreWide q vectors) (some : 1
 
   optimal_low : (x y c d b : List ℚ) (e r : ℚ) → IsOptimal s x y → length c ≡ q → length d ≡ q → length b ≡ n → AtLeastZero c → AtLeastZero d → AtLeastZero b →
       zero_ℚ ≤ℚ e → zero_ℚ ≤ℚ r →
-      one_ℚ *ℚ e ≤ℚ rows_value (dot (take n y) (ones n)) (on_sum y) (on_vector q vectors (take n y) (on_last y) c) (on_vector q vectors (take n y) (on_last y) d)
+      one_ℚ *ℚ e ≤ℚ rows_value (dot (take n y) (ones n)) (on_sum n y) (on_vector q vectors (take n y) (on_last n y) c) (on_vector q vectors (take n y) (on_last n y) d)
       (dot (take n y) b) e r
   optimal_low x y c d b e r h c_long d_long b_long i j k l m =
       subst (λ (a : ℚ). one_ℚ *ℚ e ≤ℚ a) (said y c d b e r h.one_each c_long d_long b_long)
@@ -343,7 +326,7 @@ module _ (q : ℕ) (vectors : List (List ℚ)) (w : AreWide q vectors) (some : 1
 
   pub infeasible_low : (y c d b : List ℚ) (e r : ℚ) → IsInfeasible s y → length c ≡ q → length d ≡ q → length b ≡ n → AtLeastZero c → AtLeastZero d → AtLeastZero b →
       zero_ℚ ≤ℚ e → zero_ℚ ≤ℚ r →
-      zero_ℚ *ℚ e ≤ℚ rows_value (dot (take n y) (ones n)) (on_sum y) (on_vector q vectors (take n y) (on_last y) c) (on_vector q vectors (take n y) (on_last y) d)
+      zero_ℚ *ℚ e ≤ℚ rows_value (dot (take n y) (ones n)) (on_sum n y) (on_vector q vectors (take n y) (on_last n y) c) (on_vector q vectors (take n y) (on_last n y) d)
       (dot (take n y) b) e r
   infeasible_low y c d b e r h c_long d_long b_long i j k l m =
       subst (λ (a : ℚ). zero_ℚ *ℚ e ≤ℚ a) (said y c d b e r h.one_each c_long d_long b_long)
@@ -433,11 +416,11 @@ module _ (q : ℕ) (vectors : List (List ℚ)) (w : AreWide q vectors) (some : 1
       go : (gain x ≡ zero_ℚ) ⊎ (zero_ℚ <ℚ gain x) → zero_ℚ <ℚ gain x
       go (inr p) = p
       go (inl e) =
-          absurd (none_with q n vectors (take n dual) (on_last dual) (on_sum dual) one_ℚ w some
+          absurd (none_with q n vectors (take n dual) (on_last n dual) (on_sum n dual) one_ℚ w some
           (λ c d b a r i j k l m o f g. optimal_low x dual c d b a r h i j k l m o f g)
           (said_vector x) y (length-take-le n dual (omega (arith, h.one_each, equations_many))) refl
           (ap (λ v. slice_index_or v 0 zero_ℚ) (solved x one_ℚ one_ℚ long h.solves.equal).1) (there e) positive refl
-          (sym (right_is dual h.one_each) ∙ sym h.equal ∙ cost_at x long ∙ e))
+          (sym (ones_right n dual (h.one_each ∙ equations_many)) ∙ sym h.equal ∙ cost_at x long ∙ e))
 
   pub optimal_said : (x dual y : List ℚ) → IsOptimal s x dual → All (λ v. zero_ℚ <ℚ dot v y) vectors →
       (length (interior_said q x) ≡ q) × (entry (interior_said q x) q ≡ one_ℚ) × All (λ v. zero_ℚ <ℚ dot v (interior_said q x)) vectors
@@ -464,15 +447,15 @@ module _ (q : ℕ) (vectors : List (List ℚ)) (w : AreWide q vectors) (some : 1
       minus_is (z ∷ a) (z' ∷ b) e = ap (λ u. (z -ℚ z') ∷ u) (minus_is a b (omega arith))
 
   -- ---- without a solution
-  last_place : (y : List ℚ) → on_last y ≡ entry y (suc n)
+  last_place : (y : List ℚ) → on_last n y ≡ entry y (suc n)
   last_place y = let place : n + 0 ≡ suc n - 1 = omega arith in slice-drop y n 0 ∙ ap (λ i. slice_index_or y i zero_ℚ) place
 
-  last_below : (y : List ℚ) → IsInfeasible s y → on_last y <ℚ zero_ℚ
+  last_below : (y : List ℚ) → IsInfeasible s y → on_last n y <ℚ zero_ℚ
   last_below y h =
-      lt_of_le_of_lt (on_last y) (on_last y +ℚ on_sum y) zero_ℚ
-      (le_of_difference (on_last y) (on_last y +ℚ on_sum y) (on_sum y)
-      (limit q n vectors (take n y) (on_last y) (on_sum y) zero_ℚ w some (λ c d b a r i j k l m o f g. infeasible_low y c d b a r h i j k l m o f g)) refl)
-      (subst (λ (a : ℚ). a <ℚ zero_ℚ) (right_is y h.one_each) h.below)
+      lt_of_le_of_lt (on_last n y) (on_last n y +ℚ on_sum n y) zero_ℚ
+      (le_of_difference (on_last n y) (on_last n y +ℚ on_sum n y) (on_sum n y)
+      (limit q n vectors (take n y) (on_last n y) (on_sum n y) zero_ℚ w some (λ c d b a r i j k l m o f g. infeasible_low y c d b a r h i j k l m o f g)) refl)
+      (subst (λ (a : ℚ). a <ℚ zero_ℚ) (ones_right n y (h.one_each ∙ equations_many)) h.below)
 
   pub divisor_negative : (y : List ℚ) → IsInfeasible s y → entry y (suc n) <ℚ zero_ℚ
   divisor_negative y h = subst (λ (a : ℚ). a <ℚ zero_ℚ) (last_place y) (last_below y h)
@@ -508,14 +491,14 @@ module _ (q : ℕ) (vectors : List (List ℚ)) (w : AreWide q vectors) (some : 1
         (dot-unit_right n j (take n y) l high
         ∙ sym (ap (λ a. entry y (suc n) *ℚ a) (entry-scaled (inverse_ℚ (entry y (suc n))) (take n y) j)
         ∙ sym (mul_assoc (entry y (suc n)) (inverse_ℚ (entry y (suc n))) (entry (take n y) j)) ∙ ap (λ a. a *ℚ entry (take n y) j) t_inverse ∙ one_mul (entry (take n y) j)))
-        (surplus q n vectors (take n y) (on_last y) (on_sum y) zero_ℚ w some (λ c d b a r i j' k l' m o f g. infeasible_low y c d b a r h i j' k l' m o f g)
-        (unit n j) (unit_long n j) (unit_nonneg n j))))
+        (surplus q n vectors (take n y) (on_last n y) (on_sum n y) zero_ℚ w some (λ c d b a r i j' k l' m o f g. infeasible_low y c d b a r h i j' k l' m o f g)
+        (unit n j) (length-unit n j) (unit_nonneg n j))))
 
     pub quotients_combine : combination q (scaled (inverse_ℚ (entry y (suc n))) (take n y)) vectors ≡ negated (unit q q)
     quotients_combine =
         combination-scaled q (inverse_ℚ (entry y (suc n))) (take n y) vectors w
         ∙ ap (λ v. scaled (inverse_ℚ (entry y (suc n))) v)
-        (combines_to q n vectors (take n y) (on_last y) (on_sum y) zero_ℚ w some (λ c d b a r i j k l m o f g. infeasible_low y c d b a r h i j k l m o f g)
+        (combines_to q n vectors (take n y) (on_last n y) (on_sum n y) zero_ℚ w some (λ c d b a r i j k l m o f g. infeasible_low y c d b a r h i j k l m o f g)
         ∙ ap (λ a. scaled (neg_ℚ a) (unit q q)) (last_place y))
         ∙ undone (entry y (suc n)) (inverse_ℚ (entry y (suc n))) t_inverse (unit q q)
       where

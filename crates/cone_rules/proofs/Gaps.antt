@@ -8,14 +8,14 @@ use Rattle.polyhedra.specs.Negatives.{negated}
 use Rattle.polyhedra.specs.Vectors.{zeros, plus, scaled, values}
 use Rattle.polyhedra.proofs.Algebra.{zero_add, zero_mul, one_mul, neg_mul, neg_zero, cancel, add_cancel}
 use Rattle.polyhedra.proofs.Laws.{add_assoc, add_comm, add_zero, add_neg, mul_one, le_trans, zero_lt_one}
-use Rattle.polyhedra.proofs.Linear.{dot-plus, dot-scaled, dot-zeros, length-plus, length-scaled}
+use Rattle.polyhedra.proofs.Linear.{dot-plus, dot-scaled, dot-zeros, length-plus, length-scaled, length-zeros}
 use Rattle.polyhedra.proofs.Negatives.{dot-negated}
 use Rattle.polyhedra.proofs.Order.{le_of_difference, not_lt_of_le}
 use Rattle.tableaux.specs.Table.{unit}
 use Rattle.tableaux.proofs.Places.{length-list_from, listed-is, entry-plus, entry-scaled}
 use Rattle.tableaux.proofs.Unique.{dot-unit, slice-zeros}
 use Rattle.lp_form.specs.Programs.{generator_gaps}
-use Rattle.cone_rules.proofs.Parts.{ones, entry-ones, entry-negated, dot-negated_left, dot-zeros_left, dot_three, values-listed, one_left, two_left, slice-drop}
+use Rattle.cone_rules.proofs.Parts.{ones, entry-ones, entry-negated, dot-negated_left, dot-zeros_left, dot_three, values-listed, one_left, two_left, slice-drop, dot_parts_at}
 
 -- a - b, less e in each entry
 abbrev pub gap : ℕ → List ℚ → List ℚ → ℚ → List ℚ
@@ -120,3 +120,21 @@ four_parts n z h =
     ∙ ap (λ v. take n (drop n z) ++ v)
     (two_left (drop n (drop n z)) (omega (arith, h, length-drop n (drop n z), length-drop n z))
     ∙ ap₂ (λ x y. x ∷ y ∷ []) (slice_far n z 0 ∙ ap (λ i. slice_index_or z i zero_ℚ) place) (slice_far n z 1 ∙ ap (λ i. slice_index_or z i zero_ℚ) next)))
+
+-- ---- two multipliers behind those of the gaps: of the equation on the last entry, and of e + k = 1
+abbrev pub on_last : ℕ → List ℚ → ℚ
+on_last n y = slice_index_or (drop n y) 0 zero_ℚ
+
+abbrev pub on_sum : ℕ → List ℚ → ℚ
+on_sum n y = slice_index_or (drop n y) 1 zero_ℚ
+
+pub two_behind : (n : ℕ) (y : List ℚ) (x z : ℚ) → length y ≡ n + 2 → dot (drop n y) (x ∷ z ∷ []) ≡ on_last n y *ℚ x +ℚ on_sum n y *ℚ z
+two_behind n y x z h =
+    ap (λ v. dot v (x ∷ z ∷ [])) (two_left (drop n y) (length-drop n y ∙ omega (arith, h)))
+    ∙ ap (λ b. on_last n y *ℚ x +ℚ b) (add_zero (on_sum n y *ℚ z))
+
+pub ones_right : (n : ℕ) (y : List ℚ) → length y ≡ n + 2 → dot y (zeros n ++ one_ℚ ∷ one_ℚ ∷ []) ≡ on_last n y +ℚ on_sum n y
+ones_right n y h =
+    dot_parts_at n y (zeros n) (one_ℚ ∷ one_ℚ ∷ []) (length-zeros n)
+    ∙ ap₂ (λ x z. x +ℚ z) (dot-zeros (take n y) n) (two_behind n y one_ℚ one_ℚ h ∙ ap₂ (λ x z. x +ℚ z) (mul_one (on_last n y)) (mul_one (on_sum n y)))
+    ∙ zero_add (on_last n y +ℚ on_sum n y)

@@ -16,20 +16,18 @@ use Rattle.polyhedra.proofs.Negatives.{dot-negated}
 use Rattle.polyhedra.proofs.Order.{lt_irrefl}
 use Rattle.tableaux.specs.Table.{unit}
 use Rattle.tableaux.proofs.Definition.{slice_eq, unit_entry}
-use Rattle.tableaux.proofs.Places.{length-list_from, delta, delta-same, same_or_other, if_true, if_false}
+use Rattle.tableaux.proofs.Places.{delta, delta-same, same_or_other, if_true, if_false}
 use Rattle.tableaux.proofs.Unique.{dot-unit, slice-zeros}
 use Rattle.vlp_reader.specs.declared.problem.Cone.TheVariants.{Orthant}
 use Rattle.upper_image.specs.OrderingCone.{IsNonnegative, IsIn}
 use Rattle.upper_image.proofs.ConvexCones.{orthant_same, interior_as}
 use Rattle.upper_image.proofs.Units.{units, units_wide, units_positive}
+use Rattle.lp_form.proofs.Systems.{length-unit}
 use Rattle.cone_rules.specs.Faults.{HasNoLine, ShowsOutside}
 use Rattle.cone_rules.specs.Laws.{OrthantLaws, RankLaws}
 use Rattle.cone_rules.proofs.Parts.{ones, all_entries, all_at, zero_of_both, entry-negated}
 
 -- ---- unit vectors
-unit_long : (n k : ℕ) → length (unit n k) ≡ n
-unit_long n k = length-list_from 1 n (λ j. delta j k)
-
 pub unit_not_zero : (n k : ℕ) → 1 ≤ k → k ≤ n → unit n k ≢ zeros n
 unit_not_zero n k l u e =
     lt_irrefl zero_ℚ (subst (λ (x : ℚ). zero_ℚ <ℚ x)
@@ -44,7 +42,7 @@ delta_nonneg j k = elim (same_or_other j k) [
 pub unit_nonneg : (n k : ℕ) → AtLeastZero (unit n k)
 unit_nonneg n k =
     all_entries (λ x. zero_ℚ ≤ℚ x) (unit n k)
-    (λ j l u. subst (λ (x : ℚ). zero_ℚ ≤ℚ x) (sym (unit_entry n k j l (omega (arith, u, unit_long n k)))) (delta_nonneg k j))
+    (λ j l u. subst (λ (x : ℚ). zero_ℚ ≤ℚ x) (sym (unit_entry n k j l (omega (arith, u, length-unit n k)))) (delta_nonneg k j))
 
 -- ---- the orthant
 orthant_inside : (q : ℕ) (f : List ℚ) → length f ≡ q → All (λ x. zero_ℚ <ℚ x) f → IsInterior q (IsIn q Orthant) f
@@ -61,7 +59,7 @@ orthant_pointed q d h k =
 orthant_outside : (q : ℕ) (f : List ℚ) (k : ℕ) → 1 ≤ k → k ≤ q → entry f k ≤ℚ zero_ℚ → ShowsOutside q Orthant f (unit q k) []
 orthant_outside q f k l u h =
     record {
-      lengths = unit_long q k;
+      lengths = length-unit q k;
       not_zero = unit_not_zero q k l u;
       cone = record { lengths = refl; cone = unit_nonneg q k };
       sign = subst (λ (x : ℚ). x ≤ℚ zero_ℚ) (sym (dot-unit q k f l u)) h;

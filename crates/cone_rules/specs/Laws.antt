@@ -1,6 +1,5 @@
 -- What is proved of the faults of an ordering cone, and how ranks and the ends of its linear programs tell them.
-use Rattle.std.specs.Prelude.{◌≡◌, ◌≢◌, ◌⊎◌, ℕ, suc, ◌+◌, ◌≤◌, List, [], ◌∷◌, map, length, replicate, take, drop, All, None, Some}
-use Rattle.std.specs.Prelude.{if◌then◌else◌}
+use Rattle.std.specs.Prelude.{◌≡◌, ◌≢◌, ◌⊎◌, ℕ, suc, ◌+◌, ◌≤◌, List, [], ◌∷◌, map, length, replicate, take, drop, All, None, Some, if◌then◌else◌}
 use Rattle.std.specs.List.{list_all}
 use Rattle.exact_field.specs.Rational.{ℚ, zero_ℚ, one_ℚ, inverse_ℚ, ◌≤ℚ◌, ◌<ℚ◌}
 use Rattle.exact_field.specs.Vector.{entry, dot}
@@ -15,17 +14,22 @@ use Rattle.tableaux.specs.Elimination.{AreIndependent, AreInverse, columns_of}
 use Rattle.tableaux.specs.Simplex.{IsOptimal, IsInfeasible, IsUnbounded}
 use Rattle.vlp_reader.specs.declared.problem.Problem.{Problem}
 use Rattle.vlp_reader.specs.declared.problem.Cone.TheVariants.{Orthant, Gens, Dual}
-use Rattle.upper_image.specs.OrderingCone.{IsIn}
+use Rattle.upper_image.specs.OrderingCone.{IsIn, IsInteriorToCone, Fits}
 use Rattle.upper_image.specs.Shows.{ShowsFitting}
 use Rattle.upper_image.specs.Spots.{dense, IsVector}
 use Rattle.lp_form.specs.Building.{joined}
 use Rattle.lp_form.specs.Programs.{nonzero_vectors, zero_combination, interior_of_generators, interior_of_dual}
-use Rattle.cone_rules.specs.Faults.{HasInterior, HasNoLine, IsSound, IsZeroCombination, ShowsOutside, CombinesToMinusLast, HasFault, place_of}
+use Rattle.cone_rules.specs.Faults.{HasInterior, HasNoLine, IsSolid, IsPointed, IsSound, IsZeroCombination, ShowsFlat, ShowsLine, ShowsOutside, CombinesToMinusLast, ShowsLast, HasFault, place_of}
 use Rattle.cone_rules.specs.declared.fault.ConeFault.{ConeFault}
 
 -- ---- faults
--- no sound file has a fault, and two faults of a file are of one kind: each comes exactly where it is said
+-- what shows a fault excludes what a file without it has; so no sound file has a fault, and two faults of a file are of one kind: each comes
+-- exactly where it is said
 pub record FaultsExclude : Type 0 where
+  pub flat : (file : Problem) (w : List ℚ) (m : List Spot) → ShowsFlat file.objs file.cone w m → IsSolid file → ⊥
+  pub line : (file : Problem) (d : List ℚ) (m : List Spot) → ShowsLine file.objs file.cone d m → IsPointed file → ⊥
+  pub outside : (file : Problem) (f w : List ℚ) (v : List Spot) → ShowsOutside file.objs file.cone f w v → IsInteriorToCone file f → ⊥
+  pub last : (file : Problem) (c : List ℚ) (m : List Spot) → ShowsLast file.objs file.cone file.duality m → Fits file c → ⊥
   pub sound : (file : Problem) (fault : ConeFault) → HasFault file fault → IsSound file → ⊥
   pub one_kind : (file : Problem) (a b : ConeFault) → HasFault file a → HasFault file b → place_of a ≡ place_of b
 
@@ -134,26 +138,23 @@ pub record RowsProgram : Type 0 where
   pub bounded : (q : ℕ) (vectors : List (List ℚ)) (x ray : List ℚ) → AreWide q vectors → 1 ≤ q → IsUnbounded (interior_of_dual q vectors) x ray → ⊥
 
 -- ---- what shows that a duality vector fits
--- f divided by its last entry of q
-abbrev pub at_last_one : ℕ → List ℚ → List ℚ
-at_last_one q f = scaled (inverse_ℚ (entry f q)) f
-
+-- f divided by its last entry, or what was found; with weights and an inverse where the cone is given by generators
 pub record FittingLaws : Type 0 where
   -- the orthant, with f and without
   pub orthant_given : (file : Problem) (f : List ℚ) → file.cone ≡ Orthant → file.duality ≡ Some f → All (λ x. zero_ℚ <ℚ x) f →
-      ShowsFitting file (at_last_one file.objs f) [] [] []
+      ShowsFitting file (scaled (inverse_ℚ (entry f file.objs)) f) [] [] []
   pub orthant : (file : Problem) → file.cone ≡ Orthant → file.duality ≡ None → ShowsFitting file (replicate file.objs one_ℚ) [] [] []
   -- generators, among which there are independent ones with an inverse, whose columns are read
   pub generators_given : (file : Problem) (vectors : List (List ℚ)) (f mu : List ℚ) (picks : List ℕ) (inverse : Table) → file.cone ≡ Gens vectors →
       file.duality ≡ Some f → zero_ℚ <ℚ entry f file.objs → IsPositiveCombination file.objs vectors mu f → AreIndependent file.objs vectors picks →
       AreInverse file.objs (map (row_of vectors) picks) inverse →
-      ShowsFitting file (at_last_one file.objs f) (scaled (inverse_ℚ (entry f file.objs)) mu) picks (joined (columns_of file.objs inverse))
+      ShowsFitting file (scaled (inverse_ℚ (entry f file.objs)) f) (scaled (inverse_ℚ (entry f file.objs)) mu) picks (joined (columns_of file.objs inverse))
   pub generators_found : (file : Problem) (vectors : List (List ℚ)) (c mu : List ℚ) (picks : List ℕ) (inverse : Table) → file.cone ≡ Gens vectors →
       file.duality ≡ None → entry c file.objs ≡ one_ℚ → IsPositiveCombination file.objs vectors mu c → AreIndependent file.objs vectors picks →
       AreInverse file.objs (map (row_of vectors) picks) inverse → ShowsFitting file c mu picks (joined (columns_of file.objs inverse))
   -- the dual form
   pub rows_given : (file : Problem) (vectors : List (List ℚ)) (f : List ℚ) → file.cone ≡ Dual vectors → file.duality ≡ Some f → zero_ℚ <ℚ entry f file.objs →
-      All (λ v. zero_ℚ <ℚ dot v f) (nonzero_vectors (Dual vectors)) → ShowsFitting file (at_last_one file.objs f) [] [] []
+      All (λ v. zero_ℚ <ℚ dot v f) (nonzero_vectors (Dual vectors)) → ShowsFitting file (scaled (inverse_ℚ (entry f file.objs)) f) [] [] []
   pub rows_found : (file : Problem) (vectors : List (List ℚ)) (c : List ℚ) → file.cone ≡ Dual vectors → file.duality ≡ None → length c ≡ file.objs →
       entry c file.objs ≡ one_ℚ → All (λ v. zero_ℚ <ℚ dot v c) (nonzero_vectors (Dual vectors)) → ShowsFitting file c [] [] []
 

@@ -8,9 +8,9 @@ mod fault;
 
 pub use fault::ConeFault;
 
-/// Of two unknowns with opposite columns at most one is not 0 in a solution that is read off.
-pub fn opposite_columns()
-    ensures { OppositeColumns }
+/// No sound file has a fault, and two faults of a file are of one kind.
+pub fn faults_exclude()
+    ensures { FaultsExclude }
 {}
 
 /// The orthant is solid and pointed, and which vectors are interior to it.
@@ -48,12 +48,12 @@ pub fn rows_program()
     ensures { RowsProgram }
 {}
 
-/// No sound file has a fault, and two faults of a file are of one kind.
-pub fn faults_exclude()
-    ensures { FaultsExclude }
-{}
-
 /// What shows that a duality vector fits a file.
 pub fn duality_shown()
     ensures { FittingLaws }
+{}
+
+/// Of two unknowns with opposite columns at most one is not 0 in a solution that is read off.
+pub fn opposite_columns()
+    ensures { OppositeColumns }
 {}
