@@ -26,7 +26,7 @@ use Rattle.upper_image.specs.Shows.{AreEmpty, ShowsSolid, ShowsInterior, ShowsFi
 use Rattle.upper_image.specs.Spots.{pieces}
 use Rattle.upper_image.proofs.Widths.{vectors_wide}
 use Rattle.lp_form.specs.Building.{joined}
-use Rattle.cone_rules.specs.Laws.{FittingLaws, IsPositiveCombination}
+use Rattle.cone_rules.specs.Laws.{FittingLaws, IsPositiveCombination, at_last_one}
 use Rattle.cone_rules.proofs.Excluding.{quotients}
 use Rattle.cone_rules.proofs.Parts.{all_entries, all_at, entry-ones}
 use Rattle.cone_rules.proofs.Rows.{kept, kept_or_zero}
@@ -57,9 +57,6 @@ columns_wide k zero q b h = wide-nil q
 columns_wide k (suc n) q b h = wide-cons q (column_of b k) (list_from (suc k) n (λ j. column_of b j)) (column-long b k ∙ h) (columns_wide (suc k) n q b h)
 
 -- ---- multiples
-abbrev at_last_one : ℕ → List ℚ → List ℚ
-at_last_one q f = scaled (inverse_ℚ (entry f q)) f
-
 scaled_positive : (c : ℚ) (v : List ℚ) → zero_ℚ <ℚ c → All (λ x. zero_ℚ <ℚ x) v → All (λ x. zero_ℚ <ℚ x) (scaled c v)
 scaled_positive c v p h =
     all_entries (λ x. zero_ℚ <ℚ x) (scaled c v)

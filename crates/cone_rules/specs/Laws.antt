@@ -138,23 +138,27 @@ pub record RowsProgram : Type 0 where
   pub bounded : (q : ℕ) (vectors : List (List ℚ)) (x ray : List ℚ) → AreWide q vectors → 1 ≤ q → IsUnbounded (interior_of_dual q vectors) x ray → ⊥
 
 -- ---- what shows that a duality vector fits
--- f divided by its last entry, or what was found; with weights and an inverse where the cone is given by generators
+-- f, of q entries, divided by its last one
+abbrev pub at_last_one : ℕ → List ℚ → List ℚ
+at_last_one q f = scaled (inverse_ℚ (entry f q)) f
+
+-- f divided by its last entry fits, or what was found; with weights and an inverse where the cone is given by generators
 pub record FittingLaws : Type 0 where
   -- the orthant, with f and without
   pub orthant_given : (file : Problem) (f : List ℚ) → file.cone ≡ Orthant → file.duality ≡ Some f → All (λ x. zero_ℚ <ℚ x) f →
-      ShowsFitting file (scaled (inverse_ℚ (entry f file.objs)) f) [] [] []
+      ShowsFitting file (at_last_one file.objs f) [] [] []
   pub orthant : (file : Problem) → file.cone ≡ Orthant → file.duality ≡ None → ShowsFitting file (replicate file.objs one_ℚ) [] [] []
   -- generators, among which there are independent ones with an inverse, whose columns are read
   pub generators_given : (file : Problem) (vectors : List (List ℚ)) (f mu : List ℚ) (picks : List ℕ) (inverse : Table) → file.cone ≡ Gens vectors →
       file.duality ≡ Some f → zero_ℚ <ℚ entry f file.objs → IsPositiveCombination file.objs vectors mu f → AreIndependent file.objs vectors picks →
       AreInverse file.objs (map (row_of vectors) picks) inverse →
-      ShowsFitting file (scaled (inverse_ℚ (entry f file.objs)) f) (scaled (inverse_ℚ (entry f file.objs)) mu) picks (joined (columns_of file.objs inverse))
+      ShowsFitting file (at_last_one file.objs f) (scaled (inverse_ℚ (entry f file.objs)) mu) picks (joined (columns_of file.objs inverse))
   pub generators_found : (file : Problem) (vectors : List (List ℚ)) (c mu : List ℚ) (picks : List ℕ) (inverse : Table) → file.cone ≡ Gens vectors →
       file.duality ≡ None → entry c file.objs ≡ one_ℚ → IsPositiveCombination file.objs vectors mu c → AreIndependent file.objs vectors picks →
       AreInverse file.objs (map (row_of vectors) picks) inverse → ShowsFitting file c mu picks (joined (columns_of file.objs inverse))
   -- the dual form
   pub rows_given : (file : Problem) (vectors : List (List ℚ)) (f : List ℚ) → file.cone ≡ Dual vectors → file.duality ≡ Some f → zero_ℚ <ℚ entry f file.objs →
-      All (λ v. zero_ℚ <ℚ dot v f) (nonzero_vectors (Dual vectors)) → ShowsFitting file (scaled (inverse_ℚ (entry f file.objs)) f) [] [] []
+      All (λ v. zero_ℚ <ℚ dot v f) (nonzero_vectors (Dual vectors)) → ShowsFitting file (at_last_one file.objs f) [] [] []
   pub rows_found : (file : Problem) (vectors : List (List ℚ)) (c : List ℚ) → file.cone ≡ Dual vectors → file.duality ≡ None → length c ≡ file.objs →
       entry c file.objs ≡ one_ℚ → All (λ v. zero_ℚ <ℚ dot v c) (nonzero_vectors (Dual vectors)) → ShowsFitting file c [] [] []
 
