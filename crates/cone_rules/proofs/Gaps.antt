@@ -1,22 +1,21 @@
 -- The equations that each multiplier, less its surplus, is one number, and what their multipliers say.
-use Rattle.std.proofs.Common.{◌≡◌, ℕ, suc, List, [], ◌∷◌, ◌++◌, length, take, drop, refl, sym, ap, ap₂, ◌∙◌, subst, arith, ◌<◌, ◌≤◌, ◌+◌, ◌-◌, slice_index_or, append_assoc}
-use Rattle.std.proofs.Math.ListN.{length-append, length-replicate}
+use Rattle.std.proofs.Common.{◌≡◌, ℕ, suc, List, [], ◌∷◌, ◌++◌, length, take, drop, sym, ap, ap₂, ◌∙◌, arith, ◌≤◌, ◌+◌, ◌-◌, slice_index_or}
+use Rattle.std.proofs.Math.ListN.{length-replicate}
 use Rattle.std.proofs.lemmas.List.{length-map, take-append-drop, length-take-le, length-drop}
-use Rattle.exact_field.specs.Rational.{ℚ, zero_ℚ, one_ℚ, ◌+ℚ◌, ◌*ℚ◌, neg_ℚ, ◌≤ℚ◌, ◌<ℚ◌}
+use Rattle.exact_field.specs.Rational.{ℚ, zero_ℚ, one_ℚ, ◌+ℚ◌, ◌*ℚ◌, neg_ℚ, ◌≤ℚ◌}
 use Rattle.exact_field.specs.Vector.{entry, dot}
 use Rattle.polyhedra.specs.Negatives.{negated}
 use Rattle.polyhedra.specs.Vectors.{zeros, plus, scaled, values}
-use Rattle.polyhedra.proofs.Algebra.{zero_add, zero_mul, one_mul, mul_zero, neg_mul, neg_zero, cancel, add_cancel}
+use Rattle.polyhedra.proofs.Algebra.{zero_add, zero_mul, one_mul, neg_mul, neg_zero, cancel, add_cancel}
 use Rattle.polyhedra.proofs.Laws.{add_assoc, add_comm, add_zero, add_neg, mul_one, le_trans, zero_lt_one}
 use Rattle.polyhedra.proofs.Linear.{dot-plus, dot-scaled, dot-zeros, length-plus, length-scaled, length-zeros}
 use Rattle.polyhedra.proofs.Negatives.{dot-negated}
 use Rattle.polyhedra.proofs.Order.{le_of_difference, not_lt_of_le}
-use Rattle.tableaux.specs.Table.{listed, unit}
-use Rattle.tableaux.proofs.Inverse.{dot-append}
+use Rattle.tableaux.specs.Table.{unit}
 use Rattle.tableaux.proofs.Places.{length-list_from, listed-is, entry-plus, entry-scaled}
 use Rattle.tableaux.proofs.Unique.{dot-unit, slice-zeros}
 use Rattle.lp_form.specs.Programs.{generator_gaps}
-use Rattle.cone_rules.proofs.Parts.{ones, entry-ones, entry-negated, dot-negated_left, dot-zeros_left, dot-unit_right, dot_three, values-listed, one_left, two_left, slice-drop}
+use Rattle.cone_rules.proofs.Parts.{ones, entry-ones, entry-negated, dot-negated_left, dot-zeros_left, dot_three, values-listed, one_left, two_left, slice-drop, dot_parts_at}
 
 -- a - b, less e in each entry
 abbrev pub gap : ℕ → List ℚ → List ℚ → ℚ → List ℚ
@@ -27,7 +26,7 @@ gap_long n a b e h k =
     length-plus n (plus a (negated b)) (scaled (neg_ℚ e) (ones n)) (length-plus n a (negated b) h (length-map b neg_ℚ ∙ k))
     (length-scaled (neg_ℚ e) (ones n) ∙ length-replicate n one_ℚ)
 
-gap_at : (n : ℕ) (a b : List ℚ) (e : ℚ) (g : ℕ) → 1 ≤ g → g ≤ n → entry (gap n a b e) g ≡ (entry a g +ℚ neg_ℚ (entry b g)) +ℚ neg_ℚ e
+pub gap_at : (n : ℕ) (a b : List ℚ) (e : ℚ) (g : ℕ) → 1 ≤ g → g ≤ n → entry (gap n a b e) g ≡ (entry a g +ℚ neg_ℚ (entry b g)) +ℚ neg_ℚ e
 gap_at n a b e g l u =
     entry-plus (plus a (negated b)) (scaled (neg_ℚ e) (ones n)) g
     ∙ ap₂ (λ x y. x +ℚ y) (entry-plus a (negated b) g ∙ ap (λ x. entry a g +ℚ x) (entry-negated b g))
@@ -121,3 +120,21 @@ four_parts n z h =
     ∙ ap (λ v. take n (drop n z) ++ v)
     (two_left (drop n (drop n z)) (omega (arith, h, length-drop n (drop n z), length-drop n z))
     ∙ ap₂ (λ x y. x ∷ y ∷ []) (slice_far n z 0 ∙ ap (λ i. slice_index_or z i zero_ℚ) place) (slice_far n z 1 ∙ ap (λ i. slice_index_or z i zero_ℚ) next)))
+
+-- ---- two multipliers behind those of the gaps: of the equation on the last entry, and of e + k = 1
+abbrev pub on_last : ℕ → List ℚ → ℚ
+on_last n y = slice_index_or (drop n y) 0 zero_ℚ
+
+abbrev pub on_sum : ℕ → List ℚ → ℚ
+on_sum n y = slice_index_or (drop n y) 1 zero_ℚ
+
+pub two_behind : (n : ℕ) (y : List ℚ) (x z : ℚ) → length y ≡ n + 2 → dot (drop n y) (x ∷ z ∷ []) ≡ on_last n y *ℚ x +ℚ on_sum n y *ℚ z
+two_behind n y x z h =
+    ap (λ v. dot v (x ∷ z ∷ [])) (two_left (drop n y) (length-drop n y ∙ omega (arith, h)))
+    ∙ ap (λ b. on_last n y *ℚ x +ℚ b) (add_zero (on_sum n y *ℚ z))
+
+pub ones_right : (n : ℕ) (y : List ℚ) → length y ≡ n + 2 → dot y (zeros n ++ one_ℚ ∷ one_ℚ ∷ []) ≡ on_last n y +ℚ on_sum n y
+ones_right n y h =
+    dot_parts_at n y (zeros n) (one_ℚ ∷ one_ℚ ∷ []) (length-zeros n)
+    ∙ ap₂ (λ x z. x +ℚ z) (dot-zeros (take n y) n) (two_behind n y one_ℚ one_ℚ h ∙ ap₂ (λ x z. x +ℚ z) (mul_one (on_last n y)) (mul_one (on_sum n y)))
+    ∙ zero_add (on_last n y +ℚ on_sum n y)

@@ -1,29 +1,27 @@
 -- The program of an interior vector of generators where the vector f is given.
-use Rattle.std.proofs.Common.{◌≡◌, ◌≢◌, ℕ, suc, List, [], ◌∷◌, ◌++◌, length, take, drop, All, refl, sym, ap, ap₂, ◌∙◌, subst, arith, ◌<◌, ◌≤◌, ◌+◌, ◌-◌, ◌⊎◌, inl, inr, Some, append_assoc}
+use Rattle.std.proofs.Common.{◌≡◌, ◌≢◌, ℕ, suc, List, [], ◌∷◌, ◌++◌, length, take, drop, All, refl, sym, ap, ap₂, ◌∙◌, subst, arith, ◌≤◌, ◌+◌, Some, append_assoc}
 use Rattle.std.proofs.Math.ListN.{length-append, length-replicate}
 use Rattle.std.proofs.lemmas.List.{length-drop}
 use Rattle.std.proofs.lemmas.List.Elements.{All-take, All-drop, All-replicate}
-use Rattle.exact_field.specs.Rational.{ℚ, zero_ℚ, one_ℚ, inverse_ℚ, ◌+ℚ◌, ◌*ℚ◌, neg_ℚ, ◌≤ℚ◌, ◌<ℚ◌}
+use Rattle.exact_field.specs.Rational.{ℚ, zero_ℚ, one_ℚ, ◌+ℚ◌, ◌*ℚ◌, neg_ℚ, ◌≤ℚ◌, ◌<ℚ◌}
 use Rattle.exact_field.specs.Vector.{entry, dot}
-use Rattle.polyhedra.specs.Cone.{IsGenerated, IsInterior}
-use Rattle.polyhedra.specs.Negatives.{negated}
-use Rattle.polyhedra.specs.Vectors.{AreWide, AtLeastZero, zeros, plus, scaled, values, combination}
+use Rattle.polyhedra.specs.Vectors.{AreWide, AtLeastZero, zeros, values, combination}
 use Rattle.polyhedra.proofs.Algebra.{zero_add, zero_mul, one_mul, mul_zero}
-use Rattle.polyhedra.proofs.Laws.{add_zero, add_comm, add_neg, le_refl, le_of_lt, mul_one, mul_comm, zero_lt_one}
-use Rattle.polyhedra.proofs.Linear.{dot_comm, dot-zeros, dot-combination, length-combination, length-zeros}
+use Rattle.polyhedra.proofs.Laws.{add_zero, le_refl, le_of_lt, mul_one, zero_lt_one}
+use Rattle.polyhedra.proofs.Linear.{dot-zeros, dot-combination, length-zeros}
 use Rattle.polyhedra.proofs.Lists.{Nonneg}
 use Rattle.polyhedra.proofs.Order.{lt_irrefl, add_positive_right}
-use Rattle.tableaux.specs.Table.{Table, System, row_of, column_of, listed, unit}
+use Rattle.tableaux.specs.Table.{Table, System, column_of, listed, unit}
 use Rattle.tableaux.specs.Simplex.{IsOptimal, IsInfeasible, IsUnbounded}
 use Rattle.tableaux.proofs.Definition.{unit_value}
 use Rattle.tableaux.proofs.Inverse.{dot-append}
 use Rattle.tableaux.proofs.Places.{length-list_from}
 use Rattle.vlp_reader.specs.declared.problem.Cone.TheVariants.{Gens}
 use Rattle.lp_form.specs.Programs.{generator_gaps, interior_of_generators}
-use Rattle.lp_form.proofs.Systems.{given_ok}
+use Rattle.lp_form.proofs.Systems.{given_ok, length-unit}
 use Rattle.cone_rules.specs.Faults.{HasInterior, HasNoLine, ShowsOutside}
 use Rattle.cone_rules.specs.Laws.{GivenProgram, IsPositiveCombination}
-use Rattle.cone_rules.proofs.Parts.{ones, append_parts, zeros-append, all_entries, all_at, all_rows, nonneg_at, dot_parts_at, dot-zeros_left, dot-unit_right, values-append, values_columns_led, optimal_at, infeasible_at}
+use Rattle.cone_rules.proofs.Parts.{ones, append_parts, zeros-append, all_entries, all_at, all_rows, nonneg_at, dot_parts_at, dot-zeros_left, values-append, values_columns_led, optimal_at, infeasible_at}
 use Rattle.cone_rules.proofs.Gaps.{gap, gap_long, gap_value, gap_product, gaps_values, gap_none, gap_first, gap_second, gap_third, no_number, front_long, middle_long, three_parts}
 use Rattle.cone_rules.proofs.Lineality.{whole_or_zero}
 use Rattle.cone_rules.proofs.Ranks.{unit_nonneg}
@@ -36,9 +34,6 @@ nonneg_ones n = All-replicate Nonneg n one_ℚ (le_of_lt zero_ℚ one_ℚ zero_l
 
 pub ones_long : (n : ℕ) → length (ones n) ≡ n
 ones_long n = length-replicate n one_ℚ
-
-pub unit_long : (n k : ℕ) → length (unit n k) ≡ n
-unit_long n k = length-list_from 1 n _
 
 pub nonneg_three : (a b c : List ℚ) → AtLeastZero a → AtLeastZero b → AtLeastZero c → AtLeastZero (a ++ (b ++ c))
 nonneg_three a b c h k l = Rattle.std.proofs.lemmas.List.Elements.All-append Nonneg a (b ++ c) h (Rattle.std.proofs.lemmas.List.Elements.All-append Nonneg b c k l)
@@ -71,8 +66,8 @@ module _ (n : ℕ) (vectors : Table) (p u : List ℚ) (bound : ℚ) (many : leng
   rows_nonneg = all_rows (λ v. zero_ℚ ≤ℚ dot v u) vectors
       (λ g l h. subst (λ (x : ℚ). zero_ℚ ≤ℚ x) (unit_value vectors u g l h)
       (subst (λ (k : ℕ). zero_ℚ ≤ℚ dot (unit k g) (values vectors u)) (sym many)
-      (nonneg_at (dot p (unit n g)) (dot (unit n g) (values vectors u)) (second (unit n g) (unit_long n g) (unit_nonneg n g))
-      (first (unit n g) (unit_long n g) (unit_nonneg n g)))))
+      (nonneg_at (dot p (unit n g)) (dot (unit n g) (values vectors u)) (second (unit n g) (length-unit n g) (unit_nonneg n g))
+      (first (unit n g) (length-unit n g) (unit_nonneg n g)))))
 
   pub not_all_zero : (q : ℕ) → bound ≡ one_ℚ → u ≢ zeros q
   not_all_zero q e z =

@@ -6,3 +6,7 @@ pub mod Pointed
 pub mod Gaps
 pub mod Lineality
 pub mod Given
+pub mod FoundGenerators
+pub mod FoundRows
+pub mod Excluding
+pub mod Fitting

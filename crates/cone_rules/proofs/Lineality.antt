@@ -1,18 +1,18 @@
 -- Vectors whose negatives are in a cone too: those with a positive multiplier in a combination that is 0.
-use Rattle.std.proofs.Common.{◌≡◌, ◌≢◌, ℕ, zero, suc, List, [], ◌∷◌, length, All, Contains, refl, sym, ap, ap₂, ◌∙◌, subst, arith, ◌<◌, ◌≤◌, ◌⊎◌, inl, inr, slice_index_or}
+use Rattle.std.proofs.Common.{◌≡◌, ℕ, zero, suc, List, [], ◌∷◌, length, All, Contains, refl, sym, ap, ◌∙◌, subst, arith, ◌<◌, ◌≤◌, ◌⊎◌, inl, inr, slice_index_or}
 use Rattle.std.proofs.lemmas.List.{length-map}
-use Rattle.std.proofs.lemmas.List.Elements.{All-weaker, All-head, All-tail, Contains-get_or}
-use Rattle.exact_field.specs.Rational.{ℚ, zero_ℚ, one_ℚ, inverse_ℚ, ◌+ℚ◌, ◌*ℚ◌, neg_ℚ, ◌≤ℚ◌, ◌<ℚ◌}
+use Rattle.std.proofs.lemmas.List.Elements.{All-weaker, All-head, All-tail}
+use Rattle.exact_field.specs.Rational.{ℚ, zero_ℚ, inverse_ℚ, ◌+ℚ◌, ◌*ℚ◌, neg_ℚ, ◌<ℚ◌}
 use Rattle.exact_field.specs.Vector.{dot}
-use Rattle.polyhedra.specs.Cone.{IsGenerated, IsInDual, IsInterior}
+use Rattle.polyhedra.specs.Cone.{IsGenerated, IsInDual}
 use Rattle.polyhedra.specs.Negatives.{negated}
-use Rattle.polyhedra.specs.Vectors.{AreWide, AtLeastZero, zeros, plus, scaled, values, combination}
-use Rattle.polyhedra.proofs.Algebra.{zero_add, mul_neg, neg_neg, add_cancel}
+use Rattle.polyhedra.specs.Vectors.{AreWide, zeros, scaled, values}
+use Rattle.polyhedra.proofs.Algebra.{mul_neg, add_cancel}
 use Rattle.polyhedra.proofs.Cones.{IsSplit, split_support}
 use Rattle.polyhedra.proofs.Duality.{dual_cones}
 use Rattle.polyhedra.proofs.Generated.{generated_value, generated_width, generated_scaled, generated_generator}
 use Rattle.polyhedra.proofs.Laws.{add_comm, add_neg, le_of_lt, le_refl, mul_comm}
-use Rattle.polyhedra.proofs.Linear.{dot_comm, dot-plus, dot-scaled, dot-zeros, length-scaled, same_wide}
+use Rattle.polyhedra.proofs.Linear.{dot-plus, dot-scaled, dot-zeros, length-scaled, same_wide}
 use Rattle.polyhedra.proofs.Lists.{HoldsAt, HasWidth, Nonneg}
 use Rattle.polyhedra.proofs.Members.{all_of_members, member_of}
 use Rattle.polyhedra.proofs.Negatives.{dot-negated}

@@ -1,6 +1,5 @@
 -- What is proved of the faults of an ordering cone, and how ranks and the ends of its linear programs tell them.
-use Rattle.std.specs.Prelude.{◌≡◌, ◌≢◌, ◌⊎◌, ℕ, suc, ◌+◌, ◌≤◌, List, [], ◌∷◌, map, length, replicate, take, drop, All, Option, None, Some}
-use Rattle.std.specs.Prelude.{if◌then◌else◌}
+use Rattle.std.specs.Prelude.{◌≡◌, ◌≢◌, ◌⊎◌, ℕ, suc, ◌+◌, ◌≤◌, List, [], ◌∷◌, map, length, replicate, take, drop, All, None, Some, if◌then◌else◌}
 use Rattle.std.specs.List.{list_all}
 use Rattle.exact_field.specs.Rational.{ℚ, zero_ℚ, one_ℚ, inverse_ℚ, ◌≤ℚ◌, ◌<ℚ◌}
 use Rattle.exact_field.specs.Vector.{entry, dot}
@@ -15,17 +14,22 @@ use Rattle.tableaux.specs.Elimination.{AreIndependent, AreInverse, columns_of}
 use Rattle.tableaux.specs.Simplex.{IsOptimal, IsInfeasible, IsUnbounded}
 use Rattle.vlp_reader.specs.declared.problem.Problem.{Problem}
 use Rattle.vlp_reader.specs.declared.problem.Cone.TheVariants.{Orthant, Gens, Dual}
-use Rattle.upper_image.specs.OrderingCone.{IsIn}
+use Rattle.upper_image.specs.OrderingCone.{IsIn, IsInteriorToCone, Fits}
 use Rattle.upper_image.specs.Shows.{ShowsFitting}
 use Rattle.upper_image.specs.Spots.{dense, IsVector}
 use Rattle.lp_form.specs.Building.{joined}
 use Rattle.lp_form.specs.Programs.{nonzero_vectors, zero_combination, interior_of_generators, interior_of_dual}
-use Rattle.cone_rules.specs.Faults.{HasInterior, HasNoLine, IsSound, IsZeroCombination, ShowsOutside, CombinesToMinusLast, HasFault, place_of}
+use Rattle.cone_rules.specs.Faults.{HasInterior, HasNoLine, IsSolid, IsPointed, IsSound, IsZeroCombination, ShowsFlat, ShowsLine, ShowsOutside, CombinesToMinusLast, ShowsLast, HasFault, place_of}
 use Rattle.cone_rules.specs.declared.fault.ConeFault.{ConeFault}
 
 -- ---- faults
--- no sound file has a fault, and two faults of a file are of one kind: each comes exactly where it is said
+-- what shows a fault excludes what a file without it has; so no sound file has a fault, and two faults of a file are of one kind: each comes
+-- exactly where it is said
 pub record FaultsExclude : Type 0 where
+  pub flat : (file : Problem) (w : List ℚ) (m : List Spot) → ShowsFlat file.objs file.cone w m → IsSolid file → ⊥
+  pub line : (file : Problem) (d : List ℚ) (m : List Spot) → ShowsLine file.objs file.cone d m → IsPointed file → ⊥
+  pub outside : (file : Problem) (f w : List ℚ) (v : List Spot) → ShowsOutside file.objs file.cone f w v → IsInteriorToCone file f → ⊥
+  pub last : (file : Problem) (c : List ℚ) (m : List Spot) → ShowsLast file.objs file.cone file.duality m → Fits file c → ⊥
   pub sound : (file : Problem) (fault : ConeFault) → HasFault file fault → IsSound file → ⊥
   pub one_kind : (file : Problem) (a b : ConeFault) → HasFault file a → HasFault file b → place_of a ≡ place_of b
 
@@ -39,9 +43,17 @@ pub record OrthantLaws : Type 0 where
   pub outside : (q : ℕ) (f : List ℚ) (k : ℕ) → 1 ≤ k → k ≤ q → entry f k ≤ℚ zero_ℚ → ShowsOutside q Orthant f (unit q k) []
 
 -- ---- ranks
--- generators of full rank have a solid cone; rows of full rank a pointed one
+-- f is the combination of all vectors with the multipliers mu, which are positive
+pub record IsPositiveCombination (q : ℕ) (vectors : List (List ℚ)) (mu f : List ℚ) : Type 0 where
+  pub one_each : length mu ≡ length vectors
+  pub sign : All (λ x. zero_ℚ <ℚ x) mu
+  pub combined : combination q mu vectors ≡ f
+
+-- generators of full rank have a solid cone, and their combinations with positive multipliers are interior; rows of full rank have a pointed one
 pub record RankLaws : Type 0 where
   pub solid : (q : ℕ) (vectors : List (List ℚ)) → AreWide q vectors → HasFullRank q vectors → HasInterior q (Gens vectors)
+  pub inside : (q : ℕ) (vectors : List (List ℚ)) (mu f : List ℚ) → AreWide q vectors → HasFullRank q vectors → IsPositiveCombination q vectors mu f →
+      IsInterior q (IsIn q (Gens vectors)) f
   pub pointed : (q : ℕ) (vectors : List (List ℚ)) → HasFullRank q vectors → HasNoLine q (Dual vectors)
 
 -- ---- the program of vectors that combine to 0
@@ -78,12 +90,6 @@ pub record RowTests : Type 0 where
       dot (row_of vectors k) f ≤ℚ zero_ℚ → ShowsOutside q (Dual vectors) f (row_of vectors k) (record { at = k; value = one_ℚ } ∷ [])
 
 -- ---- the program of an interior vector of generators
--- f is the combination of all vectors with the multipliers mu, which are positive
-pub record IsPositiveCombination (q : ℕ) (vectors : List (List ℚ)) (mu f : List ℚ) : Type 0 where
-  pub one_each : length mu ≡ length vectors
-  pub sign : All (λ x. zero_ℚ <ℚ x) mu
-  pub combined : combination q mu vectors ≡ f
-
 -- where the vector f is given
 pub record GivenProgram : Type 0 where
   -- a positive optimum shows f as a combination of all generators with positive multipliers
@@ -129,13 +135,14 @@ pub record RowsProgram : Type 0 where
       IsSpread vectors
       (scaled (inverse_ℚ (entry y (suc (length (nonzero_vectors (Dual vectors)))))) (take (length (nonzero_vectors (Dual vectors))) y)) m →
       CombinesToMinusLast q vectors m
-  pub bounded : (q : ℕ) (vectors : List (List ℚ)) (x ray : List ℚ) → AreWide q vectors → IsUnbounded (interior_of_dual q vectors) x ray → ⊥
+  pub bounded : (q : ℕ) (vectors : List (List ℚ)) (x ray : List ℚ) → AreWide q vectors → 1 ≤ q → IsUnbounded (interior_of_dual q vectors) x ray → ⊥
 
 -- ---- what shows that a duality vector fits
--- f divided by its last entry of q
+-- f, of q entries, divided by its last one
 abbrev pub at_last_one : ℕ → List ℚ → List ℚ
 at_last_one q f = scaled (inverse_ℚ (entry f q)) f
 
+-- f divided by its last entry fits, or what was found; with weights and an inverse where the cone is given by generators
 pub record FittingLaws : Type 0 where
   -- the orthant, with f and without
   pub orthant_given : (file : Problem) (f : List ℚ) → file.cone ≡ Orthant → file.duality ≡ Some f → All (λ x. zero_ℚ <ℚ x) f →

@@ -8,9 +8,9 @@ mod fault;
 
 pub use fault::ConeFault;
 
-/// Of two unknowns with opposite columns at most one is not 0 in a solution that is read off.
-pub fn opposite_columns()
-    ensures { OppositeColumns }
+/// No sound file has a fault, and two faults of a file are of one kind.
+pub fn faults_exclude()
+    ensures { FaultsExclude }
 {}
 
 /// The orthant is solid and pointed, and which vectors are interior to it.
@@ -36,4 +36,24 @@ pub fn pointed_program()
 /// What the program of an interior vector of generators says where the vector is given.
 pub fn given_program()
     ensures { GivenProgram }
+{}
+
+/// What it says where none is given.
+pub fn found_program()
+    ensures { FoundProgram }
+{}
+
+/// What the program of an interior vector of rows says.
+pub fn rows_program()
+    ensures { RowsProgram }
+{}
+
+/// What shows that a duality vector fits a file.
+pub fn duality_shown()
+    ensures { FittingLaws }
+{}
+
+/// Of two unknowns with opposite columns at most one is not 0 in a solution that is read off.
+pub fn opposite_columns()
+    ensures { OppositeColumns }
 {}
