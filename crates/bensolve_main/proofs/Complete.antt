@@ -6,10 +6,9 @@ use Rattle.vlp_reader.specs.FirstFault.{Reads}
 use Rattle.vlp_reader.proofs.Faults.{never_both}
 use Rattle.deriv_log.specs.Laws.{IsTextOf}
 use Rattle.deriv_log.proofs.Laws.{one_reading}
-use Rattle.exact_field.specs.declared.op.Left.{Left as AStep}
 use Rattle.frac128.specs.Held.{is_held}
-use Rattle.frac128.specs.declared.frac.Frac.{Frac}
 use Rattle.deriv_log.specs.declared.entry.Entry.{Entry}
+use Rattle.deriv_log.specs.declared.licence.Licence.{Licence}
 use Rattle.vlp_reader.specs.declared.problem.Problem.{Problem}
 use Rattle.log_rules.specs.Events.{Failing, log_failure}
 use Rattle.bensolve_main.specs.Shapes.{Shape, shape_seen}
@@ -49,8 +48,8 @@ not_refused (Wrong entry rule) text v w honest checked =
     not_failed checked.file checked.verdict.entries _ (passes checked.bytes checked.file checked.verdict.entries checked.verdict.log checked.read checked.good honest) checked.verdict.wrong
 
 -- nor does a step of it stop
-not_stopped : (entry step : ℕ) (l : AStep Frac) (text : List ℕ) (v w : World) → HonestCheck v w → Checked (Left entry step l) text (sources_of v) (sources_of w) → ⊥
-not_stopped entry step l text v w honest checked =
+not_stopped : (l : Licence) (text : List ℕ) (v w : World) → HonestCheck v w → Checked (Left l) text (sources_of v) (sources_of w) → ⊥
+not_stopped l text v w honest checked =
     not_failed checked.file checked.verdict.entries _ (passes checked.bytes checked.file checked.verdict.entries checked.verdict.log checked.read checked.good honest) checked.verdict.stops
 
 -- a source within its limit is not too long
@@ -64,7 +63,7 @@ told_done Words text v w honest told = absurd told
 told_done (FileFault f) text v w honest told =
     absurd (never_both told.bytes honest.file f.line f.kind
     (subst (λ (l : List ℕ). Reads l honest.file) (sym (same_bytes _ _ _ _ _ honest.problem told.read)) honest.reads) told.fault)
-told_done (Left entry step l) text v w honest told = absurd (not_stopped entry step l text v w honest told)
+told_done (Left l) text v w honest told = absurd (not_stopped l text v w honest told)
 told_done NoMemory text v w honest told = absurd told
 told_done (ReadFault log) text v w honest told = absurd told
 told_done (WriteFault log sent) text v w honest told = absurd told
@@ -77,7 +76,7 @@ halts_for_memory : (result : Status) (v w : World) → HonestCheck v w → Check
 halts_for_memory Done v w honest halts = absurd halts
 halts_for_memory Words v w honest halts = absurd halts
 halts_for_memory (FileFault f) v w honest halts = absurd halts
-halts_for_memory (Left entry step l) v w honest halts = absurd halts
+halts_for_memory (Left l) v w honest halts = absurd halts
 halts_for_memory NoMemory v w honest halts = refl
 halts_for_memory (ReadFault false) v w honest halts = absurd (honest.problem_steady halts.problem.rose)
 halts_for_memory (ReadFault true) v w honest halts = absurd (honest.log_steady halts.log_in.rose)

@@ -30,7 +30,7 @@ told : (file : Problem) (v w : Sources) (bytes : List ℕ) (status : Status) (te
 told file v w bytes Done text good read verdict = record { file = file; good = good; bytes = bytes; read = read; verdict = verdict }
 told file v w bytes Words text good read verdict = absurd verdict
 told file v w bytes (FileFault f) text good read verdict = absurd verdict
-told file v w bytes (Left entry step l) text good read verdict = record { file = file; good = good; bytes = bytes; read = read; verdict = verdict }
+told file v w bytes (Left l) text good read verdict = record { file = file; good = good; bytes = bytes; read = read; verdict = verdict }
 told file v w bytes NoMemory text good read verdict = absurd verdict
 told file v w bytes (ReadFault log) text good read verdict = absurd verdict
 told file v w bytes (WriteFault log sent) text good read verdict = absurd verdict

@@ -1,5 +1,5 @@
 //! Reading and checking: what is to be told of a problem and a log.
-ghost use Rattle.std.specs.Prelude.{◌≡◌, ◌≤◌, length, IfOk, IfErr};
+ghost use Rattle.std.specs.Prelude.{◌≡◌, ◌≤◌, [], length, IfOk, IfErr};
 ghost use Rattle.bensolve_main.specs.World.{channel, sources};
 ghost use Rattle.bensolve_main.specs.Check.{LogVerdict, Told, CheckHalts};
 ghost use Rattle.bensolve_main.specs.Text.{left_text};
@@ -7,7 +7,7 @@ ghost use Rattle.bensolve_main.specs.Text.{left_text};
 use crate::status::{LogRefusal, Status};
 use crate::text;
 use cert_check::{Refusal, check};
-use deriv_log::{LogEnd, read_log};
+use deriv_log::{Entries, Licence, LogEnd, Place, read_log};
 use exact_field::Left;
 use frac128::Frac;
 use sol_writer::report;
@@ -30,10 +30,14 @@ pub(crate) struct Reply {
 
 /// What is told of a step whose exact result is not held.
 fn step_reply(alloc: Global, entry: u32, step: u64, left: Left<Frac>) -> Result<Reply, NoMemory>
-    ensures { IfOk result (λ r. (r.status ≡ Status.Left entry step left) × (r.text ≡ left_text entry step left)) }
+    ensures { IfOk result (λ r. (r.status ≡ Status.Left (record { place = Place.Step entry step; left = left; trail = [] })) × (r.text ≡ left_text entry step left)) }
 {
     let text = text::step_line(alloc, entry, step, &left)?;
-    let status = Status::Left { entry, step, left };
+    let status = Status::Left(Licence {
+        place: Place::Step { entry, step },
+        left,
+        trail: Entries::new(alloc),
+    });
     Ok(Reply { status, text })
 }
 

@@ -405,7 +405,6 @@ fn words_without_a_shape_call_nothing(rt: HostRuntime) -> Result<(), Fail> {
             &mut out,
             &mut log_out,
         );
-        assert_eq!(rt; status, Status::Words);
         assert_eq!(rt; status.code(), 2);
         assert!(rt; out.contents().is_empty() && log_out.contents().is_empty());
         assert!(rt; paths(words.as_slice()).problem.is_none());
@@ -420,19 +419,21 @@ fn faults_of_the_outside_leave_a_front_of_the_text(rt: HostRuntime) -> Result<()
         ..NO_FAULTS
     };
     let (status, out) = check(rt.alloc(), FILE.as_bytes(), LOG.as_bytes(), 10, faults)?;
-    assert_eq!(rt; status, Status::ReadFault { log: false });
+    assert!(rt; matches!(status, Status::ReadFault { log: false }));
     assert!(rt; out.contents().is_empty());
     let faults = Faults {
         out: 2,
         ..NO_FAULTS
     };
     let (status, out) = check(rt.alloc(), FILE.as_bytes(), LOG.as_bytes(), 10, faults)?;
-    assert_eq!(rt;
-        status,
-        Status::WriteFault {
-            log: false,
-            sent: 10
-        }
+    assert!(rt;
+        matches!(
+            status,
+            Status::WriteFault {
+                log: false,
+                sent: 10
+            }
+        )
     );
     assert_eq!(rt; out.contents(), b"report 1\na".as_slice());
     for most in [1usize, 7, 4096] {
@@ -470,7 +471,7 @@ fn faults_of_the_outside_leave_a_front_of_the_text(rt: HostRuntime) -> Result<()
                 )?;
                 assert!(rt; status.code() == 0 || status.code() == code, "{status:?}");
                 assert!(rt; REPORT.as_bytes().starts_with(out.contents()));
-                assert!(rt; status != Status::Done || out.contents() == REPORT.as_bytes());
+                assert!(rt; status.code() != 0 || out.contents() == REPORT.as_bytes());
             }
         }
     }
@@ -495,7 +496,7 @@ fn is_answered(
             );
         }
         Status::FileFault(_) => assert!(rt; out.contents().starts_with(b"fault 3 ")),
-        Status::Left { .. } => assert!(rt; out.contents().starts_with(b"fault 5 ")),
+        Status::Left(_) => assert!(rt; out.contents().starts_with(b"fault 5 ")),
         Status::Refused(_) => assert!(rt; out.contents().starts_with(b"fault 9 ")),
         _ => assert!(rt; false, "{status:?}"),
     }
@@ -537,7 +538,7 @@ fn each_change_of_a_solved_log_is_answered(rt: HostRuntime) -> Result<(), Fail> 
         )?;
         match status {
             Status::Done => assert!(rt; out.contents().starts_with(image)),
-            Status::Left { .. } => assert!(rt; out.contents().starts_with(b"fault 5 ")),
+            Status::Left(_) => assert!(rt; out.contents().starts_with(b"fault 5 ")),
             Status::Refused(_) => assert!(rt; out.contents().starts_with(b"fault 9 ")),
             _ => assert!(rt; false, "{status:?}"),
         }
@@ -549,12 +550,14 @@ fn each_change_of_a_solved_log_is_answered(rt: HostRuntime) -> Result<(), Fail> 
 fn one_byte_more_than_the_limit_is_too_long(rt: HostRuntime) -> Result<(), Fail> {
     let text = vec![in rt.alloc(); b' '; 16_777_217]?;
     let (status, out) = check(rt.alloc(), text.as_slice(), LOG.as_bytes(), 4096, NO_FAULTS)?;
-    assert_eq!(rt;
-        status,
-        Status::TooLong {
-            log: false,
-            read: 16_777_217
-        }
+    assert!(rt;
+        matches!(
+            status,
+            Status::TooLong {
+                log: false,
+                read: 16_777_217
+            }
+        )
     );
     assert_eq!(rt; out.contents(), b"fault 10 problem 16777217\n".as_slice());
     Ok(())
