@@ -13,7 +13,8 @@ use Rattle.vlp_reader.specs.declared.problem.Problem.{Problem}
 use Rattle.log_rules.specs.Events.{Failing, log_failure}
 use Rattle.bensolve_main.specs.Shapes.{Shape, shape_seen}
 use Rattle.bensolve_main.specs.Shapes.Shape.{check}
-use Rattle.bensolve_main.specs.World.{Channel, World, ReadWhole, ReadPast, sources_of}
+use Rattle.cert_check.specs.Streams.{ReadsWhole}
+use Rattle.bensolve_main.specs.World.{Channel, World, ReadPast, sources_of}
 use Rattle.bensolve_main.specs.Reply.{DeliversWith}
 use Rattle.bensolve_main.specs.Check.{GoodFile, Checked, Told, CheckHalts, HonestCheck, log_limit}
 use Rattle.bensolve_main.specs.Outcome.{Outcome, Honest}
@@ -26,11 +27,11 @@ use Rattle.bensolve_main.specs.declared.status.Status.{Status}
 use Rattle.bensolve_main.specs.declared.status.Status.TheVariants.{Done, Words, FileFault, Left, NoMemory, ReadFault, WriteFault, Refused, TooLong}
 
 -- bytes that are told are those that are read
-same_bytes : (old new : Channel) (limit : ℕ) (told bytes : List ℕ) → old.bytes ≡ Some told → ReadWhole old new limit bytes → bytes ≡ told
-same_bytes old new limit told bytes is read = (Consumes-to_end old.bytes new.bytes told bytes is read.consumed read.at_end).0
+same_bytes : (left left' : Option (List ℕ)) (limit : ℕ) (told bytes : List ℕ) → left ≡ Some told → ReadsWhole left left' limit bytes → bytes ≡ told
+same_bytes left left' limit told bytes is read = (Consumes-to_end left left' told bytes is read.consumed read.at_end).0
 
 -- the entries of an honest log have no failure for the file that was read
-passes : {v w : World} (bytes : List ℕ) (file : Problem) (entries : List Entry) → IsTextOf bytes entries → ReadWhole v.log_in w.log_in log_limit bytes → GoodFile file (sources_of v) (sources_of w) →
+passes : {v w : World} (bytes : List ℕ) (file : Problem) (entries : List Entry) → IsTextOf bytes entries → ReadsWhole v.log_in.bytes w.log_in.bytes log_limit bytes → GoodFile file (sources_of v) (sources_of w) →
     HonestCheck v w → log_failure is_held file entries ≡ None
 passes bytes file entries log read good honest =
     let same = one_reading.one_log honest.log_bytes entries honest.entries

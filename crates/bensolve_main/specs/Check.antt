@@ -18,8 +18,9 @@ use Rattle.deriv_log.specs.declared.licence.Place.TheVariants.{Step}
 use Rattle.log_rules.specs.declared.rule.Rule.{Rule}
 use Rattle.vlp_reader.specs.declared.fault.FileFault.{FileFault as AFileFault}
 use Rattle.log_rules.specs.Report.{report_text}
+use Rattle.cert_check.specs.Streams.{ReadsWhole}
 use Rattle.bensolve_main.specs.Text.{file_fault_text, left_text, refusal_text, too_long_text}
-use Rattle.bensolve_main.specs.World.{Sources, World, Uncalled, ReadWhole, ReadPast, ReadFailed}
+use Rattle.bensolve_main.specs.World.{Sources, World, Uncalled, ReadPast, ReadFailed}
 use Rattle.bensolve_main.specs.Reply.{Reply}
 use Rattle.bensolve_main.specs.declared.status.LogRefusal.TheVariants.{Text, Wrong}
 use Rattle.bensolve_main.specs.declared.status.Status.{Status}
@@ -41,7 +42,7 @@ pub record LongProblem (read : ℕ) (text : List ℕ) (old new : Sources) : Type
 -- the problem was read to its end, and this is its first fault
 pub record BadFile (f : AFileFault) (text : List ℕ) (old new : Sources) : Type 0 where
   pub bytes : List ℕ
-  pub read : ReadWhole old.problem new.problem problem_limit bytes
+  pub read : ReadsWhole old.problem.bytes new.problem.bytes problem_limit bytes
   pub fault : FirstFault bytes f.line f.kind
   pub log_in : Uncalled old.log_in new.log_in
   pub line : text ≡ file_fault_text f
@@ -49,7 +50,7 @@ pub record BadFile (f : AFileFault) (text : List ℕ) (old new : Sources) : Type
 -- the problem was read to its end, and reads as this file
 pub record GoodFile (file : Problem) (old new : Sources) : Type 0 where
   pub bytes : List ℕ
-  pub read : ReadWhole old.problem new.problem problem_limit bytes
+  pub read : ReadsWhole old.problem.bytes new.problem.bytes problem_limit bytes
   pub reads : Reads bytes file
 
 -- the problem reads as a file, and more bytes of the log were taken than the limit, and so many
@@ -106,7 +107,7 @@ pub record Checked (status : Status) (text : List ℕ) (old new : Sources) : Typ
   pub file : Problem
   pub good : GoodFile file old new
   pub bytes : List ℕ
-  pub read : ReadWhole old.log_in new.log_in log_limit bytes
+  pub read : ReadsWhole old.log_in.bytes new.log_in.bytes log_limit bytes
   pub verdict : LogVerdict file bytes status text
 
 -- what a status says of the reading, and the text that is to be written

@@ -28,21 +28,13 @@ pub enum Status {
     /// Memory was wanting.
     NoMemory,
     /// The source of the problem failed, or that of the log.
-    ReadFault {
-        log: bool,
-    },
+    ReadFault { log: bool },
     /// The output failed, or that of the log, after a front of the text was written.
-    WriteFault {
-        log: bool,
-        sent: u64,
-    },
+    WriteFault { log: bool, sent: u64 },
     /// The log is refused.
     Refused(LogRefusal),
     /// More bytes were read than the limit, and so many.
-    TooLong {
-        log: bool,
-        read: u64,
-    },
+    TooLong { log: bool, read: u64 },
 }
 
 impl Status {
