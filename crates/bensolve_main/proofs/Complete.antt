@@ -6,15 +6,15 @@ use Rattle.vlp_reader.specs.FirstFault.{Reads}
 use Rattle.vlp_reader.proofs.Faults.{never_both}
 use Rattle.deriv_log.specs.Laws.{IsTextOf}
 use Rattle.deriv_log.proofs.Laws.{one_reading}
-use Rattle.exact_field.specs.declared.op.Left.{Left as AStep}
 use Rattle.frac128.specs.Held.{is_held}
-use Rattle.frac128.specs.declared.frac.Frac.{Frac}
 use Rattle.deriv_log.specs.declared.entry.Entry.{Entry}
+use Rattle.deriv_log.specs.declared.licence.Licence.{Licence}
 use Rattle.vlp_reader.specs.declared.problem.Problem.{Problem}
 use Rattle.log_rules.specs.Events.{Failing, log_failure}
 use Rattle.bensolve_main.specs.Shapes.{Shape, shape_seen}
 use Rattle.bensolve_main.specs.Shapes.Shape.{check}
-use Rattle.bensolve_main.specs.World.{Channel, World, ReadWhole, ReadPast, sources_of}
+use Rattle.cert_check.specs.Streams.{ReadsWhole}
+use Rattle.bensolve_main.specs.World.{Channel, World, ReadPast, sources_of}
 use Rattle.bensolve_main.specs.Reply.{DeliversWith}
 use Rattle.bensolve_main.specs.Check.{GoodFile, Checked, Told, CheckHalts, HonestCheck, log_limit}
 use Rattle.bensolve_main.specs.Outcome.{Outcome, Honest}
@@ -27,11 +27,11 @@ use Rattle.bensolve_main.specs.declared.status.Status.{Status}
 use Rattle.bensolve_main.specs.declared.status.Status.TheVariants.{Done, Words, FileFault, Left, NoMemory, ReadFault, WriteFault, Refused, TooLong}
 
 -- bytes that are told are those that are read
-same_bytes : (old new : Channel) (limit : ℕ) (told bytes : List ℕ) → old.bytes ≡ Some told → ReadWhole old new limit bytes → bytes ≡ told
-same_bytes old new limit told bytes is read = (Consumes-to_end old.bytes new.bytes told bytes is read.consumed read.at_end).0
+same_bytes : (left left' : Option (List ℕ)) (limit : ℕ) (told bytes : List ℕ) → left ≡ Some told → ReadsWhole left left' limit bytes → bytes ≡ told
+same_bytes left left' limit told bytes is read = (Consumes-to_end left left' told bytes is read.consumed read.at_end).0
 
 -- the entries of an honest log have no failure for the file that was read
-passes : {v w : World} (bytes : List ℕ) (file : Problem) (entries : List Entry) → IsTextOf bytes entries → ReadWhole v.log_in w.log_in log_limit bytes → GoodFile file (sources_of v) (sources_of w) →
+passes : {v w : World} (bytes : List ℕ) (file : Problem) (entries : List Entry) → IsTextOf bytes entries → ReadsWhole v.log_in.bytes w.log_in.bytes log_limit bytes → GoodFile file (sources_of v) (sources_of w) →
     HonestCheck v w → log_failure is_held file entries ≡ None
 passes bytes file entries log read good honest =
     let same = one_reading.one_log honest.log_bytes entries honest.entries
@@ -49,8 +49,8 @@ not_refused (Wrong entry rule) text v w honest checked =
     not_failed checked.file checked.verdict.entries _ (passes checked.bytes checked.file checked.verdict.entries checked.verdict.log checked.read checked.good honest) checked.verdict.wrong
 
 -- nor does a step of it stop
-not_stopped : (entry step : ℕ) (l : AStep Frac) (text : List ℕ) (v w : World) → HonestCheck v w → Checked (Left entry step l) text (sources_of v) (sources_of w) → ⊥
-not_stopped entry step l text v w honest checked =
+not_stopped : (l : Licence) (text : List ℕ) (v w : World) → HonestCheck v w → Checked (Left l) text (sources_of v) (sources_of w) → ⊥
+not_stopped l text v w honest checked =
     not_failed checked.file checked.verdict.entries _ (passes checked.bytes checked.file checked.verdict.entries checked.verdict.log checked.read checked.good honest) checked.verdict.stops
 
 -- a source within its limit is not too long
@@ -64,7 +64,7 @@ told_done Words text v w honest told = absurd told
 told_done (FileFault f) text v w honest told =
     absurd (never_both told.bytes honest.file f.line f.kind
     (subst (λ (l : List ℕ). Reads l honest.file) (sym (same_bytes _ _ _ _ _ honest.problem told.read)) honest.reads) told.fault)
-told_done (Left entry step l) text v w honest told = absurd (not_stopped entry step l text v w honest told)
+told_done (Left l) text v w honest told = absurd (not_stopped l text v w honest told)
 told_done NoMemory text v w honest told = absurd told
 told_done (ReadFault log) text v w honest told = absurd told
 told_done (WriteFault log sent) text v w honest told = absurd told
@@ -77,7 +77,7 @@ halts_for_memory : (result : Status) (v w : World) → HonestCheck v w → Check
 halts_for_memory Done v w honest halts = absurd halts
 halts_for_memory Words v w honest halts = absurd halts
 halts_for_memory (FileFault f) v w honest halts = absurd halts
-halts_for_memory (Left entry step l) v w honest halts = absurd halts
+halts_for_memory (Left l) v w honest halts = absurd halts
 halts_for_memory NoMemory v w honest halts = refl
 halts_for_memory (ReadFault false) v w honest halts = absurd (honest.problem_steady halts.problem.rose)
 halts_for_memory (ReadFault true) v w honest halts = absurd (honest.log_steady halts.log_in.rose)

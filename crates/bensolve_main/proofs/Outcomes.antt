@@ -1,14 +1,19 @@
 -- From what the steps of a run tell to what its result says.
-use Rattle.std.proofs.Common.{◌≡◌, ℕ, ◌≤◌, List, [], length, Option, Some, None, IfSome, Result, Ok, Err, IfOk, false, true≢false, ap, ◌∙◌, subst, sym, refl, inl, inr}
+use Rattle.std.proofs.Common.{◌≡◌, ℕ, ◌≤◌, List, [], length, Option, Some, None, IfSome, Result, Ok, Err, IfOk, IfErr, false, true, true≢false, ap, ◌∙◌, subst, sym, refl, inl, inr}
 use Rattle.std.specs.Option.{is_some, option_map}
 use Rattle.src_sink.specs.Outside.{Consumes, IsAtEnd}
 use Rattle.vlp_reader.specs.FirstFault.{Reads}
 use Rattle.vlp_reader.specs.declared.problem.Problem.{Problem}
 use Rattle.bensolve_main.specs.Shapes.{Shape, shape_seen}
 use Rattle.bensolve_main.specs.Shapes.Shape.{check}
-use Rattle.bensolve_main.specs.World.{Channel, World, Sources, ReadWhole, sources_of}
+use Rattle.cert_check.specs.Streams.{ReadsWhole, StreamEnds}
+use Rattle.cert_check.specs.declared.fault.Refusal.TheVariants as refusal
+use Rattle.cert_check.specs.declared.fault.StreamEnd.{StreamEnd}
+use Rattle.cert_check.specs.declared.fault.StreamEnd.TheVariants as end
+use Rattle.bensolve_main.specs.World.{Channel, World, Sources, sources_of}
 use Rattle.bensolve_main.specs.Reply.{reply, Sends, DeliversWith}
-use Rattle.bensolve_main.specs.Check.{GoodFile, LogVerdict, Told, CheckHalts, problem_limit, log_limit}
+use Rattle.bensolve_main.specs.Check.{GoodFile, Told, CheckHalts, problem_limit, log_limit}
+use Rattle.bensolve_main.specs.LogReply.{TellsEnd, HaltsEnd, LogTold, LogHalts}
 use Rattle.bensolve_main.specs.Outcome.{Outcome}
 use Rattle.bensolve_main.specs.declared.command.Command.{Command}
 use Rattle.bensolve_main.specs.declared.command.Command.TheVariants.{Check}
@@ -16,32 +21,81 @@ use Rattle.bensolve_main.specs.declared.examine.Reply.{Reply as Made}
 use Rattle.bensolve_main.specs.declared.status.Status.{Status}
 use Rattle.bensolve_main.specs.declared.status.Status.TheVariants.{Done, Words, FileFault, Left, NoMemory, ReadFault, WriteFault, Refused, TooLong}
 
-pub read_whole : (old new : Channel) (limit : ℕ) (bytes seen : List ℕ) → seen ≡ bytes → Consumes old.bytes new.bytes bytes → IsAtEnd new.bytes → length bytes ≤ limit → ReadWhole old new limit seen
-read_whole old new limit bytes seen same consumed at_end within =
-    subst (λ (b : List ℕ). ReadWhole old new limit b) (sym same) (record { consumed = consumed; at_end = at_end; within = within })
-
 -- a problem that was read to its end, and as a file
 pub good_file : (file : Problem) (v w : Sources) (bytes seen : List ℕ) → seen ≡ bytes → Consumes v.problem.bytes w.problem.bytes bytes → IsAtEnd w.problem.bytes → length bytes ≤ problem_limit →
     Reads seen file → GoodFile file v w
-good_file file v w bytes seen same consumed at_end within reads =
-    record { bytes = seen; read = read_whole v.problem w.problem problem_limit bytes seen same consumed at_end within; reads = reads }
+good_file file v w bytes seen same consumed at_end within reads = record {
+  bytes = seen;
+  read = subst (λ (b : List ℕ). ReadsWhole v.problem.bytes w.problem.bytes problem_limit b) (sym same) (record { consumed = consumed; at_end = at_end; within = within });
+  reads = reads;
+}
 
-told : (file : Problem) (v w : Sources) (bytes : List ℕ) (status : Status) (text : List ℕ) → GoodFile file v w → ReadWhole v.log_in w.log_in log_limit bytes → LogVerdict file bytes status text → Told status text v w
-told file v w bytes Done text good read verdict = record { file = file; good = good; bytes = bytes; read = read; verdict = verdict }
-told file v w bytes Words text good read verdict = absurd verdict
-told file v w bytes (FileFault f) text good read verdict = absurd verdict
-told file v w bytes (Left entry step l) text good read verdict = record { file = file; good = good; bytes = bytes; read = read; verdict = verdict }
-told file v w bytes NoMemory text good read verdict = absurd verdict
-told file v w bytes (ReadFault log) text good read verdict = absurd verdict
-told file v w bytes (WriteFault log sent) text good read verdict = absurd verdict
-told file v w bytes (Refused why) text good read verdict = record { file = file; good = good; bytes = bytes; read = read; verdict = verdict }
-told file v w bytes (TooLong log count) text good read verdict = absurd verdict
+-- ---- from the end of the check of a log
+log_told : (e : StreamEnd) (file : Problem) (old new : Channel) (status : Status) (text : List ℕ) → StreamEnds e file log_limit old.bytes new.bytes old.faults new.faults →
+    TellsEnd e status text → LogTold file status text old new
+log_told (end.Text f) file old new status text h (same, line) =
+    subst (λ (s : Status). LogTold file s text old new) (sym same) (h.bytes, h.read, record { fault = h.text; line = line })
+log_told (end.Refused (refusal.Wrong entry rule)) file old new status text h (same, line) =
+    subst (λ (s : Status). LogTold file s text old new) (sym same)
+    (h.bytes, h.read, record { entries = h.text.entries; log = h.text.log; wrong = h.text.fails; line = line })
+log_told (end.Refused (refusal.Left entry step l)) file old new status text h (same, line) =
+    subst (λ (s : Status). LogTold file s text old new) (sym same)
+    (h.bytes, h.read, record { entry = entry; step = step; place = refl; trail = refl; entries = h.text.entries; log = h.text.log; stops = h.text.fails; line = line })
+log_told (end.Refused refusal.NoMemory) file old new status text h tells = absurd tells
+log_told (end.TooLong read) file old new status text h (same, line) =
+    subst (λ (s : Status). LogTold file s text old new) (sym same) (record { above = h.0; taken = h.1 }, line)
+log_told end.Fault file old new status text h tells = absurd tells
+log_told end.NoMemory file old new status text h tells = absurd tells
 
--- what is said of the bytes of a log is told of both sources
-pub both_told : (file : Problem) (v w : Sources) (bytes : List ℕ) → GoodFile file v w → ReadWhole v.log_in w.log_in log_limit bytes → (r : Result Made Status) →
-    IfOk r (λ made. LogVerdict file bytes made.status made.text) → IfOk r (λ made. Told made.status made.text v w)
-both_told file v w bytes good read (Ok made) verdict = told file v w bytes made.status made.text good read verdict
-both_told file v w bytes good read (Err status) verdict = tt
+pub end_told : (e : StreamEnd) (file : Problem) (old new : Channel) (r : Result Made Status) → StreamEnds e file log_limit old.bytes new.bytes old.faults new.faults →
+    IfOk r (λ made. TellsEnd e made.status made.text) → IfOk r (λ made. LogTold file made.status made.text old new)
+end_told e file old new (Ok made) h tells = log_told e file old new made.status made.text h tells
+end_told e file old new (Err status) h tells = tt
+
+log_halts : (e : StreamEnd) (file : Problem) (old new : Channel) (status : Status) → StreamEnds e file log_limit old.bytes new.bytes old.faults new.faults → HaltsEnd e status → LogHalts status old new
+log_halts e file old new status h (inl none) = subst (λ (s : Status). LogHalts s old new) (sym none) tt
+log_halts e file old new status h (inr (failed, same)) =
+    let why = subst (λ (x : StreamEnd). StreamEnds x file log_limit old.bytes new.bytes old.faults new.faults) failed h in
+    subst (λ (s : Status). LogHalts s old new) (sym same) (record { within = why.1; rose = why.0 })
+
+pub end_halts : (e : StreamEnd) (file : Problem) (old new : Channel) (r : Result Made Status) → StreamEnds e file log_limit old.bytes new.bytes old.faults new.faults →
+    IfErr r (HaltsEnd e) → IfErr r (λ s. LogHalts s old new)
+end_halts e file old new (Ok made) h halts = tt
+end_halts e file old new (Err status) h halts = log_halts e file old new status h halts
+
+-- ---- to what is told of both sources
+told : (file : Problem) (v w : Sources) (status : Status) (text : List ℕ) → GoodFile file v w → LogTold file status text v.log_in w.log_in → Told status text v w
+told file v w Done text good h = record { file = file; good = good; bytes = h.0; read = h.1; verdict = h.2 }
+told file v w Words text good h = absurd h.2
+told file v w (FileFault f) text good h = absurd h.2
+told file v w (Left l) text good h = record { file = file; good = good; bytes = h.0; read = h.1; verdict = h.2 }
+told file v w NoMemory text good h = absurd h.2
+told file v w (ReadFault log) text good h = absurd h.2
+told file v w (WriteFault log sent) text good h = absurd h.2
+told file v w (Refused why) text good h = record { file = file; good = good; bytes = h.0; read = h.1; verdict = h.2 }
+told file v w (TooLong false count) text good h = absurd h.2
+told file v w (TooLong true count) text good h = record { file = file; good = good; past = h.0; line = h.1 }
+
+pub both_told : (file : Problem) (v w : Sources) → GoodFile file v w → (r : Result Made Status) →
+    IfOk r (λ made. LogTold file made.status made.text v.log_in w.log_in) → IfOk r (λ made. Told made.status made.text v w)
+both_told file v w good (Ok made) h = told file v w made.status made.text good h
+both_told file v w good (Err status) h = tt
+
+halts : (file : Problem) (v w : Sources) (status : Status) → GoodFile file v w → LogHalts status v.log_in w.log_in → CheckHalts status v w
+halts file v w Done good h = absurd h
+halts file v w Words good h = absurd h
+halts file v w (FileFault f) good h = absurd h
+halts file v w (Left l) good h = absurd h
+halts file v w NoMemory good h = tt
+halts file v w (ReadFault false) good h = absurd h
+halts file v w (ReadFault true) good h = record { file = file; good = good; log_in = h }
+halts file v w (WriteFault log sent) good h = absurd h
+halts file v w (Refused why) good h = absurd h
+halts file v w (TooLong log count) good h = absurd h
+
+pub both_halt : (file : Problem) (v w : Sources) → GoodFile file v w → (r : Result Made Status) → IfErr r (λ s. LogHalts s v.log_in w.log_in) → IfErr r (λ s. CheckHalts s v w)
+both_halt file v w good (Ok made) h = tt
+both_halt file v w good (Err status) h = halts file v w status good h
 
 -- a reply of `check`, and how its writing ended
 pub replied : (file log : List ℕ) (result status : Status) (text : List ℕ) (problem log_in problem' log_in' out out' log_out : Channel) →

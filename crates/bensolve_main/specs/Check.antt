@@ -1,13 +1,11 @@
 -- The command `check FILE LOG`: what it says of the bytes that were read, in the order of the work.
-use Rattle.std.specs.Prelude.{◌≡◌, ℕ, ◌≤◌, true, false, List, length, Some, None}
+use Rattle.std.specs.Prelude.{◌≡◌, ℕ, ◌≤◌, true, false, List, [], length, Some, None}
 use Rattle.src_sink.specs.Outside.{Rose}
 use Rattle.vlp_reader.specs.FirstFault.{FirstFault, Reads}
 use Rattle.vlp_reader.specs.declared.problem.Problem.{Problem}
 use Rattle.deriv_log.specs.FirstFault.{FirstFault as FirstLogFault}
 use Rattle.deriv_log.specs.Laws.{IsTextOf}
-use Rattle.exact_field.specs.declared.op.Left.{Left as AStep}
 use Rattle.frac128.specs.Held.{is_held}
-use Rattle.frac128.specs.declared.frac.Frac.{Frac}
 use Rattle.log_rules.specs.Events.{log_failure}
 use Rattle.log_rules.specs.Events.Failure.{wrong, left}
 use Rattle.log_rules.specs.Proves.{Proves}
@@ -15,11 +13,14 @@ use Rattle.log_rules.specs.Right.{IsRight}
 use Rattle.log_rules.specs.declared.answer.Answer.{Answer}
 use Rattle.deriv_log.specs.declared.entry.Entry.{Entry}
 use Rattle.deriv_log.specs.declared.fault.LogFault.{LogFault as ALogFault}
+use Rattle.deriv_log.specs.declared.licence.Licence.{Licence}
+use Rattle.deriv_log.specs.declared.licence.Place.TheVariants.{Step}
 use Rattle.log_rules.specs.declared.rule.Rule.{Rule}
 use Rattle.vlp_reader.specs.declared.fault.FileFault.{FileFault as AFileFault}
 use Rattle.log_rules.specs.Report.{report_text}
+use Rattle.cert_check.specs.Streams.{ReadsWhole}
 use Rattle.bensolve_main.specs.Text.{file_fault_text, left_text, refusal_text, too_long_text}
-use Rattle.bensolve_main.specs.World.{Sources, World, Uncalled, ReadWhole, ReadPast, ReadFailed}
+use Rattle.bensolve_main.specs.World.{Sources, World, Uncalled, ReadPast, ReadFailed}
 use Rattle.bensolve_main.specs.Reply.{Reply}
 use Rattle.bensolve_main.specs.declared.status.LogRefusal.TheVariants.{Text, Wrong}
 use Rattle.bensolve_main.specs.declared.status.Status.{Status}
@@ -41,7 +42,7 @@ pub record LongProblem (read : ℕ) (text : List ℕ) (old new : Sources) : Type
 -- the problem was read to its end, and this is its first fault
 pub record BadFile (f : AFileFault) (text : List ℕ) (old new : Sources) : Type 0 where
   pub bytes : List ℕ
-  pub read : ReadWhole old.problem new.problem problem_limit bytes
+  pub read : ReadsWhole old.problem.bytes new.problem.bytes problem_limit bytes
   pub fault : FirstFault bytes f.line f.kind
   pub log_in : Uncalled old.log_in new.log_in
   pub line : text ≡ file_fault_text f
@@ -49,7 +50,7 @@ pub record BadFile (f : AFileFault) (text : List ℕ) (old new : Sources) : Type
 -- the problem was read to its end, and reads as this file
 pub record GoodFile (file : Problem) (old new : Sources) : Type 0 where
   pub bytes : List ℕ
-  pub read : ReadWhole old.problem new.problem problem_limit bytes
+  pub read : ReadsWhole old.problem.bytes new.problem.bytes problem_limit bytes
   pub reads : Reads bytes file
 
 -- the problem reads as a file, and more bytes of the log were taken than the limit, and so many
@@ -71,12 +72,17 @@ pub record FailsAt (entry : ℕ) (rule : Rule) (file : Problem) (bytes text : Li
   pub wrong : log_failure is_held file entries ≡ Some (record { entry = entry; failure = wrong rule })
   pub line : text ≡ refusal_text (Wrong entry rule)
 
--- the first event of a log's entries that fails is a step, of this entry and number and with these operands
-pub record StopsAt (entry step : ℕ) (l : AStep Frac) (file : Problem) (bytes text : List ℕ) : Type 0 where
+-- the first event of a log's entries that fails is a step, of the entry and number that the licence names and with its
+-- operands; no entry was made
+pub record StopsAt (l : Licence) (file : Problem) (bytes text : List ℕ) : Type 0 where
+  pub entry : ℕ
+  pub step : ℕ
+  pub place : l.place ≡ Step entry step
+  pub trail : l.trail ≡ []
   pub entries : List Entry
   pub log : IsTextOf bytes entries
-  pub stops : log_failure is_held file entries ≡ Some (record { entry = entry; failure = left step l.op l.a l.b })
-  pub line : text ≡ left_text entry step l
+  pub stops : log_failure is_held file entries ≡ Some (record { entry = entry; failure = left step l.left.op l.left.a l.left.b })
+  pub line : text ≡ left_text entry step l.left
 
 -- no event of a log's entries fails, they prove an answer for the file, that answer is right, and this is its report
 pub record Proved (file : Problem) (bytes text : List ℕ) : Type 0 where
@@ -91,7 +97,7 @@ pub record Proved (file : Problem) (bytes text : List ℕ) : Type 0 where
 -- what a status says of the bytes of a log for a file, and the text that tells it
 abbrev pub LogVerdict : Problem → List ℕ → Status → List ℕ → Type 0
 LogVerdict file bytes Done text = Proved file bytes text
-LogVerdict file bytes (Left entry step l) text = StopsAt entry step l file bytes text
+LogVerdict file bytes (Left l) text = StopsAt l file bytes text
 LogVerdict file bytes (Refused (Text f)) text = NoLog f bytes text
 LogVerdict file bytes (Refused (Wrong entry rule)) text = FailsAt entry rule file bytes text
 LogVerdict file bytes _ text = ⊥
@@ -101,7 +107,7 @@ pub record Checked (status : Status) (text : List ℕ) (old new : Sources) : Typ
   pub file : Problem
   pub good : GoodFile file old new
   pub bytes : List ℕ
-  pub read : ReadWhole old.log_in new.log_in log_limit bytes
+  pub read : ReadsWhole old.log_in.bytes new.log_in.bytes log_limit bytes
   pub verdict : LogVerdict file bytes status text
 
 -- what a status says of the reading, and the text that is to be written
@@ -110,7 +116,7 @@ Told (TooLong false read) text old new = LongProblem read text old new
 Told (FileFault f) text old new = BadFile f text old new
 Told (TooLong true read) text old new = LongLog read text old new
 Told (Refused why) text old new = Checked (Refused why) text old new
-Told (Left entry step l) text old new = Checked (Left entry step l) text old new
+Told (Left l) text old new = Checked (Left l) text old new
 Told Done text old new = Checked Done text old new
 Told _ text old new = ⊥
 

@@ -7,7 +7,7 @@ abbrev pub code_of : Status → ℕ
 code_of Done = 0
 code_of Words = 2
 code_of (FileFault f) = 3
-code_of (Left entry step left) = 5
+code_of (Left l) = 5
 code_of NoMemory = 6
 code_of (ReadFault log) = 7
 code_of (WriteFault log sent) = 8

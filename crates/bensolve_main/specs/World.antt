@@ -1,6 +1,6 @@
 -- The outside of a run: four channels, and what becomes of them.
 use Rattle.std.specs.Prelude.{◌≡◌, ℕ, ◌<◌, ◌≤◌, List, length, take, Option}
-use Rattle.src_sink.specs.Outside.{Consumes, Appends, IsAtEnd, Rose}
+use Rattle.src_sink.specs.Outside.{Appends, Rose}
 use Rattle.src_sink.specs.Ends.{TakesAtMost, TakesCount}
 
 -- what a channel tells: the bytes that are left in a source, or held by an output, and how many calls failed
@@ -36,12 +36,6 @@ sources_of w = sources w.problem w.log_in
 pub record Uncalled (old new : Channel) : Type 0 where
   pub bytes : new.bytes ≡ old.bytes
   pub faults : new.faults ≡ old.faults
-
--- these bytes were all that was left, and no more than the limit
-pub record ReadWhole (old new : Channel) (limit : ℕ) (bytes : List ℕ) : Type 0 where
-  pub consumed : Consumes old.bytes new.bytes bytes
-  pub at_end : IsAtEnd new.bytes
-  pub within : length bytes ≤ limit
 
 -- more bytes were taken than the limit, and so many
 pub record ReadPast (old new : Channel) (limit read : ℕ) : Type 0 where

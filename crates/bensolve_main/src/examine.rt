@@ -1,17 +1,18 @@
 //! Reading and checking: what is to be told of a problem and a log.
-ghost use Rattle.std.specs.Prelude.{◌≡◌, ◌≤◌, length, IfOk, IfErr};
+ghost use Rattle.std.specs.Prelude.{◌≡◌, ◌≤◌, IfOk, IfErr};
 ghost use Rattle.bensolve_main.specs.World.{channel, sources};
-ghost use Rattle.bensolve_main.specs.Check.{LogVerdict, Told, CheckHalts};
-ghost use Rattle.bensolve_main.specs.Text.{left_text};
+ghost use Rattle.bensolve_main.specs.Check.{Told, CheckHalts};
+ghost use Rattle.bensolve_main.specs.LogReply.{step_licence, TellsRefusal, TellsEnd, HaltsEnd, LogTold, LogHalts};
+ghost use Rattle.bensolve_main.specs.Text.{left_text, too_long_text};
 
 use crate::status::{LogRefusal, Status};
 use crate::text;
-use cert_check::{Refusal, check};
-use deriv_log::{LogEnd, read_log};
+use cert_check::{Refusal, Rule, StreamEnd, check_from};
+use deriv_log::{Entries, Licence, LogFault, Place};
 use exact_field::Left;
 use frac128::Frac;
 use sol_writer::report;
-use src_sink::{Bytes, MOST_ITEMS, NoMemory, ReadEnd, Source, read_all};
+use src_sink::{Bytes, NoMemory, ReadEnd, Source, read_all};
 use std::alloc::Global;
 use vlp_reader::{Problem, VlpEnd, read_vlp};
 
@@ -30,45 +31,76 @@ pub(crate) struct Reply {
 
 /// What is told of a step whose exact result is not held.
 fn step_reply(alloc: Global, entry: u32, step: u64, left: Left<Frac>) -> Result<Reply, NoMemory>
-    ensures { IfOk result (λ r. (r.status ≡ Status.Left entry step left) × (r.text ≡ left_text entry step left)) }
+    ensures { IfOk result (λ r. (r.status ≡ Status.Left (step_licence entry step left)) × (r.text ≡ left_text entry step left)) }
 {
     let text = text::step_line(alloc, entry, step, &left)?;
-    let status = Status::Left { entry, step, left };
+    let status = Status::Left(Licence {
+        place: Place::Step { entry, step },
+        left,
+        trail: Entries::new(alloc),
+    });
     Ok(Reply { status, text })
 }
 
-/// What the bytes of a log say for a problem. An `Err` is want of memory.
-fn examine_log(alloc: Global, file: &Problem, bytes: &[u8]) -> Result<Reply, Status>
-    requires { length bytes.now ≤ MOST_ITEMS }
-    ensures told { IfOk result (λ r. LogVerdict file.now bytes.now r.status r.text) }
-    ensures halts { IfErr result (λ s. s ≡ Status.NoMemory) }
+/// What is told of a log's text that has a fault.
+fn fault_reply(alloc: Global, fault: LogFault) -> Result<Reply, NoMemory>
+    ensures { IfOk result (λ r. TellsRefusal (LogRefusal.Text fault) r.status r.text) }
 {
-    let entries = match read_log(alloc, bytes) {
-        Ok(entries) => entries,
-        Err(LogEnd::Fault(fault)) => {
-            let text = text::log_fault_line(alloc, fault)?;
-            let status = Status::Refused(LogRefusal::Text(fault));
-            return Ok(Reply { status, text });
+    let text = text::log_fault_line(alloc, fault)?;
+    let status = Status::Refused(LogRefusal::Text(fault));
+    Ok(Reply { status, text })
+}
+
+/// What is told of a rule that an entry fails.
+fn wrong_reply(alloc: Global, entry: u32, rule: Rule) -> Result<Reply, NoMemory>
+    ensures { IfOk result (λ r. TellsRefusal (LogRefusal.Wrong entry rule) r.status r.text) }
+{
+    let text = text::wrong_line(alloc, entry, rule)?;
+    let status = Status::Refused(LogRefusal::Wrong { entry, rule });
+    Ok(Reply { status, text })
+}
+
+/// What is told of a source with more bytes than its limit.
+fn long_reply(alloc: Global, log: bool, read: u64) -> Result<Reply, NoMemory>
+    ensures { IfOk result (λ r. (r.status ≡ Status.TooLong log read) × (r.text ≡ too_long_text log read)) }
+{
+    let text = text::too_long_line(alloc, log, read)?;
+    let status = Status::TooLong { log, read };
+    Ok(Reply { status, text })
+}
+
+/// What is told where the check of a log gives no answer. An `Err` is a status without a text.
+fn end_reply(alloc: Global, end: StreamEnd) -> Result<Reply, Status>
+    ensures told { IfOk result (λ r. TellsEnd end r.status r.text) }
+    ensures halts { IfErr result (HaltsEnd end) }
+{
+    match end {
+        StreamEnd::Text(fault) => Ok(fault_reply(alloc, fault)?),
+        StreamEnd::TooLong(read) => Ok(long_reply(alloc, true, read)?),
+        StreamEnd::Fault => Err(Status::ReadFault { log: true }),
+        StreamEnd::NoMemory => Err(Status::NoMemory),
+        StreamEnd::Refused(refusal) => match refusal {
+            Refusal::Wrong { entry, rule } => Ok(wrong_reply(alloc, entry, rule)?),
+            Refusal::Left { entry, step, left } => Ok(step_reply(alloc, entry, step, left)?),
+            Refusal::NoMemory => Err(Status::NoMemory),
+        },
+    }
+}
+
+/// Reads and checks the log. An `Err` is a status without a text.
+fn examine_log<L: Source>(alloc: Global, file: &Problem, log_in: &mut L) -> Result<Reply, Status>
+    ensures count { L.faults log_in.old ≤ L.faults log_in.new }
+    ensures told { IfOk result (λ r. LogTold file.now r.status r.text (channel (L.left log_in.old) (L.faults log_in.old)) (channel (L.left log_in.new) (L.faults log_in.new))) }
+    ensures halts { IfErr result (λ s. LogHalts s (channel (L.left log_in.old) (L.faults log_in.old)) (channel (L.left log_in.new) (L.faults log_in.new))) }
+{
+    match check_from(alloc, file, log_in, LOG_LIMIT) {
+        Ok(answer) => {
+            let text = report(alloc, file, &answer)?;
+            let status = Status::Done;
+            Ok(Reply { status, text })
         }
-        Err(LogEnd::NoMemory) => return Err(Status::NoMemory),
-    };
-    let answer = match check(alloc, file, &entries) {
-        Ok(answer) => answer,
-        Err(Refusal::Wrong { entry, rule }) => {
-            let text = text::wrong_line(alloc, entry, rule)?;
-            let status = Status::Refused(LogRefusal::Wrong { entry, rule });
-            return Ok(Reply { status, text });
-        }
-        Err(Refusal::Left { entry, step, left }) => {
-            return Ok(step_reply(alloc, entry, step, left)?);
-        }
-        Err(Refusal::NoMemory) => return Err(Status::NoMemory),
-    };
-    let text = report(alloc, file, &answer)?;
-    Ok(Reply {
-        status: Status::Done,
-        text,
-    })
+        Err(end) => end_reply(alloc, end),
+    }
 }
 
 /// Reads the problem, then the log, and checks the log. An `Err` is a status without a text.
@@ -87,11 +119,7 @@ pub(crate) fn examine<S: Source, L: Source>(
 {
     let bytes = match read_all(alloc, problem, PROBLEM_LIMIT) {
         Ok(bytes) => bytes,
-        Err(ReadEnd::TooLong(read)) => {
-            let text = text::too_long_line(alloc, false, read)?;
-            let status = Status::TooLong { log: false, read };
-            return Ok(Reply { status, text });
-        }
+        Err(ReadEnd::TooLong(read)) => return Ok(long_reply(alloc, false, read)?),
         Err(ReadEnd::Fault) => return Err(Status::ReadFault { log: false }),
         Err(ReadEnd::NoMemory) => return Err(Status::NoMemory),
     };
@@ -104,15 +132,5 @@ pub(crate) fn examine<S: Source, L: Source>(
         }
         Err(VlpEnd::NoMemory) => return Err(Status::NoMemory),
     };
-    let log = match read_all(alloc, log_in, LOG_LIMIT) {
-        Ok(log) => log,
-        Err(ReadEnd::TooLong(read)) => {
-            let text = text::too_long_line(alloc, true, read)?;
-            let status = Status::TooLong { log: true, read };
-            return Ok(Reply { status, text });
-        }
-        Err(ReadEnd::Fault) => return Err(Status::ReadFault { log: true }),
-        Err(ReadEnd::NoMemory) => return Err(Status::NoMemory),
-    };
-    examine_log(alloc, &file, log.as_slice())
+    examine_log(alloc, &file, log_in)
 }

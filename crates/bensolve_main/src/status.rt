@@ -1,8 +1,6 @@
 //! How a run ends.
 use cert_check::Rule;
-use deriv_log::LogFault;
-use exact_field::Left;
-use frac128::Frac;
+use deriv_log::{Licence, LogFault};
 use src_sink::NoMemory;
 use vlp_reader::FileFault;
 
@@ -16,7 +14,7 @@ pub enum LogRefusal {
 }
 
 /// How a run ends. The numbers of the codes are those of `Status::code`.
-#[derive(Clone, Copy, Debug, PartialEq, Eq)]
+#[derive(Debug, Drop)]
 pub enum Status {
     /// The answer was reported.
     Done,
@@ -24,31 +22,19 @@ pub enum Status {
     Words,
     /// The problem's text is refused.
     FileFault(FileFault),
-    /// A step of the check of an entry has an exact result that is not held: the numbers of the entry and of the step in it,
-    /// both from 1, with its operands.
-    Left {
-        entry: u32,
-        step: u64,
-        left: Left<Frac>,
-    },
+    /// An operation has an exact result that is not held. Of `check` it is a step of an entry's check, at `Place::Step`, and
+    /// no entry was made.
+    Left(Licence),
     /// Memory was wanting.
     NoMemory,
     /// The source of the problem failed, or that of the log.
-    ReadFault {
-        log: bool,
-    },
+    ReadFault { log: bool },
     /// The output failed, or that of the log, after a front of the text was written.
-    WriteFault {
-        log: bool,
-        sent: u64,
-    },
+    WriteFault { log: bool, sent: u64 },
     /// The log is refused.
     Refused(LogRefusal),
     /// More bytes were read than the limit, and so many.
-    TooLong {
-        log: bool,
-        read: u64,
-    },
+    TooLong { log: bool, read: u64 },
 }
 
 impl Status {
@@ -63,7 +49,7 @@ impl Status {
             Status::Done => 0,
             Status::Words => 2,
             Status::FileFault(_) => 3,
-            Status::Left { .. } => 5,
+            Status::Left(_) => 5,
             Status::NoMemory => 6,
             Status::ReadFault { .. } => 7,
             Status::WriteFault { .. } => 8,

@@ -2,10 +2,13 @@
 ghost use Rattle.std.specs.Prelude.{◌<◌};
 
 use crate::{Status, paths, run};
+use cert_check::{Refusal, Rule, StreamEnd, check_from};
+use deriv_log::{LogFault, LogKind};
 use src_sink::{Bytes, Items, MemSink, MemSource, NoMemory};
 use std::alloc::{AllocError, Global};
 use std::process::Abort;
 use std::test::Fail;
+use vlp_reader::read_vlp;
 
 /// A file whose sides contradict each other: x is at most 0 by its row, and at least 1 by its column.
 const FILE: &str = "p vlp min 1 1 1 1 1\na 1 1 1\no 1 1 1\ni 1 u 0\nj 1 l 1\ne\n";
@@ -176,6 +179,13 @@ fn tells_each_refusal_by_its_line(rt: HostRuntime) -> Result<(), Fail> {
             "version 1\nfarkas 0\nend infeasible\n",
             9,
             "fault 9 entry 2 rule 10 Bound\n",
+        ),
+        // The same with a fault of the text behind it.
+        (
+            FILE,
+            "version 1\nfarkas 0\nend infeasible\nx\n",
+            9,
+            "fault 9 line 4 kind 1 BadLine\n",
         ),
         (
             FILE,
@@ -376,7 +386,7 @@ fn a_solved_log_is_tested_entry_by_entry(rt: HostRuntime) -> Result<(), Fail> {
     ];
     for (number, line, code, text) in table {
         let log = plane_log(rt.alloc(), number, line)?;
-        let (status, out) = check(rt.alloc(), PLANE.as_bytes(), log.as_bytes(), 10, NO_FAULTS)?;
+        let (status, out) = check(rt.alloc(), PLANE.as_bytes(), log.as_bytes(), 1, NO_FAULTS)?;
         assert_eq!(rt; out.contents(), text.as_bytes());
         assert_eq!(rt; status.code(), code, "of {text:?}");
     }
@@ -405,7 +415,6 @@ fn words_without_a_shape_call_nothing(rt: HostRuntime) -> Result<(), Fail> {
             &mut out,
             &mut log_out,
         );
-        assert_eq!(rt; status, Status::Words);
         assert_eq!(rt; status.code(), 2);
         assert!(rt; out.contents().is_empty() && log_out.contents().is_empty());
         assert!(rt; paths(words.as_slice()).problem.is_none());
@@ -415,65 +424,62 @@ fn words_without_a_shape_call_nothing(rt: HostRuntime) -> Result<(), Fail> {
 
 #[test]
 fn faults_of_the_outside_leave_a_front_of_the_text(rt: HostRuntime) -> Result<(), Fail> {
-    let faults = Faults {
-        problem: 2,
-        ..NO_FAULTS
-    };
-    let (status, out) = check(rt.alloc(), FILE.as_bytes(), LOG.as_bytes(), 10, faults)?;
-    assert_eq!(rt; status, Status::ReadFault { log: false });
-    assert!(rt; out.contents().is_empty());
-    let faults = Faults {
-        out: 2,
-        ..NO_FAULTS
-    };
-    let (status, out) = check(rt.alloc(), FILE.as_bytes(), LOG.as_bytes(), 10, faults)?;
-    assert_eq!(rt;
-        status,
-        Status::WriteFault {
-            log: false,
-            sent: 10
-        }
-    );
-    assert_eq!(rt; out.contents(), b"report 1\na".as_slice());
-    for most in [1usize, 7, 4096] {
-        for call in 1u64..=20 {
-            let each = [
-                (
-                    Faults {
-                        problem: call,
-                        ..NO_FAULTS
-                    },
-                    7,
-                ),
-                (
-                    Faults {
-                        log: call,
-                        ..NO_FAULTS
-                    },
-                    7,
-                ),
-                (
-                    Faults {
-                        out: call,
-                        ..NO_FAULTS
-                    },
-                    8,
-                ),
-            ];
-            for (faults, code) in each {
-                let (status, out) = check(
-                    rt.alloc(),
-                    FILE.as_bytes(),
-                    LOG.as_bytes(),
-                    most.max(1),
-                    faults,
-                )?;
-                assert!(rt; status.code() == 0 || status.code() == code, "{status:?}");
-                assert!(rt; REPORT.as_bytes().starts_with(out.contents()));
-                assert!(rt; status != Status::Done || out.contents() == REPORT.as_bytes());
-            }
-        }
+    // The log comes as its first line, pieces in the middle of lines, and an end behind the last line.
+    let table = [
+        (2, 0, 0, 7, ""),
+        (0, 1, 0, 7, ""),
+        (0, 3, 0, 7, ""),
+        (0, 6, 0, 7, ""),
+        (0, 7, 0, 0, REPORT),
+        (0, 0, 2, 8, "report 1\na"),
+    ];
+    for (problem, log, out, code, text) in table {
+        let faults = Faults { problem, log, out };
+        let (status, out) = check(rt.alloc(), FILE.as_bytes(), LOG.as_bytes(), 10, faults)?;
+        assert_eq!(rt; status.code(), code);
+        assert_eq!(rt; out.contents(), text.as_bytes());
     }
+    Ok(())
+}
+
+#[test]
+fn a_log_is_read_to_its_limit(rt: HostRuntime) -> Result<(), Fail> {
+    let problem = read_vlp(rt.alloc(), FILE.as_bytes()).ok().ok_or("a file")?;
+    let fails = StreamEnd::Refused(Refusal::Wrong {
+        entry: 2,
+        rule: Rule::Bound,
+    });
+    let bad = StreamEnd::Text(LogFault {
+        line: 2,
+        kind: LogKind::BadLine,
+    });
+    let table = [
+        (LOG, 42, None),
+        (LOG, 41, Some(StreamEnd::TooLong(42))),
+        ("version 1\nfarkas 0\nend infeasible\n", 34, Some(fails)),
+        (
+            "version 1\nfarkas 0\nend infeasible\n",
+            33,
+            Some(StreamEnd::TooLong(34)),
+        ),
+        ("version 1\nx\nversion 1\n", 22, Some(bad)),
+        (
+            "version 1\nx\nversion 1\n",
+            21,
+            Some(StreamEnd::TooLong(22)),
+        ),
+    ];
+    for (text, limit, end) in table {
+        let mut log = source(rt.alloc(), text.as_bytes(), 1, 0)?;
+        assert_eq!(rt;
+            check_from(rt.alloc(), &problem, &mut log, limit).err(),
+            end
+        );
+    }
+    // The source fails behind a fault of its text.
+    let mut log = source(rt.alloc(), b"x\nversion 1\n", 1, 5)?;
+    let end = check_from(rt.alloc(), &problem, &mut log, 100).err();
+    assert_eq!(rt; end, Some(StreamEnd::Fault));
     Ok(())
 }
 
@@ -495,7 +501,7 @@ fn is_answered(
             );
         }
         Status::FileFault(_) => assert!(rt; out.contents().starts_with(b"fault 3 ")),
-        Status::Left { .. } => assert!(rt; out.contents().starts_with(b"fault 5 ")),
+        Status::Left(_) => assert!(rt; out.contents().starts_with(b"fault 5 ")),
         Status::Refused(_) => assert!(rt; out.contents().starts_with(b"fault 9 ")),
         _ => assert!(rt; false, "{status:?}"),
     }
@@ -513,9 +519,6 @@ fn each_front_and_each_change_is_answered(rt: HostRuntime) -> Result<(), Fail> {
     }
     for end in 0..LOG.len() {
         is_answered(&rt, FILE.as_bytes(), &LOG.as_bytes()[..end], &[])?;
-        let mut text = LOG.as_bytes().to_vec(rt.alloc())?;
-        text[end] = b'9';
-        is_answered(&rt, FILE.as_bytes(), text.as_slice(), &[REPORT])?;
     }
     Ok(())
 }
@@ -537,7 +540,7 @@ fn each_change_of_a_solved_log_is_answered(rt: HostRuntime) -> Result<(), Fail> 
         )?;
         match status {
             Status::Done => assert!(rt; out.contents().starts_with(image)),
-            Status::Left { .. } => assert!(rt; out.contents().starts_with(b"fault 5 ")),
+            Status::Left(_) => assert!(rt; out.contents().starts_with(b"fault 5 ")),
             Status::Refused(_) => assert!(rt; out.contents().starts_with(b"fault 9 ")),
             _ => assert!(rt; false, "{status:?}"),
         }
@@ -549,12 +552,14 @@ fn each_change_of_a_solved_log_is_answered(rt: HostRuntime) -> Result<(), Fail> 
 fn one_byte_more_than_the_limit_is_too_long(rt: HostRuntime) -> Result<(), Fail> {
     let text = vec![in rt.alloc(); b' '; 16_777_217]?;
     let (status, out) = check(rt.alloc(), text.as_slice(), LOG.as_bytes(), 4096, NO_FAULTS)?;
-    assert_eq!(rt;
-        status,
-        Status::TooLong {
-            log: false,
-            read: 16_777_217
-        }
+    assert!(rt;
+        matches!(
+            status,
+            Status::TooLong {
+                log: false,
+                read: 16_777_217
+            }
+        )
     );
     assert_eq!(rt; out.contents(), b"fault 10 problem 16777217\n".as_slice());
     Ok(())

@@ -29,7 +29,7 @@ use Rattle.log_rules.proofs.LogMeets.{events_give_meets}
 use Rattle.log_tests.specs.Cuts as cuts
 use Rattle.log_tests.specs.declared.corner.Cut as kept
 use Rattle.cert_check.specs.Standing.{IsAt, IsFound, IsWholeOf, IsLineOf, line_answer}
-use Rattle.cert_check.specs.declared.checker.Checker.{Checker}
+use Rattle.cert_check.specs.declared.progress.Progress.{Progress}
 use Rattle.cert_check.specs.declared.found.FoundWhole.{FoundWhole}
 use Rattle.cert_check.specs.declared.found.FoundLine.{FoundLine}
 
@@ -113,18 +113,18 @@ not_found k entries (Some x) Of e h t = true≢false (ap (λ o. is_some o) e)
 pub found_is : {X : Type 0} (k : Kind) (entries : List Entry) (found : Option X) (Of : X → Type 0) (x : X) → found ≡ Some x → IsFound k entries found Of → Of x
 found_is k entries found Of x e h = subst (λ o. MatchOption o (has k entries ≡ false) Of) e h
 
-module _ (file : Problem) (entries : List Entry) (checker : Checker) (at : IsAt file entries checker) (log : IsLog entries) where
+module _ (file : Problem) (entries : List Entry) (progress : Progress) (at : IsAt file entries progress) (log : IsLog entries) where
   meet : AllMeet file entries
   meet = events_give_meets is_held file entries at.passes
 
   ends : has order.end entries ≡ true
   ends = has_end entries log.ends
 
-  pub no_end : checker.found.ended ≡ None → ⊥
-  no_end e = not_found order.end entries checker.found.ended (λ k. Contains entries (End k)) e at.found.ended ends
+  pub no_end : progress.found.ended ≡ None → ⊥
+  no_end e = not_found order.end entries progress.found.ended (λ k. Contains entries (End k)) e at.found.ended ends
 
-  stands : (k : EndKind) → checker.found.ended ≡ Some k → Contains entries (End k)
-  stands k e = found_is order.end entries checker.found.ended (λ j. Contains entries (End j)) k e at.found.ended
+  stands : (k : EndKind) → progress.found.ended ≡ Some k → Contains entries (End k)
+  stands k e = found_is order.end entries progress.found.ended (λ j. Contains entries (End j)) k e at.found.ended
 
   -- what stands before the end stands in the log
   before_end : (k : Kind) (e : Entry) → Contains entries e → ((before : List Entry) → Meets file before e → IsTrue (has k before)) → has k entries ≡ true
@@ -133,19 +133,19 @@ module _ (file : Problem) (entries : List Entry) (checker : Checker) (at : IsAt 
       ap (has k) p.same ∙ has_more k p.before (e ∷ p.rest) (asked p.before (meet p.before e p.rest p.same))
 
   -- a `whole`, a `line` or a `start` has a `duality` before it
-  scale : (k : Kind) (e : Entry) → Contains entries e → ((before : List Entry) → Meets file before e → IsTrue (has order.duality before)) → checker.known.c ≡ duality_vector entries
+  scale : (k : Kind) (e : Entry) → Contains entries e → ((before : List Entry) → Meets file before e → IsTrue (has order.duality before)) → progress.known.c ≡ duality_vector entries
   scale k e c asked = (at.known.scale (before_end order.duality e c asked)).is
 
-  pub infeasible_proved : checker.found.ended ≡ Some ending.Infeasible → (u : List Spot) → checker.found.farkas ≡ Some u → Proves file entries (answer.Infeasible u)
+  pub infeasible_proved : progress.found.ended ≡ Some ending.Infeasible → (u : List Spot) → progress.found.farkas ≡ Some u → Proves file entries (answer.Infeasible u)
   infeasible_proved e u f = record {
     log = log;
     meet = meet;
-    gives = (stands ending.Infeasible e, found_is order.farkas entries checker.found.farkas (λ v. Contains entries (Farkas v)) u f at.found.farkas);
+    gives = (stands ending.Infeasible e, found_is order.farkas entries progress.found.farkas (λ v. Contains entries (Farkas v)) u f at.found.farkas);
   }
 
-  pub whole_proved : checker.found.ended ≡ Some ending.Whole → (w : FoundWhole) → checker.found.whole ≡ Some w → Proves file entries (answer.Whole checker.known.c w.x w.ray)
+  pub whole_proved : progress.found.ended ≡ Some ending.Whole → (w : FoundWhole) → progress.found.whole ≡ Some w → Proves file entries (answer.Whole progress.known.c w.x w.ray)
   whole_proved e w f =
-      let m : IsWholeOf entries w = found_is order.whole entries checker.found.whole (IsWholeOf entries) w f at.found.whole in
+      let m : IsWholeOf entries w = found_is order.whole entries progress.found.whole (IsWholeOf entries) w f at.found.whole in
       record {
         log = log;
         meet = meet;
@@ -156,29 +156,29 @@ module _ (file : Problem) (entries : List Entry) (checker : Checker) (at : IsAt 
       }
 
   -- ---- a line
-  line_in : (l : FoundLine) → checker.found.line ≡ Some l → IsLineOf entries l
-  line_in l f = found_is order.line entries checker.found.line (IsLineOf entries) l f at.found.line
+  line_in : (l : FoundLine) → progress.found.line ≡ Some l → IsLineOf entries l
+  line_in l f = found_is order.line entries progress.found.line (IsLineOf entries) l f at.found.line
 
-  pub some_cut : (l : FoundLine) → checker.found.line ≡ Some l → 0 < length checker.solving.cuts.items
+  pub some_cut : (l : FoundLine) → progress.found.line ≡ Some l → 0 < length progress.solving.cuts.items
   some_cut l f =
       let c = line_in l f in
       let e : Entry = Line l.d l.x l.ray c.0 l.back c.1.0 in
-      longer checker.solving.cuts.items (λ none. cuts_there file.objs entries (before_end order.cut e c.1.1 (λ before k. cut_before before k.order))
+      longer progress.solving.cuts.items (λ none. cuts_there file.objs entries (before_end order.cut e c.1.1 (λ before k. cut_before before k.order))
       (ap (take 1) (sym at.solving.cuts) ∙ ap (λ (xs : List kept.Cut). take 1 (map cuts.stated xs)) none))
     where
       longer : (xs : List kept.Cut) → (xs ≡ [] → ⊥) → 0 < length xs
       longer [] h = absurd (h refl)
       longer (x ∷ xs) h = omega arith
 
-  first_cut : (first : kept.Cut) → 0 < length checker.solving.cuts.items → first ≡ get_or checker.solving.cuts.items 0 first → take 1 (state file.objs entries).cuts ≡ cuts.stated first ∷ []
-  first_cut first l is = ap (take 1) (sym at.solving.cuts) ∙ go checker.solving.cuts.items l is
+  first_cut : (first : kept.Cut) → 0 < length progress.solving.cuts.items → first ≡ get_or progress.solving.cuts.items 0 first → take 1 (state file.objs entries).cuts ≡ cuts.stated first ∷ []
+  first_cut first l is = ap (take 1) (sym at.solving.cuts) ∙ go progress.solving.cuts.items l is
     where
       go : (xs : List kept.Cut) → 0 < length xs → first ≡ get_or xs 0 first → take 1 (map cuts.stated xs) ≡ cuts.stated first ∷ []
       go [] l is = absurd (omega (arith, l))
       go (x ∷ xs) l is = ap (λ (c : kept.Cut). cuts.stated c ∷ []) (sym is)
 
-  pub no_vertex_proved : checker.found.ended ≡ Some ending.NoVertex → (l : FoundLine) → checker.found.line ≡ Some l → (first : kept.Cut) →
-      first ≡ get_or checker.solving.cuts.items 0 first → Proves file entries (line_answer file.dir checker.known.c l first)
+  pub no_vertex_proved : progress.found.ended ≡ Some ending.NoVertex → (l : FoundLine) → progress.found.line ≡ Some l → (first : kept.Cut) →
+      first ≡ get_or progress.solving.cuts.items 0 first → Proves file entries (line_answer file.dir progress.known.c l first)
   no_vertex_proved e l f first g =
       let c = line_in l f in
       record {
@@ -201,8 +201,8 @@ module _ (file : Problem) (entries : List Entry) (checker : Checker) (at : IsAt 
       }
 
   -- ---- a solved log
-  pub supplies : checker.found.ended ≡ Some ending.Solved → Supplies file entries file.dir checker.known.c checker.solving.live.generators.items checker.solving.cuts.items
-      checker.solving.uses.list checker.solving.named
+  pub supplies : progress.found.ended ≡ Some ending.Solved → Supplies file entries file.dir progress.known.c progress.solving.live.generators.items progress.solving.cuts.items
+      progress.solving.uses.list progress.solving.named
   supplies e = record {
     log = log;
     meet = meet;
@@ -240,14 +240,14 @@ module _ (file : Problem) (entries : List Entry) (checker : Checker) (at : IsAt 
           started_is (End k) h before m = absurd (true≢false (sym h))
 
   -- ---- what an end asks for is found
-  pub farkas_missing : checker.found.ended ≡ Some ending.Infeasible → checker.found.farkas ≡ None → ⊥
-  farkas_missing e none = not_found order.farkas entries checker.found.farkas (λ u. Contains entries (Farkas u)) none at.found.farkas
+  pub farkas_missing : progress.found.ended ≡ Some ending.Infeasible → progress.found.farkas ≡ None → ⊥
+  farkas_missing e none = not_found order.farkas entries progress.found.farkas (λ u. Contains entries (Farkas u)) none at.found.farkas
       (before_end order.farkas (End ending.Infeasible) (stands ending.Infeasible e) (λ before m. m.rules))
 
-  pub whole_missing : checker.found.ended ≡ Some ending.Whole → checker.found.whole ≡ None → ⊥
-  whole_missing e none = not_found order.whole entries checker.found.whole (IsWholeOf entries) none at.found.whole
+  pub whole_missing : progress.found.ended ≡ Some ending.Whole → progress.found.whole ≡ None → ⊥
+  whole_missing e none = not_found order.whole entries progress.found.whole (IsWholeOf entries) none at.found.whole
       (before_end order.whole (End ending.Whole) (stands ending.Whole e) (λ before m. m.rules))
 
-  pub line_missing : checker.found.ended ≡ Some ending.NoVertex → checker.found.line ≡ None → ⊥
-  line_missing e none = not_found order.line entries checker.found.line (IsLineOf entries) none at.found.line
+  pub line_missing : progress.found.ended ≡ Some ending.NoVertex → progress.found.line ≡ None → ⊥
+  line_missing e none = not_found order.line entries progress.found.line (IsLineOf entries) none at.found.line
       (before_end order.line (End ending.NoVertex) (stands ending.NoVertex e) (λ before m. m.rules))

@@ -19,7 +19,7 @@ use Rattle.log_solved.specs.Solving.{IsSolving}
 use Rattle.vlp_matrices.specs.Sheets.{IsSheetOf}
 use Rattle.log_tests.specs.declared.corner.Cut.{Cut}
 use Rattle.cert_check.specs.Kinds.{AreKinds}
-use Rattle.cert_check.specs.declared.checker.Checker.{Checker}
+use Rattle.cert_check.specs.declared.progress.Progress.{Progress}
 use Rattle.cert_check.specs.declared.known.Known.{Known}
 use Rattle.cert_check.specs.declared.found.Found.{Found}
 use Rattle.cert_check.specs.declared.found.FoundWhole.{FoundWhole}
@@ -53,11 +53,11 @@ pub record HasFound (before : List Entry) (found : Found) : Type 0 where
   pub line : IsFound order.line before found.line (IsLineOf before)
   pub ended : IsFound order.end before found.ended (λ k. Contains before (entry.End k))
 
--- the checker stands behind these entries, none of whose events fails
-pub record IsAt (file : Problem) (before : List Entry) (checker : Checker) : Type 0 where
-  pub known : IsKnown file before checker.known
-  pub found : HasFound before checker.found
-  pub solving : IsSolving file before checker.solving
+-- the checker is behind these entries, none of whose events fails
+pub record IsAt (file : Problem) (before : List Entry) (progress : Progress) : Type 0 where
+  pub known : IsKnown file before progress.known
+  pub found : HasFound before progress.found
+  pub solving : IsSolving file before progress.solving
   pub passes : log_failure is_held file before ≡ None
 
 -- a duality vector has an entry for each objective

@@ -1,0 +1,167 @@
+//! Each entry of a log against its rules, behind entries without a failure.
+ghost use Rattle.std.specs.Prelude.{◌≡◌, List, [], ◌∷◌, ◌++◌, IsTrue, IfOk, OnOk};
+ghost use Rattle.frac128.specs.Held.{is_held};
+ghost use Rattle.deriv_log.specs.Formed.{is_formed, IsLog};
+ghost use Rattle.deriv_log.specs.declared.entry.Entry.{Entry};
+ghost use Rattle.log_rules.specs.Events.{events};
+ghost use Rattle.log_rules.specs.Order.{kind, in_order};
+ghost use Rattle.log_rules.specs.Proves.{Proves};
+ghost use Rattle.log_rules.specs.Runs.{Runs, steps};
+ghost use Rattle.log_rules.specs.declared.answer.Answer.TheVariants.{Whole};
+ghost use Rattle.cert_check.specs.Standing.{IsAt, IsKnown, HasFound, FitsScale, line_answer};
+ghost use Rattle.vlp_reader.specs.declared.problem.Problem.{Problem};
+
+use crate::found::{Found, FoundLine, FoundWhole};
+use crate::known::Known;
+use crate::testing::take_entry;
+use deriv_log::{EndKind, Entry};
+use exact_field::Field;
+use frac128::Vector;
+use log_answer::solved_answer;
+use log_rules::{Answer, Facet, Rule, Stop};
+use log_solved::Solving;
+use log_tests::{Cut, pass};
+use src_sink::{Items, NoMemory};
+use std::alloc::Global;
+use vlp_reader::{Dir, Problem};
+
+/// What is known of a log's entries so far, none of whose events fails. Behind an error of `take` the value is of no use. It
+/// takes memory for the cuts and for the live generators with their tight sets and pre-images, and none for what is live no
+/// more.
+///
+/// Each entry costs what its tests and operations cost, and what it gives is copied: `duality` the entries of the cone's
+/// vectors, and for a cone by generators the cube of the number of objectives; `cut` the entries of the sides and of the
+/// objectives, and the test in the dual cone; `start` twice the cube of the number of objectives, and once a place for
+/// each cut; `add` the entries of the live generators, and at the worst its opposite pairs times the generators times the
+/// words of a tight set; `point` and `ray` the entries of the sides and of the objectives; `facet` the rows in use and
+/// the facets, each times the words of a set of generators; `end solved` the rows in use times the facets times those
+/// words. The first entry that compares rows makes their sets, once: rows times generators.
+#[derive(Debug, Drop)]
+pub struct Progress {
+    pub known: Known,
+    pub found: Found,
+    pub solving: Solving,
+}
+
+/// The answer of a direction along which the image is everything.
+fn whole_answer(c: Vector, found: FoundWhole) -> Answer
+    ensures { result ≡ Whole c found.x found.ray }
+{
+    let FoundWhole { x, ray } = found;
+    Answer::Whole { c, x, ray }
+}
+
+/// The answer of a line and the first cut, in the coordinates of a file of this direction.
+fn line_answer(alloc: Global, dir: Dir, c: Vector, found: FoundLine, first: Cut) -> Answer
+    ensures { result ≡ line_answer dir c found first }
+{
+    let FoundLine { d, x, ray, back } = found;
+    let Cut { w, gamma, u } = first;
+    let (gamma, ray, back) = match dir {
+        Dir::Min => (gamma, ray, back),
+        Dir::Max => (gamma.neg(), back, ray),
+    };
+    let tight = Items::new(alloc);
+    Answer::NoVertex {
+        c,
+        x,
+        d,
+        ray,
+        back,
+        cut: Facet { w, gamma, u, tight },
+    }
+}
+
+impl Progress {
+    /// Where there is no entry.
+    pub fn new(alloc: Global, problem: &Problem) -> Result<Progress, NoMemory>
+        ensures { IfOk result (IsAt problem.now []) }
+    {
+        Ok(Progress {
+            known: Known::new(alloc, problem)?,
+            found: Found::none(),
+            solving: Solving::new(alloc),
+        })
+    }
+
+    /// Keeps what the entry gives for the tests of further ones and for the answers.
+    fn keep(&mut self, alloc: Global, entry: &Entry) -> Result<(), NoMemory>
+        ensures known { (file : Problem) (before : List Entry) → IsKnown file before self.old.known → IsTrue (in_order before (kind entry.now)) → FitsScale file entry.now
+            → OnOk result (IsKnown file (before ++ entry.now ∷ []) self.new.known) }
+        ensures found { (before : List Entry) → HasFound before self.old.found → OnOk result (HasFound (before ++ entry.now ∷ []) self.new.found) }
+        ensures solving { self.new.solving ≡ self.old.solving }
+    {
+        self.known.keep(alloc, entry)?;
+        self.found.keep(alloc, entry)?;
+        Ok(())
+    }
+
+    /// The events of one more entry.
+    pub fn take(&mut self, alloc: Global, problem: &Problem, entry: &Entry) -> Result<(), Stop>
+        requires formed { IsTrue (is_formed entry.now) }
+        requires standing { (before : List Entry) × IsAt problem.now before self.old }
+        ensures { (before : List Entry) → IsAt problem.now before self.old → Runs is_held (events problem.now before entry.now) 0 (steps (events problem.now before entry.now)) (λ _. IsAt problem.now (before ++ entry.now ∷ []) self.new) result }
+    {
+        pass(Rule::Order, self.known.kinds.in_order(entry))?;
+        take_entry(alloc, problem, &self.known, &mut self.solving, entry)?;
+        match self.keep(alloc, entry) {
+            Ok(()) => Ok(()),
+            Err(NoMemory) => Err(Stop::NoMemory),
+        }
+    }
+
+    /// The answer that a log without a failing event proves. That of a solved log is sorted.
+    pub fn finish(self, alloc: Global, problem: &Problem) -> Result<Answer, NoMemory>
+        requires { (entries : List Entry) × (IsAt problem.now entries self × IsLog entries) }
+        ensures { (entries : List Entry) → IsAt problem.now entries self → IsLog entries → IfOk result (Proves problem.now entries) }
+    {
+        let Progress {
+            known,
+            found,
+            solving,
+        } = self;
+        let Known { c, .. } = known;
+        let Solving {
+            mut cuts,
+            uses,
+            live,
+            named,
+            ..
+        } = solving;
+        let Found {
+            farkas,
+            whole,
+            line,
+            ended,
+        } = found;
+        match ended {
+            Some(kind) => match kind {
+                EndKind::Infeasible => match farkas {
+                    Some(u) => Ok(Answer::Infeasible { u }),
+                    None => unreachable!(),
+                },
+                EndKind::Whole => match whole {
+                    Some(found) => Ok(whole_answer(c, found)),
+                    None => unreachable!(),
+                },
+                EndKind::NoVertex => match line {
+                    Some(found) => {
+                        let first = cuts.swap_remove(0);
+                        Ok(line_answer(alloc, problem.dir, c, found, first))
+                    }
+                    None => unreachable!(),
+                },
+                EndKind::Solved => solved_answer(
+                    alloc,
+                    problem.dir,
+                    c,
+                    live.generators,
+                    cuts,
+                    uses.list.as_slice(),
+                    named.as_slice(),
+                ),
+            },
+            None => unreachable!(),
+        }
+    }
+}
