@@ -1,0 +1,104 @@
+-- The orthant, and cones of vectors of full rank; what the tests of a vector by rows show.
+use Rattle.std.proofs.Common.{◌≡◌, ◌≢◌, ℕ, suc, List, [], ◌∷◌, length, map, All, Contains, refl, sym, ap, ap₂, ◌∙◌, subst, arith, ◌<◌, ◌≤◌, ◌-◌, ◌+◌, ◌⊎◌, inl, inr, Bool, true, false, not, cond, nat_eq, slice_index_or}
+use Rattle.std.specs.List.{filter, list_all}
+use Rattle.std.proofs.Math.ListN.{length-replicate}
+use Rattle.std.proofs.lemmas.Bool.{eqb-true}
+use Rattle.std.proofs.lemmas.Bool.Decides.{eqb_tells}
+use Rattle.std.proofs.lemmas.List.Elements.{All-nil, All-cons, All-head, All-tail, All-replicate, All-get_or}
+use Rattle.exact_field.specs.Rational.{ℚ, zero_ℚ, one_ℚ, neg_ℚ, ◌≤ℚ◌, ◌<ℚ◌}
+use Rattle.exact_field.specs.Vector.{entry, dot}
+use Rattle.frac128.specs.Sparse.{is_zero}
+use Rattle.frac128.specs.declared.vectors.Spot.{Spot}
+use Rattle.polyhedra.specs.Cone.{IsInCone, IsInterior, HasFullRank}
+use Rattle.polyhedra.specs.Negatives.{negated}
+use Rattle.polyhedra.specs.Sparse.{value_at, values_from}
+use Rattle.polyhedra.specs.Vectors.{AreWide, AtLeastZero, zeros, combination}
+use Rattle.polyhedra.proofs.Duality.{interior_of_generated, interior_of_rows}
+use Rattle.polyhedra.proofs.Laws.{le_refl, zero_lt_one, le_of_lt}
+use Rattle.polyhedra.proofs.Linear.{length-zeros, length-combination, same_wide, dot_comm, dot-combination_left}
+use Rattle.polyhedra.proofs.Lists.{HasWidth, HoldsAt, wide-head, wide-tail}
+use Rattle.polyhedra.proofs.Members.{all_of_members, member_of}
+use Rattle.polyhedra.proofs.Negatives.{dot-negated}
+use Rattle.polyhedra.proofs.Order.{lt_irrefl}
+use Rattle.tableaux.specs.Table.{row_of, listed, list_from, unit}
+use Rattle.tableaux.proofs.Definition.{slice_eq, unit_value, unit_entry}
+use Rattle.tableaux.proofs.Places.{length-list_from, row-wide, delta, delta-same, same_or_other, if_true, if_false}
+use Rattle.tableaux.proofs.Unique.{dot-unit, slice-zeros}
+use Rattle.vlp_reader.specs.declared.problem.Cone.{Cone}
+use Rattle.vlp_reader.specs.declared.problem.Cone.TheVariants.{Orthant, Gens, Dual}
+use Rattle.upper_image.specs.OrderingCone.{IsNonnegative, IsIn}
+use Rattle.upper_image.specs.Spots.{entry_of, dense}
+use Rattle.upper_image.proofs.ConvexCones.{orthant_same, interior_as}
+use Rattle.upper_image.proofs.Units.{units, units_wide, units_positive}
+use Rattle.cone_rules.specs.Faults.{HasInterior, HasNoLine, ShowsOutside}
+use Rattle.cone_rules.specs.Laws.{OrthantLaws, RankLaws}
+use Rattle.cone_rules.proofs.Parts.{ones, all_entries, all_at, zero_of_both, entry-negated}
+
+-- ---- unit vectors
+unit_long : (n k : ℕ) → length (unit n k) ≡ n
+unit_long n k = length-list_from 1 n (λ j. delta j k)
+
+pub unit_not_zero : (n k : ℕ) → 1 ≤ k → k ≤ n → unit n k ≢ zeros n
+unit_not_zero n k l u e =
+    lt_irrefl zero_ℚ (subst (λ (x : ℚ). zero_ℚ <ℚ x)
+    (sym (delta-same k k refl) ∙ sym (unit_entry n k k l u) ∙ ap (λ v. entry v k) e ∙ slice-zeros n (k - 1)) zero_lt_one)
+
+delta_nonneg : (j k : ℕ) → zero_ℚ ≤ℚ delta j k
+delta_nonneg j k = elim (same_or_other j k) [
+  | inl s ↦ subst (λ (x : ℚ). zero_ℚ ≤ℚ x) (sym (if_true _ one_ℚ zero_ℚ s.1)) (le_of_lt zero_ℚ one_ℚ zero_lt_one)
+  | inr o ↦ subst (λ (x : ℚ). zero_ℚ ≤ℚ x) (sym (if_false _ one_ℚ zero_ℚ o.1)) (le_refl zero_ℚ)
+]
+
+pub unit_nonneg : (n k : ℕ) → AtLeastZero (unit n k)
+unit_nonneg n k =
+    all_entries (λ x. zero_ℚ ≤ℚ x) (unit n k)
+    (λ j l u. subst (λ (x : ℚ). zero_ℚ ≤ℚ x) (sym (unit_entry n k j l (omega (arith, u, unit_long n k)))) (delta_nonneg k j))
+
+-- ---- the orthant
+orthant_inside : (q : ℕ) (f : List ℚ) → length f ≡ q → All (λ x. zero_ℚ <ℚ x) f → IsInterior q (IsIn q Orthant) f
+orthant_inside q f long h =
+    interior_as q (IsInCone q (units q)) (IsNonnegative q) f (orthant_same q) (interior_of_rows q (units q) f (units_wide q) long (units_positive q f long h))
+
+orthant_pointed : (q : ℕ) → HasNoLine q Orthant
+orthant_pointed q d h k =
+    slice_eq d (zeros q) (h.wide ∙ sym (length-zeros q))
+    (λ i l. zero_of_both (slice_index_or d i zero_ℚ) (h.entries i zero_ℚ l)
+    (subst (λ (x : ℚ). zero_ℚ ≤ℚ x) (Rattle.cone_rules.proofs.Parts.slice-negated d i) (k.entries i zero_ℚ (omega (arith, l, k.wide, h.wide))))
+    ∙ sym (slice-zeros q i))
+
+orthant_outside : (q : ℕ) (f : List ℚ) (k : ℕ) → 1 ≤ k → k ≤ q → entry f k ≤ℚ zero_ℚ → ShowsOutside q Orthant f (unit q k) []
+orthant_outside q f k l u h =
+    record {
+      lengths = unit_long q k;
+      not_zero = unit_not_zero q k l u;
+      cone = record { lengths = refl; cone = unit_nonneg q k };
+      sign = subst (λ (x : ℚ). x ≤ℚ zero_ℚ) (sym (dot-unit q k f l u)) h;
+    }
+
+pub orthant_laws : OrthantLaws
+orthant_laws =
+    record {
+      solid = λ q. (ones q, orthant_inside q (ones q) (length-replicate q one_ℚ) (All-replicate (λ x. zero_ℚ <ℚ x) q one_ℚ zero_lt_one));
+      pointed = orthant_pointed;
+      inside = orthant_inside;
+      outside = orthant_outside;
+    }
+
+-- ---- ranks
+-- rows that are at least 0 at a vector and at its negative are 0 there
+pub zero_at_both : (q : ℕ) (vectors : List (List ℚ)) (d : List ℚ) → IsInCone q vectors d → IsInCone q vectors (negated d) → All (λ v. dot v d ≡ zero_ℚ) vectors
+zero_at_both q vectors d h k =
+    all_of_members (λ v. dot v d ≡ zero_ℚ) vectors
+    (λ v c. zero_of_both (dot v d) (member_of (HoldsAt d) vectors v h.within c)
+    (subst (λ (x : ℚ). zero_ℚ ≤ℚ x) (dot-negated v d) (member_of (HoldsAt (negated d)) vectors v k.within c)))
+
+pub rank_laws : RankLaws
+rank_laws =
+    record {
+      solid = λ q vectors wide full. (
+        combination q (ones (length vectors)) vectors,
+        interior_of_generated q vectors (ones (length vectors)) wide full (length-replicate (length vectors) one_ℚ)
+            (All-replicate (λ x. zero_ℚ <ℚ x) (length vectors) one_ℚ zero_lt_one),
+      );
+      pointed = λ q vectors full d h k. full d h.wide (zero_at_both q vectors d h k);
+    }

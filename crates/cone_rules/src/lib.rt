@@ -1,0 +1,34 @@
+//! What is wrong with an ordering cone or its duality vector, what shows it, and how ends of linear programs tell. Each function is
+//! a law: it does nothing, and its contract is the statement.
+#![tactic(auto)]
+
+ghost use Rattle.cone_rules.specs.Laws.{FittingLaws, FaultsExclude, FoundProgram, GivenProgram, OppositeColumns, OrthantLaws, PointedProgram, RankLaws, RowTests, RowsProgram};
+
+mod fault;
+
+pub use fault::ConeFault;
+
+/// Of two unknowns with opposite columns at most one is not 0 in a solution that is read off.
+pub fn opposite_columns()
+    ensures { OppositeColumns }
+{}
+
+/// The orthant is solid and pointed, and which vectors are interior to it.
+pub fn orthant()
+    ensures { OrthantLaws }
+{}
+
+/// What full rank says of a cone.
+pub fn full_rank()
+    ensures { RankLaws }
+{}
+
+/// Which vectors are interior to a cone of rows.
+pub fn row_tests()
+    ensures { RowTests }
+{}
+
+/// What the program of vectors that combine to 0 says.
+pub fn pointed_program()
+    ensures { PointedProgram }
+{}
