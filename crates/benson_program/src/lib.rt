@@ -1,0 +1,8 @@
+//! Benson's program solved, and what is read off it: cuts, pre-images and what shows that an image is everything.
+#![tactic(auto)]
+
+mod ends;
+mod solving;
+
+pub use ends::{BensonEnd, FeasibleEnd};
+pub use solving::{benson_end, feasible_end};
