@@ -1,0 +1,6 @@
+pub mod Bound
+pub mod Made
+pub mod Opposite
+pub mod Read
+pub mod Said
+pub mod Spread

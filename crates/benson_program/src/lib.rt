@@ -1,0 +1,10 @@
+//! Benson's program solved, and what is read off it: cuts, pre-images and what shows that an image is everything.
+#![tactic(auto)]
+
+mod cut;
+mod ends;
+mod solving;
+
+pub use cut::{Cut, cut_of};
+pub use ends::{BensonEnd, FeasibleEnd};
+pub use solving::{benson_end, feasible_end};
