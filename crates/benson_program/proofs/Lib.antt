@@ -1,4 +1,6 @@
 pub mod Bound
+pub mod Counted
+pub mod Divided
 pub mod Made
 pub mod Opposite
 pub mod Read

@@ -1,2 +1,4 @@
 pub mod Cuts
 pub mod Ends
+pub mod Sparse
+pub mod Wholes

@@ -4,7 +4,9 @@
 mod cut;
 mod ends;
 mod solving;
+mod whole;
 
 pub use cut::{Cut, cut_of};
 pub use ends::{BensonEnd, FeasibleEnd};
 pub use solving::{benson_end, feasible_end};
+pub use whole::{WholeParts, whole_of};
