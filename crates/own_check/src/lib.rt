@@ -3,8 +3,11 @@
 
 ghost use Rattle.own_check.specs.Never.{NeverWrong};
 
+mod logs;
 mod own;
+mod written;
 
+pub use logs::{infeasible_log, whole_log};
 pub use own::{Checked, check_own};
 
 /// A log that meets its rules is never found wrong, whatever numbers are held: the first event that fails is a step.
