@@ -1,0 +1,58 @@
+//! The solver.
+ghost use Rattle.std.specs.Prelude.{IfOk, IfErr};
+ghost use Rattle.frac128.specs.Held.{is_held};
+ghost use Rattle.cone_rules.specs.Faults.{IsSound};
+ghost use Rattle.lp_form.specs.Data.{IsDataOf};
+ghost use Rattle.solver.specs.Opening.{IsOwnLog};
+ghost use Rattle.solver.specs.Solving.{IsSolutionOf, EndsSolving};
+
+use crate::end::{Solution, SolveEnd};
+use crate::first::opened;
+use cone_dual::cone_facts;
+use deriv_log::Entries;
+use exact_field::Field;
+use frac128::Frac;
+use lp_form::{Data, DataFault};
+use own_check::{Checked, check_own};
+use src_sink::NoMemory;
+use std::alloc::Global;
+use vlp_reader::Problem;
+
+/// The data of a problem in fractions, which hold each number of it.
+fn data_of(alloc: Global, problem: &Problem) -> Result<Data<Frac>, NoMemory>
+    ensures { IfOk result (IsDataOf (λ q. q) problem.now) }
+{
+    match Data::<Frac>::of(alloc, problem) {
+        Ok(form) => Ok(form),
+        Err(DataFault::NoMemory) => Err(NoMemory),
+        Err(DataFault::NotHeld(number)) => {
+            let _held = number.num();
+            unreachable!()
+        }
+    }
+}
+
+/// The answer of a log that meets its rules.
+fn checked(alloc: Global, problem: &Problem, entries: Entries) -> Result<Solution, SolveEnd>
+    requires sound { IsSound problem.now }
+    requires own { IsOwnLog is_held problem.now entries }
+    ensures ok { IfOk result (IsSolutionOf problem.now) }
+    ensures end { IfErr result (EndsSolving problem.now) }
+{
+    let Checked { entries, answer } = check_own(alloc, problem, entries)?;
+    Ok(Solution { entries, answer })
+}
+
+/// The answer of a problem with the log that proves it, or the first fault of its ordering cone. It costs two linear programs
+/// over the cone, two over the sides, and the check of the log.
+pub fn solve(alloc: Global, problem: &Problem) -> Result<Solution, SolveEnd>
+    ensures ok { IfOk result (IsSolutionOf problem.now) }
+    ensures end { IfErr result (EndsSolving problem.now) }
+{
+    let form = data_of(alloc, problem)?;
+    let duality = cone_facts(alloc, &form)?;
+    match opened(alloc, &form, duality)? {
+        Some(entries) => checked(alloc, problem, entries),
+        None => Err(SolveEnd::NotBuilt),
+    }
+}
