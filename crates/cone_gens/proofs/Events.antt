@@ -1,6 +1,6 @@
 -- The steps of an addition as the events of a log.
-use Rattle.std.proofs.Common.{◌≡◌, List, [], ◌∷◌, ◌++◌, refl, sym, ap, ap₂, ◌∙◌, Bool, true, false, map, if◌then◌else◌, ◌⊎◌, inl, inr}
-use Rattle.std.specs.Prelude.{◌||◌, zip, flat_map}
+use Rattle.std.proofs.Common.{◌≡◌, List, [], ◌∷◌, ◌++◌, refl, ap, ap₂, ◌∙◌, Bool, true, false, map, if◌then◌else◌, ◌⊎◌, inl, inr}
+use Rattle.std.specs.Prelude.{◌||◌, zip}
 use Rattle.std.proofs.lemmas.List.{map-append}
 use Rattle.exact_field.specs.Rational.{ℚ, zero_ℚ, ◌+ℚ◌, ◌*ℚ◌, ◌/ℚ◌, neg_ℚ}
 use Rattle.exact_field.specs.Vector.{dot}

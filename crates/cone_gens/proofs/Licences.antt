@@ -1,5 +1,5 @@
 -- Licences before a duality vector is known, from what eliminations, starts and additions tell.
-use Rattle.std.proofs.Common.{◌≡◌, ℕ, suc, ◌+◌, ◌≤◌, List, [], ◌∷◌, ◌++◌, length, map, All, Bool, IsTrue, refl, sym, ap, ap₂, ◌∙◌, subst, arith, ◌⊎◌, inl, inr, None}
+use Rattle.std.proofs.Common.{◌≡◌, ℕ, suc, ◌+◌, List, [], ◌∷◌, ◌++◌, length, map, Bool, IsTrue, refl, sym, ap, ap₂, ◌∙◌, subst, arith, ◌⊎◌, inl, inr, None}
 use Rattle.std.specs.Prelude.{IsFalse, Contains}
 use Rattle.std.proofs.lemmas.List.{length-map, map-append}
 use Rattle.std.proofs.lemmas.List.Elements.{All-weaker, Contains-append_cases, Contains-append_left, Contains-append_right}
@@ -16,7 +16,7 @@ use Rattle.tableaux.specs.Table.{Table, beside_unit, column_of}
 use Rattle.lin_rows.specs.Eliminate.{IsElimFault}
 use Rattle.lin_rows.specs.declared.fault.RowFault.{RowFault}
 use Rattle.lin_rows.specs.declared.fault.RowFault.TheVariants.{Left as Stopped, NoMemory as Want}
-use Rattle.double_descr.specs.Adding.{Block, IsAddFault, IsFault, IsFirstIn, add_blocks, value_block, pair_block, pair_blocks}
+use Rattle.double_descr.specs.Adding.{Block, IsAddFault, IsFault, add_blocks, value_block, pair_block, pair_blocks}
 use Rattle.double_descr.specs.Starting.{IsNormingLeft, IsStart, IsStartFault}
 use Rattle.double_descr.specs.State.{State}
 use Rattle.double_descr.specs.Steps.{Step, IsFirst}
@@ -29,7 +29,6 @@ use Rattle.lp_form.specs.Programs.{nonzero_vectors}
 use Rattle.log_rules.specs.Events.{Event, exact}
 use Rattle.log_rules.specs.Events.Event.{step}
 use Rattle.licence.specs.Licence.{IsOverflow, LicensedWithout}
-use Rattle.deriv_log.specs.declared.licence.Licence.{Licence}
 use Rattle.licence.specs.Operands.{Setting, AreElimRows, IsElimTable, IsMadeOver, IsAddition}
 use Rattle.licence.specs.Steps.{in_numbers, operation, value_steps, pair_steps}
 use Rattle.licence.proofs.Given.{overflow_laws}

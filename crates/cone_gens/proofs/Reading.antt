@@ -2,7 +2,7 @@
 use Rattle.std.proofs.Common.{◌≡◌, ℕ, zero, suc, ◌+◌, ◌-◌, ◌<◌, List, [], ◌∷◌, ◌++◌, length, map, take, drop, sym, ap, ap₂, ◌∙◌, subst, arith, append_assoc, slice_index_or}
 use Rattle.std.specs.Prelude.{Contains}
 use Rattle.std.specs.List.{range_with_len}
-use Rattle.std.proofs.lemmas.List.{get_or-map, length-map, map_push, take_more, take-append-drop}
+use Rattle.std.proofs.lemmas.List.{get_or-map, length-map, take_more, take-append-drop}
 use Rattle.std.proofs.lemmas.List.Elements.{Contains-get_or}
 use Rattle.exact_field.specs.Rational.{ℚ}
 use Rattle.polyhedra.specs.LiveList.{Numbered, numbers as numbers-of, vectors}
@@ -10,7 +10,7 @@ use Rattle.polyhedra.specs.LiveSteps.{IsLive}
 use Rattle.polyhedra.specs.LiveList.{LiveList}
 use Rattle.polyhedra.proofs.Members.{Contains-map, member_of}
 use Rattle.lin_rows.specs.Read.{numbers}
-use Rattle.lin_rows.proofs.Building.{number_row, numbers_long}
+use Rattle.lin_rows.proofs.Building.{number_row}
 use Rattle.vlp_reader.specs.declared.problem.Problem.{Problem}
 use Rattle.cone_gens.specs.Faults.{AreConeRows}
 use Rattle.cone_gens.proofs.Licences.{cone_rows-front}

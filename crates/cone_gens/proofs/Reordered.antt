@@ -1,20 +1,18 @@
 -- The cone of some rows is that of the same rows in another order, and so are its generators.
-use Rattle.std.proofs.Common.{◌≡◌, ℕ, ◌+◌, ◌-◌, ◌<◌, ◌≤◌, List, [], ◌∷◌, ◌++◌, length, map, filter, All, Bool, true, false, true≢false, refl, sym, ap, ◌∙◌, subst, arith, ◌⊎◌, inl, inr, slice_index_or}
-use Rattle.std.specs.Prelude.{AllPairs, Contains, not, ◌==◌, ◌||◌}
-use Rattle.std.specs.List.{list_any, range_with_len}
+use Rattle.std.proofs.Common.{◌≡◌, ℕ, ◌+◌, ◌-◌, ◌<◌, ◌≤◌, List, [], ◌∷◌, length, map, All, Bool, true, false, true≢false, refl, sym, ap, ◌∙◌, subst, arith, inl, inr, slice_index_or}
+use Rattle.std.specs.Prelude.{Contains, not, ◌==◌, ◌||◌}
+use Rattle.std.specs.List.{range_with_len}
 use Rattle.std.proofs.lemmas.Bool.{eqb-true}
-use Rattle.std.proofs.lemmas.List.{length-map}
-use Rattle.std.proofs.lemmas.List.Elements.{All-contains_itself, All-filter, All-from_get_or, All-get_or, Contains-append_cases, Contains-append_left, Contains-append_right, Contains-get_or}
+use Rattle.std.proofs.lemmas.List.Elements.{All-filter, All-from_get_or, All-get_or, Contains-append_cases, Contains-append_left, Contains-append_right, Contains-get_or}
 use Rattle.std.proofs.lemmas.List.FromFn.{get_or-range_with_len, length-range_with_len}
 use Rattle.exact_field.specs.Rational.{ℚ, zero_ℚ, ◌≤ℚ◌}
 use Rattle.exact_field.specs.Vector.{dot}
 use Rattle.polyhedra.specs.Cone.{HasFullRank, IsInCone}
-use Rattle.polyhedra.specs.DoubleDescription.{IsNormed}
 use Rattle.polyhedra.specs.Hull.{IsExtremeDirection}
 use Rattle.polyhedra.specs.LiveList.{LiveList, vectors}
 use Rattle.polyhedra.specs.LiveSteps.{IsLive}
 use Rattle.polyhedra.proofs.Generators.{described_are_distinct}
-use Rattle.polyhedra.proofs.Lists.{Contains-cases, Contains-here, Contains-there, Contains-nil}
+use Rattle.polyhedra.proofs.Lists.{Contains-here, Contains-there}
 use Rattle.polyhedra.proofs.LiveSteps.{are_live}
 use Rattle.polyhedra.proofs.Members.{Contains-filter, Contains-map, Contains-map_source, all_of_members, member_of}
 use Rattle.tableaux.specs.Table.{Table, row_of}
@@ -22,7 +20,6 @@ use Rattle.tableaux.specs.Elimination.{AreIndependent}
 use Rattle.vlp_reader.specs.declared.problem.Problem.{Problem}
 use Rattle.lp_form.specs.Programs.{nonzero_vectors}
 use Rattle.log_rules.specs.Live.{contains}
-use Rattle.licence.specs.Base.{IsGeneratorOf}
 use Rattle.cone_gens.specs.Faults.{AreConeRows}
 use Rattle.cone_gens.specs.Generators.{AreGenerators, begun_with, others}
 

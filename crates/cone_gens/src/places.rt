@@ -14,7 +14,7 @@ use lin_rows::{RowFault, Rows};
 use src_sink::{Items, NoMemory};
 use std::alloc::Global;
 
-/// A number as a fraction. The field holds each of its numbers.
+/// A number as a fraction. That its parts can be read says that the field holds it.
 fn fraction<F: Field>(x: F) -> Frac
     ensures value { result ≡ F.value x }
     ensures held { IsTrue (F.holds (F.value x)) }

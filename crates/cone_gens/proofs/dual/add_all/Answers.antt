@@ -1,4 +1,4 @@
-use Rattle.std.proofs.Common.{ℕ, List, [], ◌∷◌, ◌++◌, ap, ap₂, sym, ◌∙◌, arith, length, map, subst, ◌≡◌, ◌<◌}
+use Rattle.std.proofs.Common.{ℕ, List, [], ◌∷◌, ◌++◌, ap, ap₂, sym, ◌∙◌, arith, length, map, subst, ◌<◌}
 use Rattle.exact_field.specs.Rational.{ℚ}
 use Rattle.double_descr.specs.State.{State}
 use Rattle.lin_rows.specs.Read.{numbers}

@@ -1,4 +1,4 @@
-use Rattle.std.proofs.Common.{[], ap, sym, ◌∙◌, arith, length, map, ◌≡◌, ◌<◌}
+use Rattle.std.proofs.Common.{[], ap, sym, ◌∙◌, arith, length, map, ◌≡◌}
 use Rattle.std.proofs.lemmas.List.{length-map, map_push}
 use Rattle.polyhedra.specs.LiveList.{Numbered, vectors}
 use Rattle.lin_rows.specs.Read.{numbers}

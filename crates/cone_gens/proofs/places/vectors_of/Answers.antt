@@ -1,4 +1,4 @@
-use Rattle.std.proofs.Common.{[], ap, ◌∙◌, arith, length}
+use Rattle.std.proofs.Common.{[], ◌∙◌, arith}
 use Rattle.lin_rows.specs.Read.{numbers}
 use Rattle.lin_rows.proofs.Building.{numbers_long}
 use Rattle.cone_gens.proofs.Reading.{one_more, read_row}
