@@ -1,11 +1,9 @@
 -- The pre-image that low multipliers of Benson's program say.
-use Rattle.std.proofs.Common.{◌≡◌, ℕ, suc, List, [], ◌∷◌, map, length, take, drop, refl, sym, ap, ap₂, ◌∙◌, subst, arith, ◌≤◌, ◌+◌, ◌-◌, Bool, true, false, inl, inr}
+use Rattle.std.proofs.Common.{◌≡◌, ℕ, suc, List, map, length, refl, sym, ap, ◌∙◌, subst, arith, ◌≤◌, ◌+◌, Bool, true, false}
 use Rattle.std.specs.Prelude.{if◌then◌else◌}
 use Rattle.std.proofs.lemmas.List.{length-map, length-take-le}
-use Rattle.exact_field.specs.Rational.{ℚ, zero_ℚ, lt_ℚ, neg_ℚ, ◌<ℚ◌, ◌*ℚ◌, ◌≤ℚ◌}
-use Rattle.exact_field.specs.Vector.{entry}
+use Rattle.exact_field.specs.Rational.{ℚ, zero_ℚ, lt_ℚ, neg_ℚ, ◌<ℚ◌}
 use Rattle.frac128.specs.declared.vectors.Spot.{Spot}
-use Rattle.polyhedra.specs.Negatives.{negated}
 use Rattle.polyhedra.specs.Vectors.{plus, scaled}
 use Rattle.polyhedra.proofs.Linear.{length-plus, length-scaled}
 use Rattle.tableaux.specs.Simplex.{IsOptimal}

@@ -1,10 +1,9 @@
 -- The overflow of a full share.
 use Rattle.std.proofs.Common.{◌≡◌, ℕ, List, [], refl, sym, ap, ap₂, ◌∙◌, subst, ◌≤◌, Bool, inl, inr, length}
-use Rattle.std.specs.Prelude.{IsFalse}
-use Rattle.exact_field.specs.Rational.{ℚ, zero_ℚ, neg_ℚ, ◌<ℚ◌, ◌*ℚ◌, ◌+ℚ◌}
+use Rattle.exact_field.specs.Rational.{ℚ, zero_ℚ, neg_ℚ, ◌<ℚ◌, ◌*ℚ◌}
 use Rattle.exact_field.specs.Vector.{entry}
 use Rattle.exact_field.specs.declared.op.Op.{Op}
-use Rattle.exact_field.specs.declared.op.Op.TheVariants.{Add, Mul, Div}
+use Rattle.exact_field.specs.declared.op.Op.TheVariants.{Add, Mul}
 use Rattle.exact_field.specs.declared.op.Left.{Left as Operation}
 use Rattle.polyhedra.specs.DoubleDescription.{magnitude}
 use Rattle.lin_rows.specs.Sums.{IsCombineFault, IsPlusLeft}

@@ -3,7 +3,7 @@ use Rattle.std.proofs.lemmas.List.{length-map}
 use Rattle.std.proofs.lemmas.Result.{IfOk-weaker}
 use Rattle.exact_field.specs.Rational.{ℚ, zero_ℚ, neg_ℚ, ◌<ℚ◌}
 use Rattle.polyhedra.specs.Vectors.{plus, scaled}
-use Rattle.lp_form.specs.Programs.{full_share_of, generators, value_of}
+use Rattle.lp_form.specs.Programs.{full_share_of, generators}
 use Rattle.benson_program.proofs.Counted.{last_is, some_last}
 use Rattle.benson_program.proofs.Divided.{length-share}
 use Rattle.benson_program.proofs.Shared.{full_below, full_other, low_long, within_y}

@@ -1,4 +1,4 @@
-use Rattle.std.proofs.Common.{◌≡◌, List, map, length, take, sym, ap, ◌∙◌, arith}
+use Rattle.std.proofs.Common.{map, length, take, sym, ap, ◌∙◌, arith}
 use Rattle.std.proofs.lemmas.List.{length-map, take-map}
 use Rattle.lp_form.specs.Programs.{generators}
 use Rattle.benson_program.proofs.Counted.{within as within_dual}

@@ -1,10 +1,7 @@
-use Rattle.std.proofs.Common.{◌≡◌, List, map, length, take, drop, sym, ap, ap₂, ◌∙◌, arith, ◌+◌, ◌-◌}
-use Rattle.std.specs.Prelude.{IfOk}
-use Rattle.std.specs.List.{slice_range}
+use Rattle.std.proofs.Common.{◌≡◌, List, map, length, take, drop, ap, ap₂, ◌∙◌, arith, ◌+◌, ◌-◌}
 use Rattle.std.proofs.lemmas.Result.{IfOk-weaker}
 use Rattle.polyhedra.specs.Negatives.{negated}
 use Rattle.lp_form.specs.Programs.{generators, share_of}
-use Rattle.lp_form.specs.Data.{cone_of}
 use Rattle.lp_form.proofs.Joined.{slice-map}
 use Rattle.benson_program.proofs.Divided.{share_is}
 use Rattle.benson_program.proofs.preimage.share.Goals as goal
