@@ -1,6 +1,6 @@
 use Rattle.std.proofs.Common.{◌∙◌, codes}
-use Rattle.bensolve_main.proofs.Texts.{numbered}
-use Rattle.bensolve_main.proofs.text.file_fault_line.Goals as goal
+use Rattle.fault_lines.proofs.Written.{numbered}
+use Rattle.fault_lines.proofs.lines.file_fault_line.Goals as goal
 
 pub returns : goal.returns
 returns c =

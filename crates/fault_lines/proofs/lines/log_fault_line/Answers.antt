@@ -1,6 +1,6 @@
 use Rattle.std.proofs.Common.{◌∙◌, codes}
-use Rattle.bensolve_main.proofs.Texts.{numbered}
-use Rattle.bensolve_main.proofs.text.log_fault_line.Goals as goal
+use Rattle.fault_lines.proofs.Written.{numbered}
+use Rattle.fault_lines.proofs.lines.log_fault_line.Goals as goal
 
 pub returns : goal.returns
 returns c =
