@@ -3,3 +3,10 @@ pub mod Opposite
 pub mod Ranks
 pub mod Rows
 pub mod Pointed
+pub mod Gaps
+pub mod Lineality
+pub mod Given
+pub mod FoundGenerators
+pub mod FoundRows
+pub mod Excluding
+pub mod Fitting

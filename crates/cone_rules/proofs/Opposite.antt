@@ -13,7 +13,7 @@ use Rattle.tableaux.specs.Table.{Table, System, IsSystem, row_of, at, column_of,
 use Rattle.tableaux.specs.Dictionary.{basic_column, IsFullDictionaryOf, IsBasicCombination, value_of_column, solution}
 use Rattle.tableaux.proofs.Eliminated.{dot_none}
 use Rattle.tableaux.proofs.Entries.{table-long, equation-unknown}
-use Rattle.tableaux.proofs.Places.{listed-place, slice-plus, delta, delta-same, delta-other}
+use Rattle.tableaux.proofs.Places.{listed-place, slice-plus, delta-same, delta-other}
 use Rattle.tableaux.proofs.Products.{value-is}
 use Rattle.tableaux.proofs.Ties.{column_entry}
 use Rattle.tableaux.proofs.Unique.{entry-combination, column-long}

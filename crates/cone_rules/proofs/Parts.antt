@@ -1,16 +1,15 @@
 -- Products with vectors in parts, values of tables, and what multipliers of a system say at each vector of at least 0.
 use Rattle.std.proofs.Common.{◌≡◌, ℕ, zero, suc, List, [], ◌∷◌, ◌++◌, length, take, drop, replicate, All, refl, sym, ap, ap₂, ◌∙◌, subst, arith, ◌<◌, ◌≤◌, ◌+◌, ◌-◌, slice_index_or, append_assoc}
-use Rattle.std.proofs.Math.ListN.{length-append, length-replicate}
-use Rattle.std.proofs.lemmas.List.{length-map, take-append-drop, length-take-le, length-drop}
+use Rattle.std.proofs.Math.ListN.{length-replicate}
 use Rattle.std.proofs.lemmas.List.Elements.{All-replicate}
-use Rattle.exact_field.specs.Rational.{ℚ, zero_ℚ, one_ℚ, ◌+ℚ◌, ◌*ℚ◌, neg_ℚ, ◌≤ℚ◌, ◌<ℚ◌}
+use Rattle.exact_field.specs.Rational.{ℚ, zero_ℚ, one_ℚ, ◌+ℚ◌, ◌*ℚ◌, neg_ℚ, ◌≤ℚ◌}
 use Rattle.exact_field.specs.Vector.{entry, dot}
 use Rattle.polyhedra.specs.Negatives.{negated}
-use Rattle.polyhedra.specs.Vectors.{AreWide, AtLeastZero, zeros, plus, scaled, values, combination}
-use Rattle.polyhedra.proofs.Algebra.{zero_add, zero_mul, one_mul, mul_zero, neg_mul, neg_zero}
-use Rattle.polyhedra.proofs.Laws.{add_assoc, add_comm, add_zero, add_neg, le_refl, le_antisymm, le_trans, mul_comm, mul_one}
-use Rattle.polyhedra.proofs.Linear.{dot_comm, dot-nil, dot-plus, dot-scaled, dot-zeros, dot-combination_left, length-combination, length-plus, length-scaled, length-zeros}
-use Rattle.polyhedra.proofs.Lists.{Nonneg, nonneg-head, nonneg-tail}
+use Rattle.polyhedra.specs.Vectors.{AreWide, AtLeastZero, zeros, values, combination}
+use Rattle.polyhedra.proofs.Algebra.{zero_add, neg_zero}
+use Rattle.polyhedra.proofs.Laws.{add_assoc, add_comm, add_zero, add_neg, le_antisymm, mul_comm}
+use Rattle.polyhedra.proofs.Linear.{dot_comm, dot-nil, dot-zeros, dot-combination_left, length-combination, length-zeros}
+use Rattle.polyhedra.proofs.Lists.{nonneg-head, nonneg-tail}
 use Rattle.polyhedra.proofs.Negatives.{dot-negated}
 use Rattle.polyhedra.proofs.Order.{le_of_eq, le_of_difference, add_le_both, add_nonneg, mul_le}
 use Rattle.tableaux.specs.Table.{Table, System, IsSystem, row_of, column_of, listed, unit, unknown_count}
@@ -18,7 +17,7 @@ use Rattle.tableaux.specs.Simplex.{IsOptimal, IsInfeasible}
 use Rattle.tableaux.proofs.Definition.{same_default}
 use Rattle.tableaux.proofs.Found.{map-list_from}
 use Rattle.tableaux.proofs.Inverse.{dot-append}
-use Rattle.tableaux.proofs.Places.{listed-is, entry-plus, entry-scaled}
+use Rattle.tableaux.proofs.Places.{listed-is}
 use Rattle.tableaux.proofs.Unique.{dot-unit, entry-combination, column-long, slice-zeros}
 
 -- ---- lists

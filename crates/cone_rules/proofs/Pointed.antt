@@ -1,9 +1,9 @@
 -- The program of vectors that combine to 0.
-use Rattle.std.proofs.Common.{◌≡◌, ◌≢◌, ℕ, zero, suc, List, [], ◌∷◌, ◌++◌, length, map, take, drop, All, refl, sym, ap, ap₂, ◌∙◌, subst, arith, ◌<◌, ◌≤◌, ◌-◌, ◌+◌, slice_index_or, true, not, nat_lt}
+use Rattle.std.proofs.Common.{◌≡◌, ◌≢◌, ℕ, List, [], ◌∷◌, ◌++◌, length, map, take, drop, All, refl, sym, ap, ap₂, ◌∙◌, subst, arith, ◌<◌, ◌≤◌, ◌+◌, slice_index_or, true, not, nat_lt}
 use Rattle.std.specs.Prelude.{◌&&◌, AllPairs}
 use Rattle.std.proofs.Math.ListN.{length-append, length-replicate}
 use Rattle.std.proofs.lemmas.List.{length-take-le, length-drop}
-use Rattle.std.proofs.lemmas.List.Elements.{All-nil, All-cons, All-head, All-tail, All-map, All-weaker}
+use Rattle.std.proofs.lemmas.List.Elements.{All-head, All-tail, All-map, All-weaker}
 use Rattle.exact_field.specs.Rational.{ℚ, zero_ℚ, one_ℚ, ◌+ℚ◌, ◌*ℚ◌, neg_ℚ, ◌≤ℚ◌, ◌<ℚ◌}
 use Rattle.exact_field.specs.Vector.{entry, dot, sum_ℚ}
 use Rattle.frac128.specs.Sparse.{is_zero, rises_above}
@@ -11,8 +11,8 @@ use Rattle.frac128.specs.declared.vectors.Spot.{Spot}
 use Rattle.polyhedra.specs.Cone.{IsGenerated, IsInCone, IsInDual, IsInterior}
 use Rattle.polyhedra.specs.Negatives.{negated}
 use Rattle.polyhedra.specs.Sparse.{IsSparse}
-use Rattle.polyhedra.specs.Vectors.{AreWide, AtLeastZero, zeros, values, combination}
-use Rattle.polyhedra.proofs.Algebra.{zero_add, mul_zero}
+use Rattle.polyhedra.specs.Vectors.{AreWide, zeros, values, combination}
+use Rattle.polyhedra.proofs.Algebra.{zero_add}
 use Rattle.polyhedra.proofs.Duality.{dual_cones}
 use Rattle.polyhedra.proofs.Laws.{add_assoc, add_comm, add_neg, add_zero, mul_one, zero_lt_one}
 use Rattle.polyhedra.proofs.Linear.{dot_comm, dot-zeros, dot-combination, length-combination, length-zeros}
@@ -20,18 +20,17 @@ use Rattle.polyhedra.proofs.Members.{pairs-nil, pairs-cons}
 use Rattle.polyhedra.proofs.Order.{lt_irrefl, lt_of_lt_of_le, le_of_difference, neg_positive}
 use Rattle.polyhedra.proofs.Sparse.{product_of_sparse}
 use Rattle.polyhedra.proofs.Tests.{both_true}
-use Rattle.tableaux.specs.Table.{System, Table, row_of, column_of, listed, unit}
+use Rattle.tableaux.specs.Table.{Table, row_of, column_of, listed, unit}
 use Rattle.tableaux.specs.Simplex.{IsOptimal, IsInfeasible, IsUnbounded}
 use Rattle.tableaux.proofs.Definition.{unit_value}
 use Rattle.tableaux.proofs.Places.{length-list_from}
-use Rattle.vlp_reader.specs.declared.problem.Cone.TheVariants.{Gens, Dual}
-use Rattle.upper_image.specs.OrderingCone.{IsIn}
+use Rattle.vlp_reader.specs.declared.problem.Cone.TheVariants.{Gens}
 use Rattle.upper_image.specs.Spots.{entry_of, dense, IsVector}
 use Rattle.upper_image.proofs.Absorbing.{zero_at_interior}
-use Rattle.lp_form.specs.Programs.{nonzero_vectors, zero_combination}
+use Rattle.lp_form.specs.Programs.{zero_combination}
 use Rattle.lp_form.proofs.Systems.{combination_ok}
 use Rattle.cone_rules.specs.Faults.{HasNoLine, IsFirstOf, IsZeroCombination}
-use Rattle.cone_rules.specs.Laws.{PointedProgram, spread, IsSpread}
+use Rattle.cone_rules.specs.Laws.{PointedProgram, IsSpread}
 use Rattle.cone_rules.proofs.Parts.{ones, append_parts, one_left, all_rows, zero_of_both, dot_parts_at, dot-negated_left, dot-zeros_left, dot-unit_right, entry-ones, values-append, values_columns, infeasible_at}
 use Rattle.cone_rules.proofs.Ranks.{unit_nonneg}
 use Rattle.cone_rules.proofs.Rows.{kept, kept_wide, row_tests, spread_dot, spread_combination, spread_well, IsSpreadWell, spots_of, IsSpotOf}

@@ -1,36 +1,28 @@
 -- The orthant, and cones of vectors of full rank; what the tests of a vector by rows show.
-use Rattle.std.proofs.Common.{◌≡◌, ◌≢◌, ℕ, suc, List, [], ◌∷◌, length, map, All, Contains, refl, sym, ap, ap₂, ◌∙◌, subst, arith, ◌<◌, ◌≤◌, ◌-◌, ◌+◌, ◌⊎◌, inl, inr, Bool, true, false, not, cond, nat_eq, slice_index_or}
-use Rattle.std.specs.List.{filter, list_all}
+use Rattle.std.proofs.Common.{◌≡◌, ◌≢◌, ℕ, List, [], length, All, refl, sym, ap, ◌∙◌, subst, arith, ◌≤◌, ◌-◌, inl, inr, slice_index_or}
 use Rattle.std.proofs.Math.ListN.{length-replicate}
-use Rattle.std.proofs.lemmas.Bool.{eqb-true}
-use Rattle.std.proofs.lemmas.Bool.Decides.{eqb_tells}
-use Rattle.std.proofs.lemmas.List.Elements.{All-nil, All-cons, All-head, All-tail, All-replicate, All-get_or}
-use Rattle.exact_field.specs.Rational.{ℚ, zero_ℚ, one_ℚ, neg_ℚ, ◌≤ℚ◌, ◌<ℚ◌}
+use Rattle.std.proofs.lemmas.List.Elements.{All-replicate}
+use Rattle.exact_field.specs.Rational.{ℚ, zero_ℚ, one_ℚ, ◌≤ℚ◌, ◌<ℚ◌}
 use Rattle.exact_field.specs.Vector.{entry, dot}
-use Rattle.frac128.specs.Sparse.{is_zero}
-use Rattle.frac128.specs.declared.vectors.Spot.{Spot}
-use Rattle.polyhedra.specs.Cone.{IsInCone, IsInterior, HasFullRank}
+use Rattle.polyhedra.specs.Cone.{IsGenerated, IsInCone, IsInterior}
 use Rattle.polyhedra.specs.Negatives.{negated}
-use Rattle.polyhedra.specs.Sparse.{value_at, values_from}
-use Rattle.polyhedra.specs.Vectors.{AreWide, AtLeastZero, zeros, combination}
+use Rattle.polyhedra.specs.Vectors.{AtLeastZero, zeros, combination}
 use Rattle.polyhedra.proofs.Duality.{interior_of_generated, interior_of_rows}
 use Rattle.polyhedra.proofs.Laws.{le_refl, zero_lt_one, le_of_lt}
-use Rattle.polyhedra.proofs.Linear.{length-zeros, length-combination, same_wide, dot_comm, dot-combination_left}
-use Rattle.polyhedra.proofs.Lists.{HasWidth, HoldsAt, wide-head, wide-tail}
+use Rattle.polyhedra.proofs.Linear.{length-zeros}
+use Rattle.polyhedra.proofs.Lists.{HoldsAt}
 use Rattle.polyhedra.proofs.Members.{all_of_members, member_of}
 use Rattle.polyhedra.proofs.Negatives.{dot-negated}
 use Rattle.polyhedra.proofs.Order.{lt_irrefl}
-use Rattle.tableaux.specs.Table.{row_of, listed, list_from, unit}
-use Rattle.tableaux.proofs.Definition.{slice_eq, unit_value, unit_entry}
-use Rattle.tableaux.proofs.Places.{length-list_from, row-wide, delta, delta-same, same_or_other, if_true, if_false}
+use Rattle.tableaux.specs.Table.{unit}
+use Rattle.tableaux.proofs.Definition.{slice_eq, unit_entry}
+use Rattle.tableaux.proofs.Places.{length-list_from, delta, delta-same, same_or_other, if_true, if_false}
 use Rattle.tableaux.proofs.Unique.{dot-unit, slice-zeros}
-use Rattle.vlp_reader.specs.declared.problem.Cone.{Cone}
-use Rattle.vlp_reader.specs.declared.problem.Cone.TheVariants.{Orthant, Gens, Dual}
+use Rattle.vlp_reader.specs.declared.problem.Cone.TheVariants.{Orthant}
 use Rattle.upper_image.specs.OrderingCone.{IsNonnegative, IsIn}
-use Rattle.upper_image.specs.Spots.{entry_of, dense}
 use Rattle.upper_image.proofs.ConvexCones.{orthant_same, interior_as}
 use Rattle.upper_image.proofs.Units.{units, units_wide, units_positive}
-use Rattle.cone_rules.specs.Faults.{HasInterior, HasNoLine, ShowsOutside}
+use Rattle.cone_rules.specs.Faults.{HasNoLine, ShowsOutside}
 use Rattle.cone_rules.specs.Laws.{OrthantLaws, RankLaws}
 use Rattle.cone_rules.proofs.Parts.{ones, all_entries, all_at, zero_of_both, entry-negated}
 
@@ -100,5 +92,7 @@ rank_laws =
         interior_of_generated q vectors (ones (length vectors)) wide full (length-replicate (length vectors) one_ℚ)
             (All-replicate (λ x. zero_ℚ <ℚ x) (length vectors) one_ℚ zero_lt_one),
       );
+      inside = λ q vectors mu f wide full h. subst (λ (y : List ℚ). IsInterior q (IsGenerated q vectors) y) h.combined
+          (interior_of_generated q vectors mu wide full h.one_each h.sign);
       pointed = λ q vectors full d h k. full d h.wide (zero_at_both q vectors d h k);
     }

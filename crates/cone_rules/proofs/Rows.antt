@@ -6,13 +6,12 @@ use Rattle.std.proofs.lemmas.Bool.{eqb-true, ltb-true}
 use Rattle.std.proofs.lemmas.Bool.Decides.{eqb_tells}
 use Rattle.std.proofs.lemmas.List.Elements.{All-nil, All-cons, All-head, All-tail, All-weaker, All-filter}
 use Rattle.exact_field.specs.Rational.{ℚ, zero_ℚ, one_ℚ, whole, ◌+ℚ◌, ◌*ℚ◌, ◌≤ℚ◌, ◌<ℚ◌}
-use Rattle.exact_field.specs.Vector.{entry, dot, sum_ℚ}
+use Rattle.exact_field.specs.Vector.{entry, dot}
 use Rattle.exact_field.proofs.Rationals.{zero_from_num}
 use Rattle.frac128.specs.Sparse.{is_zero, rises_above}
 use Rattle.frac128.specs.declared.vectors.Spot.{Spot}
-use Rattle.polyhedra.specs.Cone.{IsInterior}
 use Rattle.polyhedra.specs.Sparse.{value_at, values_from}
-use Rattle.polyhedra.specs.Vectors.{AreWide, AtLeastZero, zeros, values, combination}
+use Rattle.polyhedra.specs.Vectors.{AreWide, AtLeastZero, zeros, combination}
 use Rattle.polyhedra.proofs.Algebra.{zero_add, zero_mul}
 use Rattle.polyhedra.proofs.Duality.{interior_of_rows}
 use Rattle.polyhedra.proofs.Laws.{add_zero, le_refl, zero_lt_one}
@@ -20,13 +19,11 @@ use Rattle.polyhedra.proofs.Linear.{dot_comm, dot-nil, dot-combination, dot-comb
 use Rattle.polyhedra.proofs.Lists.{HasWidth, wide-head, wide-tail, nonneg-nil, nonneg-cons, nonneg-head, nonneg-tail}
 use Rattle.polyhedra.proofs.Order.{zero_or_positive}
 use Rattle.polyhedra.proofs.Tests.{both_true}
-use Rattle.tableaux.specs.Table.{Table, row_of, list_from, unit}
+use Rattle.tableaux.specs.Table.{row_of, list_from, unit}
 use Rattle.tableaux.proofs.Definition.{unit_value, delta_sym}
 use Rattle.tableaux.proofs.Places.{row-wide, delta}
-use Rattle.vlp_reader.specs.declared.problem.Cone.TheVariants.{Gens, Dual}
-use Rattle.upper_image.specs.OrderingCone.{IsIn}
-use Rattle.upper_image.specs.Spots.{entry_of, dense, IsVector}
-use Rattle.lp_form.specs.Programs.{nonzero_vectors}
+use Rattle.vlp_reader.specs.declared.problem.Cone.TheVariants.{Dual}
+use Rattle.upper_image.specs.Spots.{entry_of, dense}
 use Rattle.cone_rules.specs.Faults.{ShowsOutside}
 use Rattle.cone_rules.specs.Laws.{RowTests, spread, IsSpread}
 
@@ -69,6 +66,20 @@ kept_or_zero q P (v ∷ vectors) w h = go (list_all is_zero v) refl h (kept_or_z
         All (λ u. P u ⊎ (u ≡ zeros q)) (v ∷ vectors)
     go true e k more = All-cons (λ u. P u ⊎ (u ≡ zeros q)) v vectors (inr (zero_vector q v (wide-head q v vectors w) e)) (more k)
     go false e k more = All-cons (λ u. P u ⊎ (u ≡ zeros q)) v vectors (inl (All-head P v (kept vectors) k)) (more (All-tail P v (kept vectors) k))
+
+-- and what holds of each vector that is not 0 holds of those that are kept
+pub kept_nonzero : (q : ℕ) (P : List ℚ → Type 0) (vectors : List (List ℚ)) → All (λ v. v ≢ zeros q → P v) vectors → All P (kept vectors)
+kept_nonzero q P [] h = All-nil P
+kept_nonzero q P (v ∷ vectors) h = go (list_all is_zero v) refl (kept_nonzero q P vectors (All-tail (λ u. u ≢ zeros q → P u) v vectors h))
+  where
+    no : true ≡ false → ⊥
+    no p = cc
+
+    go : (b : Bool) → list_all is_zero v ≡ b → All P (kept vectors) → All P (cond (not b) (v ∷ kept vectors) (kept vectors))
+    go true e more = more
+    go false e more =
+        All-cons P v (kept vectors)
+        (All-head (λ u. u ≢ zeros q → P u) v vectors h (λ z. no (sym (zeros_pass q) ∙ ap (λ u. list_all is_zero u) (sym z) ∙ e))) more
 
 -- ---- numbers spread over the vectors
 pub spread_dot : (f : List ℚ → ℚ) (vectors : List (List ℚ)) (xs : List ℚ) → dot (spread vectors xs) (map f vectors) ≡ dot xs (map f (kept vectors))
@@ -190,6 +201,7 @@ spread_well q vectors xs m h p =
         go : (s.value ≡ zero_ℚ) ⊎ (zero_ℚ <ℚ s.value) → zero_ℚ <ℚ s.value
         go (inl e) = absurd (k.some e)
         go (inr e) = e
+
     other : (s : Spot) → IsSpotOf m 0 s → s.at ≤ length vectors → row_of vectors s.at ≢ zeros q
     other s k u e = no (sym (zeros_pass q) ∙ ap (λ v. list_all is_zero v) (sym e) ∙ spread_only vectors xs (s.at - 1) (λ z. k.some (sym (reads s k u) ∙ z)))
       where

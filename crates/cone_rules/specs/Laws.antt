@@ -1,5 +1,5 @@
 -- What is proved of the faults of an ordering cone, and how ranks and the ends of its linear programs tell them.
-use Rattle.std.specs.Prelude.{◌≡◌, ◌≢◌, ◌⊎◌, ℕ, suc, ◌+◌, ◌≤◌, List, [], ◌∷◌, map, length, replicate, take, drop, All, Option, None, Some}
+use Rattle.std.specs.Prelude.{◌≡◌, ◌≢◌, ◌⊎◌, ℕ, suc, ◌+◌, ◌≤◌, List, [], ◌∷◌, map, length, replicate, take, drop, All, None, Some}
 use Rattle.std.specs.Prelude.{if◌then◌else◌}
 use Rattle.std.specs.List.{list_all}
 use Rattle.exact_field.specs.Rational.{ℚ, zero_ℚ, one_ℚ, inverse_ℚ, ◌≤ℚ◌, ◌<ℚ◌}
@@ -39,9 +39,17 @@ pub record OrthantLaws : Type 0 where
   pub outside : (q : ℕ) (f : List ℚ) (k : ℕ) → 1 ≤ k → k ≤ q → entry f k ≤ℚ zero_ℚ → ShowsOutside q Orthant f (unit q k) []
 
 -- ---- ranks
--- generators of full rank have a solid cone; rows of full rank a pointed one
+-- f is the combination of all vectors with the multipliers mu, which are positive
+pub record IsPositiveCombination (q : ℕ) (vectors : List (List ℚ)) (mu f : List ℚ) : Type 0 where
+  pub one_each : length mu ≡ length vectors
+  pub sign : All (λ x. zero_ℚ <ℚ x) mu
+  pub combined : combination q mu vectors ≡ f
+
+-- generators of full rank have a solid cone, and their combinations with positive multipliers are interior; rows of full rank have a pointed one
 pub record RankLaws : Type 0 where
   pub solid : (q : ℕ) (vectors : List (List ℚ)) → AreWide q vectors → HasFullRank q vectors → HasInterior q (Gens vectors)
+  pub inside : (q : ℕ) (vectors : List (List ℚ)) (mu f : List ℚ) → AreWide q vectors → HasFullRank q vectors → IsPositiveCombination q vectors mu f →
+      IsInterior q (IsIn q (Gens vectors)) f
   pub pointed : (q : ℕ) (vectors : List (List ℚ)) → HasFullRank q vectors → HasNoLine q (Dual vectors)
 
 -- ---- the program of vectors that combine to 0
@@ -78,12 +86,6 @@ pub record RowTests : Type 0 where
       dot (row_of vectors k) f ≤ℚ zero_ℚ → ShowsOutside q (Dual vectors) f (row_of vectors k) (record { at = k; value = one_ℚ } ∷ [])
 
 -- ---- the program of an interior vector of generators
--- f is the combination of all vectors with the multipliers mu, which are positive
-pub record IsPositiveCombination (q : ℕ) (vectors : List (List ℚ)) (mu f : List ℚ) : Type 0 where
-  pub one_each : length mu ≡ length vectors
-  pub sign : All (λ x. zero_ℚ <ℚ x) mu
-  pub combined : combination q mu vectors ≡ f
-
 -- where the vector f is given
 pub record GivenProgram : Type 0 where
   -- a positive optimum shows f as a combination of all generators with positive multipliers
@@ -129,7 +131,7 @@ pub record RowsProgram : Type 0 where
       IsSpread vectors
       (scaled (inverse_ℚ (entry y (suc (length (nonzero_vectors (Dual vectors)))))) (take (length (nonzero_vectors (Dual vectors))) y)) m →
       CombinesToMinusLast q vectors m
-  pub bounded : (q : ℕ) (vectors : List (List ℚ)) (x ray : List ℚ) → AreWide q vectors → IsUnbounded (interior_of_dual q vectors) x ray → ⊥
+  pub bounded : (q : ℕ) (vectors : List (List ℚ)) (x ray : List ℚ) → AreWide q vectors → 1 ≤ q → IsUnbounded (interior_of_dual q vectors) x ray → ⊥
 
 -- ---- what shows that a duality vector fits
 -- f divided by its last entry of q

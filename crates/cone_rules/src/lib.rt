@@ -32,3 +32,28 @@ pub fn row_tests()
 pub fn pointed_program()
     ensures { PointedProgram }
 {}
+
+/// What the program of an interior vector of generators says where the vector is given.
+pub fn given_program()
+    ensures { GivenProgram }
+{}
+
+/// What it says where none is given.
+pub fn found_program()
+    ensures { FoundProgram }
+{}
+
+/// What the program of an interior vector of rows says.
+pub fn rows_program()
+    ensures { RowsProgram }
+{}
+
+/// No sound file has a fault, and two faults of a file are of one kind.
+pub fn faults_exclude()
+    ensures { FaultsExclude }
+{}
+
+/// What shows that a duality vector fits a file.
+pub fn duality_shown()
+    ensures { FittingLaws }
+{}
