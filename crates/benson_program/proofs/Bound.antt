@@ -1,5 +1,5 @@
 -- Benson's program is bounded where it is asked.
-use Rattle.std.proofs.Common.{◌≡◌, ℕ, List, map, length, refl, ◌∙◌, Bool, true, false}
+use Rattle.std.proofs.Common.{◌≡◌, List, map, length, refl, ◌∙◌, Bool, true, false}
 use Rattle.std.proofs.lemmas.List.{length-map}
 use Rattle.exact_field.specs.Rational.{ℚ}
 use Rattle.tableaux.specs.Simplex.{IsUnbounded}

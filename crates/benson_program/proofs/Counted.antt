@@ -1,12 +1,11 @@
 -- Lengths of multipliers of Benson's program, and the last of them.
-use Rattle.std.proofs.Common.{◌≡◌, ℕ, suc, List, length, map, sym, ap, ap₂, ◌∙◌, subst, arith, ◌<◌, ◌≤◌, ◌+◌, ◌-◌, true, false, Bool, nat_lt, nat_le, slice_index_or, not, true≢false, refl}
+use Rattle.std.proofs.Common.{◌≡◌, ℕ, suc, List, length, map, sym, ap, ap₂, ◌∙◌, arith, ◌<◌, ◌≤◌, ◌+◌, ◌-◌, true, false, Bool, nat_lt, nat_le, slice_index_or, not, true≢false, refl}
 use Rattle.std.specs.Prelude.{◌&&◌, if◌then◌else◌}
 use Rattle.std.proofs.lemmas.Bool.{leb-true}
 use Rattle.std.proofs.lemmas.List.{length-map, get_or-map}
 use Rattle.exact_field.specs.Rational.{ℚ, zero_ℚ, neg_ℚ, le_ℚ, ◌<ℚ◌}
 use Rattle.polyhedra.specs.DoubleDescription.{magnitude}
 use Rattle.polyhedra.proofs.Tests.{both_true}
-use Rattle.lin_rows.specs.Read.{numbers}
 use Rattle.lin_rows.specs.Widths.{are_wide}
 use Rattle.vlp_reader.specs.declared.problem.Problem.{Problem}
 use Rattle.vlp_reader.specs.declared.problem.Cone.{Cone}

@@ -1,8 +1,7 @@
 -- The multipliers that show that Benson's program at the origin has no solution, divided by the magnitude of the last.
-use Rattle.std.proofs.Common.{◌≡◌, ℕ, suc, List, [], ◌∷◌, map, length, take, drop, refl, sym, ap, ap₂, ◌∙◌, subst, arith, ◌≤◌, ◌+◌, true, Option, Some, inl, inr}
+use Rattle.std.proofs.Common.{◌≡◌, ℕ, suc, List, [], ◌∷◌, map, length, take, drop, refl, sym, ap, ap₂, ◌∙◌, subst, arith, ◌≤◌, ◌+◌, true, Option, inl, inr}
 use Rattle.std.proofs.lemmas.List.{length-map, length-take-le, length-drop, take-map, drop-map, take-take, drop-take}
 use Rattle.exact_field.specs.Rational.{ℚ, zero_ℚ, neg_ℚ, inverse_ℚ, ◌<ℚ◌, ◌*ℚ◌}
-use Rattle.exact_field.specs.Vector.{entry}
 use Rattle.frac128.specs.declared.vectors.Spot.{Spot}
 use Rattle.polyhedra.specs.DoubleDescription.{magnitude}
 use Rattle.polyhedra.specs.Negatives.{negated}
@@ -17,7 +16,7 @@ use Rattle.upper_image.specs.Spots.{dense, IsVector}
 use Rattle.deriv_log.specs.declared.licence.Program.TheVariants.{Benson}
 use Rattle.lp_form.specs.Programs.{benson_system, dual_equations, generators, choice_of, share_of, value_of}
 use Rattle.licence.specs.Base.{AreFirstMultipliersOff, IsBaseStart}
-use Rattle.licence.specs.Operands.{Setting, Knows, IsDivisor, IsReadVector, IsScaled, vector_of}
+use Rattle.licence.specs.Operands.{Setting, Knows, IsDivisor, IsScaled, vector_of}
 use Rattle.licence.specs.Trails.{divided_by}
 use Rattle.program_ends.proofs.Preimage.{multipliers_long}
 use Rattle.program_ends.proofs.Whole.{benson_whole}

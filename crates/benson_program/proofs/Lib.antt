@@ -5,4 +5,6 @@ pub mod Made
 pub mod Opposite
 pub mod Read
 pub mod Said
+pub mod Shared
 pub mod Spread
+pub mod Weighed

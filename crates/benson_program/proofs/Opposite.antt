@@ -1,5 +1,5 @@
 -- In Benson's program the two columns of an entry of w are opposite.
-use Rattle.std.proofs.Common.{◌≡◌, ℕ, zero, suc, List, [], ◌∷◌, ◌++◌, length, refl, sym, ap, ap₂, ◌∙◌, subst, arith, ◌<◌, ◌≤◌, ◌+◌, ◌-◌, All, slice_index_or, length-append}
+use Rattle.std.proofs.Common.{◌≡◌, ℕ, zero, suc, List, [], ◌∷◌, ◌++◌, length, refl, sym, ap, ap₂, ◌∙◌, arith, ◌<◌, ◌≤◌, ◌+◌, ◌-◌, All, slice_index_or, length-append}
 use Rattle.std.proofs.lemmas.List.{get_or_append_left, get_or-append_right, length-map}
 use Rattle.std.proofs.lemmas.List.Elements.{All-nil, All-cons, All-head, All-tail, All-append}
 use Rattle.exact_field.specs.Rational.{ℚ, zero_ℚ, neg_ℚ}

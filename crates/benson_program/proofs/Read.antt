@@ -1,16 +1,13 @@
 -- What is read off an optimum of Benson's program.
-use Rattle.std.proofs.Common.{◌≡◌, ◌≢◌, ℕ, List, map, length, refl, sym, ap, ap₂, ◌∙◌, subst, arith, ◌<◌, ◌≤◌, ◌+◌, ◌-◌, ◌⊎◌, inl, inr, Bool, slice_index_or}
+use Rattle.std.proofs.Common.{◌≡◌, ℕ, List, map, length, sym, ap, ap₂, ◌∙◌, subst, arith, ◌<◌, ◌+◌, ◌-◌, ◌⊎◌, inl, inr, Bool, slice_index_or}
 use Rattle.std.proofs.lemmas.List.{length-map, get_or-map}
 use Rattle.exact_field.specs.Rational.{ℚ, zero_ℚ}
-use Rattle.exact_field.specs.Vector.{entry, dot}
 use Rattle.frac128.specs.declared.vectors.Spot.{Spot}
 use Rattle.tableaux.specs.Dictionary.{solution}
 use Rattle.tableaux.specs.Table.{System, unknown_count}
 use Rattle.vlp_reader.specs.Sides.{side_bounds}
 use Rattle.vlp_reader.specs.declared.problem.Problem.{Problem}
-use Rattle.upper_image.specs.Shows.{ShowsCut}
-use Rattle.upper_image.specs.Spots.{dense, IsVector}
-use Rattle.upper_image.proofs.Widths.{product_is}
+use Rattle.upper_image.specs.Spots.{dense}
 use Rattle.lp_form.specs.declared.data.Data.{Data}
 use Rattle.lp_form.specs.declared.data.SideOf.{SideOf}
 use Rattle.lp_form.specs.declared.name.LpName.TheVariants.{Benson}
@@ -18,13 +15,12 @@ use Rattle.lp_form.specs.Data.{IsDataOf, cone_of}
 use Rattle.lp_form.specs.Programs.{side_total, dual_unknowns, benson_system, u_of, w_of, v_of}
 use Rattle.lp_form.specs.Reading.{HasColumns, IsSplit}
 use Rattle.lp_form.proofs.Figures.{side_number, objective_number}
-use Rattle.lp_form.proofs.Systems.{benson_ok, length-side_bounds}
+use Rattle.lp_form.proofs.Systems.{benson_ok}
 use Rattle.licence.specs.Base.{AreCutParts, IsBaseCut}
 use Rattle.licence.specs.Operands.{Setting, Knows, IsBaseU}
 use Rattle.licence.proofs.Cuts.{benson_unknowns, length-benson_cost}
 use Rattle.licence.proofs.CutTurns.{cuts_are_base}
 use Rattle.cone_rules.proofs.Opposite.{opposite_columns}
-use Rattle.program_ends.proofs.Cut.{benson_cut}
 use Rattle.program_ends.proofs.Solved.{u_long}
 use Rattle.benson_program.proofs.Opposite.{opposite_entries}
 use Rattle.benson_program.proofs.Spread.{spots, spots-dense}

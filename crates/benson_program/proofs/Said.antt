@@ -1,8 +1,8 @@
 -- What is read off the end of a linear program.
-use Rattle.std.proofs.Common.{◌≡◌, ℕ, List, map, length, sym, ap, ◌∙◌, subst, arith, take_all, inl}
+use Rattle.std.proofs.Common.{◌≡◌, ℕ, List, map, length, sym, ◌∙◌, subst, arith, take_all, inl}
 use Rattle.exact_field.specs.Rational.{ℚ}
-use Rattle.tableaux.specs.Table.{System, listed}
-use Rattle.tableaux.specs.Simplex.{IsInfeasible, IsUnbounded}
+use Rattle.tableaux.specs.Table.{System}
+use Rattle.tableaux.specs.Simplex.{IsUnbounded}
 use Rattle.tableaux.proofs.Places.{length-list_from}
 use Rattle.exact_simplex.specs.Ends.{IsCertified, IsReadOff}
 use Rattle.exact_simplex.specs.declared.answer.LpEnd.{LpEnd}

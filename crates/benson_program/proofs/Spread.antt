@@ -1,5 +1,5 @@
 -- Each vector is a list of spots, one for each entry.
-use Rattle.std.proofs.Common.{◌≡◌, ℕ, zero, suc, List, [], ◌∷◌, map, length, refl, ap, ap₂, ◌∙◌, arith, ◌≤◌, Bool, nat_eq, eq-eqb}
+use Rattle.std.proofs.Common.{◌≡◌, ℕ, zero, suc, List, [], ◌∷◌, map, length, refl, ap, ap₂, ◌∙◌, arith, ◌≤◌, Bool, eq-eqb}
 use Rattle.std.specs.Prelude.{if◌then◌else◌}
 use Rattle.std.proofs.lemmas.Bool.{ne_eqb}
 use Rattle.exact_field.specs.Rational.{ℚ}

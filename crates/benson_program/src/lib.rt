@@ -3,10 +3,12 @@
 
 mod cut;
 mod ends;
+mod preimage;
 mod solving;
 mod whole;
 
 pub use cut::{Cut, cut_of};
 pub use ends::{BensonEnd, FeasibleEnd};
+pub use preimage::{Preimage, preimage_of};
 pub use solving::{benson_end, feasible_end};
 pub use whole::{WholeParts, whole_of};

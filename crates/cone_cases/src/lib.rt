@@ -1,4 +1,4 @@
-//! Worked cases of double description, of duality and of sets, at `Frac` and at `Tiny`.
+//! Worked cases of double description, of generators, of duality and of sets, at `Frac` and at `Tiny`.
 #![tactic(auto)]
 
 #[cfg(test)]

@@ -1,3 +1,4 @@
 //! One table a subject.
 mod double;
 mod duality;
+mod generators;

@@ -1,5 +1,5 @@
 -- Where a start is given up while it norms: at an entry of a column of the inverse.
-use Rattle.std.proofs.Common.{◌≡◌, ℕ, ◌+◌, ◌-◌, ◌<◌, ◌≤◌, List, [], ◌∷◌, ◌++◌, length, take, All, Bool, slice_index_or, refl, sym, ap, ◌∙◌, subst, arith, length-append, inl, inr}
+use Rattle.std.proofs.Common.{◌≡◌, ℕ, ◌+◌, ◌-◌, ◌<◌, ◌≤◌, List, [], ◌∷◌, ◌++◌, length, take, All, Bool, slice_index_or, sym, ap, ◌∙◌, subst, arith, length-append, inr}
 use Rattle.std.specs.Prelude.{IsFalse}
 use Rattle.std.proofs.lemmas.List.{get_or-map, length-map}
 use Rattle.std.proofs.Math.Seq.{get_or-append_seam, take-append_seam}
@@ -9,11 +9,11 @@ use Rattle.exact_field.specs.declared.op.Op.TheVariants.{Div}
 use Rattle.exact_field.specs.declared.op.Left.{Left}
 use Rattle.polyhedra.specs.DoubleDescription.{magnitude, norming}
 use Rattle.tableaux.specs.Table.{Table, column_of}
-use Rattle.tableaux.specs.Elimination.{AreInverse, columns_of}
+use Rattle.tableaux.specs.Elimination.{columns_of}
 use Rattle.tableaux.proofs.Places.{length-list_from, listed-place}
 use Rattle.lin_rows.specs.Answers.{AreInverseColumns}
 use Rattle.lin_rows.specs.declared.fault.RowFault.TheVariants.{Left as Stopped, NoMemory as Want}
-use Rattle.double_descr.specs.Starting.{AreNotNormed, IsFirstNormingFault, IsNormingLeft, IsStartFault, norming_steps}
+use Rattle.double_descr.specs.Starting.{AreNotNormed, IsNormingLeft, IsStartFault, norming_steps}
 use Rattle.double_descr.specs.Steps.{Step, IsFirst, IsHeld, exact}
 use Rattle.double_descr.specs.declared.fault.DdFault.{DdFault}
 use Rattle.double_descr.specs.declared.fault.DdFault.TheVariants.{Elim, Left as Stuck, NoMemory}

@@ -53,7 +53,7 @@ fn fractions<F: Field>(
 }
 
 /// Rows of one width, one behind the other.
-fn rows_of<F: Field>(
+pub fn rows_of<F: Field>(
     rt: &impl Abort,
     alloc: Global,
     width: u32,

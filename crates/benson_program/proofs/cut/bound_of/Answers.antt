@@ -1,4 +1,4 @@
-use Rattle.std.proofs.Common.{◌≡◌, List, [], map, subst, inl, refl}
+use Rattle.std.proofs.Common.{◌≡◌, List, map, subst, inl, refl}
 use Rattle.exact_field.specs.Rational.{ℚ}
 use Rattle.vlp_reader.specs.Sides.{side_bounds}
 use Rattle.deriv_log.specs.declared.entry.Entry.{Entry}

@@ -1,9 +1,8 @@
-use Rattle.std.proofs.Common.{◌≡◌, List, map, subst, sym, ap, ◌∙◌, refl, rules, length}
+use Rattle.std.proofs.Common.{List, map, subst, sym, ap, ◌∙◌, refl, rules, length}
 use Rattle.exact_field.specs.Rational.{ℚ}
 use Rattle.exact_field.specs.Vector.{dot}
 use Rattle.vlp_reader.specs.Sides.{side_bounds}
 use Rattle.lp_form.specs.declared.name.LpName.{LpName}
-use Rattle.lp_form.specs.declared.name.LpName.TheVariants.{Benson}
 use Rattle.lp_form.specs.Reading.{AreParts, HasColumns}
 use Rattle.licence.specs.Operands.{IsBaseU}
 use Rattle.benson_program.proofs.Made.{made}

@@ -1,5 +1,4 @@
-use Rattle.std.proofs.Common.{◌≡◌, map, ap}
-use Rattle.tableaux.specs.Table.{System}
+use Rattle.std.proofs.Common.{map, ap}
 use Rattle.lp_form.specs.Names.{named}
 use Rattle.lp_form.specs.Programs.{benson_system, named_system}
 use Rattle.benson_program.proofs.Bound.{bounded}

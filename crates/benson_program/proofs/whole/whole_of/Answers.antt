@@ -1,10 +1,9 @@
-use Rattle.std.proofs.Common.{◌≡◌, ℕ, List, map, length, take, drop, subst, sym, ap, ap₂, ◌∙◌, refl, rules, arith, ◌+◌, ◌-◌, ◌≤◌}
-use Rattle.std.proofs.lemmas.List.{length-map, length-take-le, take-map, drop-map, take_rest}
-use Rattle.exact_field.specs.Rational.{ℚ, inverse_ℚ, neg_ℚ}
+use Rattle.std.proofs.Common.{◌≡◌, List, map, length, take, drop, sym, ap, ap₂, ◌∙◌, refl, rules, arith, ◌+◌, ◌-◌}
+use Rattle.std.proofs.lemmas.List.{length-map, take-map, drop-map}
+use Rattle.exact_field.specs.Rational.{inverse_ℚ, neg_ℚ}
 use Rattle.polyhedra.specs.Negatives.{negated}
 use Rattle.polyhedra.specs.Vectors.{scaled}
-use Rattle.lp_form.specs.Programs.{generators, value_of}
-use Rattle.licence.specs.Operands.{IsDivisor}
+use Rattle.lp_form.specs.Programs.{generators}
 use Rattle.benson_program.proofs.Counted.{last_is, some_last, generators_are, within as within_dual, short as short_dual}
 use Rattle.benson_program.proofs.Divided.{y_long, not_zero, divisor_own, may_divide, quotients_long, ray_is, m_is, wholes}
 use Rattle.benson_program.proofs.whole.whole_of.Goals as goal

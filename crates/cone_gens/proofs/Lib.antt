@@ -1,0 +1,4 @@
+pub mod Events
+pub mod Licences
+pub mod Reading
+pub mod Reordered

@@ -1,0 +1,31 @@
+-- The generators of the cone of some rows, as a list, and the order of their making.
+use Rattle.std.specs.Prelude.{ℕ, List, ◌++◌, ◌≡◌, ◌↔◌, map, length, filter, AllPairs, Contains, not}
+use Rattle.std.specs.List.{range_with_len}
+use Rattle.exact_field.specs.Rational.{ℚ}
+use Rattle.polyhedra.specs.LiveList.{LiveList, vectors}
+use Rattle.tableaux.specs.Table.{Table, row_of}
+use Rattle.tableaux.specs.Elimination.{AreIndependent}
+use Rattle.log_rules.specs.Live.{contains}
+use Rattle.licence.specs.Base.{IsGeneratorOf}
+use Rattle.licence.specs.Operands.{IsMadeOver}
+
+-- the list has exactly the generators of the cone where all rows are at least 0, each once
+pub record AreGenerators (n : ℕ) (rows gens : List (List ℚ)) : Type 0 where
+  pub each : (g : List ℚ) → Contains gens g ↔ IsGeneratorOf n rows g
+  pub once : AllPairs (λ a b. a ≡ b → ⊥) gens
+
+-- the numbers from 1 to `count` that are not picked, rising
+abbrev pub others : ℕ → List ℕ → List ℕ
+others count picks = filter (λ k. not (contains picks k)) (range_with_len 1 count)
+
+-- the picked rows, and then the others in their order
+abbrev pub begun_with : List ℕ → Table → List (List ℚ)
+begun_with picks rows = map (row_of rows) picks ++ map (row_of rows) (others (length rows) picks)
+
+-- the vectors are those of live generators, by their numbers, that begin with n independent rows and take a step for each other row
+pub record AreMadeInOrder (n : ℕ) (rows gens : List (List ℚ)) : Type 0 where
+  pub picks : List ℕ
+  pub independent : AreIndependent n rows picks
+  pub list : LiveList
+  pub made : IsMadeOver n (begun_with picks rows) list
+  pub same : gens ≡ vectors list.live

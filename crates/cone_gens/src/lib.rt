@@ -1,0 +1,10 @@
+//! The generators of a cone that is given by rows, or the licence of the overflow for which they were given up.
+#![tactic(auto)]
+
+mod dual;
+mod fault;
+mod picked;
+mod places;
+
+pub use dual::dual_gens;
+pub use fault::SolveFault;
