@@ -3,6 +3,7 @@ pub mod ByVectors
 pub mod Combined
 pub mod Ending
 pub mod Fits
+pub mod GeneratorsFit
 pub mod GivenInside
 pub mod Leading
 pub mod Opposite
