@@ -8,6 +8,8 @@ use Rattle.lin_rows.specs.Read.{numbers}
 use Rattle.lp_form.proofs.Figures.{objective_number}
 use Rattle.lp_form.specs.Programs.{generators}
 use Rattle.polyhedra.specs.Vectors.{AreWide, AtLeastZero, combination}
+use Rattle.tableaux.specs.Elimination.{AreInverse}
+use Rattle.tableaux.specs.Table.{row_of}
 use Rattle.vlp_reader.specs.declared.problem.Cone.{Cone}
 use Rattle.cone_dual.proofs.ByVectors.{cone_at, vectors_at, wide}
 use Rattle.cone_dual.proofs.Ending.{licensed_end}
@@ -64,9 +66,11 @@ returns-clause-ok g c = λ file stands.
     let mu : List ℚ = map value c.in_ok-mu.mu in
     let read = c.in_ok-mu.ensures.read in
     let inverts = c.in_ok-inverse.ensures.ok in
+    let inverted : AreInverse (length form.p) (map (row_of all) c.args.picks) inverts.0 =
+    subst (λ (p : List ℕ). AreInverse (length form.p) (map (row_of all) p) inverts.0) c.as_slice-2.ensures.items inverts.1 in
     let c_is : map value c.in_ok-c.c ≡ combination (length form.p) mu all =
     c.in_ok-c.ensures.ok ∙ ap (λ (n : ℕ). combination n (map value c.as_slice.result.now) all) c.len.ensures.value
     ∙ ap (λ (m : List ℚ). combination (length form.p) m all) (ap (map value) c.as_slice.ensures.items) in
     found_fits value form vectors c.requires.generators g.F.Field.holds file stands c.in_ok-c.c c.in_ok-mu.mu c.args.picks (map value c.as_slice-3.result.now) read.0 inverts.0
-    c.in_ok-made.field-0 c.requires.duality c.requires.pointed c.requires.picks c.in_ok-mu.ensures.ok read.1 read.2 c_is inverts.1
+    c.in_ok-made.field-0 c.requires.duality c.requires.pointed c.requires.picks c.in_ok-mu.ensures.ok read.1 read.2 c_is inverted
     (ap (map value) c.as_slice-3.ensures.items ∙ inverts.2) c.in_ok-made.ensures

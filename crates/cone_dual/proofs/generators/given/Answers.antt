@@ -9,6 +9,8 @@ use Rattle.lp_form.specs.Data.{cone_of, duality_of}
 use Rattle.lp_form.specs.declared.data.ConeOf.TheVariants.{Gens}
 use Rattle.polyhedra.specs.Vectors.{scaled}
 use Rattle.std.proofs.lemmas.List.{length-map}
+use Rattle.tableaux.specs.Elimination.{AreInverse}
+use Rattle.tableaux.specs.Table.{row_of}
 use Rattle.vlp_reader.specs.declared.problem.Cone.{Cone}
 use Rattle.vlp_reader.specs.declared.problem.Cone.TheVariants as form_of
 use Rattle.cone_rules.specs.Faults.{IsGivenInside}
@@ -96,7 +98,10 @@ returns-clause-ok g c = λ file stands.
     let n : ℕ = length vectors in
     let by = c.index-f-f.result in
     let z : List ℚ = map value c.in_ok-z.z in
+    let all = numbers value vectors in
     let inverts = c.in_ok-inverse.ensures.ok in
+    let inverted : AreInverse (length form.p) (map (row_of all) c.args.picks) inverts.0 =
+    subst (λ (p : List ℕ). AreInverse (length form.p) (map (row_of all) p) inverts.0) c.as_slice-2.ensures.items inverts.1 in
     let long : length f ≡ length form.p = given_long value form f c.requires.duality in
     let some = form.some_objective in
     let last : length f - 1 + 1 ≡ length form.p = omega (arith, long, some) in
@@ -107,4 +112,4 @@ returns-clause-ok g c = λ file stands.
     ∙ ap (λ (v : List ℚ). scaled (inverse_ℚ (entry (map value f) (length form.p))) (take n v)) (ap (map value) c.as_slice.ensures.items) in
     given_fits value form vectors c.requires.generators holds file stands f c.requires.duality c.in_ok-c.c c.in_ok-weights.weights c.args.picks
     (map value c.as_slice-3.result.now) z inverts.0 c.in_ok-made.field-0 c.requires.pointed c.requires.picks c.in_ok-c.ensures.positive c.in_ok-z.ensures.ok
-    c.in_ok-z.ensures.read c.in_ok-c.ensures.ok weights_is inverts.1 (ap (map value) c.as_slice-3.ensures.items ∙ inverts.2) c.in_ok-made.ensures
+    c.in_ok-z.ensures.read c.in_ok-c.ensures.ok weights_is inverted (ap (map value) c.as_slice-3.ensures.items ∙ inverts.2) c.in_ok-made.ensures
