@@ -1,8 +1,11 @@
 pub mod Asked
+pub mod ByVectors
 pub mod Combined
 pub mod Ending
 pub mod Fits
+pub mod GivenInside
 pub mod Leading
+pub mod Opposite
 pub mod Picks
 pub mod Signs
 pub mod Spots
