@@ -24,7 +24,7 @@ returns-in-None-clause-ok g c =
     let q = length form.p in
     let all = numbers value c.args.vectors.now in
     let none : (y : List ℚ) × IsInfeasible (zero_combination q (nonzero_vectors (form_of.Gens all))) y =
-    subst (λ r. IfNone r ((y : List ℚ) × IsInfeasible (zero_combination q (nonzero_vectors (form_of.Gens all))) y)) c.in-None.is c.in_ok-flat.ensures.none in
+    subst (λ r. IfNone r ((y : List ℚ) × IsInfeasible (zero_combination q (nonzero_vectors (form_of.Gens all))) y)) c.in-None.is c.in_ok-zero_combination.ensures.none in
     as_cone value form (Dual c.args.vectors.now) c.requires (λ (k : Cone). HasInterior q k)
     (take q none.0, pointed_program.rows q all none.0 (rows_wide value form c.args.vectors.now c.requires) none.1)
 
@@ -36,6 +36,6 @@ returns-in-Some-clause-end g c = λ file stands.
     let all = numbers value c.args.vectors.now in
     let flat = c.in-Some.flat in
     let shown : IsZeroCombination q all flat.m flat.first =
-    subst (λ r. IfSome r (λ z. IsZeroCombination q all z.m z.first)) c.in-Some.is c.in_ok-flat.ensures.some in
+    subst (λ r. IfSome r (λ z. IsZeroCombination q all z.m z.first)) c.in-Some.is c.in_ok-zero_combination.ensures.some in
     at_file value form file stands (λ (n : ℕ) (k : Cone) (d : Option (List ℚ)). ShowsFlat n k flat.first flat.m)
     (as_cone value form (Dual c.args.vectors.now) c.requires (λ (k : Cone). ShowsFlat q k flat.first flat.m) shown)

@@ -21,7 +21,7 @@ returns-in-Basis-clause-ok g c =
     let form = c.args.form.now in
     let q = length form.p in
     let all : List (List ℚ) = numbers value c.args.vectors.now in
-    let independent : AreIndependent q all c.in-Basis.field-0 = subst (λ e. IsIndep value q all e) c.in-Basis.is c.in_ok-d.ensures.ok in
+    let independent : AreIndependent q all c.in-Basis.field-0 = subst (λ e. IsIndep value q all e) c.in-Basis.is c.in_ok-independent_vectors.ensures.ok in
     as_cone value form (Dual c.args.vectors.now) c.requires.rows (λ (k : Cone). HasNoLine q k)
     (rank_laws.pointed q all (full_rank q all c.in-Basis.field-0 independent))
 
@@ -34,7 +34,7 @@ returns-clause-end g c = λ file stands.
     let z : List ℚ = map value c.in-Orthogonal.d in
     let d = c.in_ok-d-in-Orthogonal.d in
     let m = c.new.result in
-    let across : IsOrthogonal q all z = subst (λ e. IsIndep value q all e) c.in-Orthogonal.is c.in_ok-d.ensures.ok in
+    let across : IsOrthogonal q all z = subst (λ e. IsIndep value q all e) c.in-Orthogonal.is c.in_ok-independent_vectors.ensures.ok in
     let d_is : d ≡ z = c.in_ok-d-in-Orthogonal.ensures.same ∙ ap (map value) c.as_slice.ensures.items in
     at_file value form file stands (λ (n : ℕ) (k : Cone) (o : Option (List ℚ)). HasInterior n k × ShowsLine n k d m)
     (c.requires.solid, as_cone value form (Dual c.args.vectors.now) c.requires.rows (λ (k : Cone). ShowsLine q k d m)
