@@ -3,7 +3,7 @@ use Rattle.std.proofs.Common.{◌≡◌, ◌≢◌, ℕ, suc, List, [], ◌∷�
 use Rattle.std.specs.Prelude.{if◌then◌else◌}
 use Rattle.std.specs.List.{list_all}
 use Rattle.std.proofs.Math.ListN.{length-append}
-use Rattle.std.proofs.lemmas.List.{length-map, get_or-map, length-take-le}
+use Rattle.std.proofs.lemmas.List.{length-map, get_or-map, get_or-take, get_or-drop, length-take-le, take-map, drop-map}
 use Rattle.std.proofs.lemmas.List.Filters.{length-filter_both}
 use Rattle.exact_field.specs.Rational.{ℚ, zero_ℚ, one_ℚ, neg_ℚ, inverse_ℚ, le_ℚ, ◌*ℚ◌, ◌<ℚ◌}
 use Rattle.exact_field.specs.Vector.{entry}
@@ -15,12 +15,13 @@ use Rattle.polyhedra.specs.DoubleDescription.{magnitude}
 use Rattle.polyhedra.specs.Negatives.{negated}
 use Rattle.polyhedra.specs.Vectors.{AreWide, scaled, zeros}
 use Rattle.tableaux.specs.Dictionary.{solution}
-use Rattle.tableaux.specs.Simplex.{IsInfeasible, IsOptimal, OptimalAt}
-use Rattle.tableaux.specs.Table.{System, Table, row_of, unit, unknown_count}
+use Rattle.tableaux.specs.Simplex.{IsInfeasible, IsOptimal, IsUnbounded, OptimalAt}
+use Rattle.tableaux.specs.Table.{System, Table, minus, unit, unknown_count}
 use Rattle.tableaux.proofs.Places.{length-list_from}
 use Rattle.lin_rows.specs.Read.{numbers}
 use Rattle.upper_image.specs.Spots.{dense, IsVector}
 use Rattle.vlp_reader.specs.declared.problem.Problem.{Problem}
+use Rattle.vlp_reader.specs.declared.problem.Cone.{Cone}
 use Rattle.vlp_reader.specs.declared.problem.Cone.TheVariants as cone
 use Rattle.deriv_log.specs.declared.licence.Program.TheVariants.{Interior}
 use Rattle.lp_form.specs.declared.data.ConeOf.TheVariants.{Dual}
@@ -28,19 +29,22 @@ use Rattle.lp_form.specs.declared.data.Data.{Data}
 use Rattle.lp_form.specs.Data.{IsDataOf, cone_of, duality_of}
 use Rattle.lp_form.specs.Programs.{dual_gaps, interior_of_dual, interior_system, nonzero_vectors}
 use Rattle.lp_form.specs.Reading.{AreDisjoint}
+use Rattle.lp_form.proofs.Figures.{objective_number}
 use Rattle.lp_form.proofs.Systems.{dual_ok, length-zeros}
-use Rattle.licence.specs.Base.{AreFirstMultipliersOff}
+use Rattle.licence.specs.Base.{AreFirstMultipliersOff, IsSolutionOff}
 use Rattle.licence.specs.Operands.{IsDivisor, IsScaled, Setting}
-use Rattle.cone_rules.specs.Faults.{CombinesToMinusLast}
-use Rattle.cone_rules.specs.Laws.{spread, IsSpread}
+use Rattle.licence.specs.Trails.{IsInteriorOff}
+use Rattle.cone_rules.specs.Faults.{CombinesToMinusLast, HasInterior}
+use Rattle.cone_rules.specs.Laws.{interior_said, spread}
 use Rattle.cone_rules.proofs.FoundRows.{rows_program}
 use Rattle.cone_rules.proofs.Opposite.{opposite_columns}
 use Rattle.cone_rules.proofs.Rows.{kept_wide}
+use Rattle.cone_dual.specs.Fitting.{IsInsideRows}
 use Rattle.cone_dual.proofs.Asked.{interior_same}
-use Rattle.cone_dual.proofs.ByVectors.{rows_few, rows_found_is, rows_wide}
+use Rattle.cone_dual.proofs.ByVectors.{rows_few, rows_found_is, rows_wide, solution_off}
 use Rattle.cone_dual.proofs.Opposite.{opposite_entries}
 use Rattle.cone_dual.proofs.Spreading.{spread_of}
-use Rattle.cone_dual.proofs.Standing.{before}
+use Rattle.cone_dual.proofs.Standing.{before, of_cone}
 
 -- ---- signs
 -- the magnitude of a negative number
@@ -178,11 +182,41 @@ module _ {F : Type 0} (value : F → ℚ) (form : Data F) (vectors : List (List 
         subst (λ (z : List ℚ). P i (q + i) z) (sym off.1.x_read)
         (subst (λ (a : ℕ). P a (q + i) (solution S basis off.0)) first (subst (λ (b : ℕ). P (i + 1 - 1) b (solution S basis off.0)) second there))
 
-    pub apart : (plus other : List F) → length plus ≡ q → ((i : ℕ) (d : F) → i < q → slice_index_or plus i d ≡ slice_index_or x i d) →
-        ((i : ℕ) (d : F) → i < q → slice_index_or other i d ≡ slice_index_or x (q + i) d) → AreDisjoint value plus other
-    apart plus other long first second = λ i a b inside.
-        let within : i < q = omega (arith, inside, long) in
-        elim (split i within) [
-          | inl e ↦ inl (ap value (first i a within) ∙ sym (get_or-map value x i a zero_ℚ (omega (arith, within, found_long))) ∙ e)
-          | inr e ↦ inr (ap value (second i b within) ∙ sym (get_or-map value x (q + i) b zero_ℚ (omega (arith, within, found_long))) ∙ e)
-        ]
+    module _ (n : ℕ) (z : List F) (n_is : n ≡ q) (z_is : z ≡ x) where
+      pub apart : AreDisjoint value (take n z) (take (n + n - n) (drop n z))
+      apart = λ i a b inside.
+          let long : length z ≡ q + q + length N + 2 = ap length z_is ∙ found_long in
+          let within : i < q = omega (arith, inside, n_is, long, length-take-le n z (omega (arith, n_is, long))) in
+          let first : slice_index_or (take n z) i a ≡ slice_index_or x i a =
+          get_or-take n z i a (omega (arith, within, n_is)) ∙ ap (λ (l : List F). slice_index_or l i a) z_is in
+          let second : slice_index_or (take (n + n - n) (drop n z)) i b ≡ slice_index_or x (q + i) b =
+          get_or-take (n + n - n) (drop n z) i b (omega (arith, within, n_is)) ∙ get_or-drop n z i b
+          ∙ ap₂ (λ (l : List F) (k : ℕ). slice_index_or l (k + i) b) z_is n_is in
+          elim (split i within) [
+            | inl e ↦ inl (ap value first ∙ sym (get_or-map value x i a zero_ℚ (omega (arith, within, found_long))) ∙ e)
+            | inr e ↦ inr (ap value second ∙ sym (get_or-map value x (q + i) b zero_ℚ (omega (arith, within, found_long))) ∙ e)
+          ]
+
+      module _ (w : List F) (w_is : map value w ≡ minus (map value (take n z)) (map value (take (n + n - n) (drop n z)))) where
+        said : map value w ≡ interior_said q (map value x)
+        said =
+            let back : n + n - n ≡ n = omega arith in
+            w_is ∙ ap (λ (k : ℕ). minus (map value (take n z)) (map value (take k (drop n z)))) back
+            ∙ ap₂ (λ (k : ℕ) (l : List F). minus (map value (take k l)) (map value (take k (drop k l)))) n_is z_is
+            ∙ ap₂ minus (sym (take-map value q x)) (sym (take-map value q (drop q x)) ∙ ap (take q) (sym (drop-map value q x)))
+
+        pub inside : HasInterior q (cone_of value form.cone) → IsInsideRows q V (map value w)
+        inside solid =
+            let law = rows_program.optimal q V (map value x) dual wide some (of_cone value form (Dual vectors) rows (λ (k : Cone). HasInterior q k) solid) h in
+            subst (λ (v : List ℚ). IsInsideRows q V v) (sym said) (record { wide = law.0; last = law.1; positive = law.2 })
+
+        pub read_off : (holds : ℚ → Bool) (file : Problem) → IsDataOf value file form → IsInteriorOff file (map value w)
+        read_off holds file stands = (
+          map value x,
+          subst (λ (s : System). IsSolutionOff s (map value x)) (sym (rows_found_is value form vectors rows) ∙ interior_same value holds form file stands)
+          (solution_off S basis (map value x) dual off),
+          said ∙ ap (λ (k : ℕ). interior_said k (map value x)) (objective_number value file form stands),
+        )
+
+  pub bounded : (x ray : List ℚ) → IsUnbounded S x ray → ⊥
+  bounded x ray h = rows_program.bounded q N x ray (kept_wide q V wide) some h
