@@ -17,10 +17,13 @@ use Rattle.deriv_log.specs.declared.entry.Entry.{Entry}
 use Rattle.deriv_log.specs.declared.entry.Entry.TheVariants.{Duality as Line}
 use Rattle.log_rules.specs.Meets.{MeetsFarkas, MeetsWhole}
 use Rattle.log_rules.specs.Proves.{AllMeet}
+use Rattle.lp_form.specs.Data.{IsDataOf}
+use Rattle.lp_form.specs.declared.data.Data.{Data}
+use Rattle.lp_form.proofs.Figures.{objective_number}
 use Rattle.lp_form.specs.Programs.{side_total, feasible_system, benson_system, u_of, w_of, v_of}
-use Rattle.licence.specs.Base.{IsBaseChoice, IsRayOff, AreCutParts}
+use Rattle.licence.specs.Base.{IsBaseChoice, IsBaseStart, IsRayOff, AreCutParts}
 use Rattle.licence.specs.Licence.{opening, IsPossible, LicensedAnyhow, StandsFor}
-use Rattle.licence.specs.Operands.{Setting}
+use Rattle.licence.specs.Operands.{Knows, Setting}
 use Rattle.licence.specs.Trails.{IsBaseTrail}
 use Rattle.licence.proofs.Cuts.{length-benson_cost}
 use Rattle.licence.proofs.Growing.{trail_laws}
@@ -30,7 +33,15 @@ use Rattle.overflows.specs.declared.fault.SolveFault.{SolveFault}
 use Rattle.overflows.specs.declared.fault.SolveFault.TheVariants.{Left, NoMemory}
 use Rattle.program_ends.proofs.Cut.{benson_cut}
 use Rattle.program_ends.specs.Ends.{IsCutNormal}
-use Rattle.benson_program.specs.Ends.{IsContradiction, IsOptimumAt}
+use Rattle.benson_program.specs.Ends.{CanStart, IsBensonEnd, IsContradiction, IsEmptyAt, IsFeasibleEnd, IsOptimumAt}
+use Rattle.benson_program.specs.declared.ends.BensonEnd.{BensonEnd}
+use Rattle.benson_program.specs.declared.ends.BensonEnd.TheVariants.{Optimal, Empty}
+use Rattle.benson_program.specs.declared.ends.FeasibleEnd.{FeasibleEnd}
+use Rattle.benson_program.specs.declared.ends.FeasibleEnd.TheVariants.{Contradiction, Point}
+use Rattle.benson_program.specs.Sparse.{IsSparseOf}
+use Rattle.benson_program.specs.Wholes.{AreEmptyAtOrigin, IsWholeOf}
+use Rattle.benson_program.specs.declared.whole.WholeParts.{WholeParts}
+use Rattle.own_check.specs.Logs.{IsReadWhole, ShowsWhole}
 use Rattle.cone_dual.specs.Fitting.{IsDualityOf}
 use Rattle.cone_dual.specs.declared.duality.Duality.{Duality}
 use Rattle.solver.specs.Opening.{IsContradictionLog, IsOwnLog, IsToDescribe}
@@ -100,3 +111,88 @@ module _ {F : Type 0} (value : F → ℚ) (holds : ℚ → Bool) (file : Problem
           (product (side_bounds file) u.0, u.0, v.0, benson_cut.cut file c (zeros file.objs) true z y (product (side_bounds file) u.0) u.0 v.0 long origin optimum.optimal u_vector v.1.vector parts refl),
         );
       }
+
+-- a list of numbers that was written is that of the list it was read as
+pub sparse_of : {F : Type 0} (value : F → ℚ) (list seen : List F) (spots : List Spot) → seen ≡ list → IsVector (length seen) spots → dense (length seen) spots ≡ map value seen →
+    IsSparseOf value list spots
+sparse_of value list seen spots same vector numbers =
+    subst (λ (l : List _). IsSparseOf value l spots) same (record { vector = vector; same = numbers })
+
+-- what shows that the image is everything, as the parts of a log
+module _ {F : Type 0} (value : F → ℚ) (holds : ℚ → Bool) (file : Problem) (d : Duality F) (h : IsDualityOf value holds file d) (list : List F)
+    (choice : IsBaseChoice file (map value list)) (parts : WholeParts F) (w : IsWholeOf value file (map value d.c) parts) (x ray m : List Spot)
+    (x_is : IsSparseOf value list x) (ray_is : IsSparseOf value parts.ray ray) (m_is : IsSparseOf value parts.m m) where
+  cols : length list ≡ file.cols
+  cols = sym (length-map list value) ∙ choice.feasible.width
+
+  x_vector : IsVector file.cols x
+  x_vector = subst (λ (n : ℕ). IsVector n x) cols x_is.vector
+
+  x_same : dense file.cols x ≡ map value list
+  x_same = ap (λ (n : ℕ). dense n x) (sym cols) ∙ x_is.same
+
+  pub shows_whole : ShowsWhole file (map value d.c) (map value d.weights) d.entry x ray m
+  shows_whole = record {
+    picks = h.picks;
+    inverse = h.inverse;
+    opens = h.entry_is;
+    fits = h.fits;
+    rules = record {
+      feasible = record { index = x_vector.places; side = subst (IsFeasible file) (sym x_same) choice.feasible };
+      recedes = w.recedes ray ray_is;
+      above = w.above ray m ray_is m_is;
+    };
+  }
+
+  pub read_whole : IsReadWhole file (map value d.c) (map value d.weights) x ray m
+  read_whole = record { duality = h.base; choice = subst (IsBaseChoice file) (sym x_same) choice; whole = w.base ray m ray_is m_is }
+
+-- Benson's program at the origin, whose start vector and duality vector are read as lists
+module _ {F : Type 0} (value : F → ℚ) (holds : ℚ → Bool) (file : Problem) (form : Data F) (stands : IsDataOf value file form) (d : Duality F)
+    (h : IsDualityOf value holds file d) (cs vs : List F) (cs_is : cs ≡ d.c) (vs_is : map value vs ≡ zeros (length form.p)) where
+  origin_is : map value vs ≡ zeros file.objs
+  origin_is = vs_is ∙ ap zeros (objective_number value file form stands)
+
+  pub c_long : length cs ≡ length form.p
+  c_long = ap length cs_is ∙ sym (length-map d.c value) ∙ h.fits.lengths ∙ sym (objective_number value file form stands)
+
+  pub can_start : (x : List ℚ) → IsBaseChoice file x → CanStart value form (map value cs) true
+  can_start x choice =
+      subst (λ (l : List F). CanStart value form (map value l) true) (sym cs_is)
+      (record { file = file; stands = stands; interior = (fits value holds file d h).interior; solvable = λ e. (x, choice.feasible) })
+
+  pub base_start : (trail : List Entry) → IsBaseStart file.objs trail (map value vs) true
+  base_start trail = IsBaseStart.origin origin_is refl
+
+  pub knows : Knows (setting value holds file d h) (map value cs)
+  knows = ap (λ (l : List F). Some (map value l)) (sym cs_is)
+
+  at : (P : List ℚ → List ℚ → Type 0) → P (map value cs) (map value vs) → P (map value d.c) (zeros file.objs)
+  at P k = subst (λ (v : List ℚ). P (map value d.c) v) origin_is (subst (λ (l : List F). P (map value l) (map value vs)) cs_is k)
+
+  pub empty_at : (e : BensonEnd F) (dual seen : List F) (basis : List ℕ) → IsBensonEnd value file (map value cs) (map value vs) true e → e ≡ Empty dual basis → seen ≡ dual →
+      AreEmptyAtOrigin file (map value d.c) (map value seen)
+  empty_at e dual seen basis k is same = record {
+    c_wide = h.fits.lengths;
+    basis = basis;
+    empty =
+        subst (λ (l : List F). IsEmptyAt (benson_system file (map value d.c) (zeros file.objs) true) basis (map value l)) (sym same)
+        (at (λ c v. IsEmptyAt (benson_system file c v true) basis (map value dual))
+        (subst (λ (x : BensonEnd F). IsBensonEnd value file (map value cs) (map value vs) true x) is k));
+  }
+
+  pub optimum_at : (e : BensonEnd F) (z dual : List F) (basis : List ℕ) → IsBensonEnd value file (map value cs) (map value vs) true e → e ≡ Optimal z dual basis →
+      IsOptimumAt (benson_system file (map value d.c) (zeros file.objs) true) basis (map value z) (map value dual)
+  optimum_at e z dual basis k is =
+      at (λ c v. IsOptimumAt (benson_system file c v true) basis (map value z) (map value dual))
+      (subst (λ (x : BensonEnd F). IsBensonEnd value file (map value cs) (map value vs) true x) is k)
+
+-- the end of the program of the sides, as what it was read to be
+module _ {F : Type 0} (value : F → ℚ) (file : Problem) (e : FeasibleEnd F) (k : IsFeasibleEnd value file e) where
+  pub contradiction_of : (u seen : List F) → e ≡ Contradiction u → seen ≡ u → IsContradiction file (map value seen)
+  contradiction_of u seen is same =
+      subst (λ (l : List F). IsContradiction file (map value l)) (sym same) (subst (λ (x : FeasibleEnd F). IsFeasibleEnd value file x) is k)
+
+  pub point_of : (x seen : List F) → e ≡ Point x → seen ≡ x → IsBaseChoice file (map value seen)
+  point_of x seen is same =
+      subst (λ (l : List F). IsBaseChoice file (map value l)) (sym same) (subst (λ (y : FeasibleEnd F). IsFeasibleEnd value file y) is k)
