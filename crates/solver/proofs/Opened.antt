@@ -1,22 +1,17 @@
 -- What is found before there is a cut in use, from what its parts tell.
-use Rattle.std.proofs.Common.{◌≡◌, ℕ, ◌+◌, ◌≤◌, List, [], map, length, take, drop, refl, sym, ap, subst, ◌∙◌, arith, Bool, true, inl, inr, Option, Some, None}
+use Rattle.std.proofs.Common.{◌≡◌, ℕ, List, [], map, length, refl, sym, ap, subst, ◌∙◌, arith, Bool, true, inl, Some}
 use Rattle.std.proofs.lemmas.List.{length-map, length-take-le}
 use Rattle.exact_field.specs.Rational.{ℚ}
-use Rattle.frac128.specs.Sparse.{IsSparse}
 use Rattle.frac128.specs.declared.vectors.Spot.{Spot}
 use Rattle.polyhedra.specs.Vectors.{zeros}
 use Rattle.polyhedra.proofs.Linear.{length-zeros}
 use Rattle.vlp_reader.specs.Sides.{IsFeasible, side_bounds}
 use Rattle.vlp_reader.specs.declared.problem.Problem.{Problem}
 use Rattle.upper_image.specs.OrderingCone.{Fits}
-use Rattle.upper_image.specs.Shows.{ShowsFeasible}
 use Rattle.upper_image.specs.Spots.{dense, product, IsVector}
 use Rattle.upper_image.proofs.Solid.{duality_fits}
-use Rattle.deriv_log.specs.Formed.{IsLog}
 use Rattle.deriv_log.specs.declared.entry.Entry.{Entry}
-use Rattle.deriv_log.specs.declared.entry.Entry.TheVariants.{Duality as Line}
-use Rattle.log_rules.specs.Meets.{MeetsFarkas, MeetsWhole}
-use Rattle.log_rules.specs.Proves.{AllMeet}
+use Rattle.log_rules.specs.Meets.{MeetsFarkas}
 use Rattle.lp_form.specs.Data.{IsDataOf}
 use Rattle.lp_form.specs.declared.data.Data.{Data}
 use Rattle.lp_form.proofs.Figures.{objective_number}
@@ -24,7 +19,6 @@ use Rattle.lp_form.specs.Programs.{side_total, feasible_system, benson_system, u
 use Rattle.licence.specs.Base.{IsBaseChoice, IsBaseStart, IsRayOff, AreCutParts}
 use Rattle.licence.specs.Licence.{opening, IsPossible, LicensedAnyhow, StandsFor}
 use Rattle.licence.specs.Operands.{Knows, Setting}
-use Rattle.licence.specs.Trails.{IsBaseTrail}
 use Rattle.licence.proofs.Cuts.{length-benson_cost}
 use Rattle.licence.proofs.Growing.{trail_laws}
 use Rattle.licence.proofs.Without.{licence_laws}
@@ -32,7 +26,6 @@ use Rattle.overflows.specs.Faults.{OnLicence, Overflows}
 use Rattle.overflows.specs.declared.fault.SolveFault.{SolveFault}
 use Rattle.overflows.specs.declared.fault.SolveFault.TheVariants.{Left, NoMemory}
 use Rattle.program_ends.proofs.Cut.{benson_cut}
-use Rattle.program_ends.specs.Ends.{IsCutNormal}
 use Rattle.benson_program.specs.Ends.{CanStart, IsBensonEnd, IsContradiction, IsEmptyAt, IsFeasibleEnd, IsOptimumAt}
 use Rattle.benson_program.specs.declared.ends.BensonEnd.{BensonEnd}
 use Rattle.benson_program.specs.declared.ends.BensonEnd.TheVariants.{Optimal, Empty}
@@ -81,10 +74,13 @@ module _ {F : Type 0} (value : F → ℚ) (holds : ℚ → Bool) (file : Problem
   -- an overflow of such a call is licensed
   pub licensed : (fault : SolveFault) → Overflows holds setting [] fault → OnLicence fault (LicensedAnyhow holds file)
   licensed (Left licence) (none, overflow) =
-      inl (c, licence_laws.licensed holds file c weights (opening c weights h.picks h.inverse) licence
-      (subst (λ (t : List Entry). StandsFor holds file c weights t (opening c weights h.picks h.inverse)) (sym none)
-      (trail_laws.begins holds file c weights h.picks h.inverse h.held h.fits h.base))
-      overflow)
+      inl (
+        c,
+        licence_laws.licensed holds file c weights (opening c weights h.picks h.inverse) licence
+            (subst (λ (t : List Entry). StandsFor holds file c weights t (opening c weights h.picks h.inverse)) (sym none)
+            (trail_laws.begins holds file c weights h.picks h.inverse h.held h.fits h.base))
+            overflow,
+      )
   licensed NoMemory o = tt
 
   -- a log without a duality entry

@@ -1,13 +1,11 @@
 -- Each vector is that of some spots.
-use Rattle.std.proofs.Common.{◌≡◌, ℕ, zero, suc, ◌+◌, ◌≤◌, ◌<◌, List, [], ◌∷◌, ◌++◌, map, length, take, refl, sym, ap, subst, arith, All, IsTrue, not, Bool, true, false, inl, inr}
+use Rattle.std.proofs.Common.{◌≡◌, ℕ, zero, suc, ◌+◌, ◌≤◌, ◌<◌, List, [], ◌∷◌, ◌++◌, map, length, take, refl, ap, subst, arith, IsTrue, not, Bool, true, false, inl, inr}
 use Rattle.std.specs.Prelude.{slice_index_or}
 use Rattle.std.proofs.lemmas.List.{take_all, map-append}
 use Rattle.std.proofs.lemmas.List.Elements.{All-nil}
 use Rattle.exact_field.specs.Rational.{ℚ, zero_ℚ}
-use Rattle.exact_field.specs.Vector.{entry}
 use Rattle.frac128.specs.Sparse.{is_zero}
 use Rattle.frac128.specs.declared.vectors.Spot.{Spot}
-use Rattle.polyhedra.specs.Sparse.{Entry}
 use Rattle.lin_rows.specs.Clear.{Writes}
 use Rattle.lin_rows.specs.Lines.{last_place}
 use Rattle.lin_rows.specs.Read.{IsLineOf}

@@ -1,8 +1,8 @@
 //! The solver.
-ghost use Rattle.std.specs.Prelude.{IfOk, IfErr};
+ghost use Rattle.std.specs.Prelude.{IfOk, IfErr, IsTrue};
 ghost use Rattle.frac128.specs.Held.{is_held};
 ghost use Rattle.cone_rules.specs.Faults.{IsSound};
-ghost use Rattle.lp_form.specs.Data.{IsDataOf};
+ghost use Rattle.lp_form.specs.Data.{IsDataOf, RefusesNumber};
 ghost use Rattle.solver.specs.Opening.{IsOwnLog};
 ghost use Rattle.solver.specs.Solving.{IsSolutionOf, EndsSolving};
 
@@ -18,17 +18,33 @@ use src_sink::NoMemory;
 use std::alloc::Global;
 use vlp_reader::Problem;
 
-/// The data of a problem in fractions, which hold each number of it.
+/// That a number is held, which the reading of its parts says.
+fn is_read(number: &Frac)
+    ensures { IsTrue (is_held number.now) }
+{
+    let _num = number.num();
+}
+
+/// Why there are no data of a problem in fractions, which hold each number of it.
+fn wanting(fault: &DataFault) -> NoMemory
+    requires { (file : Problem) × RefusesNumber is_held file fault.now }
+{
+    match fault {
+        DataFault::NoMemory => NoMemory,
+        DataFault::NotHeld(number) => {
+            is_read(number);
+            unreachable!()
+        }
+    }
+}
+
+/// The data of a problem in fractions.
 fn data_of(alloc: Global, problem: &Problem) -> Result<Data<Frac>, NoMemory>
     ensures { IfOk result (IsDataOf (λ q. q) problem.now) }
 {
     match Data::<Frac>::of(alloc, problem) {
         Ok(form) => Ok(form),
-        Err(DataFault::NoMemory) => Err(NoMemory),
-        Err(DataFault::NotHeld(number)) => {
-            let _held = number.num();
-            unreachable!()
-        }
+        Err(fault) => Err(wanting(&fault)),
     }
 }
 

@@ -6,5 +6,5 @@ mod answering;
 mod end;
 mod first;
 
-pub use end::{Solution, SolveEnd};
 pub use answering::solve;
+pub use end::{Solution, SolveEnd};

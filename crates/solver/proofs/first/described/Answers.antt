@@ -1,4 +1,4 @@
-use Rattle.std.proofs.Common.{◌≡◌, ℕ, length, map, refl, sym, ap, ◌∙◌}
+use Rattle.std.proofs.Common.{length, map, sym, ap, ◌∙◌}
 use Rattle.std.proofs.lemmas.List.{length-map}
 use Rattle.lin_rows.proofs.Errors.{err_holds}
 use Rattle.polyhedra.proofs.Linear.{length-zeros}
@@ -45,8 +45,7 @@ everything_log-requires-clause-empty g c =
     let value = g.F.Field.value in
     let r = c.requires.stands in
     let vs_is = ap (map value) c.as_slice.ensures.items ∙ c.in_ok-origin.ensures ∙ ap zeros c.len.ensures.value in
-    let a = c.in-Empty in
-    (
+    let a = c.in-Empty in (
       r.0,
       r.1,
       empty_at value g.F.Field.holds r.0 c.args.form.now r.1 c.args.duality r.2 c.as_slice-c.result.now c.as_slice.result.now c.as_slice-c.ensures.items vs_is

@@ -1,4 +1,4 @@
-use Rattle.std.proofs.Common.{◌≡◌, map, refl, sym}
+use Rattle.std.proofs.Common.{map, refl}
 use Rattle.lin_rows.proofs.Errors.{err_holds}
 use Rattle.licence.specs.Licence.{LicensedAnyhow}
 use Rattle.overflows.specs.Faults.{OnLicence}

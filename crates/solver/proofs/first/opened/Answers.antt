@@ -1,4 +1,3 @@
-use Rattle.std.proofs.Common.{map}
 use Rattle.lin_rows.proofs.Errors.{err_holds}
 use Rattle.licence.specs.Licence.{LicensedAnyhow}
 use Rattle.overflows.specs.Faults.{OnLicence}
@@ -14,7 +13,7 @@ returns-in_err-end-clause-left g c = λ file stands h.
     let holds = g.F.Field.holds in
     let d = c.args.duality in
     let fault = c.in_err-end.field-0.0 in
-    err_holds c.from_residual-in_err-end.result fault (λ f. OnLicence f (LicensedAnyhow holds file)) c.from_residual-in_err-end.ensures.1
+    err_holds c.from_residual.result fault (λ f. OnLicence f (LicensedAnyhow holds file)) c.from_residual.ensures.1
     (licensed value holds file d h fault (c.in_err-end.ensures.left (setting value holds file d h) stands))
 
 pub returns-in_ok-log-in-Contradiction-clause-ok : goal.returns-in_ok-log-in-Contradiction-clause-ok
@@ -23,7 +22,7 @@ returns-in_ok-log-in-Contradiction-clause-ok g c = λ file stands h.
     let holds = g.F.Field.holds in
     own_contradiction value holds file c.args.duality h c.in_ok-log-in-Contradiction.log
     (c.in_ok-log-in-Contradiction.ensures file
-    (contradiction_of value file c.in_ok-end.end (c.in_ok-end.ensures.ok file stands) c.in-Contradiction.u c.as_slice-in-Contradiction.result.now c.in-Contradiction.is c.as_slice-in-Contradiction.ensures.items))
+    (contradiction_of value file c.in_ok-end.end (c.in_ok-end.ensures.ok file stands) c.in-Contradiction.u c.as_slice.result.now c.in-Contradiction.is c.as_slice.ensures.items))
 
 pub described-requires-clause-stands : goal.described-requires-clause-stands
 described-requires-clause-stands g c =
