@@ -9,7 +9,6 @@ pub mod Leading
 pub mod Opposite
 pub mod Picks
 pub mod Signs
-pub mod Spots
 pub mod Spreading
 pub mod Standing
 pub mod Wide
