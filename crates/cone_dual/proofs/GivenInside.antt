@@ -1,5 +1,5 @@
 -- What the ends of the program of an interior vector say of generators and the vector that is given, in a field.
-use Rattle.std.proofs.Common.{◌≡◌, ℕ, suc, List, [], length, map, take, drop, sym, ap, subst, ◌∙◌, ◌+◌, ◌≤◌, arith, Option, Some}
+use Rattle.std.proofs.Common.{◌≡◌, ℕ, suc, List, [], length, map, take, drop, sym, subst, ◌∙◌, ◌+◌, ◌≤◌, arith, Option, Some}
 use Rattle.std.proofs.lemmas.List.{length-map}
 use Rattle.exact_field.specs.Rational.{ℚ, zero_ℚ, ◌≤ℚ◌, ◌<ℚ◌}
 use Rattle.exact_field.specs.Vector.{entry}

@@ -4,12 +4,12 @@ pub mod ByVectors
 pub mod Combined
 pub mod Ending
 pub mod Fits
+pub mod GeneratorsFit
 pub mod GivenInside
 pub mod Leading
 pub mod Opposite
 pub mod Picks
 pub mod Signs
-pub mod Spots
 pub mod Spreading
 pub mod Standing
 pub mod Wide

@@ -1,4 +1,4 @@
-use Rattle.std.proofs.Common.{◌≡◌, ℕ, List, [], ◌++◌, length, map, take, ap, sym, refl, subst, ◌∙◌, Option, None, All}
+use Rattle.std.proofs.Common.{◌≡◌, ℕ, List, ◌++◌, length, map, take, ap, sym, subst, ◌∙◌, Option, None, All}
 use Rattle.std.proofs.lemmas.List.{length-map, take-map}
 use Rattle.exact_field.specs.Rational.{ℚ, zero_ℚ, one_ℚ, ◌≤ℚ◌}
 use Rattle.exact_field.specs.Vector.{entry}
@@ -11,7 +11,6 @@ use Rattle.polyhedra.specs.Vectors.{combination}
 use Rattle.tableaux.specs.Simplex.{IsOptimal, IsInfeasible, IsUnbounded, OptimalAt}
 use Rattle.tableaux.specs.Table.{System, Table}
 use Rattle.vlp_reader.specs.declared.problem.Cone.{Cone}
-use Rattle.vlp_reader.specs.declared.problem.Cone.TheVariants as form_of
 use Rattle.cone_rules.specs.Faults.{HasInterior, HasNoLine, IsGivenInside, ShowsLast}
 use Rattle.cone_rules.specs.Laws.{IsPositiveCombination}
 use Rattle.cone_rules.proofs.FoundGenerators.{found_program}
@@ -58,8 +57,7 @@ returns-in-Optimal-clause-read g c =
     let system = interior_system q (cone_of value form.cone) (duality_of value form.duality) in
     let read : (t : Table) × OptimalAt (interior_of_generators q all None) basis t x d =
     subst (λ (s : System). (t : Table) × OptimalAt s basis t x d) (found_is value form vectors c.requires.generators c.requires.duality)
-    (subst (λ e. IsReadOff value system e) c.in-Optimal.is c.in_ok-x.ensures.read_off) in
-    (
+    (subst (λ e. IsReadOff value system e) c.in-Optimal.is c.in_ok-x.ensures.read_off) in (
       x,
       solution_off (interior_of_generators q all None) basis x d read,
       ap (map value) (c.in_ok-append-in-Optimal.ensures.ok ∙ ap (λ l. l ++ take n c.as_slice.result.now) c.new-mu.ensures ∙ ap (take n) c.as_slice.ensures.items) ∙ sym (take-map value n c.in-Optimal.x),
@@ -84,7 +82,7 @@ returns-in-Infeasible-clause-end g c = λ file stands.
       c.requires.pointed,
       as_duality value form None c.requires.duality (λ (d : Option (List ℚ)). IsGivenInside q (cone_of value form.cone) d) (λ f e. absurd (cc)),
       as_duality value form None c.requires.duality (λ (d : Option (List ℚ)). ShowsLast q (cone_of value form.cone) d m)
-      (as_cone value form (Gens vectors) c.requires.generators (λ (o : Cone). ShowsLast q o None m) (c.new.ensures, low)),
+          (as_cone value form (Gens vectors) c.requires.generators (λ (o : Cone). ShowsLast q o None m) (c.new.ensures, low)),
     )
 
 pub unreachable-requires : goal.unreachable-requires
