@@ -1,5 +1,5 @@
 -- What the ends of the program of an interior vector say of the rows of a dual form, in a field.
-use Rattle.std.proofs.Common.{◌≡◌, ◌≢◌, ℕ, suc, List, [], ◌∷◌, ◌++◌, length, map, take, drop, refl, sym, ap, ap₂, subst, ◌∙◌, ◌+◌, ◌-◌, ◌<◌, ◌≤◌, arith, Option, None, not, Bool, true, false, true≢false, inl, inr, ◌⊎◌, slice_index_or}
+use Rattle.std.proofs.Common.{◌≡◌, ◌≢◌, ℕ, suc, List, [], ◌∷◌, ◌++◌, length, map, take, drop, refl, sym, ap, ap₂, subst, ◌∙◌, ◌+◌, ◌-◌, ◌<◌, ◌≤◌, arith, not, Bool, true, false, true≢false, inl, inr, ◌⊎◌, slice_index_or}
 use Rattle.std.specs.Prelude.{if◌then◌else◌}
 use Rattle.std.specs.List.{list_all}
 use Rattle.std.proofs.Math.ListN.{length-append}
@@ -26,13 +26,13 @@ use Rattle.vlp_reader.specs.declared.problem.Cone.TheVariants as cone
 use Rattle.deriv_log.specs.declared.licence.Program.TheVariants.{Interior}
 use Rattle.lp_form.specs.declared.data.ConeOf.TheVariants.{Dual}
 use Rattle.lp_form.specs.declared.data.Data.{Data}
-use Rattle.lp_form.specs.Data.{IsDataOf, cone_of, duality_of}
-use Rattle.lp_form.specs.Programs.{dual_gaps, interior_of_dual, interior_system, nonzero_vectors}
+use Rattle.lp_form.specs.Data.{IsDataOf, cone_of}
+use Rattle.lp_form.specs.Programs.{dual_gaps, interior_of_dual, nonzero_vectors}
 use Rattle.lp_form.specs.Reading.{AreDisjoint}
 use Rattle.lp_form.proofs.Figures.{objective_number}
 use Rattle.lp_form.proofs.Systems.{dual_ok, length-zeros}
 use Rattle.licence.specs.Base.{AreFirstMultipliersOff, IsSolutionOff}
-use Rattle.licence.specs.Operands.{IsDivisor, IsScaled, Setting}
+use Rattle.licence.specs.Operands.{IsDivisor, IsScaled}
 use Rattle.licence.specs.Trails.{IsInteriorOff}
 use Rattle.cone_rules.specs.Faults.{CombinesToMinusLast, HasInterior}
 use Rattle.cone_rules.specs.Laws.{interior_said, spread}

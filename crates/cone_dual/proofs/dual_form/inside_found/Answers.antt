@@ -1,4 +1,4 @@
-use Rattle.std.proofs.Common.{◌≡◌, ℕ, List, length, map, ap, sym, subst, ◌∙◌, Option, None}
+use Rattle.std.proofs.Common.{ℕ, List, length, map, ap, sym, subst, Option, None}
 use Rattle.exact_field.specs.Rational.{ℚ}
 use Rattle.exact_simplex.specs.Ends.{IsCertified, IsReadOff}
 use Rattle.lin_rows.specs.Read.{numbers}
