@@ -19,9 +19,10 @@ use Rattle.log_rules.specs.declared.rule.Rule.{Rule}
 use Rattle.vlp_reader.specs.declared.fault.FileFault.{FileFault as AFileFault}
 use Rattle.log_rules.specs.Report.{report_text}
 use Rattle.cert_check.specs.Streams.{ReadsWhole}
-use Rattle.bensolve_main.specs.Text.{file_fault_text, left_text, refusal_text, too_long_text}
+use Rattle.fault_lines.specs.Text.{file_fault_text, left_text, log_fault_text, wrong_text, too_long_text}
 use Rattle.bensolve_main.specs.World.{Sources, World, Uncalled, ReadPast, ReadFailed}
 use Rattle.bensolve_main.specs.Reply.{Reply}
+use Rattle.bensolve_main.specs.declared.status.LogRefusal.{LogRefusal}
 use Rattle.bensolve_main.specs.declared.status.LogRefusal.TheVariants.{Text, Wrong}
 use Rattle.bensolve_main.specs.declared.status.Status.{Status}
 use Rattle.bensolve_main.specs.declared.status.Status.TheVariants.{Done, FileFault, Left, NoMemory, ReadFault, Refused, TooLong}
@@ -32,6 +33,11 @@ problem_limit = 16777216
 
 abbrev pub log_limit : ℕ
 log_limit = 268435456
+
+-- the fault line of a refused log
+abbrev pub refusal_text : LogRefusal → List ℕ
+refusal_text (Text f) = log_fault_text f
+refusal_text (Wrong entry rule) = wrong_text entry rule
 
 -- more bytes of the problem were taken than the limit, and so many
 pub record LongProblem (read : ℕ) (text : List ℕ) (old new : Sources) : Type 0 where

@@ -1,5 +1,4 @@
 pub mod Shapes
-pub mod Text
 pub mod Codes
 pub mod World
 pub mod Reply

@@ -9,9 +9,9 @@ use Rattle.cert_check.specs.Streams.{ReadsWhole}
 use Rattle.cert_check.specs.declared.fault.Refusal.TheVariants as refusal
 use Rattle.cert_check.specs.declared.fault.StreamEnd.{StreamEnd}
 use Rattle.cert_check.specs.declared.fault.StreamEnd.TheVariants as end
-use Rattle.bensolve_main.specs.Text.{left_text, refusal_text, too_long_text}
+use Rattle.fault_lines.specs.Text.{left_text, too_long_text}
 use Rattle.bensolve_main.specs.World.{Channel, ReadPast, ReadFailed}
-use Rattle.bensolve_main.specs.Check.{LogVerdict, log_limit}
+use Rattle.bensolve_main.specs.Check.{LogVerdict, log_limit, refusal_text}
 use Rattle.bensolve_main.specs.declared.status.LogRefusal.{LogRefusal}
 use Rattle.bensolve_main.specs.declared.status.LogRefusal.TheVariants.{Text, Wrong}
 use Rattle.bensolve_main.specs.declared.status.Status.{Status}

@@ -3,13 +3,13 @@ ghost use Rattle.std.specs.Prelude.{◌≡◌, ◌≤◌, IfOk, IfErr};
 ghost use Rattle.bensolve_main.specs.World.{channel, sources};
 ghost use Rattle.bensolve_main.specs.Check.{Told, CheckHalts};
 ghost use Rattle.bensolve_main.specs.LogReply.{step_licence, TellsRefusal, TellsEnd, HaltsEnd, LogTold, LogHalts};
-ghost use Rattle.bensolve_main.specs.Text.{left_text, too_long_text};
+ghost use Rattle.fault_lines.specs.Text.{left_text, too_long_text};
 
 use crate::status::{LogRefusal, Status};
-use crate::text;
 use cert_check::{Refusal, Rule, StreamEnd, check_from};
 use deriv_log::{Entries, Licence, LogFault, Place};
 use exact_field::Left;
+use fault_lines::{file_fault_line, licence_line, log_fault_line, too_long_line, wrong_line};
 use frac128::Frac;
 use sol_writer::report;
 use src_sink::{Bytes, NoMemory, ReadEnd, Source, read_all};
@@ -33,12 +33,13 @@ pub(crate) struct Reply {
 fn step_reply(alloc: Global, entry: u32, step: u64, left: Left<Frac>) -> Result<Reply, NoMemory>
     ensures { IfOk result (λ r. (r.status ≡ Status.Left (step_licence entry step left)) × (r.text ≡ left_text entry step left)) }
 {
-    let text = text::step_line(alloc, entry, step, &left)?;
-    let status = Status::Left(Licence {
+    let licence = Licence {
         place: Place::Step { entry, step },
         left,
         trail: Entries::new(alloc),
-    });
+    };
+    let text = licence_line(alloc, &licence)?;
+    let status = Status::Left(licence);
     Ok(Reply { status, text })
 }
 
@@ -46,7 +47,7 @@ fn step_reply(alloc: Global, entry: u32, step: u64, left: Left<Frac>) -> Result<
 fn fault_reply(alloc: Global, fault: LogFault) -> Result<Reply, NoMemory>
     ensures { IfOk result (λ r. TellsRefusal (LogRefusal.Text fault) r.status r.text) }
 {
-    let text = text::log_fault_line(alloc, fault)?;
+    let text = log_fault_line(alloc, fault)?;
     let status = Status::Refused(LogRefusal::Text(fault));
     Ok(Reply { status, text })
 }
@@ -55,7 +56,7 @@ fn fault_reply(alloc: Global, fault: LogFault) -> Result<Reply, NoMemory>
 fn wrong_reply(alloc: Global, entry: u32, rule: Rule) -> Result<Reply, NoMemory>
     ensures { IfOk result (λ r. TellsRefusal (LogRefusal.Wrong entry rule) r.status r.text) }
 {
-    let text = text::wrong_line(alloc, entry, rule)?;
+    let text = wrong_line(alloc, entry, rule)?;
     let status = Status::Refused(LogRefusal::Wrong { entry, rule });
     Ok(Reply { status, text })
 }
@@ -64,7 +65,7 @@ fn wrong_reply(alloc: Global, entry: u32, rule: Rule) -> Result<Reply, NoMemory>
 fn long_reply(alloc: Global, log: bool, read: u64) -> Result<Reply, NoMemory>
     ensures { IfOk result (λ r. (r.status ≡ Status.TooLong log read) × (r.text ≡ too_long_text log read)) }
 {
-    let text = text::too_long_line(alloc, log, read)?;
+    let text = too_long_line(alloc, log, read)?;
     let status = Status::TooLong { log, read };
     Ok(Reply { status, text })
 }
@@ -126,7 +127,7 @@ pub(crate) fn examine<S: Source, L: Source>(
     let file = match read_vlp(alloc, bytes.as_slice()) {
         Ok(file) => file,
         Err(VlpEnd::Fault(fault)) => {
-            let text = text::file_fault_line(alloc, fault)?;
+            let text = file_fault_line(alloc, fault)?;
             let status = Status::FileFault(fault);
             return Ok(Reply { status, text });
         }

@@ -6,7 +6,6 @@ mod examine;
 mod files;
 mod naming;
 mod status;
-mod text;
 mod top;
 
 pub use files::Paths;

@@ -1,1 +1,3 @@
+pub mod Dividing
 pub mod Licensed
+pub mod Sparse

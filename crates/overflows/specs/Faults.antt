@@ -47,6 +47,11 @@ OnLicence NoMemory P = Unit {0}
 abbrev pub Overflows : (ℚ → Bool) → Setting → List Entry → SolveFault → Type 0
 Overflows holds s trail fault = OnLicence fault (λ licence. (licence.trail ≡ trail) × IsOverflow holds s licence.place licence.left)
 
+-- the same fault, with this trail in place of its own
+abbrev pub with_trail : SolveFault → List Entry → SolveFault
+with_trail (Left licence) trail = Left (record licence { trail = trail })
+with_trail NoMemory trail = NoMemory
+
 -- an entry of a vector by this divisor is not held
 pub record IsQuotientAt {F : Type 0} (value : F → ℚ) (holds : ℚ → Bool) (v : List ℚ) (k : ℕ) (left : Operation F) : Type 0 where
   pub from_one : 1 ≤ k

@@ -1,5 +1,5 @@
 //! Why a calculation was given up.
-use deriv_log::Licence;
+use deriv_log::{Entries, Licence};
 use exact_field::Left;
 use src_sink::NoMemory;
 
@@ -20,6 +20,28 @@ impl From<NoMemory> for SolveFault {
 
     fn from(_e: NoMemory) -> SolveFault {
         SolveFault::NoMemory
+    }
+}
+
+impl SolveFault {
+    ghost use Rattle.std.specs.Prelude.{◌≡◌, Bool, []};
+    ghost use Rattle.exact_field.specs.Rational.{ℚ};
+    ghost use Rattle.licence.specs.Operands.{Setting};
+    ghost use Rattle.overflows.specs.Faults.{Overflows, with_trail};
+
+    /// The fault with this trail in place of its own.
+    pub fn behind(self, trail: Entries) -> SolveFault
+        ensures told { result ≡ with_trail self trail }
+        ensures licensed { (holds : ℚ → Bool) (s : Setting) → Overflows holds s [] self → Overflows holds s trail result }
+    {
+        match self {
+            SolveFault::Left(licence) => SolveFault::Left(Licence {
+                place: licence.place,
+                left: licence.left,
+                trail,
+            }),
+            SolveFault::NoMemory => SolveFault::NoMemory,
+        }
     }
 }
 

@@ -4,9 +4,13 @@
 mod fault;
 mod licences;
 mod numbers;
+mod spots;
+mod quotients;
 mod sums;
 
 pub use fault::{SolveFault, SumFault};
 pub use licences::{elimination_fault, program_fault, scale_fault, term_fault};
 pub use numbers::{fractions, operation};
+pub use quotients::divided;
+pub use spots::spots_of;
 pub use sums::sum_of_products;

@@ -14,3 +14,6 @@ pub use own::{Checked, check_own};
 pub fn never_wrong()
     ensures { NeverWrong }
 {}
+
+#[cfg(test)]
+mod tests;

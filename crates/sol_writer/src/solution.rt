@@ -7,7 +7,8 @@ ghost use Rattle.log_rules.specs.Report.{vector_line, sparse_line, facet_line, d
 ghost use Rattle.sol_writer.specs.Lines.{lines_text};
 
 use crate::lines::{
-    put_counted, put_entries, put_natural, put_number, put_sparse_line, put_vector_line,
+    put_counted, put_entries, put_natural, put_naturals, put_number, put_sparse_line,
+    put_vector_line,
 };
 use frac128::Frac;
 use log_rules::{Facet, Gen};
@@ -135,16 +136,6 @@ pub fn put_dual_image(problem: &Problem, facets: &[Facet], into: &mut Bytes) -> 
     put_counted(b"dual", facets.len(), into)?;
     put_dual_lines(problem.objs, facets, into)?;
     put_dual_direction(problem, into)?;
-    Ok(())
-}
-
-/// Appends natural numbers, a blank before each.
-fn put_naturals(numbers: &[u32], into: &mut Bytes) -> Result<(), NoMemory>
-    ensures { OnOk result (into.new ≡ into.old ++ flat_map (λ n. spaced (decimal n ∷ [])) numbers.now) }
-{
-    for number in numbers {
-        put_natural(*number as usize, into)?;
-    }
     Ok(())
 }
 

@@ -1,4 +1,4 @@
-use Rattle.std.proofs.Common.{◌≡◌, ap, ◌∙◌, subst}
+use Rattle.std.proofs.Common.{ap, ◌∙◌, subst}
 use Rattle.deriv_log.specs.declared.licence.Program.{Program}
 use Rattle.deriv_log.specs.declared.licence.Place.TheVariants.{Pivot}
 use Rattle.exact_simplex.specs.Ends.{IsLpFault}

@@ -1,4 +1,4 @@
-use Rattle.std.proofs.Common.{◌≡◌, List, map, ap, ◌∙◌}
+use Rattle.std.proofs.Common.{List, map, ap, ◌∙◌}
 use Rattle.exact_field.specs.Rational.{ℚ}
 use Rattle.deriv_log.specs.declared.licence.Place.TheVariants.{Scale}
 use Rattle.licence.specs.Steps.{in_numbers}

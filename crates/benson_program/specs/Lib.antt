@@ -1,0 +1,5 @@
+pub mod Cuts
+pub mod Ends
+pub mod Preimages
+pub mod Sparse
+pub mod Wholes

@@ -1,0 +1,14 @@
+//! Benson's program solved, and what is read off it: cuts, pre-images and what shows that an image is everything.
+#![tactic(auto)]
+
+mod cut;
+mod ends;
+mod preimage;
+mod solving;
+mod whole;
+
+pub use cut::{Cut, cut_of};
+pub use ends::{BensonEnd, FeasibleEnd};
+pub use preimage::{Preimage, preimage_of};
+pub use solving::{benson_end, feasible_end};
+pub use whole::{WholeParts, whole_of};

@@ -1,0 +1,11 @@
+pub mod Asked
+pub mod Combined
+pub mod Ending
+pub mod Fits
+pub mod Leading
+pub mod Picks
+pub mod Signs
+pub mod Spots
+pub mod Spreading
+pub mod Standing
+pub mod Wide

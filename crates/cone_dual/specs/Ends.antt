@@ -1,0 +1,21 @@
+-- Why no duality vector is found.
+use Rattle.std.specs.Prelude.{◌≡◌, Bool}
+use Rattle.exact_field.specs.Rational.{ℚ}
+use Rattle.vlp_reader.specs.declared.problem.Problem.{Problem}
+use Rattle.licence.specs.Licence.{LicensedWithout}
+use Rattle.overflows.specs.declared.fault.SolveFault.{SolveFault}
+use Rattle.overflows.specs.declared.fault.SolveFault.TheVariants as fault
+use Rattle.cone_rules.specs.Faults.{HasFault}
+use Rattle.cone_dual.specs.declared.duality.ConeEnd.{ConeEnd}
+use Rattle.cone_dual.specs.declared.duality.ConeEnd.TheVariants.{Fault, Left, NoMemory}
+
+-- the end says what the fault says
+abbrev pub IsSameEnd : SolveFault → ConeEnd → Type 0
+IsSameEnd (fault.Left licence) end = end ≡ Left licence
+IsSameEnd fault.NoMemory end = end ≡ NoMemory
+
+-- the file has the fault; or the overflow is licensed without a duality vector; nothing of want of memory
+abbrev pub IsEnd : (ℚ → Bool) → Problem → ConeEnd → Type 0
+IsEnd holds file (Fault fault) = HasFault file fault
+IsEnd holds file (Left licence) = LicensedWithout holds file licence
+IsEnd holds file NoMemory = Unit {0}
