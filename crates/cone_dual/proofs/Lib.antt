@@ -1,8 +1,13 @@
 pub mod Asked
+pub mod ByRows
+pub mod ByVectors
 pub mod Combined
 pub mod Ending
 pub mod Fits
+pub mod GeneratorsFit
+pub mod GivenInside
 pub mod Leading
+pub mod Opposite
 pub mod Picks
 pub mod Signs
 pub mod Spots

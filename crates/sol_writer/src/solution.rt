@@ -1,5 +1,5 @@
 //! The lines of a solution: its points, directions and facets, the dual image, incidence and witnesses.
-ghost use Rattle.std.specs.Prelude.{◌≡◌, ◌≤◌, ◌++◌, ◌∷◌, ◌-◌, [], All, map, length, take, codes, decimal, replicate, OnOk};
+ghost use Rattle.std.specs.Prelude.{◌≡◌, ◌≤◌, ◌++◌, ◌∷◌, ◌-◌, [], All, map, length, take, codes, replicate, OnOk};
 ghost use Rattle.std.specs.List.{flat_map};
 ghost use Rattle.deriv_log.specs.Printing.{spaced};
 ghost use Rattle.src_sink.specs.Texts.{line_text};
