@@ -160,7 +160,7 @@ module _ {F : Type 0} (value : F → ℚ) (form : Data F) (vectors : List (List 
           same = inl refl;
         },
         IsDivisor.own (suc (length N)) (omega arith) (omega (arith, multipliers, length-map y value))
-        (over ∙ sym (magnitude_below (entry (map value y) (suc (length N))) below)),
+            (over ∙ sym (magnitude_below (entry (map value y) (suc (length N))) below)),
       )
 
   -- ---- an interior vector
@@ -214,7 +214,7 @@ module _ {F : Type 0} (value : F → ℚ) (form : Data F) (vectors : List (List 
         read_off holds file stands = (
           map value x,
           subst (λ (s : System). IsSolutionOff s (map value x)) (sym (rows_found_is value form vectors rows) ∙ interior_same value holds form file stands)
-          (solution_off S basis (map value x) dual off),
+              (solution_off S basis (map value x) dual off),
           said ∙ ap (λ (k : ℕ). interior_said k (map value x)) (objective_number value file form stands),
         )
 

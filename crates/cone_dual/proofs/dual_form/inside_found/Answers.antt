@@ -93,7 +93,7 @@ returns-in-Infeasible-clause-end g c = λ file stands.
       c.requires.pointed,
       as_duality value form None c.requires.duality (λ (d : Option (List ℚ)). IsGivenInside q (cone_of value form.cone) d) (λ f e. absurd (cc)),
       as_duality value form None c.requires.duality (λ (d : Option (List ℚ)). ShowsLast q (cone_of value form.cone) d m)
-      (as_cone value form (Dual c.args.vectors.now) c.requires.rows (λ (o : Cone). ShowsLast q o None m) c.in_ok-m-in-Infeasible.ensures.ok),
+          (as_cone value form (Dual c.args.vectors.now) c.requires.rows (λ (o : Cone). ShowsLast q o None m) c.in_ok-m-in-Infeasible.ensures.ok),
     )
 
 pub unreachable-requires : goal.unreachable-requires
