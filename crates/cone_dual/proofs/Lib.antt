@@ -1,4 +1,5 @@
 pub mod Asked
+pub mod ByRows
 pub mod ByVectors
 pub mod Combined
 pub mod Ending
