@@ -8,7 +8,6 @@ ghost use Rattle.tableaux.specs.Table.{row_of};
 
 use exact_field::Field;
 use lin_rows::Rows;
-pub use overflows::{divided, spots_of};
 use src_sink::{Items, NoMemory};
 use std::alloc::Global;
 

@@ -72,7 +72,7 @@ returns-then-branch-clause-end g c = λ file stands.
       c.requires.solid,
       c.requires.pointed,
       as_duality value form (Some c.args.f.now) c.requires.duality (λ (d : Option (List ℚ)). IsGivenOutside q (cone_of value form.cone) d w named)
-      (as_cone value form (Dual vectors) c.requires.rows (λ (o : Cone). ShowsOutside q o f w named) shown),
+          (as_cone value form (Dual vectors) c.requires.rows (λ (o : Cone). ShowsOutside q o f w named) shown),
     ))
 
 pub loop-k-preserved : goal.loop-k-preserved
