@@ -1,5 +1,5 @@
 -- What the ends of the program of an interior vector say of the rows of a dual form, in a field.
-use Rattle.std.proofs.Common.{◌≡◌, ◌≢◌, ℕ, suc, List, [], ◌∷◌, ◌++◌, length, map, take, drop, refl, sym, ap, ap₂, subst, ◌∙◌, ◌+◌, ◌-◌, ◌<◌, ◌≤◌, arith, Option, None, not, Bool, true, false, true≢false, inl, inr, ◌⊎◌, slice_index_or}
+use Rattle.std.proofs.Common.{◌≡◌, ◌≢◌, ℕ, suc, List, [], ◌∷◌, ◌++◌, length, map, take, drop, refl, sym, ap, ap₂, subst, ◌∙◌, ◌+◌, ◌-◌, ◌<◌, ◌≤◌, arith, not, Bool, true, false, true≢false, inl, inr, ◌⊎◌, slice_index_or}
 use Rattle.std.specs.Prelude.{if◌then◌else◌}
 use Rattle.std.specs.List.{list_all}
 use Rattle.std.proofs.Math.ListN.{length-append}
@@ -15,9 +15,12 @@ use Rattle.polyhedra.specs.DoubleDescription.{magnitude}
 use Rattle.polyhedra.specs.Negatives.{negated}
 use Rattle.polyhedra.specs.Vectors.{AreWide, scaled, zeros}
 use Rattle.tableaux.specs.Dictionary.{solution}
-use Rattle.tableaux.specs.Simplex.{IsInfeasible, IsOptimal, IsUnbounded, OptimalAt}
+use Rattle.tableaux.specs.Simplex.{IsInfeasible, IsOptimal, IsUnbounded, InfeasibleAt, OptimalAt}
 use Rattle.tableaux.specs.Table.{System, Table, minus, unit, unknown_count}
 use Rattle.tableaux.proofs.Places.{length-list_from}
+use Rattle.exact_simplex.specs.Ends.{IsCertified, IsReadOff}
+use Rattle.exact_simplex.specs.declared.answer.LpEnd.{LpEnd}
+use Rattle.exact_simplex.specs.declared.answer.LpEnd.TheVariants.{Optimal, Unbounded, Infeasible}
 use Rattle.lin_rows.specs.Read.{numbers}
 use Rattle.upper_image.specs.Spots.{dense, IsVector}
 use Rattle.vlp_reader.specs.declared.problem.Problem.{Problem}
@@ -32,7 +35,7 @@ use Rattle.lp_form.specs.Reading.{AreDisjoint}
 use Rattle.lp_form.proofs.Figures.{objective_number}
 use Rattle.lp_form.proofs.Systems.{dual_ok, length-zeros}
 use Rattle.licence.specs.Base.{AreFirstMultipliersOff, IsSolutionOff}
-use Rattle.licence.specs.Operands.{IsDivisor, IsScaled, Setting}
+use Rattle.licence.specs.Operands.{IsDivisor, IsScaled}
 use Rattle.licence.specs.Trails.{IsInteriorOff}
 use Rattle.cone_rules.specs.Faults.{CombinesToMinusLast, HasInterior}
 use Rattle.cone_rules.specs.Laws.{interior_said, spread}
@@ -41,7 +44,7 @@ use Rattle.cone_rules.proofs.Opposite.{opposite_columns}
 use Rattle.cone_rules.proofs.Rows.{kept_wide}
 use Rattle.cone_dual.specs.Fitting.{IsInsideRows}
 use Rattle.cone_dual.proofs.Asked.{interior_same}
-use Rattle.cone_dual.proofs.ByVectors.{rows_few, rows_found_is, rows_wide, solution_off}
+use Rattle.cone_dual.proofs.ByVectors.{first_off, rows_few, rows_found_is, rows_wide, solution_off}
 use Rattle.cone_dual.proofs.Opposite.{opposite_entries}
 use Rattle.cone_dual.proofs.Spreading.{spread_of}
 use Rattle.cone_dual.proofs.Standing.{before, of_cone}
@@ -104,6 +107,13 @@ module _ {F : Type 0} (value : F → ℚ) (form : Data F) (vectors : List (List 
   abbrev S : System
   S = interior_of_dual q N
 
+  -- the program of the cone in a field
+  abbrev whole : System
+  whole = interior_system (length form.p) (cone_of value form.cone) (duality_of value form.duality)
+
+  same : whole ≡ S
+  same = rows_found_is value form vectors rows
+
   wide : AreWide q V
   wide = rows_wide value form vectors rows
 
@@ -156,16 +166,31 @@ module _ {F : Type 0} (value : F → ℚ) (form : Data F) (vectors : List (List 
           allowed = tt;
           whole = map value y;
           read = inr (inr (inl (subst (λ (s : System). AreFirstMultipliersOff s (map value y))
-              (sym (rows_found_is value form vectors rows) ∙ interior_same value holds form file stands) off)));
+              (sym same ∙ interior_same value holds form file stands) off)));
           same = inl refl;
         },
         IsDivisor.own (suc (length N)) (omega arith) (omega (arith, multipliers, length-map y value))
-        (over ∙ sym (magnitude_below (entry (map value y) (suc (length N))) below)),
+            (over ∙ sym (magnitude_below (entry (map value y) (suc (length N))) below)),
       )
 
+  -- they are read off
+  pub first : (end : LpEnd F) (farkas y : List F) (basis : List ℕ) → end ≡ Infeasible farkas basis → IsReadOff value whole end → y ≡ farkas →
+      AreFirstMultipliersOff S (map value y)
+  first end farkas y basis is read y_is =
+      subst (λ (l : List F). AreFirstMultipliersOff S (map value l)) (sym y_is)
+      (first_off S basis (map value farkas)
+      (subst (λ (s : System). (d : Table) × InfeasibleAt s basis d (map value farkas)) same (subst (λ e. IsReadOff value whole e) is read)))
+
   -- ---- an interior vector
-  module _ (x : List F) (dual : List ℚ) (basis : List ℕ) (h : IsOptimal S (map value x) dual) (off : (d : Table) × OptimalAt S basis d (map value x) dual) where
-    pub found_long : length x ≡ q + q + length N + 2
+  module _ (end : LpEnd F) (x dual : List F) (basis : List ℕ) (is : end ≡ Optimal x dual basis) (certified : IsCertified value whole end)
+      (read : IsReadOff value whole end) where
+    h : IsOptimal S (map value x) (map value dual)
+    h = subst (λ (s : System). IsOptimal s (map value x) (map value dual)) same (subst (λ e. IsCertified value whole e) is certified)
+
+    off : (d : Table) × OptimalAt S basis d (map value x) (map value dual)
+    off = subst (λ (s : System). (d : Table) × OptimalAt s basis d (map value x) (map value dual)) same (subst (λ e. IsReadOff value whole e) is read)
+
+    found_long : length x ≡ q + q + length N + 2
     found_long = sym (length-map x value) ∙ h.wide ∙ unknowns q N
 
     -- of the two unknowns of an entry at most one is not 0
@@ -207,16 +232,19 @@ module _ {F : Type 0} (value : F → ℚ) (form : Data F) (vectors : List (List 
 
         pub inside : HasInterior q (cone_of value form.cone) → IsInsideRows q V (map value w)
         inside solid =
-            let law = rows_program.optimal q V (map value x) dual wide some (of_cone value form (Dual vectors) rows (λ (k : Cone). HasInterior q k) solid) h in
+            let law = rows_program.optimal q V (map value x) (map value dual) wide some (of_cone value form (Dual vectors) rows (λ (k : Cone). HasInterior q k) solid) h in
             subst (λ (v : List ℚ). IsInsideRows q V v) (sym said) (record { wide = law.0; last = law.1; positive = law.2 })
 
         pub read_off : (holds : ℚ → Bool) (file : Problem) → IsDataOf value file form → IsInteriorOff file (map value w)
         read_off holds file stands = (
           map value x,
-          subst (λ (s : System). IsSolutionOff s (map value x)) (sym (rows_found_is value form vectors rows) ∙ interior_same value holds form file stands)
-          (solution_off S basis (map value x) dual off),
+          subst (λ (s : System). IsSolutionOff s (map value x)) (sym same ∙ interior_same value holds form file stands)
+              (solution_off S basis (map value x) (map value dual) off),
           said ∙ ap (λ (k : ℕ). interior_said k (map value x)) (objective_number value file form stands),
         )
 
-  pub bounded : (x ray : List ℚ) → IsUnbounded S x ray → ⊥
-  bounded x ray h = rows_program.bounded q N x ray (kept_wide q V wide) some h
+  -- ---- neither
+  pub bounded : (end : LpEnd F) (x ray : List F) (basis : List ℕ) → end ≡ Unbounded x ray basis → IsCertified value whole end → ⊥
+  bounded end x ray basis is certified =
+      rows_program.bounded q N (map value x) (map value ray) (kept_wide q V wide) some
+      (subst (λ (s : System). IsUnbounded s (map value x) (map value ray)) same (subst (λ e. IsCertified value whole e) is certified))

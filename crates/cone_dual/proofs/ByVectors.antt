@@ -1,16 +1,13 @@
 -- The cone in a field by its vectors: its programs, their lengths, and what is read off them.
-use Rattle.std.proofs.Common.{◌≡◌, ℕ, suc, List, [], ◌∷◌, ◌++◌, length, map, refl, sym, ap, ap₂, ◌∙◌, ◌+◌, ◌≤◌, arith, true, Option, None, Some}
+use Rattle.std.proofs.Common.{◌≡◌, ℕ, suc, List, [], ◌∷◌, ◌++◌, length, map, sym, ap, ap₂, ◌∙◌, ◌+◌, ◌≤◌, Option, None, Some}
 use Rattle.std.proofs.Math.ListN.{length-append}
-use Rattle.exact_field.specs.Rational.{ℚ, zero_ℚ, one_ℚ, neg_ℚ}
-use Rattle.polyhedra.specs.Negatives.{negated}
+use Rattle.exact_field.specs.Rational.{ℚ, zero_ℚ, one_ℚ}
 use Rattle.polyhedra.specs.Vectors.{AreWide, zeros}
-use Rattle.tableaux.specs.Table.{Table, System, column_of, listed, unit}
-use Rattle.tableaux.specs.Dictionary.{solution, first_multipliers}
+use Rattle.tableaux.specs.Table.{Table, System, column_of, listed}
 use Rattle.tableaux.specs.Simplex.{IsOptimal, IsInfeasible, OptimalAt, InfeasibleAt}
 use Rattle.tableaux.proofs.Places.{length-list_from}
 use Rattle.lin_rows.specs.Read.{numbers}
 use Rattle.vlp_reader.specs.declared.problem.Problem.{Problem}
-use Rattle.vlp_reader.specs.declared.problem.Cone.{Cone}
 use Rattle.vlp_reader.specs.declared.problem.Cone.TheVariants as cone
 use Rattle.vlp_printer.specs.Printing.{cone_vectors}
 use Rattle.lp_form.specs.declared.data.ConeOf.{ConeOf}

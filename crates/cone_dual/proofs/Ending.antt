@@ -1,5 +1,5 @@
 -- Faults of calls as ends, and faults of the cone in a field as those of the file's.
-use Rattle.std.proofs.Common.{◌≡◌, ℕ, List, [], length, map, sym, ap, subst, refl, Bool, Option, None, Some, Result, Ok, Err}
+use Rattle.std.proofs.Common.{◌≡◌, sym, subst, Bool, Result, Ok, Err}
 use Rattle.std.specs.Prelude.{IsErrAnd, IfErr}
 use Rattle.exact_field.specs.Rational.{ℚ}
 use Rattle.vlp_reader.specs.declared.problem.Problem.{Problem}
@@ -9,7 +9,6 @@ use Rattle.overflows.specs.declared.fault.SolveFault.{SolveFault}
 use Rattle.overflows.specs.declared.fault.SolveFault.TheVariants as fault
 use Rattle.cone_dual.specs.Ends.{IsEnd, IsSameEnd}
 use Rattle.cone_dual.specs.declared.duality.ConeEnd.{ConeEnd}
-use Rattle.cone_dual.specs.declared.duality.ConeEnd.TheVariants.{NoMemory}
 
 module _ (holds : ℚ → Bool) (file : Problem) where
   same_end : (f : SolveFault) (e : ConeEnd) → IsSameEnd f e → OnLicence f (LicensedWithout holds file) → IsEnd holds file e

@@ -1,5 +1,5 @@
 -- What is found of a cone that is given by generators fits the file.
-use Rattle.std.proofs.Common.{◌≡◌, ℕ, List, [], length, map, take, refl, sym, ap, subst, ◌∙◌, Bool, Option, None, Some, inl}
+use Rattle.std.proofs.Common.{◌≡◌, ℕ, List, length, map, take, refl, sym, ap, subst, ◌∙◌, Bool, Option, None, Some, inl}
 use Rattle.std.proofs.lemmas.List.{length-map}
 use Rattle.exact_field.specs.Rational.{ℚ, zero_ℚ, one_ℚ, inverse_ℚ, ◌<ℚ◌}
 use Rattle.exact_field.specs.Vector.{entry}

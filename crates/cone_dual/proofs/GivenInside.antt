@@ -1,11 +1,12 @@
 -- What the ends of the program of an interior vector say of generators and the vector that is given, in a field.
-use Rattle.std.proofs.Common.{◌≡◌, ℕ, suc, List, [], length, map, take, drop, sym, ap, subst, ◌∙◌, ◌+◌, ◌≤◌, arith, Option, Some}
+use Rattle.std.proofs.Common.{◌≡◌, ℕ, suc, List, [], length, map, take, drop, sym, ap, subst, ◌∙◌, ◌+◌, ◌<◌, ◌≤◌, arith, Bool, Option, Some, slice_index_or}
 use Rattle.std.proofs.lemmas.List.{length-map}
 use Rattle.exact_field.specs.Rational.{ℚ, zero_ℚ, ◌≤ℚ◌, ◌<ℚ◌}
 use Rattle.exact_field.specs.Vector.{entry}
 use Rattle.tableaux.specs.Table.{System}
 use Rattle.tableaux.specs.Simplex.{IsOptimal, IsInfeasible, IsUnbounded}
 use Rattle.lin_rows.specs.Read.{numbers}
+use Rattle.lin_rows.proofs.Summing.{entry_read}
 use Rattle.vlp_reader.specs.declared.problem.Cone.{Cone}
 use Rattle.vlp_reader.specs.declared.problem.Cone.TheVariants as cone
 use Rattle.lp_form.specs.declared.data.ConeOf.TheVariants.{Gens}
@@ -74,6 +75,14 @@ module _ {F : Type 0} (value : F → ℚ) (form : Data F) (vectors : List (List 
 
   pub unknowns : (x d : List ℚ) → IsOptimal S x d → length x ≡ n + n + 1
   unknowns x d h = given_unknowns q V target x d (optimal x d h) ∙ omega (arith, many)
+
+  -- the last unknown as it is read from a slice of them
+  pub last_read : (holds : ℚ → Bool) (xs slice : List F) (d : List ℚ) (r : F) → IsOptimal S (map value xs) d → slice ≡ xs →
+      r ≡ slice_index_or slice (n + n) r → entry (map value xs) (n + n + 1) ≡ value r
+  last_read holds xs slice d r h same is =
+      let counted : length (map value xs) ≡ n + n + 1 = unknowns (map value xs) d h in
+      let inside : n + n < length slice = omega (arith, counted, length-map xs value, ap length same) in
+      ap (λ (v : List ℚ). entry v (n + n + 1)) (sym (ap (map value) same)) ∙ entry_read value holds slice (n + n) r inside is
 
   pub multipliers_long : (x d : List ℚ) → IsOptimal S x d → n ≤ length d
   multipliers_long x d h = omega (arith, many, given_multipliers q V target x d (optimal x d h))

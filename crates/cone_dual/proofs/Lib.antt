@@ -10,7 +10,6 @@ pub mod Leading
 pub mod Opposite
 pub mod Picks
 pub mod Signs
-pub mod Spots
 pub mod Spreading
 pub mod Standing
 pub mod Wide

@@ -14,12 +14,11 @@ ghost use Rattle.vlp_reader.specs.declared.problem.Cone.TheVariants as cone;
 ghost use Rattle.vlp_reader.specs.declared.problem.Problem.{Problem as File};
 
 use crate::asking::pointed_end;
-use crate::lists::spots_of;
 use exact_field::Field;
 use exact_simplex::LpEnd;
 use frac128::{Sparse, Vector};
 use lp_form::{Data, is_zero_vector};
-use overflows::{SolveFault, fractions};
+use overflows::{SolveFault, fractions, spots_of};
 use src_sink::{Items, NoMemory};
 use std::alloc::Global;
 

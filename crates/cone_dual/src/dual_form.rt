@@ -25,14 +25,14 @@ use crate::asking::{independent_vectors, interior_end};
 use crate::combining::{spread_over, zero_combination};
 use crate::duality::{ConeEnd, Duality};
 use crate::given::{made, not_interior, scaled_given};
-use crate::lists::{divided, is_positive, spots_of};
+use crate::lists::is_positive;
 use cone_rules::ConeFault;
 use exact_field::Field;
 use exact_simplex::LpEnd;
 use frac128::{Frac, Sparse, Spot};
 use lin_rows::Indep;
 use lp_form::{Data, difference, is_zero_vector, negative};
-use overflows::{SolveFault, fractions, sum_of_products, term_fault};
+use overflows::{SolveFault, divided, fractions, spots_of, sum_of_products, term_fault};
 use src_sink::{Items, NoMemory};
 use std::alloc::Global;
 

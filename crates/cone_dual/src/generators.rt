@@ -21,13 +21,13 @@ use crate::asking::{independent_vectors, interior_end, inverse_columns};
 use crate::combining::zero_combination;
 use crate::duality::{ConeEnd, Duality};
 use crate::given::{made, not_interior, scaled_given};
-use crate::lists::{divided, is_positive};
+use crate::lists::is_positive;
 use cone_rules::ConeFault;
 use exact_field::Field;
 use exact_simplex::LpEnd;
 use lin_rows::Indep;
 use lp_form::{Data, column};
-use overflows::{SolveFault, fractions, sum_of_products, term_fault};
+use overflows::{SolveFault, divided, fractions, sum_of_products, term_fault};
 use src_sink::{Items, NoMemory};
 use std::alloc::Global;
 

@@ -11,13 +11,13 @@ ghost use Rattle.lp_form.specs.Data.{IsDataOf, cone_of, duality_of};
 ghost use Rattle.vlp_reader.specs.declared.problem.Problem.{Problem as File};
 
 use crate::duality::{ConeEnd, Duality};
-use crate::lists::{divided, is_positive};
+use crate::lists::is_positive;
 use cone_rules::ConeFault;
 use deriv_log::Entry;
 use exact_field::Field;
 use frac128::Sparse;
 use lp_form::Data;
-use overflows::fractions;
+use overflows::{divided, fractions};
 use src_sink::{Items, NoMemory};
 use std::alloc::Global;
 

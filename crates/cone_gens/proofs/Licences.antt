@@ -23,7 +23,9 @@ use Rattle.double_descr.specs.Steps.{Step, IsFirst}
 use Rattle.double_descr.specs.declared.fault.DdFault.TheVariants.{Elim as Starting, Left as Adding}
 use Rattle.vlp_reader.specs.declared.problem.Problem.{Problem}
 use Rattle.vlp_printer.specs.Printing.{cone_vectors}
+use Rattle.deriv_log.specs.declared.entry.Entry.{Entry}
 use Rattle.deriv_log.specs.declared.licence.Family.TheVariants.{ConeRows}
+use Rattle.deriv_log.specs.declared.licence.Place.{Place}
 use Rattle.deriv_log.specs.declared.licence.Place.TheVariants.{Elim, Pair}
 use Rattle.lp_form.specs.Programs.{nonzero_vectors}
 use Rattle.log_rules.specs.Events.{Event, exact}
@@ -33,9 +35,10 @@ use Rattle.licence.specs.Operands.{Setting, AreElimRows, IsElimTable, IsMadeOver
 use Rattle.licence.specs.Steps.{in_numbers, operation, value_steps, pair_steps}
 use Rattle.licence.proofs.Given.{overflow_laws}
 use Rattle.licence.proofs.Making.{generator_laws}
-use Rattle.cone_gens.specs.Faults.{AreConeRows, IsElimFaultOf, IsPairFaultOf, IsSolveFault}
-use Rattle.cone_gens.specs.declared.fault.SolveFault.{SolveFault}
-use Rattle.cone_gens.specs.declared.fault.SolveFault.TheVariants.{Left as Stuck, NoMemory}
+use Rattle.overflows.specs.Faults.{IsEliminationLeft, IsLeftAt, OnLicence, Overflows}
+use Rattle.overflows.specs.declared.fault.SolveFault.{SolveFault}
+use Rattle.overflows.specs.declared.fault.SolveFault.TheVariants.{Left as Stuck, NoMemory}
+use Rattle.cone_gens.specs.Generators.{AreConeRows}
 use Rattle.cone_gens.proofs.Events.{event_of, same_exact, value_events, pair_events}
 
 -- some of such rows are such rows
@@ -59,14 +62,7 @@ module _ {F : Type 0} (value : F → ℚ) (holds : ℚ → Bool) (file : Problem
       (AreElimRows.of_cone (All-weaker (Contains (nonzero_vectors file.cone)) (Contains (cone_vectors file.cone))
       (λ r k. (Contains-filter_source _ (cone_vectors file.cone) r k).0) rows c.listed))
 
-  -- ---- eliminations
-  elimination : (n : ℕ) (rows : List (List ℚ)) (t : Table) (columns : ℕ) (basis : List ℕ) (row col number : ℕ) (left : Left F) →
-      AreConeRows file n rows → IsElimTable rows n t columns → IsTrue (holds (value left.a)) →
-      IsElimFault value holds columns t (Stopped basis row col number left) →
-      IsOverflow holds setting (Elim rows basis row col number) (in_numbers value left)
-  elimination n rows t columns basis row col number left c table held h =
-      overflow_laws.elimination holds setting rows n t columns basis row col number (in_numbers value left) zero held (elim_rows n rows c) table h.3 h.5 h
-
+  -- ---- normings
   norming : (n : ℕ) (rows : List (List ℚ)) (basis : List ℕ) (row col number : ℕ) (left : Left F) → length rows ≡ n → AreConeRows file n rows →
       basis ≡ [] → row ≡ 0 → number ≡ 1 → IsNormingLeft value holds n rows col left →
       IsOverflow holds setting (Elim rows basis row col number) (in_numbers value left)
@@ -83,34 +79,38 @@ module _ {F : Type 0} (value : F → ℚ) (holds : ℚ → Bool) (file : Problem
           (subst (λ (r : ℕ). IsOverflow holds setting (Elim rows basis r col number) (operation Div (entry (column_of h.inverse h.corner) col) by)) (sym zero_row)
           (subst (λ (k : ℕ). IsOverflow holds setting (Elim rows basis 0 col k) (operation Div (entry (column_of h.inverse h.corner) col) by)) (sym first) over))
 
-  licensed : (rows : List (List ℚ)) (fault : RowFault F) (told : SolveFault) → IsElimFaultOf value holds rows fault told →
-      ((basis : List ℕ) (row col number : ℕ) (left : Left F) → fault ≡ Stopped basis row col number left → IsTrue (holds (value left.a)) →
-      IsOverflow holds setting (Elim rows basis row col number) (in_numbers value left)) → IsSolveFault holds file told
-  licensed rows (Stopped basis row col number left) (Stuck licence) h over =
-      subst (LicensedWithout holds file) (sym h.0) (record { trail = refl; overflow = over basis row col number left refl h.1 })
-  licensed rows Want (Stuck licence) h over = absurd h
-  licensed rows (Stopped basis row col number left) NoMemory h over = tt
-  licensed rows Want NoMemory h over = tt
+  -- ---- licences
+  overflow_licensed : (trail : List Entry) (told : SolveFault) → trail ≡ [] → Overflows holds setting trail told → OnLicence told (LicensedWithout holds file)
+  overflow_licensed trail (Stuck licence) none h = record { trail = h.0 ∙ none; overflow = h.1 }
+  overflow_licensed trail NoMemory none h = tt
+
+  left_licensed : (place : Place) (left : Left ℚ) (trail : List Entry) (told : SolveFault) → trail ≡ [] → IsLeftAt place left trail told →
+      IsOverflow holds setting place left → OnLicence told (LicensedWithout holds file)
+  left_licensed place left trail (Stuck licence) none is over = subst (LicensedWithout holds file) (sym is) (record { trail = none; overflow = over })
+  left_licensed place left trail NoMemory none is over = tt
+
+  -- what is told of the fault of an elimination of these rows overflows in each setting where they may be eliminated
+  abbrev pub AlwaysOverflows : List (List ℚ) → List Entry → RowFault F → SolveFault → Type 0
+  AlwaysOverflows rows trail fault told =
+      (s : Setting) (width columns : ℕ) (t : Table) → AreElimRows s rows width → IsElimTable rows width t columns → IsElimFault value holds columns t fault →
+      Overflows holds s trail told
 
   -- of an elimination of the rows
-  pub elimination_licensed : (n : ℕ) (rows : List (List ℚ)) (fault : RowFault F) (told : SolveFault) → AreConeRows file n rows →
-      IsElimFault value holds n rows fault → IsElimFaultOf value holds rows fault told → IsSolveFault holds file told
-  elimination_licensed n rows fault told c h of = licensed rows fault told of
-      (λ basis row col number left e held. elimination n rows rows n basis row col number left c (IsElimTable.alone refl refl) held
-      (subst (IsElimFault value holds n rows) e h))
+  pub elimination_licensed : (n : ℕ) (rows : List (List ℚ)) (trail : List Entry) (fault : RowFault F) (told : SolveFault) → trail ≡ [] → AreConeRows file n rows →
+      IsElimFault value holds n rows fault → AlwaysOverflows rows trail fault told → OnLicence told (LicensedWithout holds file)
+  elimination_licensed n rows trail fault told none c h over =
+      overflow_licensed trail told none (over setting n n rows (elim_rows n rows c) (IsElimTable.alone refl refl) h)
 
   -- of a start with as many independent rows as they have entries
-  pub start_licensed : (n : ℕ) (rows : List (List ℚ)) (fault : RowFault F) (told : SolveFault) → length rows ≡ n → AreConeRows file n rows →
-      IsStartFault value holds n rows (Starting fault) → IsElimFaultOf value holds rows fault told → IsSolveFault holds file told
-  start_licensed n rows fault told many c h of = licensed rows fault told of
-      (λ basis row col number left e held. go basis row col number left held (subst (λ (f : RowFault F). IsStartFault value holds n rows (Starting f)) e h))
-    where
-      go : (basis : List ℕ) (row col number : ℕ) (left : Left F) → IsTrue (holds (value left.a)) →
-          IsStartFault value holds n rows (Starting (Stopped basis row col number left)) →
-          IsOverflow holds setting (Elim rows basis row col number) (in_numbers value left)
-      go basis row col number left held (inl h) = elimination n rows (beside_unit rows) (n + n) basis row col number left c
-          (IsElimTable.beside many refl (sym (ap₂ (λ a b. a + b) many many))) held h
-      go basis row col number left held (inr h) = norming n rows basis row col number left many c h.0 h.1 h.2 h.3
+  pub start_licensed : (n : ℕ) (rows : List (List ℚ)) (trail : List Entry) (fault : RowFault F) (told : SolveFault) → trail ≡ [] → length rows ≡ n →
+      AreConeRows file n rows → IsStartFault value holds n rows (Starting fault) → IsEliminationLeft value rows trail fault told →
+      AlwaysOverflows rows trail fault told → OnLicence told (LicensedWithout holds file)
+  start_licensed n rows trail (Stopped basis row col number left) told none many c (inl h) is over =
+      overflow_licensed trail told none (over setting n (n + n) (beside_unit rows) (elim_rows n rows c)
+      (IsElimTable.beside many refl (sym (ap₂ (λ a b. a + b) many many))) h)
+  start_licensed n rows trail (Stopped basis row col number left) told none many c (inr h) is over =
+      left_licensed (Elim rows basis row col number) (in_numbers value left) trail told none is (norming n rows basis row col number left many c h.0 h.1 h.2 h.3)
+  start_licensed n rows trail Want told none many c h is over = subst (λ (f : SolveFault). OnLicence f (LicensedWithout holds file)) (sym is) tt
 
   -- ---- additions
   abbrev over : (rows : List (List ℚ)) → ℕ → ℕ → ℕ → Left ℚ → Type 0
@@ -193,11 +193,10 @@ module _ {F : Type 0} (value : F → ℚ) (holds : ℚ → Bool) (file : Problem
 
     -- of the addition of a row to a double description
     pub addition_licensed : (first second number : ℕ) (left : Left F) (told : SolveFault) →
-        IsAddFault value holds (add_blocks before list.live last) (Adding first second number left) → IsPairFaultOf value rows first second number left told →
-        IsSolveFault holds file told
-    addition_licensed first second number left (Stuck licence) h of =
-        subst (LicensedWithout holds file) (sym of) (record { trail = refl; overflow = addition_over first second number left h })
-    addition_licensed first second number left NoMemory h of = tt
+        IsAddFault value holds (add_blocks before list.live last) (Adding first second number left) →
+        IsLeftAt (Pair ConeRows rows first second number) (in_numbers value left) [] told → OnLicence told (LicensedWithout holds file)
+    addition_licensed first second number left told h is =
+        left_licensed (Pair ConeRows rows first second number) (in_numbers value left) [] told refl is (addition_over first second number left h)
 
 -- a start is made over its rows
 pub made_of_start : (n : ℕ) (rows : List (List ℚ)) (s : State) → IsStart n rows s → IsMadeOver n s.rows s.list

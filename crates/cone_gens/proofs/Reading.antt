@@ -12,7 +12,7 @@ use Rattle.polyhedra.proofs.Members.{Contains-map, member_of}
 use Rattle.lin_rows.specs.Read.{numbers}
 use Rattle.lin_rows.proofs.Building.{number_row}
 use Rattle.vlp_reader.specs.declared.problem.Problem.{Problem}
-use Rattle.cone_gens.specs.Faults.{AreConeRows}
+use Rattle.cone_gens.specs.Generators.{AreConeRows}
 use Rattle.cone_gens.proofs.Licences.{cone_rows-front}
 
 pub range_more : (a n : ℕ) → range_with_len a (n + 1) ≡ range_with_len a n ++ (a + n) ∷ []

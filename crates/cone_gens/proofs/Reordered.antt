@@ -20,8 +20,7 @@ use Rattle.tableaux.specs.Elimination.{AreIndependent}
 use Rattle.vlp_reader.specs.declared.problem.Problem.{Problem}
 use Rattle.lp_form.specs.Programs.{nonzero_vectors}
 use Rattle.log_rules.specs.Live.{contains}
-use Rattle.cone_gens.specs.Faults.{AreConeRows}
-use Rattle.cone_gens.specs.Generators.{AreGenerators, begun_with, others}
+use Rattle.cone_gens.specs.Generators.{AreConeRows, AreGenerators, begun_with, others}
 
 -- ---- numbers
 -- a number is from 1 to n

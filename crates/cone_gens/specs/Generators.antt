@@ -1,10 +1,12 @@
--- The generators of the cone of some rows, as a list, and the order of their making.
-use Rattle.std.specs.Prelude.{ℕ, List, ◌++◌, ◌≡◌, ◌↔◌, map, length, filter, AllPairs, Contains, not}
+-- The generators of the cone of some rows, as a list, and the order of their making; rows of a file's ordering cone.
+use Rattle.std.specs.Prelude.{ℕ, List, ◌++◌, ◌≡◌, ◌↔◌, map, length, filter, All, AllPairs, Contains, not}
 use Rattle.std.specs.List.{range_with_len}
 use Rattle.exact_field.specs.Rational.{ℚ}
 use Rattle.polyhedra.specs.LiveList.{LiveList, vectors}
 use Rattle.tableaux.specs.Table.{Table, row_of}
 use Rattle.tableaux.specs.Elimination.{AreIndependent}
+use Rattle.vlp_reader.specs.declared.problem.Problem.{Problem}
+use Rattle.lp_form.specs.Programs.{nonzero_vectors}
 use Rattle.log_rules.specs.Live.{contains}
 use Rattle.licence.specs.Base.{IsGeneratorOf}
 use Rattle.licence.specs.Operands.{IsMadeOver}
@@ -29,3 +31,8 @@ pub record AreMadeInOrder (n : ℕ) (rows gens : List (List ℚ)) : Type 0 where
   pub list : LiveList
   pub made : IsMadeOver n (begun_with picks rows) list
   pub same : gens ≡ vectors list.live
+
+-- the rows are vectors of the file's ordering cone that are not 0, and have as many entries as there are objectives
+pub record AreConeRows (file : Problem) (n : ℕ) (rows : List (List ℚ)) : Type 0 where
+  pub width : file.objs ≡ n
+  pub listed : All (Contains (nonzero_vectors file.cone)) rows

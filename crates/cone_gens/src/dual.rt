@@ -8,16 +8,17 @@ ghost use Rattle.tableaux.specs.Elimination.{AreIndependent};
 ghost use Rattle.lin_rows.specs.Read.{numbers};
 ghost use Rattle.double_descr.specs.Adding.{IsAddFault, add_blocks};
 ghost use Rattle.vlp_reader.specs.declared.problem.Problem.{Problem};
+ghost use Rattle.licence.specs.Licence.{LicensedWithout};
 ghost use Rattle.licence.specs.Operands.{IsMadeOver};
-ghost use Rattle.cone_gens.specs.Faults.{AreConeRows, IsSolveFault};
-ghost use Rattle.cone_gens.specs.Generators.{AreGenerators, AreMadeInOrder};
+ghost use Rattle.overflows.specs.Faults.{OnLicence};
+ghost use Rattle.cone_gens.specs.Generators.{AreConeRows, AreGenerators, AreMadeInOrder};
 
-use crate::fault::SolveFault;
 use crate::picked::{other_numbers, rows_at};
-use crate::places::{elim_fault, pair_fault};
+use crate::places::pair_fault;
 use double_descr::{Dd, DdFault};
 use exact_field::Field;
 use lin_rows::{Indep, Rows, independent};
+use overflows::{SolveFault, elimination_fault};
 use src_sink::{Items, NoMemory};
 use std::alloc::Global;
 
@@ -25,12 +26,12 @@ use std::alloc::Global;
 fn basis_of<F: Field>(alloc: Global, rows: &Rows<F>) -> Result<Items<u32>, SolveFault>
     requires { HasFullRank rows.now.width (numbers F.value rows.now.list) }
     ensures ok { IfOk result (λ picks. AreIndependent rows.now.width (numbers F.value rows.now.list) picks) }
-    ensures left { (file : Problem) → AreConeRows file rows.now.width (numbers F.value rows.now.list) → IfErr result (λ fault. IsSolveFault F.holds file fault) }
+    ensures left { (file : Problem) → AreConeRows file rows.now.width (numbers F.value rows.now.list) → IfErr result (λ fault. OnLicence fault (LicensedWithout F.holds file)) }
 {
     match independent(alloc, rows, rows.width()) {
         Ok(Indep::Basis(picks)) => Ok(picks),
         Ok(Indep::Orthogonal(_)) => unreachable!(),
-        Err(fault) => Err(elim_fault(alloc, rows, fault)),
+        Err(fault) => Err(elimination_fault(alloc, rows, fault, Items::new(alloc))),
     }
 }
 
@@ -41,11 +42,11 @@ fn started<F: Field>(alloc: Global, rows: &Rows<F>) -> Result<Dd<F>, SolveFault>
     ensures width { IfOk result (λ dd. dd.width ≡ rows.now.width) }
     ensures rows { IfOk result (λ dd. dd.rows ≡ numbers F.value rows.now.list) }
     ensures made { IfOk result (λ dd. IsMadeOver rows.now.width dd.rows dd.list) }
-    ensures left { (file : Problem) → AreConeRows file rows.now.width (numbers F.value rows.now.list) → IfErr result (λ fault. IsSolveFault F.holds file fault) }
+    ensures left { (file : Problem) → AreConeRows file rows.now.width (numbers F.value rows.now.list) → IfErr result (λ fault. OnLicence fault (LicensedWithout F.holds file)) }
 {
     match Dd::start(alloc, rows) {
         Ok(dd) => Ok(dd),
-        Err(DdFault::Elim(fault)) => Err(elim_fault(alloc, rows, fault)),
+        Err(DdFault::Elim(fault)) => Err(elimination_fault(alloc, rows, fault, Items::new(alloc))),
         Err(DdFault::NoMemory) => Err(SolveFault::NoMemory),
         Err(DdFault::Left { .. }) => unreachable!(),
     }
@@ -55,7 +56,7 @@ fn started<F: Field>(alloc: Global, rows: &Rows<F>) -> Result<Dd<F>, SolveFault>
 fn add_fault<F: Field>(alloc: Global, dd: &Dd<F>, row: &[F], fault: DdFault<F>) -> SolveFault
     requires made { IsMadeOver dd.now.width dd.now.rows dd.now.list }
     requires fault { IsAddFault F.value F.holds (add_blocks dd.now.rows dd.now.list.live (map F.value row.now)) fault }
-    ensures { (file : Problem) → AreConeRows file dd.now.width (dd.now.rows ++ map F.value row.now ∷ []) → IsSolveFault F.holds file result }
+    ensures { (file : Problem) → AreConeRows file dd.now.width (dd.now.rows ++ map F.value row.now ∷ []) → OnLicence result (LicensedWithout F.holds file) }
 {
     match fault {
         DdFault::NoMemory => SolveFault::NoMemory,
@@ -74,7 +75,7 @@ fn add_row<F: Field>(alloc: Global, dd: &mut Dd<F>, row: &[F]) -> Result<(), Sol
     requires wide { length row.now ≡ dd.old.width }
     requires made { IsMadeOver dd.old.width dd.old.rows dd.old.list }
     ensures ok { OnOk result (dd.new ≡ record { width = dd.old.width; rows = dd.old.rows ++ map F.value row.now ∷ []; list = step dd.old.rows dd.old.list (map F.value row.now) }) }
-    ensures left { (file : Problem) → AreConeRows file dd.old.width (dd.old.rows ++ map F.value row.now ∷ []) → IfErr result (λ fault. IsSolveFault F.holds file fault) }
+    ensures left { (file : Problem) → AreConeRows file dd.old.width (dd.old.rows ++ map F.value row.now ∷ []) → IfErr result (λ fault. OnLicence fault (LicensedWithout F.holds file)) }
 {
     match dd.add(row) {
         Ok(_) => Ok(()),
@@ -89,7 +90,7 @@ fn add_all<F: Field>(alloc: Global, dd: &mut Dd<F>, rows: &Rows<F>) -> Result<()
     ensures width { OnOk result (dd.new.width ≡ dd.old.width) }
     ensures rows { OnOk result (dd.new.rows ≡ dd.old.rows ++ numbers F.value rows.now.list) }
     ensures made { OnOk result (IsMadeOver dd.old.width dd.new.rows dd.new.list) }
-    ensures left { (file : Problem) → AreConeRows file dd.old.width (dd.old.rows ++ numbers F.value rows.now.list) → IfErr result (λ fault. IsSolveFault F.holds file fault) }
+    ensures left { (file : Problem) → AreConeRows file dd.old.width (dd.old.rows ++ numbers F.value rows.now.list) → IfErr result (λ fault. OnLicence fault (LicensedWithout F.holds file)) }
 {
     for k in 0..rows.count() {
         add_row(alloc, dd, rows.row(k + 1))?;
@@ -121,7 +122,7 @@ pub fn dual_gens<F: Field>(alloc: Global, rows: &Rows<F>) -> Result<Rows<F>, Sol
     ensures width { IfOk result (λ out. out.width ≡ rows.now.width) }
     ensures generators { IfOk result (λ out. AreGenerators rows.now.width (numbers F.value rows.now.list) (numbers F.value out.list)) }
     ensures order { IfOk result (λ out. AreMadeInOrder rows.now.width (numbers F.value rows.now.list) (numbers F.value out.list)) }
-    ensures left { (file : Problem) → AreConeRows file rows.now.width (numbers F.value rows.now.list) → IfErr result (λ fault. IsSolveFault F.holds file fault) }
+    ensures left { (file : Problem) → AreConeRows file rows.now.width (numbers F.value rows.now.list) → IfErr result (λ fault. OnLicence fault (LicensedWithout F.holds file)) }
 {
     let picks = basis_of(alloc, rows)?;
     let others = other_numbers(alloc, rows.count(), picks.as_slice())?;

@@ -2,9 +2,7 @@
 #![tactic(auto)]
 
 mod dual;
-mod fault;
 mod picked;
 mod places;
 
 pub use dual::dual_gens;
-pub use fault::SolveFault;

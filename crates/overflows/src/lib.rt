@@ -4,8 +4,8 @@
 mod fault;
 mod licences;
 mod numbers;
-mod spots;
 mod quotients;
+mod spots;
 mod sums;
 
 pub use fault::{SolveFault, SumFault};

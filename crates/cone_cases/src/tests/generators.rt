@@ -1,11 +1,12 @@
 //! Generators of cones, and what is told where they are given up.
 
 use crate::tests::double::rows_of;
-use cone_gens::{SolveFault, dual_gens};
+use cone_gens::dual_gens;
 use deriv_log::{Family, Place};
 use exact_field::{Field, Left, Op};
 use frac128::{Frac, Tiny, Vectors};
 use lin_rows::{Indep, Rows, independent};
+use overflows::SolveFault;
 use src_sink::Items;
 use std::alloc::Global;
 use std::fmt::Debug;

@@ -3,7 +3,7 @@ use Rattle.deriv_log.specs.declared.entry.Entry.{Entry}
 use Rattle.deriv_log.specs.declared.licence.Program.TheVariants.{Interior}
 use Rattle.exact_simplex.specs.Program.{system_of}
 use Rattle.lp_form.specs.Data.{cone_of, duality_of}
-use Rattle.lp_form.specs.Programs.{interior_system, pointed_system}
+use Rattle.lp_form.specs.Programs.{interior_system}
 use Rattle.overflows.specs.Faults.{Overflows}
 use Rattle.cone_dual.proofs.Asked.{program_licensed, interior_same}
 use Rattle.cone_dual.proofs.asking.interior_end.Goals as goal

@@ -2,8 +2,8 @@ use Rattle.std.proofs.Common.{ℕ, List, ap, subst, ◌∙◌}
 use Rattle.deriv_log.specs.declared.entry.Entry.{Entry}
 use Rattle.deriv_log.specs.declared.licence.Program.TheVariants.{Pointed}
 use Rattle.exact_simplex.specs.Program.{system_of}
-use Rattle.lp_form.specs.Data.{cone_of, duality_of}
-use Rattle.lp_form.specs.Programs.{interior_system, pointed_system}
+use Rattle.lp_form.specs.Data.{cone_of}
+use Rattle.lp_form.specs.Programs.{pointed_system}
 use Rattle.overflows.specs.Faults.{Overflows}
 use Rattle.cone_dual.proofs.Asked.{program_licensed, pointed_same}
 use Rattle.cone_dual.proofs.asking.pointed_end.Goals as goal

@@ -1,11 +1,10 @@
-use Rattle.std.proofs.Common.{◌≡◌, ◌≢◌, ℕ, List, [], ◌∷◌, ◌-◌, ◌+◌, length, map, ap, sym, subst, ◌∙◌, arith}
+use Rattle.std.proofs.Common.{◌≡◌, List, ◌-◌, ◌+◌, length, map, ap, sym, subst, ◌∙◌, arith}
 use Rattle.std.proofs.lemmas.List.{length-map}
 use Rattle.exact_field.specs.Rational.{ℚ}
 use Rattle.lin_rows.specs.Read.{numbers}
 use Rattle.lp_form.proofs.Steps.{row_at}
 use Rattle.tableaux.specs.Table.{row_of}
 use Rattle.cone_rules.specs.Faults.{IsZeroCombination}
-use Rattle.cone_rules.specs.Laws.{IsSpread}
 use Rattle.cone_rules.proofs.Pointed.{pointed_program}
 use Rattle.cone_dual.proofs.Leading.{head_of, none_of, first_place}
 use Rattle.cone_dual.proofs.Spreading.{spread_of}

@@ -1,4 +1,4 @@
-use Rattle.std.proofs.Common.{◌≡◌, ◌∷◌, map, drop, ap, sym, ◌∙◌, ◌+◌, inl, inr, arith}
+use Rattle.std.proofs.Common.{◌∷◌, map, drop, ap, sym, ◌∙◌, ◌+◌, inl, inr, arith}
 use Rattle.std.proofs.lemmas.List.{drop_all, drop_more, get_or-map, length-map}
 use Rattle.exact_field.specs.Rational.{zero_ℚ}
 use Rattle.cone_rules.specs.Laws.{spread}

@@ -1,7 +1,7 @@
-use Rattle.std.proofs.Common.{◌≡◌, ℕ, List, [], length, map, ap, sym, refl, ◌∙◌, subst, None}
+use Rattle.std.proofs.Common.{◌≡◌, ℕ, List, [], map, ap, sym, refl, ◌∙◌, subst, None}
 use Rattle.exact_field.specs.Rational.{ℚ}
 use Rattle.lin_rows.specs.Read.{numbers}
-use Rattle.lp_form.specs.Data.{cone_of, duality_of}
+use Rattle.lp_form.specs.Data.{duality_of}
 use Rattle.lp_form.proofs.Figures.{objective_number}
 use Rattle.vlp_reader.specs.declared.problem.Cone.TheVariants as form_of
 use Rattle.cone_rules.specs.Faults.{HasInterior, HasNoLine}

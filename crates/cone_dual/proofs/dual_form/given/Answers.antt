@@ -3,7 +3,7 @@ use Rattle.std.proofs.lemmas.List.{length-map}
 use Rattle.exact_field.specs.Rational.{ℚ, zero_ℚ, ◌<ℚ◌}
 use Rattle.exact_field.specs.Vector.{entry}
 use Rattle.lin_rows.specs.Read.{numbers}
-use Rattle.lp_form.specs.Data.{cone_of, duality_of}
+use Rattle.lp_form.specs.Data.{duality_of}
 use Rattle.lp_form.specs.declared.data.ConeOf.TheVariants.{Dual}
 use Rattle.lp_form.proofs.Figures.{objective_number}
 use Rattle.vlp_reader.specs.declared.problem.Cone.{Cone}

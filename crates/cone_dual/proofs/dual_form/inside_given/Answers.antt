@@ -1,4 +1,4 @@
-use Rattle.std.proofs.Common.{◌≡◌, ◌≢◌, ℕ, List, [], ◌∷◌, ◌+◌, ◌-◌, length, map, ap, ap₂, sym, subst, ◌∙◌, arith, below_more, All, Contains, false, IsTrue, Option, Some, slice_index_or}
+use Rattle.std.proofs.Common.{◌≡◌, ℕ, List, [], ◌∷◌, ◌+◌, ◌-◌, length, map, ap, sym, subst, ◌∙◌, arith, below_more, All, Contains, false, Option, Some, slice_index_or}
 use Rattle.std.specs.List.{list_all}
 use Rattle.std.proofs.lemmas.List.{length-map}
 use Rattle.exact_field.specs.Rational.{ℚ, zero_ℚ, one_ℚ, ◌≤ℚ◌, ◌<ℚ◌}
@@ -72,7 +72,7 @@ returns-then-branch-clause-end g c = λ file stands.
       c.requires.solid,
       c.requires.pointed,
       as_duality value form (Some c.args.f.now) c.requires.duality (λ (d : Option (List ℚ)). IsGivenOutside q (cone_of value form.cone) d w named)
-      (as_cone value form (Dual vectors) c.requires.rows (λ (o : Cone). ShowsOutside q o f w named) shown),
+          (as_cone value form (Dual vectors) c.requires.rows (λ (o : Cone). ShowsOutside q o f w named) shown),
     ))
 
 pub loop-k-preserved : goal.loop-k-preserved

@@ -1,4 +1,4 @@
-use Rattle.std.proofs.Common.{List, map, ap, subst, sym, ◌∙◌, inl}
+use Rattle.std.proofs.Common.{List, map, subst, inl}
 use Rattle.deriv_log.specs.declared.entry.Entry.{Entry}
 use Rattle.licence.specs.Operands.{AreMultiplied, IsBesideCone}
 use Rattle.overflows.specs.Faults.{Overflows}

@@ -1,12 +1,10 @@
-use Rattle.std.proofs.Common.{◌≡◌, ℕ, List, ◌+◌, ◌-◌, length, map, ap, refl, sym, subst, ◌∙◌, arith}
-use Rattle.exact_field.specs.Rational.{ℚ, neg_ℚ}
+use Rattle.std.proofs.Common.{◌≡◌, ℕ, ◌+◌, ◌-◌, length, map, ap, refl, sym, ◌∙◌, arith}
+use Rattle.exact_field.specs.Rational.{neg_ℚ}
 use Rattle.exact_field.specs.Vector.{entry}
 use Rattle.lin_rows.proofs.Errors.{err_holds}
 use Rattle.lin_rows.proofs.Summing.{entry_read}
 use Rattle.licence.specs.Licence.{LicensedWithout}
-use Rattle.lin_rows.specs.Read.{numbers}
 use Rattle.overflows.specs.Faults.{OnLicence}
-use Rattle.cone_rules.specs.Laws.{spread}
 use Rattle.cone_dual.proofs.ByRows.{combined, may_divide, multipliers, not_zero}
 use Rattle.cone_dual.proofs.Standing.{before, without}
 use Rattle.cone_dual.proofs.dual_form.last_fault.Goals as goal

@@ -1,8 +1,7 @@
-use Rattle.std.proofs.Common.{◌≡◌, ℕ, List, length, subst, take, Option}
+use Rattle.std.proofs.Common.{ℕ, List, length, subst, take, Option}
 use Rattle.std.specs.Prelude.{IfNone, IfSome}
 use Rattle.exact_field.specs.Rational.{ℚ}
 use Rattle.lin_rows.specs.Read.{numbers}
-use Rattle.lp_form.specs.Data.{cone_of}
 use Rattle.lp_form.specs.Programs.{nonzero_vectors, zero_combination}
 use Rattle.lp_form.specs.declared.data.ConeOf.TheVariants.{Dual}
 use Rattle.tableaux.specs.Simplex.{IsInfeasible}

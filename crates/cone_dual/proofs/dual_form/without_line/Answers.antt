@@ -36,6 +36,8 @@ returns-clause-end g c = λ file stands.
     let m = c.new.result in
     let across : IsOrthogonal q all z = subst (λ e. IsIndep value q all e) c.in-Orthogonal.is c.in_ok-independent_vectors.ensures.ok in
     let d_is : d ≡ z = c.in_ok-d-in-Orthogonal.ensures.same ∙ ap (map value) c.as_slice.ensures.items in
-    at_file value form file stands (λ (n : ℕ) (k : Cone) (o : Option (List ℚ)). HasInterior n k × ShowsLine n k d m)
-    (c.requires.solid, as_cone value form (Dual c.args.vectors.now) c.requires.rows (λ (k : Cone). ShowsLine q k d m)
-    (record { lengths = c.new.ensures; orthogonal = subst (λ (v : List ℚ). IsOrthogonal q all v) (sym d_is) across }))
+    at_file value form file stands (λ (n : ℕ) (k : Cone) (o : Option (List ℚ)). HasInterior n k × ShowsLine n k d m) (
+      c.requires.solid,
+      as_cone value form (Dual c.args.vectors.now) c.requires.rows (λ (k : Cone). ShowsLine q k d m)
+          (record { lengths = c.new.ensures; orthogonal = subst (λ (v : List ℚ). IsOrthogonal q all v) (sym d_is) across }),
+    )

@@ -1,4 +1,4 @@
-use Rattle.std.proofs.Common.{◌≡◌, ℕ, List, ◌+◌, map, ap, sym, subst, ◌∙◌, inr, arith}
+use Rattle.std.proofs.Common.{ℕ, List, ◌+◌, map, ap, sym, subst, ◌∙◌, inr, arith}
 use Rattle.exact_field.specs.Rational.{ℚ}
 use Rattle.exact_field.specs.Vector.{dot}
 use Rattle.deriv_log.specs.declared.entry.Entry.{Entry}

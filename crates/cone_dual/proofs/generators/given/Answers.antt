@@ -5,7 +5,7 @@ use Rattle.exact_field.proofs.Inequalities.{positive-not-zero}
 use Rattle.licence.specs.Operands.{IsDivisor, IsScaled}
 use Rattle.lin_rows.specs.Read.{numbers}
 use Rattle.lin_rows.proofs.Summing.{entry_read}
-use Rattle.lp_form.specs.Data.{cone_of, duality_of}
+use Rattle.lp_form.specs.Data.{duality_of}
 use Rattle.lp_form.specs.declared.data.ConeOf.TheVariants.{Gens}
 use Rattle.polyhedra.specs.Vectors.{scaled}
 use Rattle.std.proofs.lemmas.List.{length-map}

@@ -1,4 +1,4 @@
-use Rattle.std.proofs.Common.{◌≡◌, ℕ, List, [], ◌++◌, length, map, take, ap, sym, refl, subst, ◌∙◌, Option, None, All}
+use Rattle.std.proofs.Common.{◌≡◌, ℕ, List, ◌++◌, length, map, take, ap, sym, subst, ◌∙◌, Option, None, All}
 use Rattle.std.proofs.lemmas.List.{length-map, take-map}
 use Rattle.exact_field.specs.Rational.{ℚ, zero_ℚ, one_ℚ, ◌≤ℚ◌}
 use Rattle.exact_field.specs.Vector.{entry}
@@ -11,7 +11,6 @@ use Rattle.polyhedra.specs.Vectors.{combination}
 use Rattle.tableaux.specs.Simplex.{IsOptimal, IsInfeasible, IsUnbounded, OptimalAt}
 use Rattle.tableaux.specs.Table.{System, Table}
 use Rattle.vlp_reader.specs.declared.problem.Cone.{Cone}
-use Rattle.vlp_reader.specs.declared.problem.Cone.TheVariants as form_of
 use Rattle.cone_rules.specs.Faults.{HasInterior, HasNoLine, IsGivenInside, ShowsLast}
 use Rattle.cone_rules.specs.Laws.{IsPositiveCombination}
 use Rattle.cone_rules.proofs.FoundGenerators.{found_program}

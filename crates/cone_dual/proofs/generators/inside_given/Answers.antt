@@ -1,13 +1,12 @@
-use Rattle.std.proofs.Common.{◌≡◌, ℕ, List, ◌+◌, ◌<◌, length, map, ap, sym, subst, ◌∙◌, arith}
+use Rattle.std.proofs.Common.{◌≡◌, ℕ, List, ◌+◌, length, map, ap, sym, subst, arith}
 use Rattle.std.proofs.lemmas.List.{length-map}
 use Rattle.exact_field.specs.Rational.{ℚ, zero_ℚ, ◌≤ℚ◌, ◌<ℚ◌}
 use Rattle.exact_field.specs.Vector.{entry}
 use Rattle.exact_simplex.specs.Ends.{IsCertified}
-use Rattle.lin_rows.proofs.Summing.{entry_read}
 use Rattle.lp_form.specs.Data.{cone_of, duality_of}
 use Rattle.lp_form.specs.Programs.{interior_system}
 use Rattle.tableaux.specs.Simplex.{IsInfeasible, IsOptimal, IsUnbounded}
-use Rattle.cone_dual.proofs.GivenInside.{bounded, farkas_long, infeasible_outside, multipliers_long, optimal_inside, optimal_outside, unknowns}
+use Rattle.cone_dual.proofs.GivenInside.{bounded, farkas_long, infeasible_outside, last_read, multipliers_long, optimal_inside, optimal_outside}
 use Rattle.cone_dual.proofs.Signs.{not_positive}
 use Rattle.cone_dual.proofs.generators.inside_given.Goals as goal
 
@@ -20,14 +19,11 @@ returns-then-is_positive-clause-ok g c =
     let n : ℕ = length vectors in
     let x : List ℚ = map value c.in-Optimal.x in
     let d : List ℚ = map value c.in-Optimal.dual in
-    let slice = c.as_slice.result.now in
     let system = interior_system (length form.p) (cone_of value form.cone) (duality_of value form.duality) in
     let optimal : IsOptimal system x d = subst (λ e. IsCertified value system e) c.in-Optimal.is c.in_ok-x.ensures.certified in
-    let long : length x ≡ n + n + 1 = unknowns value form vectors c.requires.generators f c.requires.duality x d optimal in
-    let inside : n + n < length slice = omega (arith, long, length-map c.in-Optimal.x value, ap length c.as_slice.ensures.items) in
     let here : entry x (n + n + 1) ≡ value c.index-as_slice-n.result =
-    ap (λ (v : List ℚ). entry v (n + n + 1)) (sym (ap (map value) c.as_slice.ensures.items))
-    ∙ entry_read value g.F.Field.holds slice (n + n) c.index-as_slice-n.result inside c.index-as_slice-n.is in
+    last_read value form vectors c.requires.generators f c.requires.duality g.F.Field.holds c.in-Optimal.x c.as_slice.result.now d c.index-as_slice-n.result optimal
+    c.as_slice.ensures.items c.index-as_slice-n.is in
     let high : zero_ℚ <ℚ entry x (n + n + 1) = subst (λ (z : ℚ). zero_ℚ <ℚ z) (sym here) (c.is_positive.ensures.0 c.if-is_positive.true) in
     optimal_inside value form vectors c.requires.generators f c.requires.duality x d optimal high
 
@@ -52,15 +48,12 @@ outside-requires-clause-shown g c =
     let n : ℕ = length vectors in
     let x : List ℚ = map value c.in-Optimal.x in
     let d : List ℚ = map value c.in-Optimal.dual in
-    let slice = c.as_slice.result.now in
     let read = c.index-as_slice-n.result in
     let system = interior_system (length form.p) (cone_of value form.cone) (duality_of value form.duality) in
     let optimal : IsOptimal system x d = subst (λ e. IsCertified value system e) c.in-Optimal.is c.in_ok-x.ensures.certified in
-    let long : length x ≡ n + n + 1 = unknowns value form vectors c.requires.generators f c.requires.duality x d optimal in
-    let inside : n + n < length slice = omega (arith, long, length-map c.in-Optimal.x value, ap length c.as_slice.ensures.items) in
     let here : entry x (n + n + 1) ≡ value read =
-    ap (λ (v : List ℚ). entry v (n + n + 1)) (sym (ap (map value) c.as_slice.ensures.items))
-    ∙ entry_read value g.F.Field.holds slice (n + n) read inside c.index-as_slice-n.is in
+    last_read value form vectors c.requires.generators f c.requires.duality g.F.Field.holds c.in-Optimal.x c.as_slice.result.now d read optimal
+    c.as_slice.ensures.items c.index-as_slice-n.is in
     let low : entry x (n + n + 1) ≤ℚ zero_ℚ =
     subst (λ (z : ℚ). z ≤ℚ zero_ℚ) (sym here) (not_positive c.is_positive.result (value read) c.is_positive.ensures c.if-is_positive.false) in
     optimal_outside value form vectors c.requires.generators f c.requires.duality x d (map value c.as_slice-in-Optimal.result.now)

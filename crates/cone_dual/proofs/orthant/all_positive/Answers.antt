@@ -1,7 +1,7 @@
 use Rattle.std.proofs.Common.{◌≡◌, ℕ, List, [], ◌+◌, length, map, ap, sym, subst, ◌∙◌, arith, Option, Some}
 use Rattle.exact_field.specs.Rational.{ℚ}
 use Rattle.frac128.specs.declared.vectors.Spot.{Spot}
-use Rattle.lp_form.specs.Data.{cone_of, duality_of}
+use Rattle.lp_form.specs.Data.{duality_of}
 use Rattle.lp_form.specs.declared.data.ConeOf.TheVariants.{Orthant}
 use Rattle.tableaux.specs.Table.{unit}
 use Rattle.vlp_reader.specs.declared.problem.Cone.{Cone}

@@ -1,4 +1,4 @@
-use Rattle.std.proofs.Common.{◌≡◌, ℕ, List, [], ◌++◌, map, replicate, ap, sym, refl, subst, ◌∙◌, None}
+use Rattle.std.proofs.Common.{◌≡◌, ℕ, [], ◌++◌, map, replicate, ap, sym, refl, subst, ◌∙◌, None}
 use Rattle.std.proofs.lemmas.Result.{IfOk-weaker}
 use Rattle.exact_field.specs.Rational.{one_ℚ}
 use Rattle.lp_form.specs.Data.{cone_of, duality_of}

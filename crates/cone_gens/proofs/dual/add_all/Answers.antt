@@ -6,7 +6,7 @@ use Rattle.lin_rows.proofs.Building.{numbers_long}
 use Rattle.lin_rows.proofs.Errors.{err_holds}
 use Rattle.licence.specs.Operands.{IsMadeOver}
 use Rattle.licence.proofs.Making.{generator_laws}
-use Rattle.cone_gens.specs.Faults.{AreConeRows}
+use Rattle.cone_gens.specs.Generators.{AreConeRows}
 use Rattle.cone_gens.proofs.Reading.{front_cone, front_is, read_row}
 use Rattle.cone_gens.proofs.dual.add_all.Goals as goal
 

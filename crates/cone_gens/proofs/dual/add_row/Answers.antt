@@ -1,6 +1,6 @@
 use Rattle.std.proofs.Common.{[], ◌∷◌, ◌++◌, map, sym, subst}
 use Rattle.double_descr.specs.State.{State}
-use Rattle.cone_gens.specs.Faults.{AreConeRows}
+use Rattle.cone_gens.specs.Generators.{AreConeRows}
 use Rattle.cone_gens.proofs.dual.add_row.Goals as goal
 
 pub returns-clause-left : goal.returns-clause-left

@@ -8,8 +8,7 @@ use Rattle.lin_rows.specs.Read.{numbers}
 use Rattle.lin_rows.proofs.Building.{numbers_long}
 use Rattle.lin_rows.proofs.Errors.{err_holds}
 use Rattle.licence.specs.Operands.{IsMadeOver}
-use Rattle.cone_gens.specs.Faults.{AreConeRows}
-use Rattle.cone_gens.specs.Generators.{AreGenerators, begun_with, others}
+use Rattle.cone_gens.specs.Generators.{AreConeRows, AreGenerators, begun_with, others}
 use Rattle.cone_gens.proofs.Licences.{cone_rows-front}
 use Rattle.cone_gens.proofs.Reordered.{IsPlace, begun_cone, begun_listed, generators_are, other_places, picked_places, rows_begun}
 use Rattle.cone_gens.proofs.dual.dual_gens.Goals as goal

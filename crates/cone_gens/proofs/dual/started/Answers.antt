@@ -19,5 +19,7 @@ returns-in-Err-Elim-clause-left g c =
     let rows = c.args.rows.now in
     let t = numbers value rows.list in
     λ file cone.
-    start_licensed value holds file g.met.F.Field.holds_zero rows.width t c.in-Err-Elim.fault c.elim_fault.result (numbers_long value rows.list ∙ c.requires.square) cone
-    (subst (λ (f : DdFault _). IsStartFault value holds rows.width t f) c.in-Err-Elim.field-0-is c.in-Err-Elim.ensures.left) c.elim_fault.ensures
+    start_licensed value holds file g.met.F.Field.holds_zero rows.width t c.new.result c.in-Err-Elim.fault c.elimination_fault.result c.new.ensures
+    (numbers_long value rows.list ∙ c.requires.square) cone
+    (subst (λ (f : DdFault _). IsStartFault value holds rows.width t f) c.in-Err-Elim.field-0-is c.in-Err-Elim.ensures.left)
+    c.elimination_fault.ensures.told c.elimination_fault.ensures.licensed
