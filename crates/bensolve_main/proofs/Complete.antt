@@ -1,6 +1,6 @@
 -- Where the outside is honest, a run ends with an answer, unless memory is wanting.
-use Rattle.std.proofs.Common.{◌≡◌, ℕ, ◌≤◌, List, length, Option, Some, None, ap, ◌∙◌, true, false, true≢false, ◌⊎◌, IfSome, inl, inr, refl, subst, sym, arith}
-use Rattle.std.specs.Option.{is_some, option_map}
+use Rattle.std.proofs.Common.{◌≡◌, ℕ, ◌≤◌, List, length, Option, Some, None, ap, ◌∙◌, true, false, true≢false, ◌⊎◌, inl, inr, refl, subst, sym, arith}
+use Rattle.std.specs.Option.{is_some}
 use Rattle.src_sink.proofs.Known.{Consumes-to_end, TakesCount-known}
 use Rattle.vlp_reader.specs.FirstFault.{Reads}
 use Rattle.vlp_reader.proofs.Faults.{never_both}
@@ -11,27 +11,24 @@ use Rattle.deriv_log.specs.declared.entry.Entry.{Entry}
 use Rattle.deriv_log.specs.declared.licence.Licence.{Licence}
 use Rattle.vlp_reader.specs.declared.problem.Problem.{Problem}
 use Rattle.log_rules.specs.Events.{Failing, log_failure}
-use Rattle.bensolve_main.specs.Shapes.{Shape, shape_seen}
 use Rattle.bensolve_main.specs.Shapes.Shape.{check}
 use Rattle.cert_check.specs.Streams.{ReadsWhole}
 use Rattle.bensolve_main.specs.World.{Channel, World, ReadPast, sources_of}
 use Rattle.bensolve_main.specs.Reply.{DeliversWith}
-use Rattle.bensolve_main.specs.Check.{GoodFile, Checked, Told, CheckHalts, HonestCheck, log_limit}
-use Rattle.bensolve_main.specs.Outcome.{Outcome, Honest}
-use Rattle.bensolve_main.proofs.Outcomes.{seen}
-use Rattle.bensolve_main.specs.declared.command.Command.{Command}
-use Rattle.bensolve_main.specs.declared.command.Command.TheVariants.{Check}
+use Rattle.bensolve_main.specs.Reading.{GoodFile}
+use Rattle.bensolve_main.specs.Check.{Checked, Told, CheckHalts, HonestCheck, log_limit}
+use Rattle.bensolve_main.specs.Outcome.{Outcome}
 use Rattle.bensolve_main.specs.declared.status.LogRefusal.{LogRefusal}
 use Rattle.bensolve_main.specs.declared.status.LogRefusal.TheVariants.{Text, Wrong}
 use Rattle.bensolve_main.specs.declared.status.Status.{Status}
-use Rattle.bensolve_main.specs.declared.status.Status.TheVariants.{Done, Words, FileFault, Left, NoMemory, ReadFault, WriteFault, Refused, TooLong}
+use Rattle.bensolve_main.specs.declared.status.Status.TheVariants.{Done, Words, FileFault, ConeFault, Left, NoMemory, ReadFault, WriteFault, Refused, TooLong, NotBuilt}
 
 -- bytes that are told are those that are read
-same_bytes : (left left' : Option (List ℕ)) (limit : ℕ) (told bytes : List ℕ) → left ≡ Some told → ReadsWhole left left' limit bytes → bytes ≡ told
+pub same_bytes : (left left' : Option (List ℕ)) (limit : ℕ) (told bytes : List ℕ) → left ≡ Some told → ReadsWhole left left' limit bytes → bytes ≡ told
 same_bytes left left' limit told bytes is read = (Consumes-to_end left left' told bytes is read.consumed read.at_end).0
 
 -- the entries of an honest log have no failure for the file that was read
-passes : {v w : World} (bytes : List ℕ) (file : Problem) (entries : List Entry) → IsTextOf bytes entries → ReadsWhole v.log_in.bytes w.log_in.bytes log_limit bytes → GoodFile file (sources_of v) (sources_of w) →
+passes : {v w : World} (bytes : List ℕ) (file : Problem) (entries : List Entry) → IsTextOf bytes entries → ReadsWhole v.log_in.bytes w.log_in.bytes log_limit bytes → GoodFile file v.problem w.problem →
     HonestCheck v w → log_failure is_held file entries ≡ None
 passes bytes file entries log read good honest =
     let same = one_reading.one_log honest.log_bytes entries honest.entries
@@ -54,7 +51,7 @@ not_stopped l text v w honest checked =
     not_failed checked.file checked.verdict.entries _ (passes checked.bytes checked.file checked.verdict.entries checked.verdict.log checked.read checked.good honest) checked.verdict.stops
 
 -- a source within its limit is not too long
-not_long : (old new : Channel) (told : List ℕ) (limit k : ℕ) → old.bytes ≡ Some told → length told ≤ limit → ReadPast old new limit k → ⊥
+pub not_long : (old new : Channel) (told : List ℕ) (limit k : ℕ) → old.bytes ≡ Some told → length told ≤ limit → ReadPast old new limit k → ⊥
 not_long old new told limit k is within past = let above = past.above in let most = (TakesCount-known old.bytes new.bytes told k is past.taken).0 in omega arith
 
 -- what is told of an honest world is an answer
@@ -69,6 +66,8 @@ told_done NoMemory text v w honest told = absurd told
 told_done (ReadFault log) text v w honest told = absurd told
 told_done (WriteFault log sent) text v w honest told = absurd told
 told_done (Refused why) text v w honest told = absurd (not_refused why text v w honest told)
+told_done (ConeFault f) text v w honest told = absurd told
+told_done NotBuilt text v w honest told = absurd told
 told_done (TooLong false read) text v w honest told = absurd (not_long _ _ _ _ _ honest.problem honest.problem_within told.past)
 told_done (TooLong true read) text v w honest told = absurd (not_long _ _ _ _ _ honest.log honest.log_within told.past)
 
@@ -84,6 +83,8 @@ halts_for_memory (ReadFault true) v w honest halts = absurd (honest.log_steady h
 halts_for_memory (WriteFault log sent) v w honest halts = absurd halts
 halts_for_memory (Refused why) v w honest halts = absurd halts
 halts_for_memory (TooLong log read) v w honest halts = absurd halts
+halts_for_memory (ConeFault f) v w honest halts = absurd halts
+halts_for_memory NotBuilt v w honest halts = absurd halts
 
 -- a reply without a log reaches an honest output
 delivered : (status result : Status) (text : List ℕ) (v w : World) → HonestCheck v w → DeliversWith None status text result v w → result ≡ status
@@ -93,8 +94,8 @@ delivered status result text v w honest delivers =
       | inr failed ↦ absurd (honest.out_steady failed.2.rose)
     ]
 
-complete : (file log : List ℕ) (result : Status) (v w : World) → HonestCheck v w → Outcome (check file log) result v w → (result ≡ Done) ⊎ (result ≡ NoMemory)
-complete file log result v w honest outcome =
+pub check_complete : (file log : List ℕ) (result : Status) (v w : World) → HonestCheck v w → Outcome (check file log) result v w → (result ≡ Done) ⊎ (result ≡ NoMemory)
+check_complete file log result v w honest outcome =
     elim outcome [
       | inl replied ↦
           inl (delivered replied.0.status result replied.0.text v w honest
@@ -102,9 +103,3 @@ complete file log result v w honest outcome =
           ∙ told_done replied.0.status replied.0.text v w honest replied.1.told)
       | inr halts ↦ inr (halts_for_memory result v w honest halts.cause)
     ]
-
-pub complete_at : (o : Option Command) (k : Command) (s : Option Shape) (result : Status) (v w : World) → option_map shape_seen o ≡ s → o ≡ Some k →
-    ((file log : List ℕ) → Outcome (check file log) result v w) → IfSome s (λ shape. Honest shape v w → (result ≡ Done) ⊎ (result ≡ NoMemory))
-complete_at o (Check file log) s result v w shape is every =
-    subst (λ (x : Option Shape). IfSome x (λ shape. Honest shape v w → (result ≡ Done) ⊎ (result ≡ NoMemory))) (seen o (Check file log) s shape is)
-    (λ honest. complete file.now log.now result v w honest (every file.now log.now))

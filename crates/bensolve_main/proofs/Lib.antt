@@ -1,2 +1,4 @@
 pub mod Outcomes
 pub mod Complete
+pub mod Solves
+pub mod Commands

@@ -1,34 +1,23 @@
 -- From what the steps of a run tell to what its result says.
-use Rattle.std.proofs.Common.{◌≡◌, ℕ, ◌≤◌, List, [], length, Option, Some, None, IfSome, Result, Ok, Err, IfOk, IfErr, false, true, true≢false, ap, ◌∙◌, subst, sym, refl, inl, inr}
-use Rattle.std.specs.Option.{is_some, option_map}
-use Rattle.src_sink.specs.Outside.{Consumes, IsAtEnd}
-use Rattle.vlp_reader.specs.FirstFault.{Reads}
+use Rattle.std.proofs.Common.{◌≡◌, ℕ, List, Option, None, Result, Ok, Err, IfOk, IfErr, false, true, subst, sym, refl, inl, inr}
 use Rattle.vlp_reader.specs.declared.problem.Problem.{Problem}
-use Rattle.bensolve_main.specs.Shapes.{Shape, shape_seen}
 use Rattle.bensolve_main.specs.Shapes.Shape.{check}
-use Rattle.cert_check.specs.Streams.{ReadsWhole, StreamEnds}
+use Rattle.cert_check.specs.Streams.{StreamEnds}
 use Rattle.cert_check.specs.declared.fault.Refusal.TheVariants as refusal
 use Rattle.cert_check.specs.declared.fault.StreamEnd.{StreamEnd}
 use Rattle.cert_check.specs.declared.fault.StreamEnd.TheVariants as end
 use Rattle.bensolve_main.specs.World.{Channel, World, Sources, sources_of}
 use Rattle.bensolve_main.specs.Reply.{reply, Sends, DeliversWith}
-use Rattle.bensolve_main.specs.Check.{GoodFile, Told, CheckHalts, problem_limit, log_limit}
+use Rattle.bensolve_main.specs.Reading.{GoodFile, ProblemTold, ProblemHalts}
+use Rattle.bensolve_main.specs.ProblemReply.{EndsProblem}
+use Rattle.bensolve_main.specs.Check.{Told, CheckHalts, log_limit}
 use Rattle.bensolve_main.specs.LogReply.{TellsEnd, HaltsEnd, LogTold, LogHalts}
 use Rattle.bensolve_main.specs.Outcome.{Outcome}
-use Rattle.bensolve_main.specs.declared.command.Command.{Command}
-use Rattle.bensolve_main.specs.declared.command.Command.TheVariants.{Check}
-use Rattle.bensolve_main.specs.declared.examine.Reply.{Reply as Made}
+use Rattle.bensolve_main.specs.declared.reading.Reply.{Reply as Made}
+use Rattle.bensolve_main.specs.declared.reading.ProblemEnd.{ProblemEnd}
+use Rattle.bensolve_main.specs.declared.reading.ProblemEnd.TheVariants as problem_end
 use Rattle.bensolve_main.specs.declared.status.Status.{Status}
-use Rattle.bensolve_main.specs.declared.status.Status.TheVariants.{Done, Words, FileFault, Left, NoMemory, ReadFault, WriteFault, Refused, TooLong}
-
--- a problem that was read to its end, and as a file
-pub good_file : (file : Problem) (v w : Sources) (bytes seen : List ℕ) → seen ≡ bytes → Consumes v.problem.bytes w.problem.bytes bytes → IsAtEnd w.problem.bytes → length bytes ≤ problem_limit →
-    Reads seen file → GoodFile file v w
-good_file file v w bytes seen same consumed at_end within reads = record {
-  bytes = seen;
-  read = subst (λ (b : List ℕ). ReadsWhole v.problem.bytes w.problem.bytes problem_limit b) (sym same) (record { consumed = consumed; at_end = at_end; within = within });
-  reads = reads;
-}
+use Rattle.bensolve_main.specs.declared.status.Status.TheVariants.{Done, Words, FileFault, ConeFault, Left, NoMemory, ReadFault, WriteFault, Refused, TooLong, NotBuilt}
 
 -- ---- from the end of the check of a log
 log_told : (e : StreamEnd) (file : Problem) (old new : Channel) (status : Status) (text : List ℕ) → StreamEnds e file log_limit old.bytes new.bytes old.faults new.faults →
@@ -64,10 +53,11 @@ end_halts e file old new (Ok made) h halts = tt
 end_halts e file old new (Err status) h halts = log_halts e file old new status h halts
 
 -- ---- to what is told of both sources
-told : (file : Problem) (v w : Sources) (status : Status) (text : List ℕ) → GoodFile file v w → LogTold file status text v.log_in w.log_in → Told status text v w
+told : (file : Problem) (v w : Sources) (status : Status) (text : List ℕ) → GoodFile file v.problem w.problem → LogTold file status text v.log_in w.log_in → Told status text v w
 told file v w Done text good h = record { file = file; good = good; bytes = h.0; read = h.1; verdict = h.2 }
 told file v w Words text good h = absurd h.2
 told file v w (FileFault f) text good h = absurd h.2
+told file v w (ConeFault f) text good h = absurd h.2
 told file v w (Left l) text good h = record { file = file; good = good; bytes = h.0; read = h.1; verdict = h.2 }
 told file v w NoMemory text good h = absurd h.2
 told file v w (ReadFault log) text good h = absurd h.2
@@ -75,16 +65,18 @@ told file v w (WriteFault log sent) text good h = absurd h.2
 told file v w (Refused why) text good h = record { file = file; good = good; bytes = h.0; read = h.1; verdict = h.2 }
 told file v w (TooLong false count) text good h = absurd h.2
 told file v w (TooLong true count) text good h = record { file = file; good = good; past = h.0; line = h.1 }
+told file v w NotBuilt text good h = absurd h.2
 
-pub both_told : (file : Problem) (v w : Sources) → GoodFile file v w → (r : Result Made Status) →
+pub both_told : (file : Problem) (v w : Sources) → GoodFile file v.problem w.problem → (r : Result Made Status) →
     IfOk r (λ made. LogTold file made.status made.text v.log_in w.log_in) → IfOk r (λ made. Told made.status made.text v w)
 both_told file v w good (Ok made) h = told file v w made.status made.text good h
 both_told file v w good (Err status) h = tt
 
-halts : (file : Problem) (v w : Sources) (status : Status) → GoodFile file v w → LogHalts status v.log_in w.log_in → CheckHalts status v w
+halts : (file : Problem) (v w : Sources) (status : Status) → GoodFile file v.problem w.problem → LogHalts status v.log_in w.log_in → CheckHalts status v w
 halts file v w Done good h = absurd h
 halts file v w Words good h = absurd h
 halts file v w (FileFault f) good h = absurd h
+halts file v w (ConeFault f) good h = absurd h
 halts file v w (Left l) good h = absurd h
 halts file v w NoMemory good h = tt
 halts file v w (ReadFault false) good h = absurd h
@@ -92,10 +84,52 @@ halts file v w (ReadFault true) good h = record { file = file; good = good; log_
 halts file v w (WriteFault log sent) good h = absurd h
 halts file v w (Refused why) good h = absurd h
 halts file v w (TooLong log count) good h = absurd h
+halts file v w NotBuilt good h = absurd h
 
-pub both_halt : (file : Problem) (v w : Sources) → GoodFile file v w → (r : Result Made Status) → IfErr r (λ s. LogHalts s v.log_in w.log_in) → IfErr r (λ s. CheckHalts s v w)
+pub both_halt : (file : Problem) (v w : Sources) → GoodFile file v.problem w.problem → (r : Result Made Status) → IfErr r (λ s. LogHalts s v.log_in w.log_in) → IfErr r (λ s. CheckHalts s v w)
 both_halt file v w good (Ok made) h = tt
 both_halt file v w good (Err status) h = halts file v w status good h
+
+-- ---- from the end of the reading of a problem
+refused : (v w : Sources) (status : Status) (text : List ℕ) → ProblemTold status text v w → Told status text v w
+refused v w Done text h = absurd h
+refused v w Words text h = h
+refused v w (FileFault f) text h = h
+refused v w (ConeFault f) text h = h
+refused v w (Left l) text h = absurd h
+refused v w NoMemory text h = h
+refused v w (ReadFault log) text h = h
+refused v w (WriteFault log sent) text h = h
+refused v w (Refused why) text h = absurd h
+refused v w (TooLong false count) text h = h
+refused v w (TooLong true count) text h = absurd h
+refused v w NotBuilt text h = h
+
+pub end_refused : (e : ProblemEnd) (v w : Sources) (r : Result Made Status) → EndsProblem e v w → IfOk r (λ made. e ≡ problem_end.Told made) → IfOk r (λ made. Told made.status made.text v w)
+end_refused e v w (Ok made) h is = refused v w made.status made.text (subst (λ (x : ProblemEnd). EndsProblem x v w) is h)
+end_refused e v w (Err status) h is = tt
+
+unread : (v w : Sources) (status : Status) → ProblemHalts status v w → CheckHalts status v w
+unread v w Done h = h
+unread v w Words h = h
+unread v w (FileFault f) h = h
+unread v w (ConeFault f) h = h
+unread v w (Left l) h = h
+unread v w NoMemory h = h
+unread v w (ReadFault false) h = h
+unread v w (ReadFault true) h = absurd h
+unread v w (WriteFault log sent) h = h
+unread v w (Refused why) h = h
+unread v w (TooLong log count) h = h
+unread v w NotBuilt h = h
+
+pub end_unread : (e : ProblemEnd) (v w : Sources) (r : Result Made Status) → EndsProblem e v w → IfErr r (λ s. e ≡ problem_end.Halted s) → IfErr r (λ s. CheckHalts s v w)
+end_unread e v w (Ok made) h is = tt
+end_unread e v w (Err status) h is = unread v w status (subst (λ (x : ProblemEnd). EndsProblem x v w) is h)
+
+-- the text that was sent is that of the reply
+pub sent_as : (sent text : List ℕ) (status result : Status) (old new : Channel) → sent ≡ text → Sends false sent status result old new → Sends false text status result old new
+sent_as sent text status result old new same h = subst (λ (t : List ℕ). Sends false t status result old new) same h
 
 -- a reply of `check`, and how its writing ended
 pub replied : (file log : List ℕ) (result status : Status) (text : List ℕ) (problem log_in problem' log_in' out out' log_out : Channel) →
@@ -115,17 +149,7 @@ pub halted : (file log : List ℕ) (result : Status) (problem log_in problem' lo
 halted file log result problem log_in problem' log_in' out log_out cause =
     inr (record { cause = cause; out = record { bytes = refl; faults = refl }; log_out = record { bytes = refl; faults = refl } })
 
--- words with a shape have the shape of their command
-pub seen : (o : Option Command) (k : Command) (s : Option Shape) → option_map shape_seen o ≡ s → o ≡ Some k → Some (shape_seen k) ≡ s
-seen o k s shape is = sym (ap (λ (x : Option Command). option_map shape_seen x) is) ∙ shape
-
--- what holds of each `check` holds of the shape that the words have
-pub outcome_at : (o : Option Command) (k : Command) (s : Option Shape) (result : Status) (v w : World) → option_map shape_seen o ≡ s → o ≡ Some k →
-    ((file log : List ℕ) → Outcome (check file log) result v w) → IfSome s (λ shape. Outcome shape result v w)
-outcome_at o (Check file log) s result v w shape is every =
-    subst (λ (x : Option Shape). IfSome x (λ shape. Outcome shape result v w)) (seen o (Check file log) s shape is) (every file.now log.now)
-
-abbrev IsWords : Status → Type 0
+abbrev pub IsWords : Status → Type 0
 IsWords Words = Unit {0}
 IsWords _ = ⊥
 
@@ -137,18 +161,11 @@ not_sent status text v w old new is_told sends =
     ]
 
 -- `check` never ends with the status of words without a shape
-never_words : (file log : List ℕ) (v w : World) → Outcome (check file log) Words v w → ⊥
-never_words file log v w outcome =
+pub check_never_words : (file log : List ℕ) (v w : World) → Outcome (check file log) Words v w → ⊥
+check_never_words file log v w outcome =
     elim outcome [
       | inl made ↦
           not_sent made.0.status made.0.text (sources_of v) (sources_of w) v.out w.out made.1.told
           (subst (λ (l : Option (List ℕ)). DeliversWith l made.0.status made.0.text Words v w) made.1.no_log made.2).0
       | inr halts ↦ halts.cause
     ]
-
-pub words_at : (o : Option Command) (k : Command) (s : Option Shape) (result : Status) (v w : World) → option_map shape_seen o ≡ s → o ≡ Some k →
-    ((file log : List ℕ) → Outcome (check file log) result v w) → (result ≡ Words → s ≡ None) × (s ≡ None → result ≡ Words)
-words_at o k s result v w shape is every = (
-  λ words. absurd (never_words [] [] v w (subst (λ (r : Status). Outcome (check [] []) r v w) words (every [] []))),
-  λ none. absurd (true≢false (ap (λ (x : Option Shape). is_some x) (seen o k s shape is ∙ none))),
-)

@@ -1,7 +1,7 @@
 -- The command `check FILE LOG`: what it says of the bytes that were read, in the order of the work.
-use Rattle.std.specs.Prelude.{◌≡◌, ℕ, ◌≤◌, true, false, List, [], length, Some, None}
+use Rattle.std.specs.Prelude.{◌≡◌, ℕ, ◌≤◌, true, List, [], length, Some, None}
 use Rattle.src_sink.specs.Outside.{Rose}
-use Rattle.vlp_reader.specs.FirstFault.{FirstFault, Reads}
+use Rattle.vlp_reader.specs.FirstFault.{Reads}
 use Rattle.vlp_reader.specs.declared.problem.Problem.{Problem}
 use Rattle.deriv_log.specs.FirstFault.{FirstFault as FirstLogFault}
 use Rattle.deriv_log.specs.Laws.{IsTextOf}
@@ -16,21 +16,18 @@ use Rattle.deriv_log.specs.declared.fault.LogFault.{LogFault as ALogFault}
 use Rattle.deriv_log.specs.declared.licence.Licence.{Licence}
 use Rattle.deriv_log.specs.declared.licence.Place.TheVariants.{Step}
 use Rattle.log_rules.specs.declared.rule.Rule.{Rule}
-use Rattle.vlp_reader.specs.declared.fault.FileFault.{FileFault as AFileFault}
 use Rattle.log_rules.specs.Report.{report_text}
 use Rattle.cert_check.specs.Streams.{ReadsWhole}
-use Rattle.fault_lines.specs.Text.{file_fault_text, left_text, log_fault_text, wrong_text, too_long_text}
-use Rattle.bensolve_main.specs.World.{Sources, World, Uncalled, ReadPast, ReadFailed}
+use Rattle.bensolve_main.specs.Reading.{problem_limit, GoodFile, ProblemTold, ProblemHalts}
+use Rattle.fault_lines.specs.Text.{left_text, log_fault_text, wrong_text, too_long_text}
+use Rattle.bensolve_main.specs.World.{Sources, World, ReadPast, ReadFailed}
 use Rattle.bensolve_main.specs.Reply.{Reply}
 use Rattle.bensolve_main.specs.declared.status.LogRefusal.{LogRefusal}
 use Rattle.bensolve_main.specs.declared.status.LogRefusal.TheVariants.{Text, Wrong}
 use Rattle.bensolve_main.specs.declared.status.Status.{Status}
-use Rattle.bensolve_main.specs.declared.status.Status.TheVariants.{Done, FileFault, Left, NoMemory, ReadFault, Refused, TooLong}
+use Rattle.bensolve_main.specs.declared.status.Status.TheVariants.{Done, Left, ReadFault, Refused, TooLong}
 
--- the most bytes that are read of a problem, 16 MiB, and of a log, 256 MiB
-abbrev pub problem_limit : ℕ
-problem_limit = 16777216
-
+-- the most bytes that are read of a log: 256 MiB
 abbrev pub log_limit : ℕ
 log_limit = 268435456
 
@@ -39,30 +36,10 @@ abbrev pub refusal_text : LogRefusal → List ℕ
 refusal_text (Text f) = log_fault_text f
 refusal_text (Wrong entry rule) = wrong_text entry rule
 
--- more bytes of the problem were taken than the limit, and so many
-pub record LongProblem (read : ℕ) (text : List ℕ) (old new : Sources) : Type 0 where
-  pub past : ReadPast old.problem new.problem problem_limit read
-  pub log_in : Uncalled old.log_in new.log_in
-  pub line : text ≡ too_long_text false read
-
--- the problem was read to its end, and this is its first fault
-pub record BadFile (f : AFileFault) (text : List ℕ) (old new : Sources) : Type 0 where
-  pub bytes : List ℕ
-  pub read : ReadsWhole old.problem.bytes new.problem.bytes problem_limit bytes
-  pub fault : FirstFault bytes f.line f.kind
-  pub log_in : Uncalled old.log_in new.log_in
-  pub line : text ≡ file_fault_text f
-
--- the problem was read to its end, and reads as this file
-pub record GoodFile (file : Problem) (old new : Sources) : Type 0 where
-  pub bytes : List ℕ
-  pub read : ReadsWhole old.problem.bytes new.problem.bytes problem_limit bytes
-  pub reads : Reads bytes file
-
 -- the problem reads as a file, and more bytes of the log were taken than the limit, and so many
 pub record LongLog (read : ℕ) (text : List ℕ) (old new : Sources) : Type 0 where
   pub file : Problem
-  pub good : GoodFile file old new
+  pub good : GoodFile file old.problem new.problem
   pub past : ReadPast old.log_in new.log_in log_limit read
   pub line : text ≡ too_long_text true read
 
@@ -111,43 +88,34 @@ LogVerdict file bytes _ text = ⊥
 -- the problem and then the log were read to their ends, and the status says this of them
 pub record Checked (status : Status) (text : List ℕ) (old new : Sources) : Type 0 where
   pub file : Problem
-  pub good : GoodFile file old new
+  pub good : GoodFile file old.problem new.problem
   pub bytes : List ℕ
   pub read : ReadsWhole old.log_in.bytes new.log_in.bytes log_limit bytes
   pub verdict : LogVerdict file bytes status text
 
 -- what a status says of the reading, and the text that is to be written
 abbrev pub Told : Status → List ℕ → Sources → Sources → Type 0
-Told (TooLong false read) text old new = LongProblem read text old new
-Told (FileFault f) text old new = BadFile f text old new
 Told (TooLong true read) text old new = LongLog read text old new
 Told (Refused why) text old new = Checked (Refused why) text old new
 Told (Left l) text old new = Checked (Left l) text old new
 Told Done text old new = Checked Done text old new
-Told _ text old new = ⊥
+Told status text old new = ProblemTold status text old new
 
 -- what `check FILE LOG` replies: it writes no log, and its status says this of what was read
 pub record CheckReplies (r : Reply) (old new : Sources) : Type 0 where
   pub told : Told r.status r.text old new
   pub no_log : r.log ≡ None
 
--- the source of the problem failed
-pub record ProblemFailed (old new : Sources) : Type 0 where
-  pub problem : ReadFailed old.problem new.problem problem_limit
-  pub log_in : Uncalled old.log_in new.log_in
-
 -- the source of the log failed, behind a problem that reads as a file
 pub record LogFailed (old new : Sources) : Type 0 where
   pub file : Problem
-  pub good : GoodFile file old new
+  pub good : GoodFile file old.problem new.problem
   pub log_in : ReadFailed old.log_in new.log_in log_limit
 
 -- why `check FILE LOG` halts without a reply
 abbrev pub CheckHalts : Status → Sources → Sources → Type 0
-CheckHalts NoMemory old new = Unit {0}
-CheckHalts (ReadFault false) old new = ProblemFailed old new
 CheckHalts (ReadFault true) old new = LogFailed old new
-CheckHalts _ old new = ⊥
+CheckHalts status old new = ProblemHalts status old new
 
 -- the outside did not fail in this call of `check FILE LOG`, both texts were told, are a file's and a log's and lie within
 -- their limits, and no event of the log's entries fails

@@ -1,15 +1,17 @@
 -- The code of each status.
 use Rattle.std.specs.Prelude.{ℕ}
 use Rattle.bensolve_main.specs.declared.status.Status.{Status}
-use Rattle.bensolve_main.specs.declared.status.Status.TheVariants.{Done, Words, FileFault, Left, NoMemory, ReadFault, WriteFault, Refused, TooLong}
+use Rattle.bensolve_main.specs.declared.status.Status.TheVariants.{Done, Words, FileFault, ConeFault, Left, NoMemory, ReadFault, WriteFault, Refused, TooLong, NotBuilt}
 
 abbrev pub code_of : Status → ℕ
 code_of Done = 0
 code_of Words = 2
 code_of (FileFault f) = 3
+code_of (ConeFault f) = 4
 code_of (Left l) = 5
 code_of NoMemory = 6
 code_of (ReadFault log) = 7
 code_of (WriteFault log sent) = 8
 code_of (Refused why) = 9
 code_of (TooLong log read) = 10
+code_of NotBuilt = 11

@@ -2,6 +2,10 @@ pub mod Shapes
 pub mod Codes
 pub mod World
 pub mod Reply
+pub mod Reading
+pub mod ProblemReply
 pub mod Check
 pub mod LogReply
+pub mod Solve
+pub mod SolveReply
 pub mod Outcome

@@ -1,33 +1,24 @@
-//! Reading and checking: what is to be told of a problem and a log.
+//! The check of a log: what is to be told of a problem and a log.
 ghost use Rattle.std.specs.Prelude.{◌≡◌, ◌≤◌, IfOk, IfErr};
 ghost use Rattle.bensolve_main.specs.World.{channel, sources};
 ghost use Rattle.bensolve_main.specs.Check.{Told, CheckHalts};
 ghost use Rattle.bensolve_main.specs.LogReply.{step_licence, TellsRefusal, TellsEnd, HaltsEnd, LogTold, LogHalts};
-ghost use Rattle.fault_lines.specs.Text.{left_text, too_long_text};
+ghost use Rattle.fault_lines.specs.Text.{left_text};
 
+use crate::reading::{Reply, long_reply, read_problem, reply_at};
 use crate::status::{LogRefusal, Status};
 use cert_check::{Refusal, Rule, StreamEnd, check_from};
 use deriv_log::{Entries, Licence, LogFault, Place};
 use exact_field::Left;
-use fault_lines::{file_fault_line, licence_line, log_fault_line, too_long_line, wrong_line};
+use fault_lines::{licence_line, log_fault_line, wrong_line};
 use frac128::Frac;
 use sol_writer::report;
-use src_sink::{Bytes, NoMemory, ReadEnd, Source, read_all};
+use src_sink::{NoMemory, Source};
 use std::alloc::Global;
-use vlp_reader::{Problem, VlpEnd, read_vlp};
-
-/// The most bytes that are read of a problem: 16 MiB.
-const PROBLEM_LIMIT: u64 = 16_777_216;
+use vlp_reader::Problem;
 
 /// The most bytes that are read of a log: 256 MiB.
 const LOG_LIMIT: u64 = 268_435_456;
-
-/// A status, and the text that tells it.
-#[derive(Debug, Drop)]
-pub(crate) struct Reply {
-    pub(crate) status: Status,
-    pub(crate) text: Bytes,
-}
 
 /// What is told of a step whose exact result is not held.
 fn step_reply(alloc: Global, entry: u32, step: u64, left: Left<Frac>) -> Result<Reply, NoMemory>
@@ -58,15 +49,6 @@ fn wrong_reply(alloc: Global, entry: u32, rule: Rule) -> Result<Reply, NoMemory>
 {
     let text = wrong_line(alloc, entry, rule)?;
     let status = Status::Refused(LogRefusal::Wrong { entry, rule });
-    Ok(Reply { status, text })
-}
-
-/// What is told of a source with more bytes than its limit.
-fn long_reply(alloc: Global, log: bool, read: u64) -> Result<Reply, NoMemory>
-    ensures { IfOk result (λ r. (r.status ≡ Status.TooLong log read) × (r.text ≡ too_long_text log read)) }
-{
-    let text = too_long_line(alloc, log, read)?;
-    let status = Status::TooLong { log, read };
     Ok(Reply { status, text })
 }
 
@@ -118,20 +100,8 @@ pub(crate) fn examine<S: Source, L: Source>(
         (sources (channel (S.left problem.old) (S.faults problem.old)) (channel (L.left log_in.old) (L.faults log_in.old)))
         (sources (channel (S.left problem.new) (S.faults problem.new)) (channel (L.left log_in.new) (L.faults log_in.new)))) }
 {
-    let bytes = match read_all(alloc, problem, PROBLEM_LIMIT) {
-        Ok(bytes) => bytes,
-        Err(ReadEnd::TooLong(read)) => return Ok(long_reply(alloc, false, read)?),
-        Err(ReadEnd::Fault) => return Err(Status::ReadFault { log: false }),
-        Err(ReadEnd::NoMemory) => return Err(Status::NoMemory),
-    };
-    let file = match read_vlp(alloc, bytes.as_slice()) {
-        Ok(file) => file,
-        Err(VlpEnd::Fault(fault)) => {
-            let text = file_fault_line(alloc, fault)?;
-            let status = Status::FileFault(fault);
-            return Ok(Reply { status, text });
-        }
-        Err(VlpEnd::NoMemory) => return Err(Status::NoMemory),
-    };
-    examine_log(alloc, &file, log_in)
+    match read_problem(alloc, problem) {
+        Ok(file) => examine_log(alloc, &file, log_in),
+        Err(end) => reply_at(end),
+    }
 }

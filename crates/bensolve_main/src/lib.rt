@@ -5,6 +5,8 @@ mod command;
 mod examine;
 mod files;
 mod naming;
+mod reading;
+mod solving;
 mod status;
 mod top;
 

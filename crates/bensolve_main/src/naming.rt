@@ -18,6 +18,11 @@ pub fn paths<'a>(words: &'a [String]) -> Paths<'a>
             log_in: Some(log),
             log_out: None,
         },
+        Some(Command::Solve { file, log }) => Paths {
+            problem: Some(file),
+            log_in: None,
+            log_out: log,
+        },
         None => Paths {
             problem: None,
             log_in: None,

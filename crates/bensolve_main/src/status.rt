@@ -1,5 +1,6 @@
 //! How a run ends.
 use cert_check::Rule;
+use cone_rules::ConeFault;
 use deriv_log::{Licence, LogFault};
 use src_sink::NoMemory;
 use vlp_reader::FileFault;
@@ -22,6 +23,8 @@ pub enum Status {
     Words,
     /// The problem's text is refused.
     FileFault(FileFault),
+    /// The ordering cone or the duality vector has this first fault.
+    ConeFault(ConeFault),
     /// An operation has an exact result that is not held. Of `check` it is a step of an entry's check, at `Place::Step`, and
     /// no entry was made.
     Left(Licence),
@@ -35,6 +38,8 @@ pub enum Status {
     Refused(LogRefusal),
     /// More bytes were read than the limit, and so many.
     TooLong { log: bool, read: u64 },
+    /// The ordering cone is sound and some point is feasible, the image is not everything, and such problems are not solved yet.
+    NotBuilt,
 }
 
 impl Status {
@@ -49,12 +54,14 @@ impl Status {
             Status::Done => 0,
             Status::Words => 2,
             Status::FileFault(_) => 3,
+            Status::ConeFault(_) => 4,
             Status::Left(_) => 5,
             Status::NoMemory => 6,
             Status::ReadFault { .. } => 7,
             Status::WriteFault { .. } => 8,
             Status::Refused(_) => 9,
             Status::TooLong { .. } => 10,
+            Status::NotBuilt => 11,
         }
     }
 }

@@ -395,11 +395,13 @@ fn a_solved_log_is_tested_entry_by_entry(rt: HostRuntime) -> Result<(), Fail> {
 
 #[test]
 fn words_without_a_shape_call_nothing(rt: HostRuntime) -> Result<(), Fail> {
-    let shapeless: [&[&str]; 4] = [
+    let shapeless: [&[&str]; 6] = [
         &["check", "a", "a"],
         &["check", "a"],
         &[],
-        &["solve", "a", "b"],
+        &["solve"],
+        &["solve", "a", "a"],
+        &["solve", "a", "b", "c"],
     ];
     for list in shapeless {
         let words = words(rt.alloc(), list)?;

@@ -1,21 +1,25 @@
 //! The top call.
-ghost use Rattle.std.specs.Prelude.{◌≡◌, ◌≤◌, ◌↔◌, ◌⊎◌, false, List, ℕ, None, IfSome, map, string_bytes};
-ghost use Rattle.bensolve_main.specs.Shapes.{shape_of, problem_path, log_in_path, log_out_path};
-ghost use Rattle.bensolve_main.specs.Shapes.Shape.{check};
+ghost use Rattle.std.specs.Prelude.{◌≡◌, ◌≤◌, ◌↔◌, false, List, ℕ, Bool, Option, None, IfSome, map, string_bytes};
+ghost use Rattle.std.specs.Option.{is_some};
+ghost use Rattle.bensolve_main.specs.Shapes.{shape_of, shape_seen, problem_path, log_in_path, log_out_path};
+ghost use Rattle.bensolve_main.specs.Shapes.Shape.{check, solve};
 ghost use Rattle.bensolve_main.specs.World.{Channel, channel, world, NoCountFell};
-ghost use Rattle.bensolve_main.specs.Reply.{Sends};
-ghost use Rattle.bensolve_main.specs.Outcome.{Outcome, Honest};
+ghost use Rattle.bensolve_main.specs.Reply.{Sends, DeliversWith};
+ghost use Rattle.bensolve_main.specs.Outcome.{Outcome, Honest, Completes};
 
 use crate::command::{Command, command_in};
-use crate::examine::{Reply, examine};
+use crate::examine::examine;
+use crate::solving::{LoggedReply, solve_problem};
 use crate::status::Status;
-use src_sink::{Sink, Source, write_all};
+use src_sink::{Sink, Source, WriteFault, write_all};
 use std::alloc::Global;
 
 /// Runs the command that `words` give, without the program's name.
 ///
 /// `check FILE LOG` reads the problem, then the log, checks the log, and writes the report of the answer
-/// that it proves, or one fault line, to `out`. Everything is read before anything is written.
+/// that it proves, or one fault line, to `out`. `solve FILE` reads the problem, solves it, and writes the report
+/// of its answer, or one fault line, to `out`; `solve FILE LOG` then writes a log that proves the answer to
+/// `log_out`, where there is an answer. Everything is read, and every text made, before anything is written.
 pub fn run<S: Source, L: Source, T: Sink, K: Sink>(
     alloc: Global,
     words: &[String],
@@ -38,11 +42,11 @@ pub fn run<S: Source, L: Source, T: Sink, K: Sink>(
         (world (channel (S.left problem.old) (S.faults problem.old)) (channel (L.left log_in.old) (L.faults log_in.old)) (channel (T.held out.old) (T.faults out.old)) (channel (K.held log_out.old) (K.faults log_out.old)))
         (world (channel (S.left problem.new) (S.faults problem.new)) (channel (L.left log_in.new) (L.faults log_in.new)) (channel (T.held out.new) (T.faults out.new)) (channel (K.held log_out.new) (K.faults log_out.new)))) }
 
-    // Where the outside is honest there is an answer, unless memory is wanting.
+    // Where the outside is honest there is an answer, unless memory is wanting, or to `solve` the file is not solved yet.
     ensures complete { IfSome (shape_of (map string_bytes words.now)) (λ shape. Honest shape
         (world (channel (S.left problem.old) (S.faults problem.old)) (channel (L.left log_in.old) (L.faults log_in.old)) (channel (T.held out.old) (T.faults out.old)) (channel (K.held log_out.old) (K.faults log_out.old)))
         (world (channel (S.left problem.new) (S.faults problem.new)) (channel (L.left log_in.new) (L.faults log_in.new)) (channel (T.held out.new) (T.faults out.new)) (channel (K.held log_out.new) (K.faults log_out.new)))
-        → (result ≡ Status.Done) ⊎ (result ≡ Status.NoMemory)) }
+        → Completes shape result) }
 
     // No count of faults falls.
     ensures counts { NoCountFell
@@ -50,8 +54,32 @@ pub fn run<S: Source, L: Source, T: Sink, K: Sink>(
         (world (channel (S.left problem.new) (S.faults problem.new)) (channel (L.left log_in.new) (L.faults log_in.new)) (channel (T.held out.new) (T.faults out.new)) (channel (K.held log_out.new) (K.faults log_out.new))) }
 {
     match command_in(words) {
-        Some(Command::Check { .. }) => run_check(alloc, problem, log_in, out),
+        Some(command) => run_command(alloc, command, problem, log_in, out, log_out),
         None => Status::Words,
+    }
+}
+
+/// Runs a command.
+fn run_command<S: Source, L: Source, T: Sink, K: Sink>(
+    alloc: Global,
+    command: Command<'_>,
+    problem: &mut S,
+    log_in: &mut L,
+    out: &mut T,
+    log_out: &mut K,
+) -> Status
+    ensures log_in { log_in_path (Some (shape_seen command.entry)) ≡ None → log_in.new ≡ log_in.old }
+    ensures log_out { log_out_path (Some (shape_seen command.entry)) ≡ None → log_out.new ≡ log_out.old }
+    ensures outcome { Outcome (shape_seen command.entry) result
+        (world (channel (S.left problem.old) (S.faults problem.old)) (channel (L.left log_in.old) (L.faults log_in.old)) (channel (T.held out.old) (T.faults out.old)) (channel (K.held log_out.old) (K.faults log_out.old)))
+        (world (channel (S.left problem.new) (S.faults problem.new)) (channel (L.left log_in.new) (L.faults log_in.new)) (channel (T.held out.new) (T.faults out.new)) (channel (K.held log_out.new) (K.faults log_out.new))) }
+    ensures counts { NoCountFell
+        (world (channel (S.left problem.old) (S.faults problem.old)) (channel (L.left log_in.old) (L.faults log_in.old)) (channel (T.held out.old) (T.faults out.old)) (channel (K.held log_out.old) (K.faults log_out.old)))
+        (world (channel (S.left problem.new) (S.faults problem.new)) (channel (L.left log_in.new) (L.faults log_in.new)) (channel (T.held out.new) (T.faults out.new)) (channel (K.held log_out.new) (K.faults log_out.new))) }
+{
+    match command {
+        Command::Check { .. } => run_check(alloc, problem, log_in, out),
+        Command::Solve { log, .. } => run_solve(alloc, log.is_some(), problem, out, log_out),
     }
 }
 
@@ -68,21 +96,66 @@ fn run_check<S: Source, L: Source, T: Sink>(
         (world (channel (S.left problem.new) (S.faults problem.new)) (channel (L.left log_in.new) (L.faults log_in.new)) (channel (T.held out.new) (T.faults out.new)) log_out) }
 {
     match examine(alloc, problem, log_in) {
-        Ok(reply) => tell(out, reply),
+        Ok(reply) => send(out, false, reply.status, reply.text.as_slice()),
         Err(status) => status,
     }
 }
 
-/// Writes the text of a reply, and answers its status, or that the output failed.
-fn tell<T: Sink>(out: &mut T, reply: Reply) -> Status
-    ensures counts { T.faults out.old ≤ T.faults out.new }
-    ensures sent { Sends false reply.text reply.status result (channel (T.held out.old) (T.faults out.old)) (channel (T.held out.new) (T.faults out.new)) }
+/// Runs `solve FILE`, or `solve FILE LOG`.
+fn run_solve<S: Source, T: Sink, K: Sink>(
+    alloc: Global,
+    logs: bool,
+    problem: &mut S,
+    out: &mut T,
+    log_out: &mut K,
+) -> Status
+    ensures counts { (S.faults problem.old ≤ S.faults problem.new) × (T.faults out.old ≤ T.faults out.new) × (K.faults log_out.old ≤ K.faults log_out.new) }
+    ensures quiet { logs ≡ false → log_out.new ≡ log_out.old }
+    ensures outcome { (file : List ℕ) (log : Option (List ℕ)) (log_in : Channel) → logs ≡ is_some log → Outcome (solve file log) result
+        (world (channel (S.left problem.old) (S.faults problem.old)) log_in (channel (T.held out.old) (T.faults out.old)) (channel (K.held log_out.old) (K.faults log_out.old)))
+        (world (channel (S.left problem.new) (S.faults problem.new)) log_in (channel (T.held out.new) (T.faults out.new)) (channel (K.held log_out.new) (K.faults log_out.new))) }
 {
-    match write_all(out, reply.text.as_slice()) {
-        Ok(()) => reply.status,
-        Err(fault) => Status::WriteFault {
-            log: false,
-            sent: fault.sent,
+    match solve_problem(alloc, problem, logs) {
+        Ok(reply) => tell_with_log(out, log_out, reply),
+        Err(status) => status,
+    }
+}
+
+/// Writes the text of a reply and then its log, if it has one, and answers its status, or that an output failed.
+fn tell_with_log<T: Sink, K: Sink>(out: &mut T, log_out: &mut K, told: LoggedReply) -> Status
+    ensures counts { (T.faults out.old ≤ T.faults out.new) × (K.faults log_out.old ≤ K.faults log_out.new) }
+    ensures quiet { told.log ≡ None → log_out.new ≡ log_out.old }
+    ensures sent { (problem log_in problem' log_in' : Channel) → DeliversWith told.log told.reply.status told.reply.text result
+        (world problem log_in (channel (T.held out.old) (T.faults out.old)) (channel (K.held log_out.old) (K.faults log_out.old)))
+        (world problem' log_in' (channel (T.held out.new) (T.faults out.new)) (channel (K.held log_out.new) (K.faults log_out.new))) }
+{
+    let LoggedReply { reply, log } = told;
+    match log {
+        None => send(out, false, reply.status, reply.text.as_slice()),
+        Some(log) => match write_all(out, reply.text.as_slice()) {
+            Ok(()) => send(log_out, true, reply.status, log.as_slice()),
+            Err(fault) => failed(false, fault),
         },
+    }
+}
+
+/// Writes a text to an output (that of the log, or the other one), and answers the status, or that the output failed.
+fn send<T: Sink>(sink: &mut T, log: bool, status: Status, text: &[u8]) -> Status
+    ensures counts { T.faults sink.old ≤ T.faults sink.new }
+    ensures sent { Sends log text.now status result (channel (T.held sink.old) (T.faults sink.old)) (channel (T.held sink.new) (T.faults sink.new)) }
+{
+    match write_all(sink, text) {
+        Ok(()) => status,
+        Err(fault) => failed(log, fault),
+    }
+}
+
+/// The status where an output (that of the log, or the other one) failed.
+fn failed(log: bool, fault: WriteFault) -> Status
+    ensures { result ≡ Status.WriteFault log fault.sent }
+{
+    Status::WriteFault {
+        log,
+        sent: fault.sent,
     }
 }

@@ -21,7 +21,7 @@ fn shown_line(alloc: Global, name: &[u8], w: &[Frac], m: &[Spot]) -> Result<Byte
     Ok(text)
 }
 
-/// The fault line of an ordering cone and its duality vector. No command writes it yet.
+/// The fault line of an ordering cone and its duality vector.
 pub fn cone_fault_line(alloc: Global, fault: &ConeFault) -> Result<Bytes, NoMemory>
     ensures { IfOk result (λ text. text ≡ cone_fault_text fault.now) }
 {

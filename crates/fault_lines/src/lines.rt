@@ -54,7 +54,7 @@ pub fn too_long_line(alloc: Global, log: bool, read: u64) -> Result<Bytes, NoMem
     Ok(bytes)
 }
 
-/// The fault line of a problem whose kind of answer is not built. No command writes it yet.
+/// The fault line of a problem whose kind of answer is not built.
 pub fn not_built_line(alloc: Global) -> Result<Bytes, NoMemory>
     ensures { IfOk result (λ text. text ≡ not_built_text) }
 {

@@ -1,13 +1,22 @@
-use Rattle.std.proofs.Common.{None}
-use Rattle.bensolve_main.proofs.Outcomes.{outcome_at, words_at}
-use Rattle.bensolve_main.proofs.Complete.{complete_at}
+use Rattle.std.proofs.Common.{Option, ap, ◌∙◌}
+use Rattle.bensolve_main.specs.Shapes.{Shape, log_in_path, log_out_path}
+use Rattle.bensolve_main.proofs.Commands.{seen, words_of, outcome_of, complete_of, problem_named}
 use Rattle.bensolve_main.proofs.top.run.Goals as goal
 
-pub returns-in-Some-Check-clause-words : goal.returns-in-Some-Check-clause-words
-returns-in-Some-Check-clause-words g c = words_at _ _ _ c.run_check.result _ _ c.command_in.ensures c.in-Some-Check.is (λ file log. c.run_check.ensures.outcome file log (record { bytes = None; faults = 0 }))
+pub returns-in-Some-clause-words : goal.returns-in-Some-clause-words
+returns-in-Some-clause-words g c = words_of _ _ _ c.run_command.result _ _ c.command_in.ensures c.in-Some.is c.run_command.ensures.outcome
 
-pub returns-in-Some-Check-clause-outcome : goal.returns-in-Some-Check-clause-outcome
-returns-in-Some-Check-clause-outcome g c = outcome_at _ _ _ c.run_check.result _ _ c.command_in.ensures c.in-Some-Check.is (λ file log. c.run_check.ensures.outcome file log _)
+pub returns-in-Some-clause-problem : goal.returns-in-Some-clause-problem
+returns-in-Some-clause-problem g c = λ none. absurd (problem_named _ _ _ c.command_in.ensures c.in-Some.is none)
 
-pub returns-in-Some-Check-clause-complete : goal.returns-in-Some-Check-clause-complete
-returns-in-Some-Check-clause-complete g c = complete_at _ _ _ c.run_check.result _ _ c.command_in.ensures c.in-Some-Check.is (λ file log. c.run_check.ensures.outcome file log _)
+pub returns-in-Some-clause-log_in : goal.returns-in-Some-clause-log_in
+returns-in-Some-clause-log_in g c = λ none. c.run_command.ensures.log_in (ap (λ (x : Option Shape). log_in_path x) (seen _ _ _ c.command_in.ensures c.in-Some.is) ∙ none)
+
+pub returns-in-Some-clause-log_out : goal.returns-in-Some-clause-log_out
+returns-in-Some-clause-log_out g c = λ none. c.run_command.ensures.log_out (ap (λ (x : Option Shape). log_out_path x) (seen _ _ _ c.command_in.ensures c.in-Some.is) ∙ none)
+
+pub returns-in-Some-clause-outcome : goal.returns-in-Some-clause-outcome
+returns-in-Some-clause-outcome g c = outcome_of _ _ _ c.run_command.result _ _ c.command_in.ensures c.in-Some.is c.run_command.ensures.outcome
+
+pub returns-in-Some-clause-complete : goal.returns-in-Some-clause-complete
+returns-in-Some-clause-complete g c = complete_of _ _ _ c.run_command.result _ _ c.command_in.ensures c.in-Some.is c.run_command.ensures.outcome

@@ -1,0 +1,206 @@
+//! Problems that are solved, problems that are not, and faults of the outside.
+ghost use Rattle.std.specs.Prelude.{◌<◌};
+
+use bensolve_main::{Status, run};
+use src_sink::{Bytes, Items, MemSink, MemSource, NoMemory};
+use std::alloc::{AllocError, Global};
+use std::test::Fail;
+
+/// A file whose sides contradict each other: x is at most 0 by its row, and at least 1 by its column.
+const FILE: &str = "p vlp min 1 1 1 1 1\na 1 1 1\no 1 1 1\ni 1 u 0\nj 1 l 1\ne\n";
+
+/// What its report tells of the image.
+const IMAGE: &str = "report 1\nanswer infeasible\nfree 0 0\n";
+
+/// The number of the call of each object that fails, 0 for none.
+#[derive(Clone, Copy)]
+struct Faults {
+    problem: u64,
+    out: u64,
+    log_out: u64,
+}
+
+const NO_FAULTS: Faults = Faults {
+    problem: 0,
+    out: 0,
+    log_out: 0,
+};
+
+/// What a run answered and wrote.
+#[derive(Drop)]
+struct Seen {
+    status: Status,
+    out: MemSink,
+    log_out: MemSink,
+}
+
+/// A list of one number, or of none for 0.
+fn numbers(alloc: Global, number: u64) -> Result<Items<u64>, NoMemory> {
+    let mut list = Items::new(alloc);
+    if number > 0 {
+        list.push(number)?;
+    }
+    Ok(list)
+}
+
+fn source(alloc: Global, text: &[u8], fails: u64) -> Result<MemSource, NoMemory> {
+    let mut contents = Bytes::new(alloc);
+    contents.append(text)?;
+    Ok(MemSource::new(contents, 10, numbers(alloc, fails)?))
+}
+
+/// The words, each as a text of its own.
+fn words(alloc: Global, list: &[&str]) -> Result<Vec<String>, AllocError> {
+    let mut words = Vec::new(alloc);
+    for word in list {
+        words.push(String::from_str(alloc, word)?)?;
+    }
+    Ok(words)
+}
+
+/// A run of these words on two texts. Each object moves 10 bytes a call.
+fn run_on(
+    alloc: Global,
+    list: &[&str],
+    file: &[u8],
+    log: &[u8],
+    faults: Faults,
+) -> Result<Seen, Fail> {
+    let words = words(alloc, list)?;
+    let mut problem = source(alloc, file, faults.problem)?;
+    let mut log_in = source(alloc, log, 0)?;
+    let mut out = MemSink::new(alloc, 1000, 10, numbers(alloc, faults.out)?)?;
+    let mut log_out = MemSink::new(alloc, 1000, 10, numbers(alloc, faults.log_out)?)?;
+    let status = run(
+        alloc,
+        words.as_slice(),
+        &mut problem,
+        &mut log_in,
+        &mut out,
+        &mut log_out,
+    );
+    Ok(Seen {
+        status,
+        out,
+        log_out,
+    })
+}
+
+#[test]
+fn solved_files_have_logs_that_are_accepted(rt: HostRuntime) -> Result<(), Fail> {
+    let alloc = rt.alloc();
+    let table = [
+        (FILE, IMAGE),
+        ("p vlp min 0 1 0 1 1\no 1 1 1\nj 1 d 1 0\ne\n", IMAGE),
+        (
+            "p vlp min 0 1 0 1 1\no 1 1 1\ne\n",
+            "report 1\nanswer whole\nfree 0 1\n",
+        ),
+    ];
+    for (file, image) in table {
+        let seen = run_on(alloc, &["solve", "a", "b"], file.as_bytes(), &[], NO_FAULTS)?;
+        assert_eq!(rt; seen.status.code(), 0, "of {file:?}");
+        assert!(rt; seen.out.contents().starts_with(image.as_bytes()));
+
+        let log = seen.log_out.contents();
+        let checked = run_on(alloc, &["check", "a", "b"], file.as_bytes(), log, NO_FAULTS)?;
+        assert_eq!(rt; checked.status.code(), 0, "of {file:?}");
+        assert_eq!(rt; checked.out.contents(), seen.out.contents());
+
+        let faults = Faults {
+            log_out: 1,
+            ..NO_FAULTS
+        };
+        let unlogged = run_on(alloc, &["solve", "a"], file.as_bytes(), &[], faults)?;
+        assert_eq!(rt; unlogged.status.code(), 0, "of {file:?}");
+        assert_eq!(rt; unlogged.out.contents(), seen.out.contents());
+        assert!(rt; unlogged.log_out.contents().is_empty());
+    }
+    Ok(())
+}
+
+#[test]
+fn files_that_are_not_solved_write_one_line(rt: HostRuntime) -> Result<(), Fail> {
+    let table = [
+        // Two objectives, of which the image has two vertices.
+        (
+            "p vlp min 2 2 4 2 4\na 1 1 2\na 1 2 1\na 2 1 1\na 2 2 2\no 1 1 1\no 1 2 -1\no 2 1 1\no 2 2 1\ni 1 l 6\ni 2 l 6\nj 1 l 0\nj 2 l 0\ne\n",
+            11,
+            "fault 11 NotBuilt\n",
+        ),
+        (
+            "p vlp min 0 2 0 2 2 cone 1 2\no 1 1 1\no 2 2 1\nk 1 1 1\nk 2 1 1\ne\n",
+            4,
+            "fault 4 NotSolid 2 1 -1 0\n",
+        ),
+        (
+            "p vlp min 0 2 0 2 2 cone 3 3\no 1 1 1\no 2 2 1\nk 1 1 1\nk 1 2 -1\nk 2 3 1\ne\n",
+            4,
+            "fault 4 HasLine 2 1 0 2 1 1/2 2 1/2\n",
+        ),
+        // The multipliers may be others.
+        (
+            "p vlp min 0 1 0 2 0\nk 1 0 1\ne\n",
+            4,
+            "fault 4 NotInterior 2 0 ",
+        ),
+        (
+            "p vlp min 0 1 0 2 0 cone 2 4\nk 1 1 1\nk 2 1 -1\nk 1 2 1\nk 2 2 -2\ne\n",
+            4,
+            "fault 4 LastNotPositive 0 0\n",
+        ),
+        ("", 3, "fault 3 line 1 kind 1 NoProblem\n"),
+    ];
+    for (file, code, line) in table {
+        let faults = Faults {
+            log_out: 1,
+            ..NO_FAULTS
+        };
+        let seen = run_on(
+            rt.alloc(),
+            &["solve", "a", "b"],
+            file.as_bytes(),
+            &[],
+            faults,
+        )?;
+        assert_eq!(rt; seen.status.code(), code, "of {file:?}");
+        let text = seen.out.contents();
+        assert!(rt; text.starts_with(line.as_bytes()) && text.ends_with(b"\n"));
+        assert!(rt; text.len() == line.len() || !line.ends_with("\n"));
+        assert!(rt; seen.log_out.contents().is_empty());
+    }
+    Ok(())
+}
+
+#[test]
+fn faults_of_the_outside_leave_fronts_of_the_texts(rt: HostRuntime) -> Result<(), Fail> {
+    let table = [
+        (2, 0, 0, 7, "", ""),
+        (0, 2, 0, 8, "report 1\na", ""),
+        (0, 0, 2, 8, IMAGE, "version 1\n"),
+        (0, 0, 1, 8, IMAGE, ""),
+    ];
+    for (problem, out, log_out, code, text, log) in table {
+        let faults = Faults {
+            problem,
+            out,
+            log_out,
+        };
+        let seen = run_on(
+            rt.alloc(),
+            &["solve", "a", "b"],
+            FILE.as_bytes(),
+            &[],
+            faults,
+        )?;
+        assert_eq!(rt; seen.status.code(), code);
+        assert!(rt; seen.out.contents().starts_with(text.as_bytes()));
+        assert!(rt; log_out > 0 || seen.out.contents().len() == text.len());
+        assert_eq!(rt; seen.log_out.contents(), log.as_bytes());
+        if let Status::WriteFault { log, sent } = &seen.status {
+            assert_eq!(rt; *log, log_out > 0);
+            assert_eq!(rt; *sent, if log_out == 1 { 0 } else { 10 });
+        }
+    }
+    Ok(())
+}
