@@ -34,7 +34,7 @@ returns-clause-end g c = λ file stands.
     let z : List ℚ = map value c.in-Orthogonal.d in
     let d = c.in_ok-d-in-Orthogonal.d in
     let m = c.new.result in
-    let across : IsOrthogonal q all z = subst (λ e. IsIndep value q all e) c.in-Orthogonal.is c.in_ok-independent_vectors.ensures.ok in
+    let across : IsOrthogonal q all z = (subst (λ e. IsIndep value q all e) c.in-Orthogonal.is c.in_ok-independent_vectors.ensures.ok).orthogonal in
     let d_is : d ≡ z = c.in_ok-d-in-Orthogonal.ensures.same ∙ ap (map value) c.as_slice.ensures.items in
     at_file value form file stands (λ (n : ℕ) (k : Cone) (o : Option (List ℚ)). HasInterior n k × ShowsLine n k d m) (
       c.requires.solid,

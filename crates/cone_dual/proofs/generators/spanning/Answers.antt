@@ -22,7 +22,7 @@ returns-in_ok-w-in-Orthogonal-clause-end g c = λ file stands.
     let z : List ℚ = map value c.in-Orthogonal.w in
     let w = c.in_ok-w-in-Orthogonal.w in
     let m = c.new.result in
-    let across : IsOrthogonal q all z = subst (λ e. IsIndep value q all e) c.in-Orthogonal.is c.in_ok-picks.ensures.ok in
+    let across : IsOrthogonal q all z = (subst (λ e. IsIndep value q all e) c.in-Orthogonal.is c.in_ok-picks.ensures.ok).orthogonal in
     let w_is : w ≡ z = c.in_ok-w-in-Orthogonal.ensures.same ∙ ap (map value) c.as_slice.ensures.items in
     at_file value form file stands (λ (n : ℕ) (k : Cone) (d : Option (List ℚ)). ShowsFlat n k w m)
     (as_cone value form (Gens c.args.vectors.now) c.requires (λ (k : Cone). ShowsFlat q k w m)

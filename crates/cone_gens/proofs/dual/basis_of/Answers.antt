@@ -12,7 +12,7 @@ unreachable-requires g c =
     let value = g.F.Field.value in
     let t = numbers value c.args.rows.now.list in
     let here = c.in-Ok-Orthogonal in
-    not_full c.width.result t (map value here.field-0-0) (subst (IsIndep value c.width.result t) here.field-0-is here.ensures.ok)
+    not_full c.width.result t (map value here.field-0-0) (subst (IsIndep value c.width.result t) here.field-0-is here.ensures.ok).orthogonal
     (subst (λ (n : ℕ). HasFullRank n t) (sym c.width.ensures) c.requires)
 
 pub returns-in-Err-clause-left : goal.returns-in-Err-clause-left
