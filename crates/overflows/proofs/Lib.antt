@@ -1,3 +1,4 @@
 pub mod Dividing
+pub mod Formed
 pub mod Licensed
 pub mod Sparse

@@ -7,6 +7,7 @@ mod numbers;
 mod quotients;
 mod spots;
 mod sums;
+mod written;
 
 pub use fault::{SolveFault, SumFault};
 pub use licences::{elimination_fault, program_fault, scale_fault, term_fault};
@@ -14,3 +15,6 @@ pub use numbers::{fractions, operation};
 pub use quotients::divided;
 pub use spots::spots_of;
 pub use sums::sum_of_products;
+pub use written::{
+    duality_is_written, fractions_are_written, naturals_are_written, spots_are_written,
+};

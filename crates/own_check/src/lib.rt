@@ -5,7 +5,6 @@ ghost use Rattle.own_check.specs.Never.{NeverWrong};
 
 mod logs;
 mod own;
-mod written;
 
 pub use logs::{infeasible_log, whole_log};
 pub use own::{Checked, check_own};

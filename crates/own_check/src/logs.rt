@@ -13,9 +13,9 @@ ghost use Rattle.upper_image.specs.Spots.{dense};
 ghost use Rattle.log_rules.specs.Proves.{AllMeet};
 ghost use Rattle.own_check.specs.Logs.{IsReadWhole, ShowsWhole, infeasible_entries, whole_entries};
 
-use crate::written::{duality_is_written, spots_are_written};
 use deriv_log::{EndKind, Entries, Entry};
 use frac128::Sparse;
+use overflows::{duality_is_written, spots_are_written};
 use src_sink::{Items, NoMemory};
 use std::alloc::Global;
 

@@ -3,7 +3,8 @@ use Rattle.deriv_log.specs.Formed.{IsLog}
 use Rattle.deriv_log.specs.declared.entry.Entry.{Entry}
 use Rattle.log_rules.specs.Proves.{AllMeet}
 use Rattle.licence.specs.Trails.{IsBaseTrail}
-use Rattle.own_check.proofs.Built.{sparse_written, infeasible_is_log, infeasible_meets, infeasible_trail}
+use Rattle.overflows.proofs.Formed.{sparse_written}
+use Rattle.own_check.proofs.Built.{infeasible_is_log, infeasible_meets, infeasible_trail}
 use Rattle.own_check.proofs.logs.infeasible_log.Goals as goal
 
 pub returns-clause-entries : goal.returns-clause-entries

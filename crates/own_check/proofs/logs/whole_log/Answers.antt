@@ -3,7 +3,8 @@ use Rattle.deriv_log.specs.Formed.{IsLog}
 use Rattle.deriv_log.specs.declared.entry.Entry.{Entry}
 use Rattle.log_rules.specs.Proves.{AllMeet}
 use Rattle.licence.specs.Trails.{IsBaseTrail}
-use Rattle.own_check.proofs.Built.{sparse_written, whole_is_log, whole_meets, whole_trail}
+use Rattle.overflows.proofs.Formed.{sparse_written}
+use Rattle.own_check.proofs.Built.{whole_is_log, whole_meets, whole_trail}
 use Rattle.own_check.proofs.logs.whole_log.Goals as goal
 
 pub returns-clause-entries : goal.returns-clause-entries

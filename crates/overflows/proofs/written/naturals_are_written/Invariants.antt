@@ -1,6 +1,6 @@
 use Rattle.std.proofs.Common.{take, All, IsTrue}
 use Rattle.deriv_log.specs.Formed.{is_short}
-use Rattle.own_check.proofs.written.naturals_are_written.Given as goal
+use Rattle.overflows.proofs.written.naturals_are_written.Given as goal
 
 abbrev pub invariant-loop-n : goal.invariant-loop-n
 invariant-loop-n l = All (λ n. IsTrue (is_short n)) (take l.n-index l.list)

@@ -3,7 +3,7 @@ use Rattle.std.proofs.lemmas.List.{take_all}
 use Rattle.std.proofs.lemmas.List.Elements.{All-more}
 use Rattle.frac128.specs.declared.vectors.Spot.{Spot}
 use Rattle.deriv_log.specs.Formed.{is_formed_spot}
-use Rattle.own_check.proofs.written.spots_are_written.Goals as goal
+use Rattle.overflows.proofs.written.spots_are_written.Goals as goal
 
 pub loop-spot-preserved : goal.loop-spot-preserved
 loop-spot-preserved c =

@@ -1,6 +1,6 @@
 use Rattle.std.proofs.Common.{take, All, IsTrue}
 use Rattle.deriv_log.specs.Formed.{is_formed_spot}
-use Rattle.own_check.proofs.written.spots_are_written.Given as goal
+use Rattle.overflows.proofs.written.spots_are_written.Given as goal
 
 abbrev pub invariant-loop-spot : goal.invariant-loop-spot
 invariant-loop-spot l = All (λ s. IsTrue (is_formed_spot s)) (take l.spot-index l.list)

@@ -10,7 +10,7 @@ use exact_field::Field;
 use frac128::{Frac, Spot};
 
 /// Natural numbers can be written.
-fn naturals_are_written(list: &[u32])
+pub fn naturals_are_written(list: &[u32])
     ensures { All (λ n. IsTrue (is_short n)) list.now }
 {
     for n in list {
@@ -19,7 +19,7 @@ fn naturals_are_written(list: &[u32])
 }
 
 /// Fractions can be written.
-fn fractions_are_written(list: &[Frac])
+pub fn fractions_are_written(list: &[Frac])
     ensures { All (λ q. IsTrue (is_held q)) list.now }
 {
     for q in list {
@@ -36,7 +36,7 @@ fn spot_is_written(spot: Spot)
 }
 
 /// The places and the values of a sparse vector can be written.
-pub(crate) fn spots_are_written(list: &[Spot])
+pub fn spots_are_written(list: &[Spot])
     ensures { All (λ s. IsTrue (is_formed_spot s)) list.now }
 {
     for spot in list {
@@ -45,7 +45,7 @@ pub(crate) fn spots_are_written(list: &[Spot])
 }
 
 /// A `duality` entry can be written.
-pub(crate) fn duality_is_written(opening: &Entry)
+pub fn duality_is_written(opening: &Entry)
     ensures { (c weights : List ℚ) (picks : List ℕ) (inverse : List ℚ) → opening.now ≡ line.Duality c weights picks inverse → IsTrue (is_formed opening.now) }
 {
     if let Entry::Duality {

@@ -1,8 +1,8 @@
 use Rattle.std.proofs.Common.{IsTrue, sym, subst}
 use Rattle.deriv_log.specs.Formed.{is_formed}
 use Rattle.deriv_log.specs.declared.entry.Entry.{Entry}
-use Rattle.own_check.proofs.Built.{vector_written, naturals_written, duality_written}
-use Rattle.own_check.proofs.written.duality_is_written.Goals as goal
+use Rattle.overflows.proofs.Formed.{vector_written, naturals_written, duality_written}
+use Rattle.overflows.proofs.written.duality_is_written.Goals as goal
 
 pub returns-in-Duality : goal.returns-in-Duality
 returns-in-Duality c = λ c' weights picks inverse same.

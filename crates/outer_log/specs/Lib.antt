@@ -1,0 +1,4 @@
+pub mod Cuts
+pub mod Preimages
+pub mod Standing
+pub mod Task

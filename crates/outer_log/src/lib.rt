@@ -1,0 +1,6 @@
+//! The log of an outer approximation: how it grows by cuts and pre-images beside its double description.
+#![tactic(auto)]
+
+mod pushes;
+
+pub use pushes::{push_cut, push_preimage};
