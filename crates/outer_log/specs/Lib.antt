@@ -1,4 +1,5 @@
 pub mod Cuts
+pub mod Lines
 pub mod Preimages
 pub mod Standing
 pub mod Task

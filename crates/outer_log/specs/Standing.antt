@@ -3,7 +3,7 @@ use Rattle.std.specs.Prelude.{◌≡◌, ◌≢◌, ℕ, suc, Bool, false, not, 
 use Rattle.std.specs.List.{range_with_len}
 use Rattle.exact_field.specs.Rational.{ℚ}
 use Rattle.polyhedra.specs.Inequality.{Inequality}
-use Rattle.deriv_log.specs.Formed.{is_formed, is_end}
+use Rattle.deriv_log.specs.Formed.{is_formed, is_end, IsLog}
 use Rattle.deriv_log.specs.declared.entry.Entry.{Entry}
 use Rattle.double_descr.specs.State.{State as Description}
 use Rattle.log_rules.specs.Live.{state, inequality, rows_in_use, preimages}
@@ -54,3 +54,8 @@ pub record HasPreimageMore (task : Task) (g : ℕ) (old new : List Entry) : Type
   pub started : has order.start new ≡ has order.start old
   pub here : preimages new g ≢ []
   pub others : (k : ℕ) → k ≢ g → preimages new k ≡ preimages old k
+
+-- a whole log that meets its rules and is a base trail
+pub record IsEnded (task : Task) (entries : List Entry) : Type 0 where
+  pub log : IsLog entries
+  pub base : IsBaseTrail task.file task.c task.weights entries

@@ -1,6 +1,8 @@
 //! The log of an outer approximation: how it grows by cuts and pre-images beside its double description.
 #![tactic(auto)]
 
+mod line;
 mod pushes;
 
-pub use pushes::{push_cut, push_preimage};
+pub use line::Line;
+pub use pushes::{begun, push_cut, push_cut_entry, push_preimage};
