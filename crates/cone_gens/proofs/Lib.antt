@@ -1,4 +1,3 @@
-pub mod Events
 pub mod Licences
 pub mod Reading
 pub mod Reordered

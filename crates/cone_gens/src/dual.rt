@@ -6,7 +6,6 @@ ghost use Rattle.polyhedra.specs.LiveList.{step, vectors};
 ghost use Rattle.polyhedra.specs.LiveSteps.{IsLive};
 ghost use Rattle.tableaux.specs.Elimination.{AreIndependent};
 ghost use Rattle.lin_rows.specs.Read.{numbers};
-ghost use Rattle.double_descr.specs.Adding.{IsAddFault, add_blocks};
 ghost use Rattle.vlp_reader.specs.declared.problem.Problem.{Problem};
 ghost use Rattle.licence.specs.Licence.{LicensedWithout};
 ghost use Rattle.licence.specs.Operands.{IsMadeOver};
@@ -14,8 +13,9 @@ ghost use Rattle.overflows.specs.Faults.{OnLicence};
 ghost use Rattle.cone_gens.specs.Generators.{AreConeRows, AreGenerators, AreMadeInOrder};
 
 use crate::picked::{other_numbers, rows_at};
-use crate::places::pair_fault;
-use double_descr::{Dd, DdFault};
+use dd_overflows::{add_fault, start_fault};
+use deriv_log::Family;
+use double_descr::Dd;
 use exact_field::Field;
 use lin_rows::{Indep, Rows, independent};
 use overflows::{SolveFault, elimination_fault};
@@ -46,27 +46,7 @@ fn started<F: Field>(alloc: Global, rows: &Rows<F>) -> Result<Dd<F>, SolveFault>
 {
     match Dd::start(alloc, rows) {
         Ok(dd) => Ok(dd),
-        Err(DdFault::Elim(fault)) => Err(elimination_fault(alloc, rows, fault, Items::new(alloc))),
-        Err(DdFault::NoMemory) => Err(SolveFault::NoMemory),
-        Err(DdFault::Left { .. }) => unreachable!(),
-    }
-}
-
-/// What is told where the addition of a row is given up.
-fn add_fault<F: Field>(alloc: Global, dd: &Dd<F>, row: &[F], fault: DdFault<F>) -> SolveFault
-    requires made { IsMadeOver dd.now.width dd.now.rows dd.now.list }
-    requires fault { IsAddFault F.value F.holds (add_blocks dd.now.rows dd.now.list.live (map F.value row.now)) fault }
-    ensures { (file : Problem) → AreConeRows file dd.now.width (dd.now.rows ++ map F.value row.now ∷ []) → OnLicence result (LicensedWithout F.holds file) }
-{
-    match fault {
-        DdFault::NoMemory => SolveFault::NoMemory,
-        DdFault::Elim(_) => unreachable!(),
-        DdFault::Left {
-            first,
-            second,
-            step,
-            left,
-        } => pair_fault(alloc, dd, row, first, second, step, left),
+        Err(fault) => Err(start_fault(alloc, rows, fault)),
     }
 }
 
@@ -79,7 +59,7 @@ fn add_row<F: Field>(alloc: Global, dd: &mut Dd<F>, row: &[F]) -> Result<(), Sol
 {
     match dd.add(row) {
         Ok(_) => Ok(()),
-        Err(fault) => Err(add_fault(alloc, dd, row, fault)),
+        Err(fault) => Err(add_fault(alloc, Family::ConeRows, dd, row, fault)),
     }
 }
 

@@ -3,6 +3,5 @@
 
 mod dual;
 mod picked;
-mod places;
 
 pub use dual::dual_gens;

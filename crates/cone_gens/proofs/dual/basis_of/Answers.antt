@@ -22,5 +22,5 @@ returns-in-Err-clause-left g c =
     let rows = c.args.rows.now in
     let t = numbers value rows.list in
     λ file cone.
-    elimination_licensed value holds file g.met.F.Field.holds_zero rows.width t c.new.result c.in-Err.fault c.elimination_fault.result c.new.ensures cone
+    elimination_licensed holds file value rows.width t c.new.result c.in-Err.fault c.elimination_fault.result c.new.ensures cone
     (subst (λ (n : ℕ). IsElimFault value holds n t c.in-Err.fault) c.width.ensures c.in-Err.ensures.left) c.elimination_fault.ensures.licensed

@@ -1,9 +1,7 @@
-use Rattle.std.proofs.Common.{◌∙◌, subst}
-use Rattle.double_descr.specs.Starting.{IsStartFault}
-use Rattle.double_descr.specs.declared.fault.DdFault.{DdFault}
+use Rattle.std.proofs.Common.{[], refl}
 use Rattle.lin_rows.specs.Read.{numbers}
-use Rattle.lin_rows.proofs.Building.{numbers_long}
-use Rattle.cone_gens.proofs.Licences.{made_of_start, start_licensed}
+use Rattle.dd_overflows.proofs.Starts.{made_of_start}
+use Rattle.cone_gens.proofs.Licences.{elim_rows, overflow_licensed, setting}
 use Rattle.cone_gens.proofs.dual.started.Goals as goal
 
 pub returns-in-Ok-clause-made : goal.returns-in-Ok-clause-made
@@ -12,14 +10,11 @@ returns-in-Ok-clause-made g c =
     let rows = c.args.rows.now in
     made_of_start rows.width (numbers value rows.list) c.in-Ok.dd c.in-Ok.ensures.ok
 
-pub returns-in-Err-Elim-clause-left : goal.returns-in-Err-Elim-clause-left
-returns-in-Err-Elim-clause-left g c =
+pub returns-in-Err-clause-left : goal.returns-in-Err-clause-left
+returns-in-Err-clause-left g c =
     let value = g.F.Field.value in
     let holds = g.F.Field.holds in
     let rows = c.args.rows.now in
-    let t = numbers value rows.list in
     λ file cone.
-    start_licensed value holds file g.met.F.Field.holds_zero rows.width t c.new.result c.in-Err-Elim.fault c.elimination_fault.result c.new.ensures
-    (numbers_long value rows.list ∙ c.requires.square) cone
-    (subst (λ (f : DdFault _). IsStartFault value holds rows.width t f) c.in-Err-Elim.field-0-is c.in-Err-Elim.ensures.left)
-    c.elimination_fault.ensures.told c.elimination_fault.ensures.licensed
+    overflow_licensed holds file [] c.start_fault.result refl
+    (c.start_fault.ensures.licensed (setting file) (elim_rows file rows.width (numbers value rows.list) cone))

@@ -1,7 +1,6 @@
-//! Where the addition of a row was given up, before a duality vector is known.
+//! Where the addition of a row was given up.
 
 ghost use Rattle.std.specs.Prelude.{◌≡◌, [], ◌∷◌, ◌++◌, IfOk, map};
-ghost use Rattle.deriv_log.specs.declared.licence.Family.TheVariants as family_of;
 ghost use Rattle.deriv_log.specs.declared.licence.Place.TheVariants as place_of;
 ghost use Rattle.licence.specs.Steps.{in_numbers};
 ghost use Rattle.overflows.specs.Faults.{IsLeftAt};
@@ -26,9 +25,10 @@ fn vectors_with<F: Field>(alloc: Global, dd: &Dd<F>, last: &[F]) -> Result<Vecto
     Ok(out)
 }
 
-/// The overflow of a step of the addition of a row to a double description, with no trail.
+/// The overflow of a step of the addition of a row of such a family to a double description, with no trail.
 pub fn pair_fault<F: Field>(
     alloc: Global,
+    family: Family,
     dd: &Dd<F>,
     row: &[F],
     first: u32,
@@ -36,13 +36,13 @@ pub fn pair_fault<F: Field>(
     step: u64,
     left: Left<F>,
 ) -> SolveFault
-    ensures { IsLeftAt (place_of.Pair family_of.ConeRows (dd.now.rows ++ map F.value row.now ∷ []) first second step) (in_numbers F.value left) [] result }
+    ensures { IsLeftAt (place_of.Pair family (dd.now.rows ++ map F.value row.now ∷ []) first second step) (in_numbers F.value left) [] result }
 {
     match vectors_with(alloc, dd, row) {
         Err(_) => SolveFault::NoMemory,
         Ok(rows) => SolveFault::Left(Licence {
             place: Place::Pair {
-                family: Family::ConeRows,
+                family,
                 rows,
                 first,
                 second,
