@@ -1,0 +1,2 @@
+//! The start of an outer approximation.
+#![tactic(auto)]
