@@ -2,3 +2,4 @@ pub mod Beginning
 pub mod Corner
 pub mod Numbers
 pub mod Pieces
+pub mod Started
