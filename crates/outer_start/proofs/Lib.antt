@@ -1,5 +1,6 @@
+pub mod AfterStart
 pub mod Beginning
 pub mod Corner
+pub mod Fronts
 pub mod Numbers
 pub mod Pieces
-pub mod Started
