@@ -1,10 +1,13 @@
 -- The trail and the double description after a start.
-use Rattle.std.proofs.Common.{◌≡◌, ℕ, suc, List, [], ◌∷◌, ◌++◌, map, length, All, refl, sym, ap, ap₂, ◌∙◌, subst, Some}
+use Rattle.std.proofs.Common.{◌≡◌, ℕ, suc, List, [], ◌∷◌, ◌++◌, map, length, All, refl, sym, ap, ◌∙◌, subst}
 use Rattle.std.specs.List.{range_with_len}
+use Rattle.std.proofs.lemmas.List.{length-map}
+use Rattle.std.proofs.lemmas.List.Elements.{All-map, All-weaker}
+use Rattle.std.proofs.lemmas.Simd.{map-map}
 use Rattle.std.proofs.lemmas.List.FromFn.{length-range_with_len}
 use Rattle.exact_field.specs.Rational.{ℚ}
 use Rattle.polyhedra.specs.Cone.{HasFullRank}
-use Rattle.polyhedra.specs.Exactness.{level, row_of, rows_of}
+use Rattle.polyhedra.specs.Exactness.{level, rows_of}
 use Rattle.polyhedra.specs.Inequality.{Inequality}
 use Rattle.polyhedra.specs.LiveList.{LiveList, starting, vectors}
 use Rattle.polyhedra.proofs.LiveList.{vectors-numbered}
@@ -12,10 +15,12 @@ use Rattle.deriv_log.specs.declared.entry.Entry.{Entry}
 use Rattle.deriv_log.specs.declared.entry.Entry.TheVariants.{Start}
 use Rattle.double_descr.specs.Starting.{IsStart}
 use Rattle.double_descr.specs.State.{State as Description}
-use Rattle.log_rules.specs.Live.{State, state, after, inequality, preimages, rows_in_use}
+use Rattle.log_rules.specs.Live.{State, state, after, preimages, rows_in_use}
 use Rattle.log_rules.specs.Order as order
 use Rattle.log_rules.proofs.Entries.{has_last, state-push}
 use Rattle.licence.specs.Operands.{AreElimRows}
+use Rattle.benson_program.specs.declared.cut.Cut.{Cut as CutOf}
+use Rattle.outer_log.specs.Cuts.{said_by}
 use Rattle.outer_log.specs.Standing.{IsBegun, IsOpenTrail, IsOuter}
 use Rattle.outer_log.specs.Task.{Task, behind}
 use Rattle.outer_log.proofs.Growing.{grows, preimages_stay}
@@ -78,3 +83,45 @@ module _ (task : Task) (cuts : List Inequality) (old : List Entry) (begun : IsBe
 
   pub preimages_after : (k : ℕ) → preimages new k ≡ preimages old k
   preimages_after k = ap (λ (trail : List Entry). preimages trail k) h.appended ∙ preimages_stay old entry k refl
+
+-- ---- cuts as values of the code
+module _ {F : Type 0} (value : F → ℚ) (task : Task) (list : List (CutOf F)) (wide : All (λ cut. length cut.w ≡ task.file.objs) list) where
+  pub said_wide : All (λ e. length e.normal ≡ task.file.objs) (map (said_by value) list)
+  said_wide = All-map (λ (e : Inequality). length e.normal ≡ task.file.objs) (said_by value) list
+      (All-weaker (λ (cut : CutOf F). length cut.w ≡ task.file.objs) (λ (cut : CutOf F). length (map value cut.w) ≡ task.file.objs)
+      (λ cut h. length-map cut.w value ∙ h) list wide)
+
+  pub said_rank : HasFullRank task.file.objs (map (λ (cut : CutOf F). map value cut.w) list) →
+      HasFullRank task.file.objs (map (λ (e : Inequality). e.normal) (map (said_by value) list))
+  said_rank rank = subst (HasFullRank task.file.objs) (sym (map-map (λ (e : Inequality). e.normal) (said_by value) list)) rank
+
+-- ---- rows as values of the code
+module _ (task : Task) (cuts : List Inequality) (q width : ℕ) (rows : List (List ℚ)) (objectives : q ≡ task.file.objs) (width_is : width ≡ suc q)
+    (rows_are : rows ≡ rows_of q cuts) where
+  -- what holds of the rows of the cuts holds of these
+  pub of_rows : (P : ℕ → List (List ℚ) → Type 0) → P (suc task.file.objs) (rows_of task.file.objs cuts) → P width rows
+  of_rows P h =
+      subst (λ (n : ℕ). P n rows) (sym width_is)
+      (subst (λ (rs : List (List ℚ)). P (suc q) rs) (sym rows_are) (subst (λ (n : ℕ). P (suc n) (rows_of n cuts)) (sym objectives) h))
+
+  pub at_rows : (P : ℕ → List (List ℚ) → Type 0) → P width rows → P (suc task.file.objs) (rows_of task.file.objs cuts)
+  at_rows P h =
+      subst (λ (n : ℕ). P (suc n) (rows_of n cuts)) objectives
+      (subst (λ (rs : List (List ℚ)). P (suc q) rs) rows_are (subst (λ (n : ℕ). P n rows) width_is h))
+
+-- ---- after a start
+module _ {F : Type 0} (value : F → ℚ) (task : Task) (q : ℕ) (objectives : q ≡ task.file.objs) (list : List (CutOf F)) (old : List Entry)
+    (begun : IsBegun task (map (said_by value) list) old) (many : length list ≡ task.file.objs) (wide : All (λ cut. length cut.w ≡ task.file.objs) list)
+    (width : ℕ) (rows : List (List ℚ)) (width_is : width ≡ suc q) (rows_are : rows ≡ rows_of q (map (said_by value) list)) (dd : Description)
+    (start : IsStart width rows dd) (new : List Entry) (h : HasStart q (vectors dd.list.live) old new) where
+  start_at : IsStart (suc task.file.objs) (rows_of task.file.objs (map (said_by value) list)) dd
+  start_at = at_rows task (map (said_by value) list) q width rows objectives width_is rows_are (λ (n : ℕ) (rs : List (List ℚ)). IsStart n rs dd) start
+
+  has_start : HasStart task.file.objs (vectors dd.list.live) old new
+  has_start = subst (λ (n : ℕ). HasStart n (vectors dd.list.live) old new) objectives h
+
+  pub is_outer : IsOuter task new dd
+  is_outer = outer_after task (map (said_by value) list) old begun (length-map list (said_by value) ∙ many) (said_wide value task list wide) dd start_at new has_start
+
+  pub unreached : (k : ℕ) → preimages new k ≡ preimages old k
+  unreached = preimages_after task (map (said_by value) list) old begun (length-map list (said_by value) ∙ many) (said_wide value task list wide) dd start_at new has_start

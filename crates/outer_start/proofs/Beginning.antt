@@ -1,14 +1,13 @@
 -- A `start` with the cuts of a trail of which none is in use: it meets its rule, and what stands after it.
-use Rattle.std.proofs.Common.{◌≡◌, ℕ, zero, suc, ◌*◌, ◌-◌, ◌≤◌, List, [], ◌∷◌, ◌++◌, map, length, take, All, refl, sym, ap, ap₂, ◌∙◌, subst, arith, Bool, true, false, true≢false, not, IsTrue, slice_index_or}
+use Rattle.std.proofs.Common.{◌≡◌, ℕ, suc, ◌*◌, ◌≤◌, List, [], ◌∷◌, map, length, take, All, refl, sym, ap, ap₂, ◌∙◌, subst, arith, false, true≢false, not, IsTrue}
 use Rattle.std.specs.List.{range_with_len}
 use Rattle.std.proofs.lemmas.List.{length-map, map-id}
 use Rattle.std.proofs.lemmas.Simd.{map-map}
 use Rattle.std.proofs.lemmas.List.Elements.{All-map, All-weaker}
 use Rattle.exact_field.specs.Rational.{ℚ, zero_ℚ, one_ℚ}
-use Rattle.polyhedra.specs.Cone.{HasFullRank}
 use Rattle.polyhedra.specs.Dependence.{AreCorners}
 use Rattle.polyhedra.specs.DoubleDescription.{IsNormed}
-use Rattle.polyhedra.specs.Exactness.{homogenised, level, row_of, rows_of, IsCornerOf}
+use Rattle.polyhedra.specs.Exactness.{homogenised, row_of, rows_of, IsCornerOf}
 use Rattle.polyhedra.specs.Hull.{IsNormedDirection}
 use Rattle.polyhedra.specs.Inequality.{Inequality}
 use Rattle.polyhedra.specs.LiveList.{LiveList, starting, vectors}
@@ -19,15 +18,13 @@ use Rattle.tableaux.specs.Table.{row_of as row_at}
 use Rattle.upper_image.specs.Spots.{pieces}
 use Rattle.vlp_reader.specs.declared.problem.Problem.{Problem}
 use Rattle.deriv_log.specs.declared.entry.Entry.{Entry}
-use Rattle.deriv_log.specs.declared.entry.Entry.TheVariants.{Start}
 use Rattle.double_descr.specs.Starting.{IsStart}
 use Rattle.double_descr.specs.State.{State as Description}
-use Rattle.log_rules.specs.Live.{State, Stated, state, after, inequality, cut_at, cut_row, first_vectors, rows_in_use}
-use Rattle.log_rules.specs.Meets.{Meets, MeetsStart}
+use Rattle.log_rules.specs.Live.{State, inequality, cut_at, cut_row, first_vectors}
+use Rattle.log_rules.specs.Meets.{MeetsStart}
 use Rattle.log_rules.specs.Order.{has, in_order}
 use Rattle.log_rules.specs.Order as order
-use Rattle.log_rules.proofs.Entries.{state-push}
-use Rattle.outer_start.specs.First.{AreFirst, HasStart}
+use Rattle.outer_start.specs.First.{AreFirst}
 use Rattle.outer_start.proofs.Corner.{IsWay, is_corner, others_are, point, ways}
 use Rattle.outer_start.proofs.Numbers.{by_places, range_places, range_rises}
 

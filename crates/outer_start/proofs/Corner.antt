@@ -1,8 +1,8 @@
 -- The point and the directions of normed corners of the row t ≥ 0 and as many cuts as a point has entries.
-use Rattle.std.proofs.Common.{◌≡◌, ◌≢◌, ℕ, zero, suc, List, [], ◌∷◌, map, length, take, All, refl, sym, ap, ap₂, ◌∙◌, subst, arith, ◌<◌, ◌⊎◌, inl, inr, slice_index_or}
+use Rattle.std.proofs.Common.{◌≡◌, ℕ, suc, List, [], ◌∷◌, map, length, take, All, refl, sym, ap, ap₂, ◌∙◌, subst, arith, ◌<◌, inl, inr, slice_index_or}
 use Rattle.std.proofs.lemmas.List.{length-map, get_or-map}
 use Rattle.std.proofs.lemmas.List.Elements.{All-from_get_or, All-map, All-head, All-tail}
-use Rattle.exact_field.specs.Rational.{ℚ, zero_ℚ, one_ℚ, neg_ℚ, ◌+ℚ◌, ◌<ℚ◌, ◌≤ℚ◌}
+use Rattle.exact_field.specs.Rational.{ℚ, zero_ℚ, one_ℚ, neg_ℚ, ◌+ℚ◌, ◌<ℚ◌}
 use Rattle.exact_field.specs.Vector.{dot}
 use Rattle.polyhedra.specs.Cone.{HasFullRank}
 use Rattle.polyhedra.specs.Dependence.{AreCorners}
@@ -10,9 +10,9 @@ use Rattle.polyhedra.specs.DoubleDescription.{IsNormed}
 use Rattle.polyhedra.specs.Exactness.{homogenised, level, row_of, rows_of, IsCornerOf}
 use Rattle.polyhedra.specs.Hull.{IsNormedDirection}
 use Rattle.polyhedra.specs.Inequality.{Inequality}
-use Rattle.polyhedra.specs.Vectors.{AreWide, zeros}
+use Rattle.polyhedra.specs.Vectors.{zeros}
 use Rattle.polyhedra.proofs.Algebra.{zero_add}
-use Rattle.polyhedra.proofs.Homogenised.{length-homogenised, level_value, points_or_directions, row_value_point, row_value_direction, unhomogenised, IsHomogenised, zeros-homogenised}
+use Rattle.polyhedra.proofs.Homogenised.{level_value, points_or_directions, row_value_point, row_value_direction, unhomogenised, IsHomogenised, zeros-homogenised}
 use Rattle.polyhedra.proofs.Laws.{add_assoc, add_comm, add_neg, add_zero, le_of_lt}
 use Rattle.polyhedra.proofs.Lists.{all_from_map}
 use Rattle.polyhedra.proofs.Order.{le_of_eq, not_zero_of_positive}
@@ -111,8 +111,10 @@ module _ (n : ℕ) (cuts : List Inequality) (first : List ℚ) (others : List (L
   is_corner = record {
     normals_wide = wide;
     point_wide = point.wide;
-    directions_wide = record { wide = All-from_get_or (λ v. length v ≡ n) (map (take n) others) []
-        (λ j h. let k : j < n = omega (arith, others_many, h, length-map others (take n)) in ap length (front_at j k) ∙ (way_at j k).wide) };
+    directions_wide = record {
+      wide = All-from_get_or (λ v. length v ≡ n) (map (take n) others) []
+          (λ j h. let k : j < n = omega (arith, others_many, h, length-map others (take n)) in ap length (front_at j k) ∙ (way_at j k).wide);
+    };
     cuts_many = cuts_many;
     directions_many = length-map others (take n) ∙ others_many;
     tight = All-from_get_or (λ e. dot e.normal (take n first) ≡ e.bound) cuts no_cut (λ i h. tight_at i (omega (arith, cuts_many, h)));
@@ -140,5 +142,5 @@ rows_full n cuts wide rank z z_wide flat = go (unhomogenised n z z_wide)
         let same : z ≡ homogenised u.front zero_ℚ = u.same ∙ ap (homogenised u.front) last in
         let rows = all_from_map (λ r. dot r z ≡ zero_ℚ) row_of cuts (All-tail (λ r. dot r z ≡ zero_ℚ) (level n) (map row_of cuts) flat) in
         let front : u.front ≡ zeros n = rank u.front u.wide (All-map (λ w. dot w u.front ≡ zero_ℚ) (λ e. e.normal) cuts
-            (λ i d h. sym (row_value_direction (slice_index_or cuts i d) u.front (wide i d h ∙ sym u.wide)) ∙ ap (dot (row_of (slice_index_or cuts i d))) (sym same) ∙ rows i d h)) in
+        (λ i d h. sym (row_value_direction (slice_index_or cuts i d) u.front (wide i d h ∙ sym u.wide)) ∙ ap (dot (row_of (slice_index_or cuts i d))) (sym same) ∙ rows i d h)) in
         same ∙ ap (λ y. homogenised y zero_ℚ) front ∙ sym (zeros-homogenised n)

@@ -1,5 +1,5 @@
 -- The entries of first generators but their last ones, and the lists that they make.
-use Rattle.std.proofs.Common.{◌≡◌, ℕ, zero, suc, ◌+◌, ◌-◌, ◌*◌, ◌<◌, ◌≤◌, List, [], ◌∷◌, ◌++◌, map, length, take, drop, Contains, Bool, true, IsTrue, refl, sym, ap, ap₂, ◌∙◌, subst, arith, slice_index_or, ◌&&◌, min, length-append}
+use Rattle.std.proofs.Common.{◌≡◌, ℕ, suc, ◌+◌, ◌-◌, ◌*◌, ◌<◌, ◌≤◌, List, [], ◌∷◌, ◌++◌, map, length, take, drop, Contains, true, IsTrue, refl, sym, ap, ap₂, ◌∙◌, subst, arith, slice_index_or, min, length-append}
 use Rattle.std.specs.List.{range_with_len}
 use Rattle.std.proofs.lemmas.Grind.{get_or_after_one}
 use Rattle.std.proofs.lemmas.List.{length-drop, length-map, length-take, map_push, take_more}

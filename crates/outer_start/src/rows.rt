@@ -33,11 +33,7 @@ fn cut_row<F: Field>(alloc: Global, cut: &Cut<F>) -> Result<Items<F>, NoMemory>
 }
 
 /// The row `t >= 0` and those of cuts.
-pub fn rows_of_cuts<F: Field>(
-    alloc: Global,
-    q: u32,
-    cuts: &[Cut<F>],
-) -> Result<Rows<F>, NoMemory>
+pub fn rows_of_cuts<F: Field>(alloc: Global, q: u32, cuts: &[Cut<F>]) -> Result<Rows<F>, NoMemory>
     requires few { q < 4294967294 }
     requires wide { All (λ cut. length cut.w ≡ q) cuts.now }
     ensures width { IfOk result (λ rows. rows.width ≡ suc q) }

@@ -1,8 +1,7 @@
-use Rattle.std.proofs.Common.{◌≡◌, ◌-◌, ℕ, List, [], ap, sym, ◌∙◌, arith, length, map, min, slice_index_or, subst, suc, take}
+use Rattle.std.proofs.Common.{◌≡◌, List, ap, sym, ◌∙◌, arith, length, min, subst, suc, take}
 use Rattle.std.specs.Prelude.{IfOk}
 use Rattle.std.proofs.lemmas.List.{length-take, take-map}
 use Rattle.exact_field.specs.Rational.{ℚ}
-use Rattle.polyhedra.specs.LiveList.{vectors}
 use Rattle.outer_start.proofs.Fronts.{entries_are, entries_long, number_listed}
 use Rattle.outer_start.proofs.entry.front_of.Goals as goal
 
