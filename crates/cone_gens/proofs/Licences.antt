@@ -1,12 +1,11 @@
 -- Licences before a duality vector is known, from what eliminations, starts and additions tell.
-use Rattle.std.proofs.Common.{◌≡◌, ℕ, List, [], ◌∷◌, ◌++◌, length, Bool, refl, sym, ◌∙◌, subst, None}
+use Rattle.std.proofs.Common.{◌≡◌, ℕ, List, [], ◌∷◌, ◌++◌, Bool, refl, sym, ◌∙◌, subst, None}
 use Rattle.std.specs.Prelude.{Contains}
 use Rattle.std.proofs.lemmas.List.Elements.{All-weaker, Contains-append_left, Contains-append_right}
 use Rattle.exact_field.specs.Rational.{ℚ}
 use Rattle.polyhedra.specs.LiveList.{LiveList}
 use Rattle.polyhedra.proofs.Lists.{Contains-here}
 use Rattle.polyhedra.proofs.Members.{Contains-filter_source, all_of_members, member_of}
-use Rattle.tableaux.specs.Table.{Table}
 use Rattle.lin_rows.specs.Eliminate.{IsElimFault}
 use Rattle.lin_rows.specs.declared.fault.RowFault.{RowFault}
 use Rattle.vlp_reader.specs.declared.problem.Problem.{Problem}

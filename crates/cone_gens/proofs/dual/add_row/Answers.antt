@@ -1,8 +1,7 @@
-use Rattle.std.proofs.Common.{[], ◌∷◌, ◌++◌, map, refl, sym, subst}
+use Rattle.std.proofs.Common.{[], map, refl, sym, subst}
 use Rattle.double_descr.specs.State.{State}
 use Rattle.deriv_log.specs.declared.licence.Family.TheVariants.{ConeRows}
-use Rattle.licence.specs.Operands.{IsAddition, IsMadeOver}
-use Rattle.cone_gens.specs.Generators.{AreConeRows}
+use Rattle.licence.specs.Operands.{IsAddition}
 use Rattle.cone_gens.proofs.Licences.{cone_addition, overflow_licensed, setting}
 use Rattle.cone_gens.proofs.dual.add_row.Goals as goal
 
