@@ -85,17 +85,13 @@ open_stands task trail t started = rules_keep_description task.file trail t.base
 -- a live generator is a point or a direction, as wide as there are objectives
 pub live_parts : (task : Task) (trail : List Entry) → IsOpenTrail task trail → IsTrue (has order.start trail) → (g : Numbered) →
     IsLiveAfter task.file.objs trail g → (v : List ℚ) × (t : Bool) × (g.vector ≡ homogenised v (last_of t)) × (length v ≡ task.file.objs)
-live_parts task trail o started g live = go (one_of q (in_use s) s.list (open_stands task trail o started).is_live g live)
+live_parts task trail o started g live =
+    go (one_of task.file.objs (in_use (state task.file.objs trail)) (state task.file.objs trail).list (open_stands task trail o started).is_live g live)
   where
-    q : ℕ
-    q = task.file.objs
-
-    s : State
-    s = state q trail
-
-    go : IsPoint q g ⊎ IsNormedWay q g → (v : List ℚ) × (t : Bool) × (g.vector ≡ homogenised v (last_of t)) × (length v ≡ q)
-    go (inl p) = (y_of q g, true, p.same, p.wide)
-    go (inr d) = (y_of q g, false, d.same, d.wide)
+    go : IsPoint task.file.objs g ⊎ IsNormedWay task.file.objs g →
+        (v : List ℚ) × (t : Bool) × (g.vector ≡ homogenised v (last_of t)) × (length v ≡ task.file.objs)
+    go (inl p) = (y_of task.file.objs g, true, p.same, p.wide)
+    go (inr d) = (y_of task.file.objs g, false, d.same, d.wide)
 
 -- no row is negative at it
 live_within : (n : ℕ) (rows : List (List ℚ)) (list : LiveList) (g : Numbered) → IsLive n rows list → Contains list.live g →

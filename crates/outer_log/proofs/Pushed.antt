@@ -57,7 +57,7 @@ cut_in_order (t ∷ trail) h = both_hold _ _ (both_hold _ _ (both_hold _ _ h ref
 
 module _ {F : Type 0} (value : F → ℚ) (task : Task) (cut : CutOf F) (trail : List Entry) (e : Entry) (o : IsOpenTrail task trail)
     (says : SaysCut value cut e) where
-  said : Entry
+  abbrev said : Entry
   said = Cut (map value cut.w) (value cut.gamma) says.u says.v
 
   pub cut_open : IsCutFor value task cut → IsOpenTrail task (trail ++ e ∷ [])
@@ -67,20 +67,18 @@ module _ {F : Type 0} (value : F → ℚ) (task : Task) (cut : CutOf F) (trail :
           (sym (trail_laws.duality task.file task.c task.weights trail o.base o.duality)) (h.shown says.u says.v says.u_is says.v_is) })
       (h.base says.u says.v says.u_is says.v_is) (subst (λ (d : Entry). IsTrue (is_formed d)) says.is says.written) refl refl)
 
+  stands : state task.file.objs (trail ++ said ∷ []) ≡ after task.file.objs (state task.file.objs trail) said
+  stands = state-push task.file.objs trail said
+
   pub cut_more : HasCutMore task (said_by value cut) trail (trail ++ e ∷ [])
   cut_more = subst (λ (d : Entry). HasCutMore task (said_by value cut) trail (trail ++ d ∷ [])) (sym says.is) (record {
-    cuts = ap (λ (s : State). map inequality s.cuts) stands ∙ map-append inequality (state task.file.objs trail).cuts (stated ∷ []);
+    cuts = ap (λ (s : State). map inequality s.cuts) stands
+        ∙ map-append inequality (state task.file.objs trail).cuts (record { w = map value cut.w; gamma = value cut.gamma; u = says.u } ∷ []);
     used = ap (λ (s : State). s.used) stands;
     list = ap (λ (s : State). s.list) stands;
     started = has_same order.start trail said refl;
     preimages_stay = λ k. preimages_stay trail said k refl;
   })
-    where
-      stated : Stated
-      stated = record { w = map value cut.w; gamma = value cut.gamma; u = says.u }
-
-      stands : state task.file.objs (trail ++ said ∷ []) ≡ after task.file.objs (state task.file.objs trail) said
-      stands = state-push task.file.objs trail said
 
 -- ---- a pre-image
 point_in_order : (trail : List Entry) → IsTrue (has order.duality trail) → IsTrue (has order.start trail) →
@@ -107,10 +105,10 @@ given_elsewhere g k x other =
 module _ {F : Type 0} (value : F → ℚ) (task : Task) (trail : List Entry) (g : ℕ) (parts : Preimage F) (o : IsOpenTrail task trail)
     (started : IsTrue (has order.start trail)) (x m : List Spot) (x_is : IsSparseOf value parts.x x) (m_is : IsSparseOf value parts.m m)
     (short : is_short g ≡ true) (x_written : is_formed_part (sparse x) ≡ true) (m_written : is_formed_part (sparse m) ≡ true) where
-  q : ℕ
+  abbrev q : ℕ
   q = task.file.objs
 
-  generator : (t : Bool) → IsReached value task trail g t parts → Numbered
+  abbrev generator : (t : Bool) → IsReached value task trail g t parts → Numbered
   generator t r = record { number = g; vector = homogenised r.v (last_of t) }
 
   wide : (t : Bool) (r : IsReached value task trail g t parts) → length r.v ≡ q
@@ -169,6 +167,10 @@ module _ (task : Task) (trail : List Entry) (g : ℕ) (x m : List Spot) where
       more_by (Ray g x m) refl (has_same order.start trail (Ray g x m) refl) (given_here g x) (λ k other. given_elsewhere g k x other) fresh
 
 -- ---- the opening
+-- the entry is no end
+abbrev going : Entry → Type 0
+going e = IsTrue (not (is_end e))
+
 pub opened_open : (task : Task) (opening : Entry) (picks : List ℕ) (inverse : List ℚ) → opening ≡ Duality task.c task.weights picks inverse →
     ShowsFitting task.file task.c task.weights picks inverse → IsBaseDuality task.file task.file.cone task.file.duality task.c task.weights →
     (trail : List Entry) → trail ≡ Version 1 ∷ opening ∷ [] → All (λ (e : Entry). IsTrue (is_formed e)) trail → IsBegun task [] trail
@@ -186,9 +188,6 @@ opened_open task opening picks inverse is fits base trail same written =
       unstarted = refl;
       cuts_are = refl;
     })
-  where
-    abbrev going : Entry → Type 0
-    going e = IsTrue (not (is_end e))
 
 -- nothing of a fresh log has a pre-image
 pub opened_unreached : (trail : List Entry) (opening : Entry) (c weights : List ℚ) (picks : List ℕ) (inverse : List ℚ) →

@@ -1,0 +1,3 @@
+pub mod Outer
+pub mod Turned
+pub mod Used
