@@ -1,6 +1,7 @@
 //! Pairs of generators as entries name them.
-ghost use Rattle.std.specs.Prelude.{◌≡◌, All, IfOk, IsTrue, OnOk, map};
-ghost use Rattle.deriv_log.specs.Formed.{is_formed_pair};
+ghost use Rattle.std.specs.Prelude.{◌≡◌, IfOk, IsTrue, map};
+ghost use Rattle.deriv_log.specs.Formed.{is_formed_pair, is_formed_part};
+ghost use Rattle.deriv_log.specs.LogText.{pairs as pairs_part};
 ghost use Rattle.outer_turn.specs.Pairs.{named};
 
 use deriv_log::LogPair;
@@ -22,11 +23,12 @@ fn log_pair(pair: Pair) -> LogPair
 /// Pairs as an entry names them.
 pub(crate) fn log_pairs(alloc: Global, pairs: &[Pair]) -> Result<Items<LogPair>, NoMemory>
     ensures same { IfOk result (λ list. list ≡ map named pairs.now) }
-    ensures written { IfOk result (All (λ p. IsTrue (is_formed_pair p))) }
+    ensures written { IfOk result (λ list. IsTrue (is_formed_part (pairs_part list))) }
 {
     let mut list = Items::new(alloc);
     for pair in pairs {
         list.push(log_pair(*pair))?;
     }
+    let _count = list.len();
     Ok(list)
 }
