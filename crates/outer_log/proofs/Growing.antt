@@ -1,9 +1,9 @@
 -- Open trails entry by entry, and what the live generators of an outer trail are.
-use Rattle.std.proofs.Common.{◌≡◌, ◌≢◌, ℕ, suc, List, [], ◌∷◌, ◌++◌, map, length, All, Contains, refl, sym, ap, ◌∙◌, subst, arith, Bool, true, false, ◌||◌, ◌==◌, not, IsTrue, ◌⊎◌, inl, inr, nat_eq, Option, Some, None, append-nil, take}
+use Rattle.std.proofs.Common.{◌≡◌, ℕ, suc, List, [], ◌∷◌, ◌++◌, length, All, Contains, refl, sym, ap, ◌∙◌, subst, Bool, true, false, ◌||◌, ◌==◌, not, IsTrue, ◌⊎◌, inl, inr, Option, None, append-nil}
 use Rattle.std.specs.List.{cons_option, range_with_len}
 use Rattle.std.proofs.lemmas.List.Elements.{All-nil, All-cons, All-append, filter_map-append}
 use Rattle.std.proofs.lemmas.List.Folds.{list_any-append}
-use Rattle.exact_field.specs.Rational.{ℚ, zero_ℚ, one_ℚ, ◌≤ℚ◌}
+use Rattle.exact_field.specs.Rational.{ℚ, zero_ℚ, ◌≤ℚ◌}
 use Rattle.exact_field.specs.Vector.{dot}
 use Rattle.polyhedra.specs.Cone.{IsInCone}
 use Rattle.polyhedra.specs.Exactness.{homogenised}
@@ -106,6 +106,11 @@ pub live_generator : (task : Task) (trail : List Entry) (dd : Description) → I
 live_generator task trail dd h g live =
     let s = state task.file.objs trail in
     let here : Contains s.list.live g = subst (λ (l : LiveList). Contains l.live g) h.list live in
-    let parts = live_parts task trail h.open_trail h.started g here in
-    (parts.0, parts.1, parts.2, parts.3, subst (λ (rows : List (List ℚ)). All (λ (row : List ℚ). zero_ℚ ≤ℚ dot row g.vector) rows) (sym h.rows)
-    (live_within (suc task.file.objs) (rows_in_use task.file.objs s) s.list g (open_stands task trail h.open_trail h.started).is_live here))
+    let parts = live_parts task trail h.open_trail h.started g here in (
+      parts.0,
+      parts.1,
+      parts.2,
+      parts.3,
+      subst (λ (rows : List (List ℚ)). All (λ (row : List ℚ). zero_ℚ ≤ℚ dot row g.vector) rows) (sym h.rows)
+          (live_within (suc task.file.objs) (rows_in_use task.file.objs s) s.list g (open_stands task trail h.open_trail h.started).is_live here),
+    )

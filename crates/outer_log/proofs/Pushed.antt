@@ -1,10 +1,10 @@
 -- What a trail is after a cut or a pre-image.
-use Rattle.std.proofs.Common.{eq-eqb, ◌≡◌, ◌≢◌, ℕ, suc, List, [], ◌∷◌, ◌++◌, map, length, All, Contains, refl, sym, ap, ap₂, ◌∙◌, subst, arith, Bool, true, false, ◌==◌, true≢false, IsTrue, ◌⊎◌, inl, inr, not, Option, Some, None}
+use Rattle.std.proofs.Common.{eq-eqb, ◌≡◌, ◌≢◌, ℕ, List, [], ◌∷◌, ◌++◌, map, length, All, refl, sym, ap, ap₂, ◌∙◌, subst, arith, Bool, true, false, ◌==◌, true≢false, IsTrue, inl, inr, not, Option, Some, None}
 use Rattle.std.specs.List.{cons_option}
 use Rattle.std.proofs.lemmas.Bool.Decides.{eqb_tells}
 use Rattle.std.proofs.lemmas.List.Elements.{All-nil, All-cons}
 use Rattle.std.proofs.lemmas.List.{map-append}
-use Rattle.exact_field.specs.Rational.{ℚ, zero_ℚ, one_ℚ}
+use Rattle.exact_field.specs.Rational.{ℚ}
 use Rattle.polyhedra.specs.Exactness.{homogenised}
 use Rattle.polyhedra.specs.Inequality.{Inequality}
 use Rattle.polyhedra.specs.LiveList.{Numbered}
@@ -13,17 +13,18 @@ use Rattle.polyhedra.proofs.Tests.{both_hold}
 use Rattle.frac128.specs.Held.{is_held}
 use Rattle.frac128.specs.declared.vectors.Spot.{Spot}
 use Rattle.upper_image.specs.Shows.{ShowsAbove, ShowsCut, ShowsFitting}
+use Rattle.upper_image.specs.Spots.{dense, IsVector}
 use Rattle.deriv_log.specs.Formed.{is_formed, is_formed_part, is_short, is_end}
 use Rattle.deriv_log.specs.LogText.{sparse, vector}
 use Rattle.deriv_log.specs.declared.entry.Entry.{Entry}
 use Rattle.deriv_log.specs.declared.entry.Entry.TheVariants.{Version, Duality, Cut, Point, Ray}
-use Rattle.log_rules.specs.Live.{Stated, State, state, after, inequality, y_of, t_of, preimage_in, preimages}
-use Rattle.log_rules.specs.Meets.{Meets, IsOpen}
+use Rattle.log_rules.specs.Live.{State, state, after, inequality, y_of, preimage_in, preimages}
+use Rattle.log_rules.specs.Meets.{IsOpen}
 use Rattle.log_rules.specs.Order.{has, in_order}
 use Rattle.log_rules.specs.Order as order
 use Rattle.log_rules.proofs.Entries.{state-push}
 use Rattle.log_rules.proofs.NormedMembers.{front-homogenised, last-homogenised}
-use Rattle.licence.specs.Base.{IsLiveAfter, last_of}
+use Rattle.licence.specs.Base.{last_of}
 use Rattle.licence.specs.Trails.{IsBaseDuality, IsBasePoint, IsBaseDirection, IsLiveAt}
 use Rattle.licence.specs.Licence.{opening as first_two}
 use Rattle.licence.proofs.Growing.{trail_laws}
@@ -32,7 +33,7 @@ use Rattle.benson_program.specs.declared.cut.Cut.{Cut as CutOf}
 use Rattle.benson_program.specs.declared.preimage.Preimage.{Preimage}
 use Rattle.outer_log.specs.Cuts.{IsCutFor, SaysCut, said_by}
 use Rattle.outer_log.specs.Preimages.{IsReached}
-use Rattle.outer_log.specs.Standing.{IsOpenTrail, IsBegun, HasCutMore, HasPreimageMore, cuts_of}
+use Rattle.outer_log.specs.Standing.{IsOpenTrail, IsBegun, HasCutMore, HasPreimageMore}
 use Rattle.outer_log.specs.Task.{Task}
 use Rattle.outer_log.proofs.Growing.{has_same, preimages_more, preimages_stay, grows, live_parts}
 
@@ -49,6 +50,17 @@ preimage_written g x m h k l =
     let all = both_hold (is_short g) _ h (both_hold (is_formed_part (sparse x)) _ k (both_hold (is_formed_part (sparse m)) true l refl)) in
     (all, all)
 
+-- ---- sparse vectors
+pub sparse_of : {F : Type 0} (value : F → ℚ) (list slice : List F) (spots : List Spot) → slice ≡ list → IsVector (length slice) spots →
+    dense (length slice) spots ≡ map value slice → IsSparseOf value list spots
+sparse_of {F} value list slice spots same places numbers =
+    subst (λ (xs : List F). IsSparseOf value xs spots) same (record { vector = places; same = numbers })
+
+pub says_cut : {F : Type 0} (value : F → ℚ) (cut : CutOf F) (w : List ℚ) (gamma : ℚ) (u v : List Spot) → w ≡ map value cut.w → gamma ≡ value cut.gamma →
+    IsSparseOf value cut.u u → IsSparseOf value cut.v v → IsTrue (is_formed (Cut w gamma u v)) → SaysCut value cut (Cut w gamma u v)
+says_cut value cut w gamma u v w_is gamma_is u_is v_is written =
+    record { u = u; v = v; is = ap₂ (λ (x : List ℚ) (y : ℚ). Cut x y u v) w_is gamma_is; u_is = u_is; v_is = v_is; written = written }
+
 -- ---- a cut
 -- a cut may stand behind a duality entry
 cut_in_order : (trail : List Entry) → IsTrue (has order.duality trail) → IsTrue (in_order trail order.cut)
@@ -63,8 +75,11 @@ module _ {F : Type 0} (value : F → ℚ) (task : Task) (cut : CutOf F) (trail :
   pub cut_open : IsCutFor value task cut → IsOpenTrail task (trail ++ e ∷ [])
   cut_open h = subst (λ (d : Entry). IsOpenTrail task (trail ++ d ∷ [])) (sym says.is)
       (grows task trail said o
-      (record { order = cut_in_order trail o.duality; rules = subst (λ (d : List ℚ). ShowsCut task.file d (map value cut.w) (value cut.gamma) says.u says.v)
-          (sym (trail_laws.duality task.file task.c task.weights trail o.base o.duality)) (h.shown says.u says.v says.u_is says.v_is) })
+      (record {
+        order = cut_in_order trail o.duality;
+        rules = subst (λ (d : List ℚ). ShowsCut task.file d (map value cut.w) (value cut.gamma) says.u says.v)
+            (sym (trail_laws.duality task.file task.c task.weights trail o.base o.duality)) (h.shown says.u says.v says.u_is says.v_is);
+      })
       (h.base says.u says.v says.u_is says.v_is) (subst (λ (d : Entry). IsTrue (is_formed d)) says.is says.written) refl refl)
 
   stands : state task.file.objs (trail ++ said ∷ []) ≡ after task.file.objs (state task.file.objs trail) said
@@ -92,7 +107,7 @@ point_in_order (t ∷ trail) h k =
 given_here : (k : ℕ) (x : List Spot) → cons_option (elim (k == k) as (λ _. Option (List Spot)) [ true ↦ Some x | false ↦ None ]) [] ≢ []
 given_here k x e =
     let one : 1 ≡ 0 = ap (λ (xs : List (List Spot)). length xs)
-        (ap (λ (b : Bool). cons_option (elim b as (λ _. Option (List Spot)) [ true ↦ Some x | false ↦ None ]) []) (sym (eq-eqb k k refl)) ∙ e) in
+    (ap (λ (b : Bool). cons_option (elim b as (λ _. Option (List Spot)) [ true ↦ Some x | false ↦ None ]) []) (sym (eq-eqb k k refl)) ∙ e) in
     omega (arith, one)
 
 given_elsewhere : (g k : ℕ) (x : List Spot) → k ≢ g → (elim (g == k) as (λ _. Option (List Spot)) [ true ↦ Some x | false ↦ None ]) ≡ None
@@ -203,3 +218,18 @@ begun_more task cuts cut old new h o more = record {
   unstarted = more.started ∙ h.unstarted;
   cuts_are = more.cuts ∙ ap (λ (es : List Inequality). es ++ cut ∷ []) h.cuts_are;
 }
+
+-- the cuts are those of a list, none in use, and nothing has a pre-image
+pub record IsFilled {F : Type 0} (value : F → ℚ) (task : Task) (cuts : List (CutOf F)) (trail : List Entry) : Type 0 where
+  pub begun : IsBegun task (map (said_by value) cuts) trail
+  pub unreached : (k : ℕ) → preimages trail k ≡ []
+
+pub filled_more : {F : Type 0} (value : F → ℚ) (task : Task) (cuts longer : List (CutOf F)) (cut : CutOf F) (old new : List Entry) →
+    longer ≡ cuts ++ cut ∷ [] → IsFilled value task cuts old → IsOpenTrail task new → HasCutMore task (said_by value cut) old new →
+    IsFilled value task longer new
+filled_more {F} value task cuts longer cut old new same h o more =
+    subst (λ (all : List (CutOf F)). IsFilled value task all new) (sym same) (record {
+      begun = subst (λ (es : List Inequality). IsBegun task es new) (sym (map-append (said_by value) cuts (cut ∷ [])))
+          (begun_more task (map (said_by value) cuts) (said_by value cut) old new h.begun o more);
+      unreached = λ k. more.preimages_stay k ∙ h.unreached k;
+    })

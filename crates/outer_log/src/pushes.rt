@@ -45,11 +45,7 @@ pub fn push_cut_entry<F: Field>(
 }
 
 /// Appends a cut.
-pub fn push_cut<F: Field>(
-    alloc: Global,
-    trail: &mut Entries,
-    cut: &Cut<F>,
-) -> Result<(), NoMemory>
+pub fn push_cut<F: Field>(alloc: Global, trail: &mut Entries, cut: &Cut<F>) -> Result<(), NoMemory>
     ghost task: { Task }
     requires trail { IsOpenTrail task trail.old }
     requires cut { IsCutFor F.value task cut.now }
