@@ -6,8 +6,8 @@ use Rattle.cone_gens.specs.Generators.{AreConeRows}
 use Rattle.cone_gens.proofs.Licences.{cone_addition, overflow_licensed, setting}
 use Rattle.cone_gens.proofs.dual.add_row.Goals as goal
 
-pub returns-in-Err-clause-left : goal.returns-in-Err-clause-left
-returns-in-Err-clause-left g c =
+pub returns-clause-left : goal.returns-clause-left
+returns-clause-left g c =
     let holds = g.F.Field.holds in
     let row = map g.F.Field.value c.args.row.now in
     let dd = c.args.dd.now in

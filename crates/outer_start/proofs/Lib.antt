@@ -1,0 +1,4 @@
+pub mod Beginning
+pub mod Corner
+pub mod Numbers
+pub mod Pieces
