@@ -1,5 +1,5 @@
 -- An outer trail and its double description after one more cut.
-use Rattle.std.proofs.Common.{◌≡◌, ℕ, List, [], ◌∷◌, ◌++◌, map, length, refl, sym, ap, ◌∙◌, subst, true, false, true≢false, not, IsTrue, Bool}
+use Rattle.std.proofs.Common.{◌≡◌, ℕ, List, [], ◌∷◌, ◌++◌, length, refl, sym, ap, ◌∙◌, subst, false, true≢false, not, IsTrue, Bool}
 use Rattle.std.specs.List.{range_with_len}
 use Rattle.exact_field.specs.Rational.{ℚ}
 use Rattle.polyhedra.specs.Exactness.{row_of}

@@ -1,5 +1,5 @@
 -- What stands after one more cut and the entry that brings it into use.
-use Rattle.std.proofs.Common.{◌≡◌, ℕ, suc, ◌+◌, ◌≤◌, List, [], ◌∷◌, ◌++◌, map, length, Contains, refl, sym, ap, ap₂, ◌∙◌, subst, arith, append-nil, length-append}
+use Rattle.std.proofs.Common.{◌≡◌, ℕ, suc, ◌+◌, ◌≤◌, List, [], ◌∷◌, ◌++◌, map, length, Contains, sym, ap, ap₂, ◌∙◌, subst, arith, append-nil, length-append}
 use Rattle.std.specs.List.{range_with_len}
 use Rattle.std.proofs.lemmas.List.{length-map, map-append}
 use Rattle.exact_field.specs.Rational.{ℚ}
@@ -9,7 +9,7 @@ use Rattle.polyhedra.specs.LiveList.{LiveList, step}
 use Rattle.vlp_reader.specs.declared.problem.Problem.{Problem}
 use Rattle.deriv_log.specs.declared.entry.LogPair.{LogPair}
 use Rattle.deriv_log.specs.declared.entry.Entry.TheVariants.{Add}
-use Rattle.log_rules.specs.Live.{Stated, State, after, inequality, cut_at, cut_row, in_use, rows_in_use, required_pairs}
+use Rattle.log_rules.specs.Live.{State, after, inequality, cut_row, in_use, rows_in_use, required_pairs}
 use Rattle.log_rules.specs.Meets.{MeetsAdd}
 use Rattle.outer_turn.proofs.Used.{range_more, in_range, first_used, next_row}
 

@@ -1,13 +1,13 @@
 -- Cuts that are in use in their order, and what one more cut behind them changes.
-use Rattle.std.proofs.Common.{◌≡◌, ℕ, zero, suc, ◌+◌, ◌-◌, ◌<◌, ◌≤◌, List, [], ◌∷◌, ◌++◌, map, length, Contains, refl, sym, ap, ap₂, ◌∙◌, subst, arith, append_assoc, length-append, slice_index_or}
+use Rattle.std.proofs.Common.{◌≡◌, ℕ, zero, suc, ◌+◌, ◌-◌, ◌<◌, ◌≤◌, List, [], ◌∷◌, ◌++◌, map, length, Contains, refl, sym, ap, ap₂, ◌∙◌, arith, append_assoc, length-append, slice_index_or}
 use Rattle.std.specs.List.{range_with_len}
 use Rattle.std.proofs.Math.Seq.{get_or-append_seam}
-use Rattle.std.proofs.lemmas.List.{length-map, map-append, map-id}
+use Rattle.std.proofs.lemmas.List.{map-id}
 use Rattle.std.proofs.lemmas.List.FromFn.{length-range_with_len, get_or-range_with_len, map-range_with_len_more}
-use Rattle.exact_field.specs.Rational.{ℚ, zero_ℚ}
-use Rattle.polyhedra.specs.Exactness.{row_of, rows_of}
+use Rattle.exact_field.specs.Rational.{zero_ℚ}
+use Rattle.polyhedra.specs.Exactness.{row_of}
 use Rattle.polyhedra.specs.Inequality.{Inequality}
-use Rattle.log_rules.specs.Live.{Stated, State, inequality, cut_at, cut_row, in_use, rows_in_use}
+use Rattle.log_rules.specs.Live.{Stated, State, inequality, cut_at, cut_row, in_use}
 
 -- ---- numbers from 1
 pub range_more : (n : ℕ) → range_with_len 1 (n + 1) ≡ range_with_len 1 n ++ (n + 1) ∷ []

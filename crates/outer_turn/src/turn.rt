@@ -23,12 +23,7 @@ use src_sink::NoMemory;
 use std::alloc::Global;
 
 /// Appends the entry of a cut that comes into use, with the pairs that give new generators.
-fn push_add(
-    alloc: Global,
-    trail: &mut Entries,
-    cut: u32,
-    pairs: &[Pair],
-) -> Result<(), NoMemory>
+fn push_add(alloc: Global, trail: &mut Entries, cut: u32, pairs: &[Pair]) -> Result<(), NoMemory>
     ensures ok { OnOk result (trail.new ≡ trail.old ++ entry_of.Add cut (map named pairs.now) ∷ []) }
     ensures written { OnOk result (IsTrue (is_formed (entry_of.Add cut (map named pairs.now)))) }
     ensures err { OnErr result (trail.new ≡ trail.old) }
