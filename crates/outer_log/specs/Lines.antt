@@ -1,5 +1,5 @@
 -- A line of an image, with what shows it.
-use Rattle.std.specs.Prelude.{◌≡◌, false, List, map, length, All}
+use Rattle.std.specs.Prelude.{false, List, map, All}
 use Rattle.exact_field.specs.Rational.{ℚ}
 use Rattle.polyhedra.specs.Negatives.{negated}
 use Rattle.licence.specs.Base.{IsBaseChoice, IsBaseNormal, IsSide}

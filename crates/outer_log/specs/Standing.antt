@@ -1,7 +1,6 @@
 -- The log of an outer approximation as it grows, and its double description, which stand for the same cuts.
-use Rattle.std.specs.Prelude.{◌≡◌, ◌≢◌, ℕ, suc, Bool, false, not, List, [], ◌∷◌, ◌++◌, map, length, All, IsTrue}
+use Rattle.std.specs.Prelude.{◌≡◌, ◌≢◌, ℕ, suc, false, not, List, [], ◌∷◌, ◌++◌, map, length, All, IsTrue}
 use Rattle.std.specs.List.{range_with_len}
-use Rattle.exact_field.specs.Rational.{ℚ}
 use Rattle.polyhedra.specs.Inequality.{Inequality}
 use Rattle.deriv_log.specs.Formed.{is_formed, is_end, IsLog}
 use Rattle.deriv_log.specs.declared.entry.Entry.{Entry}

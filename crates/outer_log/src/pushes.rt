@@ -1,5 +1,6 @@
 //! Entries of cuts and of pre-images.
 ghost use Rattle.std.specs.Prelude.{◌≡◌, ◌++◌, ◌∷◌, [], ℕ, List, map, All, IsTrue, IfOk, OnOk, OnErr};
+ghost use Rattle.deriv_log.specs.Formed.{is_formed};
 ghost use Rattle.deriv_log.specs.declared.entry.Entry.{Entry as EntryOf};
 ghost use Rattle.deriv_log.specs.declared.entry.Entry.TheVariants as entry_of;
 ghost use Rattle.exact_field.specs.Rational.{ℚ};
@@ -16,8 +17,11 @@ ghost use Rattle.upper_image.specs.Shows.{ShowsFitting};
 use benson_program::{Cut, Preimage};
 use deriv_log::{Entries, Entry};
 use exact_field::Field;
-use overflows::{fractions, spots_of};
-use src_sink::NoMemory;
+use frac128::frac_of;
+use overflows::{
+    duality_is_written, fractions, fractions_are_written, spots_are_written, spots_of,
+};
+use src_sink::{Items, NoMemory};
 use std::alloc::Global;
 
 /// Appends the entry of a cut to any list of entries.
@@ -30,18 +34,18 @@ pub fn push_cut_entry<F: Field>(
     ensures err { OnErr result (entries.new ≡ entries.old) }
 {
     let w = fractions(alloc, cut.w.as_slice())?;
-    let gamma = fraction(cut.gamma);
+    let gamma = frac_of(cut.gamma);
     let u = spots_of(alloc, cut.u.as_slice())?;
     let v = spots_of(alloc, cut.v.as_slice())?;
+    fractions_are_written(w.as_slice());
+    let _num = gamma.num();
+    spots_are_written(u.as_slice());
+    spots_are_written(v.as_slice());
     entries.push(Entry::Cut { w, gamma, u, v })
 }
 
 /// Appends a cut.
-pub fn push_cut<F: Field>(
-    alloc: Global,
-    trail: &mut Entries,
-    cut: &Cut<F>,
-) -> Result<(), NoMemory>
+pub fn push_cut<F: Field>(alloc: Global, trail: &mut Entries, cut: &Cut<F>) -> Result<(), NoMemory>
     ghost task: { Task }
     requires trail { IsOpenTrail task trail.old }
     requires cut { IsCutFor F.value task cut.now }
@@ -70,11 +74,25 @@ pub fn push_preimage<F: Field>(
 {
     let x = spots_of(alloc, parts.x.as_slice())?;
     let m = spots_of(alloc, parts.m.as_slice())?;
+    spots_are_written(x.as_slice());
+    spots_are_written(m.as_slice());
     if t {
         trail.push(Entry::Point { generator: g, x, m })
     } else {
         trail.push(Entry::Ray { generator: g, x, m })
     }
+}
+
+/// A `version` entry and a `duality` entry.
+fn opened(alloc: Global, opening: Entry) -> Result<Entries, NoMemory>
+    ensures entries { IfOk result (λ entries. entries ≡ entry_of.Version 1 ∷ opening ∷ []) }
+    ensures written { (c weights : List ℚ) (picks : List ℕ) (inverse : List ℚ) → opening ≡ entry_of.Duality c weights picks inverse → IfOk result (λ entries. All (λ e. IsTrue (is_formed e)) entries) }
+{
+    duality_is_written(&opening);
+    let mut entries = Items::new(alloc);
+    entries.push(Entry::Version(1))?;
+    entries.push(opening)?;
+    Ok(entries)
 }
 
 /// The entries of a log that begins with a duality entry and has these cuts.

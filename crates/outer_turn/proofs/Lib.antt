@@ -1,0 +1,4 @@
+pub mod Added
+pub mod Outer
+pub mod Turned
+pub mod Used

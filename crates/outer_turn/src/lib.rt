@@ -1,0 +1,8 @@
+//! One more cut of an outer approximation: its entries, and the step of the double description.
+#![tactic(auto)]
+
+mod pairs;
+mod row;
+mod turn;
+
+pub use turn::take;

@@ -1,0 +1,58 @@
+//! A cut that comes into use.
+ghost use Rattle.std.specs.Prelude.{◌≡◌, ◌++◌, ◌∷◌, [], ℕ, map, IfErr, IsTrue, OnErr, OnOk};
+ghost use Rattle.deriv_log.specs.Formed.{is_formed};
+ghost use Rattle.deriv_log.specs.declared.entry.Entry.TheVariants as entry_of;
+ghost use Rattle.log_rules.specs.Live.{preimages};
+ghost use Rattle.outer_log.specs.Cuts.{IsCutFor, said_by};
+ghost use Rattle.outer_log.specs.Standing.{IsOpenTrail, IsOuter};
+ghost use Rattle.outer_log.specs.Task.{Task, behind};
+ghost use Rattle.outer_turn.specs.Pairs.{named};
+ghost use Rattle.overflows.specs.Faults.{Overflows};
+ghost use Rattle.polyhedra.specs.Exactness.{row_of};
+
+use crate::pairs::log_pairs;
+use crate::row::cut_row;
+use benson_program::Cut;
+use dd_overflows::add_fault;
+use deriv_log::{Entries, Entry, Family};
+use double_descr::{Dd, Pair};
+use exact_field::Field;
+use outer_log::push_cut;
+use overflows::SolveFault;
+use src_sink::NoMemory;
+use std::alloc::Global;
+
+/// Appends the entry of a cut that comes into use, with the pairs that give new generators.
+fn push_add(alloc: Global, trail: &mut Entries, cut: u32, pairs: &[Pair]) -> Result<(), NoMemory>
+    ensures ok { OnOk result (trail.new ≡ trail.old ++ entry_of.Add cut (map named pairs.now) ∷ []) }
+    ensures written { OnOk result (IsTrue (is_formed (entry_of.Add cut (map named pairs.now)))) }
+    ensures err { OnErr result (trail.new ≡ trail.old) }
+{
+    let pairs = log_pairs(alloc, pairs)?;
+    trail.push(Entry::Add { cut, pairs })
+}
+
+/// Brings one more cut into use. After an overflow it stands behind the others and is not in use.
+pub fn take<F: Field>(
+    alloc: Global,
+    trail: &mut Entries,
+    dd: &mut Dd<F>,
+    cut: &Cut<F>,
+) -> Result<(), SolveFault>
+    ghost task: { Task }
+    requires outer { IsOuter task trail.old dd.old }
+    requires cut { IsCutFor F.value task cut.now }
+    ensures ok { OnOk result (IsOuter task trail.new dd.new) }
+    ensures rows { OnOk result (dd.new.rows ≡ dd.old.rows ++ row_of (said_by F.value cut.now) ∷ []) }
+    ensures preimages { OnOk result ((k : ℕ) → preimages trail.new k ≡ preimages trail.old k) }
+    ensures trail { IsOpenTrail task trail.new }
+    ensures left { IfErr result (Overflows F.holds (behind task trail.new) []) }
+{
+    let row = cut_row(alloc, cut)?;
+    let number = dd.row_count();
+    push_cut(alloc, trail, cut)?;
+    match dd.add(row.as_slice()) {
+        Ok(change) => Ok(push_add(alloc, trail, number, change.pairs.as_slice())?),
+        Err(fault) => Err(add_fault(alloc, Family::Image, dd, row.as_slice(), fault)),
+    }
+}
