@@ -7,7 +7,8 @@ use Rattle.frac128.specs.declared.vectors.Spot.{Spot}
 use Rattle.vlp_reader.specs.Sides.{IsFeasible}
 use Rattle.upper_image.specs.Shows.{ShowsFeasible, ShowsFitting}
 use Rattle.upper_image.specs.Spots.{dense}
-use Rattle.deriv_log.specs.Formed.{IsLog, ends_once, is_formed}
+use Rattle.deriv_log.specs.Formed.{IsLog, ends_once, is_formed, is_formed_part}
+use Rattle.deriv_log.specs.LogText.{sparse, vector}
 use Rattle.deriv_log.specs.declared.entry.EndKind.TheVariants as kind
 use Rattle.deriv_log.specs.declared.entry.Entry.{Entry}
 use Rattle.deriv_log.specs.declared.entry.Entry.TheVariants.{Version, Duality, Cut, Line, End}
@@ -27,6 +28,42 @@ use Rattle.outer_ends.specs.Lined.{SaysLine}
 -- the entries of the log
 abbrev pub line_entries : Entry → Entry → Entry → List Entry
 line_entries opening cut line = Version 1 ∷ opening ∷ cut ∷ line ∷ End kind.NoVertex ∷ []
+
+-- the entries, pushed one by one
+pub line_pushed : (opening d e : Entry) (none one two three four five : List Entry) → none ≡ [] → one ≡ none ++ Version 1 ∷ [] → two ≡ one ++ opening ∷ [] →
+    three ≡ two ++ d ∷ [] → four ≡ three ++ e ∷ [] → five ≡ four ++ End kind.NoVertex ∷ [] → five ≡ line_entries opening d e
+line_pushed opening d e none one two three four five h i j k l m =
+    let a : one ≡ Version 1 ∷ [] = i ∙ ap (λ es. es ++ Version 1 ∷ []) h in
+    let b : two ≡ Version 1 ∷ opening ∷ [] = j ∙ ap (λ es. es ++ opening ∷ []) a in
+    let c : three ≡ Version 1 ∷ opening ∷ d ∷ [] = k ∙ ap (λ es. es ++ d ∷ []) b in
+    m ∙ ap (λ es. es ++ End kind.NoVertex ∷ []) (l ∙ ap (λ es. es ++ e ∷ []) c)
+
+module _ {F : Type 0} (value : F → ℚ) where
+  -- a list of the field's numbers in a slice, with its sparse vector
+  pub of_slice : (list slice : List F) (spots : List Spot) → slice ≡ list → IsSparseOf value slice spots → IsSparseOf value list spots
+  of_slice list slice spots same h = subst (λ (xs : List F). IsSparseOf value xs spots) same h
+
+  -- the entry of a line, by its parts
+  pub line_said : (line : LineOf F) (d : List ℚ) (x ray m back n : List Spot) → d ≡ map value line.d → IsTrue (is_formed_part (vector d)) →
+      IsSparseOf value line.x x → IsTrue (is_formed_part (sparse x)) → IsSparseOf value line.forth.x ray → IsTrue (is_formed_part (sparse ray)) →
+      IsSparseOf value line.forth.m m → IsTrue (is_formed_part (sparse m)) → IsSparseOf value line.back.x back → IsTrue (is_formed_part (sparse back)) →
+      IsSparseOf value line.back.m n → IsTrue (is_formed_part (sparse n)) → SaysLine value line (Line d x ray m back n)
+  line_said line d x ray m back n d_is d_written x_is x_written ray_is ray_written m_is m_written back_is back_written n_is n_written = record {
+    x = x;
+    ray = ray;
+    m = m;
+    back = back;
+    n = n;
+    is = ap (λ v. Line v x ray m back n) d_is;
+    x_is = x_is;
+    ray_is = ray_is;
+    m_is = m_is;
+    back_is = back_is;
+    n_is = n_is;
+    written = both_hold (is_formed_part (vector d)) _ d_written (both_hold (is_formed_part (sparse x)) _ x_written
+        (both_hold (is_formed_part (sparse ray)) _ ray_written (both_hold (is_formed_part (sparse m)) _ m_written
+        (both_hold (is_formed_part (sparse back)) _ back_written (both_hold (is_formed_part (sparse n)) true n_written refl)))));
+  }
 
 module _ {F : Type 0} (value : F → ℚ) (task : Task) (picks : List ℕ) (inverse : List ℚ) (line : LineOf F)
     (fits : ShowsFitting task.file task.c task.weights picks inverse) (base : IsBaseDuality task.file task.file.cone task.file.duality task.c task.weights)

@@ -1,5 +1,5 @@
 //! The log of an image with a line.
-ghost use Rattle.std.specs.Prelude.{◌≡◌, ◌++◌, ◌∷◌, [], ℕ, List, map, IfOk, OnOk, IsTrue};
+ghost use Rattle.std.specs.Prelude.{◌≡◌, ◌≤◌, ◌++◌, ◌∷◌, [], ℕ, List, length, map, IfOk, OnOk, IsTrue};
 ghost use Rattle.deriv_log.specs.Formed.{is_formed_part};
 ghost use Rattle.deriv_log.specs.LogText as part;
 ghost use Rattle.deriv_log.specs.declared.entry.Entry.{Entry as EntryOf};
@@ -45,11 +45,7 @@ fn written_spots<F: Field>(alloc: Global, list: &[F]) -> Result<Sparse, NoMemory
 }
 
 /// Appends the entry of a line.
-fn push_line<F: Field>(
-    alloc: Global,
-    entries: &mut Entries,
-    line: &Line<F>,
-) -> Result<(), NoMemory>
+fn push_line<F: Field>(alloc: Global, entries: &mut Entries, line: &Line<F>) -> Result<(), NoMemory>
     ensures { OnOk result ((e : EntryOf) × SaysLine F.value line.now e × (entries.new ≡ entries.old ++ e ∷ [])) }
 {
     let d = written_vector(alloc, line.d.as_slice())?;
@@ -58,7 +54,14 @@ fn push_line<F: Field>(
     let m = written_spots(alloc, line.forth.m.as_slice())?;
     let back = written_spots(alloc, line.back.x.as_slice())?;
     let n = written_spots(alloc, line.back.m.as_slice())?;
-    entries.push(Entry::Line { d, x, ray, m, back, n })
+    entries.push(Entry::Line {
+        d,
+        x,
+        ray,
+        m,
+        back,
+        n,
+    })
 }
 
 /// The log of an image with a line.
