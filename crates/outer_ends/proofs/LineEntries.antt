@@ -1,5 +1,5 @@
 -- The log of an image with a line.
-use Rattle.std.proofs.Common.{◌≡◌, ℕ, ◌≤◌, List, [], ◌∷◌, ◌++◌, map, length, All, IsTrue, Bool, true, false, refl, sym, ap, ◌∙◌, subst}
+use Rattle.std.proofs.Common.{◌≡◌, ℕ, ◌≤◌, List, [], ◌∷◌, ◌++◌, map, length, All, IsTrue, true, refl, sym, ap, ◌∙◌, subst}
 use Rattle.std.proofs.lemmas.List.{length-map}
 use Rattle.exact_field.specs.Rational.{ℚ}
 use Rattle.polyhedra.proofs.Tests.{both_hold}
@@ -12,13 +12,12 @@ use Rattle.deriv_log.specs.LogText.{sparse, vector}
 use Rattle.deriv_log.specs.declared.entry.EndKind.TheVariants as kind
 use Rattle.deriv_log.specs.declared.entry.Entry.{Entry}
 use Rattle.deriv_log.specs.declared.entry.Entry.TheVariants.{Version, Duality, Cut, Line, End}
-use Rattle.log_rules.specs.Meets.{Meets, MeetsLine}
+use Rattle.log_rules.specs.Meets.{Meets}
 use Rattle.licence.specs.Base.{IsBaseChoice}
 use Rattle.licence.specs.Trails.{IsBaseDirection, IsBaseDuality, IsBaseLine, IsBaseTrail}
 use Rattle.licence.proofs.Growing.{grows, trail_laws}
 use Rattle.benson_program.specs.Sparse.{IsSparseOf}
-use Rattle.benson_program.specs.declared.cut.Cut.{Cut as CutOf}
-use Rattle.outer_log.specs.Cuts.{IsCutFor, SaysCut}
+use Rattle.outer_log.specs.Cuts.{SaysCut}
 use Rattle.outer_log.specs.Lines.{IsLineFor}
 use Rattle.outer_log.specs.Standing.{IsEnded}
 use Rattle.outer_log.specs.Task.{Task}

@@ -1,12 +1,12 @@
 -- Facets that are named behind an outer trail, and the end behind them.
-use Rattle.std.proofs.Common.{◌≡◌, ◌≢◌, ℕ, suc, ◌+◌, ◌-◌, ◌<◌, ◌≤◌, List, [], ◌∷◌, ◌++◌, map, length, All, AllPairs, Contains, Bool, true, false, true≢false, not, ◌&&◌, IsTrue, fold, refl, sym, ap, ap₂, ◌∙◌, subst, slice_index_or, append_assoc, append-nil, arith}
-use Rattle.std.specs.List.{list_all, filter_map, range_with_len}
+use Rattle.std.proofs.Common.{◌≡◌, ◌≢◌, ℕ, suc, ◌+◌, ◌-◌, ◌<◌, ◌≤◌, List, [], ◌∷◌, ◌++◌, map, length, All, AllPairs, Contains, Bool, true, false, true≢false, not, IsTrue, fold, refl, sym, ap, ap₂, ◌∙◌, subst, slice_index_or, append_assoc, append-nil, arith}
+use Rattle.std.specs.List.{filter_map, range_with_len}
 use Rattle.std.proofs.lemmas.List.{map-append, length-map}
 use Rattle.std.proofs.lemmas.List.Elements.{All-append, All-cons, All-head, All-map, All-nil, All-push, All-tail, All-weaker, Contains-append_right, filter_map-append}
 use Rattle.std.proofs.lemmas.List.Folds.{list_any_none}
 use Rattle.std.proofs.lemmas.List.FromFn.{get_or-map-range_with_len, get_or-range_with_len, length-range_with_len}
 use Rattle.std.proofs.lemmas.List.Sums.{fold-append}
-use Rattle.exact_field.specs.Rational.{ℚ, zero_ℚ}
+use Rattle.exact_field.specs.Rational.{zero_ℚ}
 use Rattle.polyhedra.specs.Exactness.{IsAccounted, IsNamed, TightLiesIn, row_of, rows_of}
 use Rattle.polyhedra.specs.FirstNamed.{named_first}
 use Rattle.polyhedra.specs.Inequality.{Inequality}
@@ -15,7 +15,7 @@ use Rattle.polyhedra.proofs.FirstNamed.{first_account}
 use Rattle.polyhedra.proofs.Lists.{Contains-here, all_from_map}
 use Rattle.polyhedra.proofs.Members.{member_of, pairs-head, pairs-tail}
 use Rattle.polyhedra.proofs.Tests.{both_hold, true-list_all}
-use Rattle.deriv_log.specs.Formed.{IsLog, is_end, is_formed, is_short}
+use Rattle.deriv_log.specs.Formed.{is_end, is_formed, is_short}
 use Rattle.deriv_log.specs.declared.entry.EndKind.TheVariants as kind
 use Rattle.deriv_log.specs.declared.entry.Entry.{Entry}
 use Rattle.deriv_log.specs.declared.entry.Entry.TheVariants.{End, Facet}
@@ -24,7 +24,6 @@ use Rattle.double_descr.specs.State.{State as Description}
 use Rattle.geo_duality.specs.Facets.{facet_rows}
 use Rattle.geo_duality.specs.Facets as geo
 use Rattle.geo_duality.proofs.FacetRows.{facets_within}
-use Rattle.vlp_reader.specs.declared.problem.Problem.{Problem}
 use Rattle.log_rules.specs.Live.{State, after, cut_at, cut_row, in_use, inequality, live_vectors, named, named_in, nothing, preimage_in, preimages, state}
 use Rattle.log_rules.specs.Meets.{Meets, MeetsFacet, MeetsSolved}
 use Rattle.log_rules.specs.Order.{has, in_order}

@@ -1,4 +1,4 @@
-use Rattle.std.proofs.Common.{◌≡◌, ℕ, ◌+◌, slice_index_or, List, [], ◌∷◌, ◌++◌, map, take, sym, ap, ◌∙◌, append_assoc}
+use Rattle.std.proofs.Common.{slice_index_or, [], ◌∷◌, ◌++◌, take, sym, ap, ◌∙◌, append_assoc}
 use Rattle.std.proofs.lemmas.List.{map-append, take_all, take_more}
 use Rattle.deriv_log.specs.declared.entry.Entry.TheVariants.{Facet}
 use Rattle.outer_ends.proofs.NamedFacets.{naming}

@@ -1,4 +1,4 @@
-use Rattle.std.proofs.Common.{◌≡◌, ◌≢◌, ℕ, List, [], ◌∷◌, ◌++◌, All, IsTrue, sym, ap, ◌∙◌, subst}
+use Rattle.std.proofs.Common.{◌≡◌, ℕ, List, [], ◌∷◌, ◌++◌, All, IsTrue, sym, ap, ◌∙◌, subst}
 use Rattle.deriv_log.specs.Formed.{is_short}
 use Rattle.deriv_log.specs.declared.entry.EndKind.TheVariants.{Solved}
 use Rattle.deriv_log.specs.declared.entry.Entry.{Entry}
