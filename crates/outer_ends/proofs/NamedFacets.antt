@@ -1,6 +1,7 @@
 -- Facets that are named behind an outer trail, and the end behind them.
 use Rattle.std.proofs.Common.{◌≡◌, ◌≢◌, ℕ, suc, ◌+◌, ◌-◌, ◌<◌, ◌≤◌, List, [], ◌∷◌, ◌++◌, map, length, All, AllPairs, Contains, Bool, true, false, true≢false, not, IsTrue, fold, refl, sym, ap, ap₂, ◌∙◌, subst, slice_index_or, append_assoc, append-nil, arith}
 use Rattle.std.specs.List.{filter_map, range_with_len}
+use Rattle.std.proofs.lemmas.Bool.{not-true}
 use Rattle.std.proofs.lemmas.List.{map-append, length-map}
 use Rattle.std.proofs.lemmas.List.Elements.{All-append, All-cons, All-head, All-map, All-nil, All-push, All-tail, All-weaker, Contains-append_right, filter_map-append}
 use Rattle.std.proofs.lemmas.List.Folds.{list_any_none}
@@ -52,16 +53,13 @@ earlier R (y ∷ before) x rest h = All-cons (λ z. R z x) y before
     (member_of (R y) (before ++ x ∷ rest) x (pairs-head R y (before ++ x ∷ rest) h) (Contains-append_right before (x ∷ rest) x (Contains-here x rest x refl)))
     (earlier R before x rest (pairs-tail R y (before ++ x ∷ rest) h))
 
+-- each number from 1 to n is listed
 in_range : (n k : ℕ) → 1 ≤ k → k ≤ n → Contains (range_with_len 1 n) k
 in_range n k a b = (
   k - 1,
   (let l : length (range_with_len 1 n) ≡ n = length-range_with_len 1 n in omega (arith, l, a, b)),
   get_or-range_with_len 1 n (k - 1) k (omega (arith, a, b)) ∙ (let e : 1 + (k - 1) ≡ k = omega (arith, a) in e),
 )
-
-is_not : (b : Bool) → not b ≡ true → b ≡ false
-is_not true h = absurd (true≢false (sym h))
-is_not false h = refl
 
 -- ---- what stands behind names
 fold_naming : (q : ℕ) (s : State) (ks : List ℕ) → fold (after q) s (naming ks) ≡ s
@@ -101,7 +99,7 @@ end_in_order [] h = absurd (true≢false (sym h))
 end_in_order (e ∷ before) h = refl
 
 -- ---- facets
--- the numbers name cuts in use, each of which may be named, and two differ in their tight generators
+-- the numbers name cuts in use, each of which may be named; two differ in their tight generators, and all cuts in use are accounted for
 pub record AreFacets (q : ℕ) (s : State) (ks : List ℕ) : Type 0 where
   pub used : All (Contains s.used) ks
   pub names : All (λ k. IsNamed q (in_use s) (live_vectors s) (inequality (cut_at s.cuts k))) ks
@@ -181,7 +179,7 @@ module _ (task : Task) (trail : List Entry) (o : IsOpenTrail task trail) (starte
               (All-weaker (λ k. IsTrue (is_short k)) (λ k. IsTrue (is_formed (Facet k))) (λ k h. both_hold (is_short k) true h refl) ks short))) refl);
           ends = ends_once-push before (End kind.Solved) ∙ ap not (list_any_none is_end before
               (All-append (λ e. is_end e ≡ false) trail (naming ks)
-              (All-weaker (λ e. IsTrue (not (is_end e))) (λ e. is_end e ≡ false) (λ e h. is_not (is_end e) h) trail o.unended)
+              (All-weaker (λ e. IsTrue (not (is_end e))) (λ e. is_end e ≡ false) (λ e h. not-true (is_end e) h) trail o.unended)
               (All-map (λ e. is_end e ≡ false) (λ k. Facet k) ks (λ i d l. refl))));
         };
         base = grows task.file task.c task.weights before (End kind.Solved) base (solved_meets ks f reached) tt;
