@@ -1,5 +1,5 @@
 -- Facets that are named behind an outer trail, and the end behind them.
-use Rattle.std.proofs.Common.{◌≡◌, ◌≢◌, ℕ, suc, ◌+◌, ◌-◌, ◌<◌, ◌≤◌, List, [], ◌∷◌, ◌++◌, map, length, All, AllPairs, Contains, Bool, true, false, true≢false, not, IsTrue, fold, refl, sym, ap, ap₂, ◌∙◌, subst, slice_index_or, append_assoc, append-nil, arith}
+use Rattle.std.proofs.Common.{◌≡◌, ◌≢◌, ℕ, suc, ◌+◌, ◌-◌, ◌<◌, ◌≤◌, List, [], ◌∷◌, ◌++◌, map, length, All, AllPairs, Contains, true, false, true≢false, not, IsTrue, fold, refl, sym, ap, ap₂, ◌∙◌, subst, slice_index_or, append_assoc, append-nil, arith}
 use Rattle.std.specs.List.{filter_map, range_with_len}
 use Rattle.std.proofs.lemmas.Bool.{not-true}
 use Rattle.std.proofs.lemmas.List.{map-append, length-map}
