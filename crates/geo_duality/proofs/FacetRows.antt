@@ -9,7 +9,7 @@ use Rattle.polyhedra.specs.FirstNamed.{firsts, may_be_named, named_first, same_t
 use Rattle.polyhedra.specs.Inequality.{Inequality}
 use Rattle.polyhedra.proofs.Tests.{both_hold, both_true}
 use Rattle.geo_duality.specs.Facets.{cut_at, facet_rows, may_be_facet, row_at, same_at}
-use Rattle.geo_duality.proofs.Firsts.{filter-map, firsts-map, firsts-push}
+use Rattle.geo_duality.proofs.Firsts.{filter-map, firsts-All, firsts-map, firsts-push}
 use Rattle.geo_duality.proofs.TightPlaces.{lies_through}
 
 range-push : (a n : ℕ) → range_with_len a (n + 1) ≡ range_with_len a n ++ (a + n) ∷ []
@@ -61,6 +61,18 @@ within k (suc n) = All-cons (λ j. (k ≤ j) × (j < k + suc n)) k (range_with_l
   where
     lower : (j : ℕ) → k + 1 ≤ j → j < k + 1 + n → (k ≤ j) × (j < k + suc n)
     lower j a b = (omega arith, omega arith)
+
+-- each facet is the number of a row other than row 0
+pub facets_within : (gens rows : List (List ℚ)) → All (λ k. (1 ≤ k) × (k < length rows)) (facet_rows gens rows)
+facets_within gens rows = All-weaker (λ k. (1 ≤ k) × (k < 1 + (length rows - 1))) (λ k. (1 ≤ k) × (k < length rows)) (λ k h. lower k h.0 h.1) (facet_rows gens rows)
+    (firsts-All (same_at gens rows) (λ k. (1 ≤ k) × (k < 1 + (length rows - 1))) (filter test (range_with_len 1 (length rows - 1)))
+    (All-filter test (λ k. (1 ≤ k) × (k < 1 + (length rows - 1))) (range_with_len 1 (length rows - 1)) (within 1 (length rows - 1))))
+  where
+    test : ℕ → Bool
+    test k = may_be_facet gens rows (row_at rows k)
+
+    lower : (k : ℕ) → 1 ≤ k → k < 1 + (length rows - 1) → (1 ≤ k) × (k < length rows)
+    lower k a b = (a, omega arith)
 
 module _ (n : ℕ) (cuts : List Inequality) (gens : List (List ℚ)) where
   row_is : (k : ℕ) → 1 ≤ k → k < 1 + length cuts → row_of (cut_at cuts k) ≡ row_at (rows_of n cuts) k

@@ -78,7 +78,7 @@ filter-map f p q (x ∷ xs) h =
     go true = refl
     go false = refl
 
-firsts-All : {X : Type 0} (same : X → X → Bool) (P : X → Type 0) (xs : List X) → All P xs → All P (firsts same xs)
+pub firsts-All : {X : Type 0} (same : X → X → Bool) (P : X → Type 0) (xs : List X) → All P xs → All P (firsts same xs)
 firsts-All same P [] h = All-nil P
 firsts-All same P (x ∷ xs) h = All-cons P x (filter (λ y. not (same x y)) (firsts same xs)) (All-head P x xs h)
     (All-filter (λ y. not (same x y)) P (firsts same xs) (firsts-All same P xs (All-tail P x xs h)))
