@@ -2,7 +2,5 @@
 #![tactic(auto)]
 
 mod line;
-mod pushes;
 
 pub use line::Line;
-pub use pushes::{begun, push_cut, push_cut_entry, push_preimage};
