@@ -2,5 +2,7 @@
 #![tactic(auto)]
 
 mod line;
+mod pushes;
 
 pub use line::Line;
+pub use pushes::push_cut_entry;

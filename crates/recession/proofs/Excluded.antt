@@ -29,11 +29,11 @@ use Rattle.outer_log.specs.Cuts.{IsCutFor}
 use Rattle.outer_log.specs.Lines.{IsLineFor}
 use Rattle.outer_log.specs.Task.{Task, IsFitting}
 use Rattle.outer_log.specs.declared.line.Line.{Line as LineOf}
-use Rattle.recession.specs.Answers.{AreAlike, AreFirstCuts, IsFirst, FirstAnswersExclude}
+use Rattle.recession.specs.First.{AreAlike, AreFirstCuts, IsFirst, FirstAnswersExclude}
 use Rattle.recession.specs.Further.{normals_of}
 use Rattle.recession.specs.declared.first.First.{First}
 use Rattle.recession.specs.declared.first.First.TheVariants.{Infeasible, Whole, Line, Cuts}
-use Rattle.recession.proofs.Asked.{cut_normal, fits, sparse_there}
+use Rattle.recession.proofs.Asking_ends.{cut_normal, fits, sparse_there}
 use Rattle.recession.proofs.Written.{written}
 
 leading-zeros : (n : ℕ) → leading (zeros n) ≡ zero_ℚ

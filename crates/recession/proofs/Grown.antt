@@ -9,10 +9,10 @@ use Rattle.vlp_reader.specs.Sides.{IsFeasible}
 use Rattle.benson_program.specs.declared.cut.Cut.{Cut}
 use Rattle.outer_log.specs.Cuts.{IsCutFor}
 use Rattle.outer_log.specs.Task.{Task}
-use Rattle.recession.specs.Answers.{AreFirstCuts}
+use Rattle.recession.specs.First.{AreFirstCuts}
 use Rattle.recession.specs.Asking.{IsProper}
 use Rattle.recession.specs.Further.{IsOffAcross, normals_of}
-use Rattle.recession.proofs.Asked.{cut_normal, sparse_there}
+use Rattle.recession.proofs.Asking_ends.{cut_normal, sparse_there}
 use Rattle.recession.proofs.Free.{HasFree, has_free-none, has_free-more, has_free-rank}
 
 module _ {F : Type 0} (value : F → ℚ) (task : Task) where
@@ -68,4 +68,4 @@ module _ {F : Type 0} (value : F → ℚ) (task : Task) where
   pub proper_of : (cuts : List (Cut F)) (x : List ℚ) → All (IsCutFor value task) cuts → 1 ≤ length cuts → IsFeasible task.file x → IsProper task
   proper_of [] x each some feasible = absurd (omega arith)
   proper_of (cut ∷ cuts) x each some feasible =
-      record { feasible = (x, feasible); cut = (map value cut.w, cut_normal value task cut (All-head (IsCutFor value task) cut cuts each)) }
+      record { feasible = (x, feasible); bounded = (map value cut.w, cut_normal value task cut (All-head (IsCutFor value task) cut cuts each)) }

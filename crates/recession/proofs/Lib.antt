@@ -1,4 +1,4 @@
-pub mod Asked
+pub mod Asking_ends
 pub mod Excluded
 pub mod Free
 pub mod Grown

@@ -17,7 +17,7 @@ use Rattle.recession.specs.declared.asking.Asked.TheVariants.{Cut, Reached}
 -- some point is feasible, and some cut is valid; so the image is neither empty nor everything
 pub record IsProper (task : Task) : Type 0 where
   pub feasible : (x : List ℚ) × IsFeasible task.file x
-  pub cut : (w : List ℚ) × IsCutNormal task.file task.c w
+  pub bounded : (w : List ℚ) × IsCutNormal task.file task.c w
 
 -- the cut is that of an optimum of Benson's program at v whose value is positive: so v does not meet it
 pub record IsAskedCut {F : Type 0} (value : F → ℚ) (task : Task) (v : List ℚ) (t : Bool) (cut : CutOf F) : Type 0 where

@@ -1,3 +1,3 @@
-pub mod Answers
 pub mod Asking
+pub mod First
 pub mod Further

@@ -7,7 +7,7 @@ ghost use Rattle.outer_log.specs.Cuts.{IsCutFor};
 ghost use Rattle.outer_log.specs.Lines.{IsLineFor};
 ghost use Rattle.outer_log.specs.Task.{IsFitting, Task};
 ghost use Rattle.overflows.specs.Faults.{OnLicence};
-ghost use Rattle.recession.specs.Answers.{IsFirst};
+ghost use Rattle.recession.specs.First.{IsFirst};
 ghost use Rattle.recession.specs.Further.{IsLineAcross, normals_of};
 
 use crate::further::{Next, next_of};

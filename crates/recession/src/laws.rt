@@ -1,5 +1,5 @@
 //! The law that the answers exclude each other.
-ghost use Rattle.recession.specs.Answers.{FirstAnswersExclude};
+ghost use Rattle.recession.specs.First.{FirstAnswersExclude};
 
 use exact_field::Field;
 

@@ -78,9 +78,9 @@ module _ (holds : ℚ → Bool) (task : Task) (fitting : IsFitting holds task) w
       let ray = written r in
       let ray_vector : IsVector file.cols ray.0 = subst (λ (n : ℕ). IsVector n ray.0) r_long ray.1.vector in
       let ray_same : dense file.cols ray.0 ≡ r = ap (λ (n : ℕ). dense n ray.0) (sym r_long) ∙ ray.1.same in
-      answers_exclude.whole file task.c proper.cut.0 x.0 ray.0
+      answers_exclude.whole file task.c proper.bounded.0 x.0 ray.0
       (benson_whole.whole file task.c v t y x.0 ray.0 fits v_long h.infeasible x_vector (subst (IsFeasible file) (sym x_same) proper.feasible.1) ray_vector ray_same)
-      proper.cut.1
+      proper.bounded.1
 
 module _ {F : Type 0} (value : F → ℚ) (task : Task) (cut : Cut F) where
   pub cut_normal : IsCutFor value task cut → IsCutNormal task.file task.c (map value cut.w)
