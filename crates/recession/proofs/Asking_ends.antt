@@ -1,7 +1,7 @@
 -- What an end of Benson's program says, where some point is feasible and some cut is valid.
-use Rattle.std.proofs.Common.{◌≡◌, ℕ, List, [], map, length, refl, sym, ap, ap₂, ◌∙◌, subst, arith, Bool, false, ◌≢◌}
+use Rattle.std.proofs.Common.{◌≡◌, ℕ, List, [], map, length, refl, sym, ap, ap₂, ◌∙◌, subst, arith, Bool, true, false, ◌≢◌, ◌<◌, ◌-◌, slice_index_or}
 use Rattle.std.proofs.lemmas.List.{length-map, length-take-le}
-use Rattle.exact_field.specs.Rational.{ℚ, zero_ℚ, inverse_ℚ, neg_ℚ, ◌-ℚ◌, ◌<ℚ◌}
+use Rattle.exact_field.specs.Rational.{ℚ, zero_ℚ, inverse_ℚ, neg_ℚ, ◌-ℚ◌, ◌<ℚ◌, ◌≤ℚ◌}
 use Rattle.exact_field.specs.Vector.{dot}
 use Rattle.exact_field.proofs.Rationals.{difference_self}
 use Rattle.frac128.specs.declared.vectors.Spot.{Spot}
@@ -11,6 +11,7 @@ use Rattle.polyhedra.proofs.Algebra.{neg_neg, neg_zero}
 use Rattle.polyhedra.proofs.Homogenised.{homogenised-same}
 use Rattle.polyhedra.proofs.Linear.{length-scaled}
 use Rattle.polyhedra.proofs.Order.{lt_irrefl}
+use Rattle.tableaux.specs.Table.{System}
 use Rattle.vlp_reader.specs.Sides.{side_bounds, IsFeasible}
 use Rattle.vlp_reader.specs.declared.problem.Problem.{Problem}
 use Rattle.vlp_reader.specs.declared.problem.Cone.{Cone}
@@ -19,6 +20,9 @@ use Rattle.upper_image.specs.OrderingCone.{Fits}
 use Rattle.upper_image.specs.Shows.{ShowsInterior}
 use Rattle.upper_image.specs.Spots.{dense, product, IsVector}
 use Rattle.upper_image.proofs.Solid.{duality_fits}
+use Rattle.lp_form.specs.Data.{IsDataOf, cone_of}
+use Rattle.lp_form.specs.declared.data.Data.{Data}
+use Rattle.lp_form.proofs.Figures.{objective_number}
 use Rattle.lp_form.specs.Programs.{benson_system, choice_of, generators, value_of, u_of, w_of, v_of}
 use Rattle.licence.specs.Trails.{divided_by}
 use Rattle.licence.specs.Turns.{said_row}
@@ -28,7 +32,11 @@ use Rattle.program_ends.proofs.Excluded.{answers_exclude}
 use Rattle.program_ends.proofs.Preimage.{multipliers_long}
 use Rattle.program_ends.proofs.Whole.{benson_whole}
 use Rattle.benson_program.specs.Cuts.{IsCutOf}
-use Rattle.benson_program.specs.Ends.{IsEmptyAt, IsOptimumAt}
+use Rattle.benson_program.specs.Ends.{CanStart, IsBensonEnd, IsEmptyAt, IsOptimumAt}
+use Rattle.benson_program.specs.Preimages.{AreLowMultipliers}
+use Rattle.benson_program.specs.declared.ends.BensonEnd.{BensonEnd}
+use Rattle.benson_program.specs.declared.ends.BensonEnd.TheVariants.{Optimal, Empty}
+use Rattle.benson_program.proofs.Counted.{last_is, some_last}
 use Rattle.benson_program.specs.Sparse.{IsSparseOf}
 use Rattle.benson_program.specs.declared.cut.Cut.{Cut}
 use Rattle.benson_program.proofs.Read.{parts_there}
@@ -36,6 +44,7 @@ use Rattle.benson_program.proofs.Spread.{spots}
 use Rattle.outer_log.specs.Cuts.{IsCutFor, said_by}
 use Rattle.outer_log.specs.Task.{Task, IsFitting}
 use Rattle.recession.specs.Asking.{IsProper, IsAskedCut}
+use Rattle.recession.proofs.Agreeing.{same_benson}
 use Rattle.recession.proofs.Written.{written}
 
 -- some spots are the sparse vector of a list
@@ -126,3 +135,55 @@ module _ {F : Type 0} (value : F → ℚ) (task : Task) (cut : Cut F) where
         let none : value_of h.multipliers ≡ zero_ℚ =
         sym (neg_neg (value_of h.multipliers)) ∙ ap neg_ℚ (sym level ∙ ap (λ (q : ℚ). q -ℚ zero_ℚ) flat ∙ difference_self zero_ℚ) ∙ neg_zero in
         lt_irrefl zero_ℚ (subst (λ (q : ℚ). zero_ℚ <ℚ q) none h.positive)
+
+-- ---- the arguments of a call
+module _ {F : Type 0} (value : F → ℚ) (holds : ℚ → Bool) (task : Task) (fitting : IsFitting holds task) (form : Data F) (stands : IsDataOf value task.file form) where
+  pub wide_in : (v : List F) → length v ≡ task.file.objs → length v ≡ length form.p
+  wide_in v long = long ∙ sym (objective_number value task.file form stands)
+
+  pub c_wide_in : (c : List F) → map value c ≡ task.c → length c ≡ length form.p
+  c_wide_in c is = wide_in c (sym (length-map c value) ∙ ap length is ∙ c_long holds task fitting)
+
+  pub weights_in : (weights : List F) → map value weights ≡ task.weights → length weights ≡ length (generators (cone_of value form.cone))
+  weights_in weights is =
+      sym (length-map weights value) ∙ ap length is ∙ weights_long holds task fitting ∙ ap (λ (e : Cone). length (generators e)) (sym stands.cone)
+
+  pub can_start : (c : List ℚ) (t : Bool) → c ≡ task.c → (t ≡ true → (x : List ℚ) × IsFeasible task.file x) → CanStart value form c t
+  can_start c t is solvable =
+      subst (λ (d : List ℚ). CanStart value form d t) (sym is)
+      (record { file = task.file; stands = stands; interior = (fits holds task fitting).interior; solvable = solvable })
+
+  -- an optimum of the program, whichever file the data stand for
+  pub optimum_in : (file : Problem) → IsDataOf value file form → (c v : List ℚ) (t : Bool) (basis : List ℕ) (z y : List ℚ) → c ≡ task.c →
+      IsOptimumAt (benson_system task.file task.c v t) basis z y → IsOptimumAt (benson_system file c v t) basis z y
+  optimum_in file other c v t basis z y is h =
+      subst (λ (d : List ℚ). IsOptimumAt (benson_system file d v t) basis z y) (sym is)
+      (subst (λ (s : System). IsOptimumAt s basis z y) (same_benson value form task.file file stands other task.c v t) h)
+
+  -- the last multiplier
+  module _ (v : List ℚ) (t : Bool) (basis : List ℕ) (z : List ℚ) (dual : List F) (v_long : length v ≡ task.file.objs)
+      (h : IsOptimumAt (benson_system task.file task.c v t) basis z (map value dual)) where
+    pub last_in : (i : ℕ) (x : F) → x ≡ slice_index_or dual i x → i ≡ length dual - 1 → value x ≡ value_of (map value dual)
+    last_in i x is e =
+        let long = multipliers_long task.file task.c v t (map value dual) (c_long holds task fitting) v_long h.optimal.one_each in
+        last_is value dual i x (subst (λ (k : ℕ). k < length dual) (sym e) (some_last value form task.file stands dual long)) is e
+
+    pub low_in : value_of (map value dual) ≤ℚ zero_ℚ → AreLowMultipliers task.file task.c v t (map value dual)
+    low_in low = record { c_wide = c_long holds task fitting; v_wide = v_long; basis = basis; solution = z; optimum = h; low = low }
+
+  -- the ends of the program
+  module _ (c : List ℚ) (v : List ℚ) (t : Bool) (e : BensonEnd F) (c_is : c ≡ task.c) (k : IsBensonEnd value task.file c v t e) where
+    pub optimum_seen : (z dual zs duals : List F) (basis : List ℕ) → e ≡ Optimal z dual basis → zs ≡ z → duals ≡ dual →
+        IsOptimumAt (benson_system task.file task.c v t) basis (map value zs) (map value duals)
+    optimum_seen z dual zs duals basis is zs_are duals_are =
+        let P : List ℚ → List F → List F → Type 0 = λ d a b. IsOptimumAt (benson_system task.file d v t) basis (map value a) (map value b) in
+        subst (λ (d : List ℚ). P d zs duals) c_is
+        (subst (λ (a : List F). P c a duals) (sym zs_are)
+        (subst (λ (b : List F). P c z b) (sym duals_are) (subst (λ (x : BensonEnd F). IsBensonEnd value task.file c v t x) is k)))
+
+    pub empty_seen : (dual duals : List F) (basis : List ℕ) → e ≡ Empty dual basis → duals ≡ dual →
+        IsEmptyAt (benson_system task.file task.c v t) basis (map value duals)
+    empty_seen dual duals basis is duals_are =
+        let P : List ℚ → List F → Type 0 = λ d b. IsEmptyAt (benson_system task.file d v t) basis (map value b) in
+        subst (λ (d : List ℚ). P d duals) c_is
+        (subst (λ (b : List F). P c b) (sym duals_are) (subst (λ (x : BensonEnd F). IsBensonEnd value task.file c v t x) is k))

@@ -1,3 +1,4 @@
+pub mod Agreeing
 pub mod Asking_ends
 pub mod Excluded
 pub mod Free
