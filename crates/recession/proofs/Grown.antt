@@ -1,19 +1,23 @@
 -- The first cuts as they grow.
 use Rattle.std.proofs.Common.{◌≡◌, ℕ, List, [], ◌∷◌, ◌++◌, map, length, All, sym, ap, ◌∙◌, subst, arith, ◌≤◌, ◌<◌}
 use Rattle.std.proofs.lemmas.List.{length-map, length-append, map-append}
-use Rattle.std.proofs.lemmas.List.Elements.{All-nil, All-cons, All-head, All-push}
+use Rattle.std.proofs.lemmas.List.Elements.{All-nil, All-cons, All-head, All-map, All-push}
 use Rattle.exact_field.specs.Rational.{ℚ, zero_ℚ}
 use Rattle.exact_field.specs.Vector.{dot}
 use Rattle.exact_field.proofs.Rationals.{one-not-zero}
+use Rattle.polyhedra.proofs.Members.{all_of_members, member_of}
 use Rattle.vlp_reader.specs.Sides.{IsFeasible}
+use Rattle.licence.specs.Base.{IsBaseChoice, IsBaseNormal}
 use Rattle.benson_program.specs.declared.cut.Cut.{Cut}
 use Rattle.outer_log.specs.Cuts.{IsCutFor}
+use Rattle.outer_log.specs.Lines.{IsLineFor}
 use Rattle.outer_log.specs.Task.{Task}
+use Rattle.outer_log.specs.declared.line.Line.{Line}
 use Rattle.recession.specs.First.{AreFirstCuts}
 use Rattle.recession.specs.Asking.{IsProper}
-use Rattle.recession.specs.Further.{IsOffAcross, normals_of}
+use Rattle.recession.specs.Further.{IsLineAcross, IsOffAcross, normals_of}
 use Rattle.recession.proofs.Asking_ends.{cut_normal, sparse_there}
-use Rattle.recession.proofs.Free.{HasFree, has_free-none, has_free-more, has_free-rank}
+use Rattle.recession.proofs.Free.{all_back, HasFree, has_free-none, has_free-more, has_free-rank}
 
 module _ {F : Type 0} (value : F → ℚ) (task : Task) where
   -- some cuts, at most as many as there are objectives, with independent normals
@@ -69,3 +73,25 @@ module _ {F : Type 0} (value : F → ℚ) (task : Task) where
   proper_of [] x each some feasible = absurd (omega arith)
   proper_of (cut ∷ cuts) x each some feasible =
       record { feasible = (x, feasible); bounded = (map value cut.w, cut_normal value task cut (All-head (IsCutFor value task) cut cuts each)) }
+
+  -- the normals of cuts are base normals
+  base_normals : (cuts : List (Cut F)) → All (IsCutFor value task) cuts → All (IsBaseNormal task.file task.c) (normals_of value cuts)
+  base_normals cuts each =
+      All-map (IsBaseNormal task.file task.c) (λ (k : Cut F). map value k.w) cuts
+      (all_of_members (λ k. IsBaseNormal task.file task.c (map value k.w)) cuts (λ k c.
+      let h = member_of (IsCutFor value task) cuts k each c in
+      let u = sparse_there value k.u in
+      let v = sparse_there value k.v in
+      (u.0, v.0, h.base u.0 v.0 u.1 v.1)))
+
+  pub line_for : (cuts before : List (Cut F)) (line : Line F) → cuts ≡ before ++ line.cut ∷ [] → All (IsCutFor value task) cuts →
+      IsBaseChoice task.file (map value line.x) → IsLineAcross value task (normals_of value cuts) line.d line.forth line.back → IsLineFor value task line
+  line_for cuts before line same each choice across = record {
+    cut_is = All-head (IsCutFor value task) line.cut [] (all_back (IsCutFor value task) before (line.cut ∷ []) (subst (All (IsCutFor value task)) same each));
+    choice = choice;
+    normals = normals_of value cuts;
+    base = base_normals cuts each;
+    side = across.side;
+    forth_is = across.forth_is;
+    back_is = across.back_is;
+  }

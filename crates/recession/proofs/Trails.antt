@@ -93,3 +93,11 @@ module _ (holds : ℚ → Bool) (task : Task) (fitting : IsFitting holds task) w
     pub trail_has : (cuts : List (Cut F)) (entries : List Entry) → All (IsCutFor value task) cuts → SayCuts value cuts entries →
         trail_normals task.file.objs (trail_of entries) ≡ normals_of value cuts
     trail_has cuts entries all says = (follow cuts [] entries opens all says).normals
+
+-- one more entry says one more cut
+pub say_more : {F : Type 0} (value : F → ℚ) (cuts : List (Cut F)) (cut : Cut F) (entries : List Entry) (e : Entry) → SayCuts value cuts entries →
+    SaysCut value cut e → SayCuts value (cuts ++ cut ∷ []) (entries ++ e ∷ [])
+say_more value [] cut [] e h says = (says, tt)
+say_more value [] cut (d ∷ entries) e h says = absurd h
+say_more value (k ∷ cuts) cut [] e h says = absurd h
+say_more value (k ∷ cuts) cut (d ∷ entries) e h says = (h.0, say_more value cuts cut entries e h.1 says)

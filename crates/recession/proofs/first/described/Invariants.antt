@@ -1,0 +1,9 @@
+use Rattle.std.proofs.Common.{length, ◌-◌}
+use Rattle.recession.proofs.Grown.{AreGrown}
+use Rattle.recession.proofs.first.described.Given as goal
+
+abbrev pub ghost-next_of : goal.ghost-next_of
+ghost-next_of g a = g.task
+
+abbrev pub ghost-line_of : goal.ghost-line_of
+ghost-line_of g a = g.task
