@@ -7,6 +7,7 @@ use Rattle.exact_field.proofs.Rationals.{difference_self}
 use Rattle.frac128.specs.declared.vectors.Spot.{Spot}
 use Rattle.polyhedra.specs.DoubleDescription.{magnitude}
 use Rattle.polyhedra.specs.Exactness.{row_of}
+use Rattle.polyhedra.specs.Vectors.{zeros}
 use Rattle.polyhedra.proofs.Algebra.{neg_neg, neg_zero}
 use Rattle.polyhedra.proofs.Homogenised.{homogenised-same}
 use Rattle.polyhedra.proofs.Linear.{length-scaled}
@@ -34,6 +35,7 @@ use Rattle.program_ends.proofs.Whole.{benson_whole}
 use Rattle.benson_program.specs.Cuts.{IsCutOf}
 use Rattle.benson_program.specs.Ends.{CanStart, IsBensonEnd, IsEmptyAt, IsOptimumAt}
 use Rattle.benson_program.specs.Preimages.{AreLowMultipliers}
+use Rattle.benson_program.specs.Wholes.{AreEmptyAtOrigin}
 use Rattle.benson_program.specs.declared.ends.BensonEnd.{BensonEnd}
 use Rattle.benson_program.specs.declared.ends.BensonEnd.TheVariants.{Optimal, Empty}
 use Rattle.benson_program.proofs.Counted.{last_is, some_last}
@@ -187,3 +189,14 @@ module _ {F : Type 0} (value : F → ℚ) (holds : ℚ → Bool) (task : Task) (
         let P : List ℚ → List F → Type 0 = λ d b. IsEmptyAt (benson_system task.file d v t) basis (map value b) in
         subst (λ (d : List ℚ). P d duals) c_is
         (subst (λ (b : List F). P c b) (sym duals_are) (subst (λ (x : BensonEnd F). IsBensonEnd value task.file c v t x) is k))
+
+    -- where v is the origin
+    pub empty_at_origin : (dual duals : List F) (basis : List ℕ) → v ≡ zeros task.file.objs → t ≡ true → e ≡ Empty dual basis → duals ≡ dual →
+        AreEmptyAtOrigin task.file task.c (map value duals)
+    empty_at_origin dual duals basis v_is t_is is duals_are = record {
+      c_wide = c_long holds task fitting;
+      basis = basis;
+      empty =
+          subst (λ (b : Bool). IsEmptyAt (benson_system task.file task.c (zeros task.file.objs) b) basis (map value duals)) t_is
+          (subst (λ (u : List ℚ). IsEmptyAt (benson_system task.file task.c u t) basis (map value duals)) v_is (empty_seen dual duals basis is duals_are));
+    }

@@ -5,6 +5,7 @@ use Rattle.exact_field.specs.Rational.{ℚ, zero_ℚ, neg_ℚ}
 use Rattle.exact_field.specs.Vector.{dot}
 use Rattle.polyhedra.specs.Negatives.{negated}
 use Rattle.polyhedra.proofs.Algebra.{neg_zero}
+use Rattle.polyhedra.proofs.Members.{all_of_members, member_of}
 use Rattle.polyhedra.proofs.Negatives.{dot-negated}
 use Rattle.deriv_log.specs.declared.entry.Entry.{Entry}
 use Rattle.licence.specs.Base.{IsBaseStart, IsSide, trail_normals}
@@ -58,3 +59,12 @@ side_start q trail v d same side = IsBaseStart.side (subst (IsSide q (trail_norm
 
 pub opposite_start : (q : ℕ) (trail : List Entry) (v d : List ℚ) → v ≡ negated d → IsSide q (trail_normals q trail) d → IsBaseStart q trail v false
 opposite_start q trail v d same side = IsBaseStart.other_side d side same refl
+
+-- the vector that is found is a side
+pub found_side : (q n : ℕ) (normals : List (List ℚ)) (d : List ℚ) → n ≡ q → IsSpanning n normals d → IsSide q normals d
+found_side q n normals d same h = side_of q normals d (subst (λ (m : ℕ). IsSpanning m normals d) same h)
+
+pub wide_cuts : {F : Type 0} (value : F → ℚ) (task : Task) (n : ℕ) (cuts : List (CutOf F)) → n ≡ task.file.objs → All (IsCutFor value task) cuts →
+    All (λ cut. length cut.w ≡ n) cuts
+wide_cuts value task n cuts same each =
+    all_of_members (λ cut. length cut.w ≡ n) cuts (λ cut c. (member_of (IsCutFor value task) cuts cut each c).wide ∙ sym same)

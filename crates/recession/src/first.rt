@@ -94,7 +94,8 @@ fn described<F: Field>(
     let mut cuts = Items::new(alloc);
     cuts.push(first)?;
     while cuts.len() < form.p.len() {
-        match next_of(alloc, form, c, weights, cuts.as_slice(), &mut hint)? {
+        let next = next_of(alloc, form, c, weights, cuts.as_slice(), &mut hint)?;
+        match next {
             Next::Cut(cut) => cuts.push(cut)?,
             Next::Line { d, forth, back } => {
                 return Ok(First::Line(line_of(cuts, x, d, forth, back)));

@@ -7,3 +7,9 @@ ghost-next_of g a = g.task
 
 abbrev pub ghost-line_of : goal.ghost-line_of
 ghost-line_of g a = g.task
+
+abbrev pub invariant-loop-alloc : goal.invariant-loop-alloc
+invariant-loop-alloc g l = AreGrown g.F.Field.value g.task l.cuts
+
+abbrev pub decreases-loop-alloc : goal.decreases-loop-alloc
+decreases-loop-alloc g l = length l.form.p - length l.cuts
