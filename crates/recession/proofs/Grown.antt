@@ -15,7 +15,8 @@ use Rattle.outer_log.specs.Task.{Task}
 use Rattle.outer_log.specs.declared.line.Line.{Line}
 use Rattle.recession.specs.First.{AreFirstCuts}
 use Rattle.recession.specs.Asking.{IsProper}
-use Rattle.recession.specs.Further.{IsLineAcross, IsOffAcross, normals_of}
+use Rattle.recession.specs.Further.{IsLineAcross, IsNext, IsOffAcross, normals_of}
+use Rattle.recession.specs.declared.further.Next.{Next}
 use Rattle.recession.proofs.Asking_ends.{cut_normal, sparse_there}
 use Rattle.recession.proofs.Free.{all_back, HasFree, has_free-none, has_free-more, has_free-rank}
 
@@ -95,3 +96,7 @@ module _ {F : Type 0} (value : F → ℚ) (task : Task) where
     forth_is = across.forth_is;
     back_is = across.back_is;
   }
+
+  -- what is next, as it was read to be
+  pub next_is : (seen cuts : List (Cut F)) (n m : Next F) → seen ≡ cuts → n ≡ m → IsNext value task seen n → IsNext value task cuts m
+  next_is seen cuts n m same is h = subst (λ (k : Next F). IsNext value task cuts k) is (subst (λ (cs : List (Cut F)). IsNext value task cs n) same h)
