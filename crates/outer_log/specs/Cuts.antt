@@ -30,3 +30,4 @@ pub record SaysCut {F : Type 0} (value : F → ℚ) (cut : Cut F) (e : Entry) : 
   pub is : e ≡ line.Cut (map value cut.w) (value cut.gamma) u v
   pub u_is : IsSparseOf value cut.u u
   pub v_is : IsSparseOf value cut.v v
+  pub written : IsTrue (is_formed e)

@@ -5,4 +5,4 @@ mod line;
 mod pushes;
 
 pub use line::Line;
-pub use pushes::push_cut_entry;
+pub use pushes::{begun, push_cut, push_cut_entry, push_preimage};
