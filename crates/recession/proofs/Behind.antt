@@ -34,13 +34,15 @@ module _ {F : Type 0} (value : F → ℚ) (holds : ℚ → Bool) (task : Task) (
   pub cut_opposite : (d : List ℚ) (cuts : List (CutOf F)) (cut : CutOf F) → IsSide task.file.objs (normals_of value cuts) d →
       IsAskedCut value task (negated d) false cut → IsNext value task cuts (next.Cut cut)
   cut_opposite d cuts cut side h =
-      let wide : length (negated d) ≡ task.file.objs = length-map d neg_ℚ ∙ side.flat.wide in
-      (h.is, record {
-        d = d;
-        wide = side.flat.wide;
-        across = side.flat.across;
-        off = λ e. off value task cut (negated d) h (c_long holds task fitting) wide (dot-negated (map value cut.w) d ∙ ap neg_ℚ e ∙ neg_zero);
-      })
+      let wide : length (negated d) ≡ task.file.objs = length-map d neg_ℚ ∙ side.flat.wide in (
+        h.is,
+        record {
+          d = d;
+          wide = side.flat.wide;
+          across = side.flat.across;
+          off = λ e. off value task cut (negated d) h (c_long holds task fitting) wide (dot-negated (map value cut.w) d ∙ ap neg_ℚ e ∙ neg_zero);
+        },
+      )
 
   -- the answer, as it was read to be, at a vector as it was read
   module _ (asked : Asked F) (v d : List ℚ) (same : v ≡ d) (h : IsAsked value task v false asked) where

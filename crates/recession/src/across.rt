@@ -29,11 +29,7 @@ fn normals<F: Field>(alloc: Global, q: u32, cuts: &[Cut<F>]) -> Result<Rows<F>, 
 }
 
 /// As many independent normals of cuts as they have entries, or a vector at which all are 0.
-fn independence<F: Field>(
-    alloc: Global,
-    q: u32,
-    cuts: &[Cut<F>],
-) -> Result<Indep<F>, SolveFault>
+fn independence<F: Field>(alloc: Global, q: u32, cuts: &[Cut<F>]) -> Result<Indep<F>, SolveFault>
     requires { All (λ cut. length cut.w ≡ q) cuts.now }
     ensures ok { IfOk result (IsIndep F.value q (normals_of F.value cuts.now)) }
     ensures left { (s : Setting) → s.file.objs ≡ q → trail_normals s.file.objs s.trail ≡ normals_of F.value cuts.now → IfErr result (Overflows F.holds s []) }

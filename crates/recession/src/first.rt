@@ -105,7 +105,7 @@ fn described<F: Field>(
     Ok(First::Cuts(cuts))
 }
 
-/// How the description of an image begins that is not empty. x is a feasible point.
+/// How the description begins of an image that is not empty. x is a feasible point.
 fn solvable<F: Field>(
     alloc: Global,
     form: &Data<F>,
@@ -137,8 +137,8 @@ fn solvable<F: Field>(
 }
 
 /// How the description of an image begins: whether no point is feasible, whether the image is everything or has a line, and else its
-/// first cuts. `c` is the duality vector, and the weights combine the generators of the ordering cone to it. It costs at most two linear
-/// programs for each objective and two more.
+/// first cuts. `c` is the duality vector, and the weights combine the generators of the ordering cone to it. It costs at most twice as
+/// many linear programs as there are objectives.
 pub fn first_cuts<F: Field>(
     alloc: Global,
     form: &Data<F>,

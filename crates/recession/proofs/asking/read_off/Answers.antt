@@ -49,10 +49,15 @@ preimage_of-requires-clause-dual g c =
     let v = map value c.args.v.now in
     let v_long = length-map c.args.v.now value ∙ c.requires.1.1.1.1.1.0 in
     let last = last_in value g.F.Field.holds g.task c.requires.1.1.1.1.0 c.args.form.now c.requires.1.0 v c.args.t o.0 (map value c.args.z.now) dual v_long o.1 (length dual - 1)
-    c.index-dual-dual.result c.index-dual-dual.is refl in
-    (g.task.file, g.task.c, v, c.args.t, c.requires.1.0,
-    low_in value g.F.Field.holds g.task c.requires.1.1.1.1.0 c.args.form.now c.requires.1.0 v c.args.t o.0 (map value c.args.z.now) dual v_long o.1
-    (not_positive _ _ c.is_positive.result last c.is_positive.ensures c.if-is_positive.false))
+    c.index-dual-dual.result c.index-dual-dual.is refl in (
+      g.task.file,
+      g.task.c,
+      v,
+      c.args.t,
+      c.requires.1.0,
+      low_in value g.F.Field.holds g.task c.requires.1.1.1.1.0 c.args.form.now c.requires.1.0 v c.args.t o.0 (map value c.args.z.now) dual v_long o.1
+          (not_positive _ _ c.is_positive.result last c.is_positive.ensures c.if-is_positive.false),
+    )
 
 pub returns-in_err-parts-clause-left : goal.returns-in_err-parts-clause-left
 returns-in_err-parts-clause-left g c = λ trail start.

@@ -50,28 +50,48 @@ next_of-requires g c κs within =
     let items = sym c.as_slice.ensures.items in
     let grown = c.loop-alloc.invariant.grown in
     let q_is = objective_number value g.task.file c.args.form.now c.requires.1.0 in
-    let fewer : length cuts < g.task.file.objs = omega (arith, c.loop-alloc-test.true, c.len.ensures.value, c.len-in-loop-alloc.ensures.value, q_is) in
-    (within,
-    (c.requires.1.0,
-    (c.requires.1.1.0,
-    (c.requires.1.1.1.0,
-    (c.requires.1.1.1.1.0,
-    (proper_of value g.task cuts (map value c.args.x) grown.each grown.some c.requires.1.1.1.1.1.0.feasible,
-    (subst (All (IsCutFor value g.task)) items grown.each,
-    subst (λ (cs : List (Cut _)). length cs < g.task.file.objs) items fewer)))))))
+    let fewer : length cuts < g.task.file.objs = omega (arith, c.loop-alloc-test.true, c.len.ensures.value, c.len-in-loop-alloc.ensures.value, q_is) in (
+      within,
+      (
+        c.requires.1.0,
+        (
+          c.requires.1.1.0,
+          (
+            c.requires.1.1.1.0,
+            (
+              c.requires.1.1.1.1.0,
+              (
+                proper_of value g.task cuts (map value c.args.x) grown.each grown.some c.requires.1.1.1.1.1.0.feasible,
+                (
+                  subst (All (IsCutFor value g.task)) items grown.each,
+                  subst (λ (cs : List (Cut _)). length cs < g.task.file.objs) items fewer,
+                ),
+              ),
+            ),
+          ),
+        ),
+      ),
+    )
 
 pub line_of-requires : goal.line_of-requires
 line_of-requires g c κs within =
     let value = g.F.Field.value in
     let cuts = c.loop-alloc.cuts in
     let grown = c.loop-alloc.invariant.grown in
-    let here = c.in-Line in
-    (within,
-    (grown.each,
-    (grown.some,
-    (subst (λ (l : List _). IsBaseChoice g.task.file (map value l)) (sym c.loop-alloc.invariant.point) c.requires.1.1.1.1.1.0,
-    next_is value g.task c.as_slice.result.now cuts c.in_ok-next.next (next.Line here.d here.forth here.back) c.as_slice.ensures.items here.is
-    c.in_ok-next.ensures.ok))))
+    let here = c.in-Line in (
+      within,
+      (
+        grown.each,
+        (
+          grown.some,
+          (
+            subst (λ (l : List _). IsBaseChoice g.task.file (map value l)) (sym c.loop-alloc.invariant.point) c.requires.1.1.1.1.1.0,
+            next_is value g.task c.as_slice.result.now cuts c.in_ok-next.next (next.Line here.d here.forth here.back) c.as_slice.ensures.items here.is
+                c.in_ok-next.ensures.ok,
+          ),
+        ),
+      ),
+    )
 
 pub returns-in_err-next-clause-left : goal.returns-in_err-next-clause-left
 returns-in_err-next-clause-left g c =

@@ -23,10 +23,19 @@ returns-in-Contradiction-clause-ok g c =
     subst (IsFeasibleEnd g.F.Field.value g.task.file) c.in-Contradiction.is (c.in_ok-end.ensures.ok g.task.file c.requires.1.0)
 
 pub solvable-requires : goal.solvable-requires
-solvable-requires g c κs within =
-    (within,
-    (c.requires.1.0,
-    (c.requires.1.1.0,
-    (c.requires.1.1.1.0,
-    (c.requires.1.1.1.1,
-    subst (IsFeasibleEnd g.F.Field.value g.task.file) c.in-Point.is (c.in_ok-end.ensures.ok g.task.file c.requires.1.0))))))
+solvable-requires g c κs within = (
+  within,
+  (
+    c.requires.1.0,
+    (
+      c.requires.1.1.0,
+      (
+        c.requires.1.1.1.0,
+        (
+          c.requires.1.1.1.1,
+          subst (IsFeasibleEnd g.F.Field.value g.task.file) c.in-Point.is (c.in_ok-end.ensures.ok g.task.file c.requires.1.0),
+        ),
+      ),
+    ),
+  ),
+)

@@ -66,10 +66,12 @@ cut_of-requires-clause-optimum g c = λ file other.
     let us = map value c.as_slice-in-Optimal.result.now in
     let same : vs ≡ us = ap (map value) (c.as_slice.ensures.items ∙ sym c.as_slice-in-Optimal.ensures.items) in
     let seen = optimum_seen value holds g.task fitting form c.requires.1.0 cs vs true c.in_ok-end.end c.requires.1.1.0
-    (c.in_ok-end.ensures.ok g.task.file c.requires.1.0) a.z a.dual zs a.dual a.basis a.is c.as_slice-in-Optimal-2.ensures.items refl in
-    (a.basis, map value a.dual,
-    optimum_in value holds g.task fitting form c.requires.1.0 file other cs us true a.basis (map value zs) (map value a.dual) c.requires.1.1.0
-    (subst (λ (v : List ℚ). IsOptimumAt (benson_system g.task.file g.task.c v true) a.basis (map value zs) (map value a.dual)) same seen))
+    (c.in_ok-end.ensures.ok g.task.file c.requires.1.0) a.z a.dual zs a.dual a.basis a.is c.as_slice-in-Optimal-2.ensures.items refl in (
+      a.basis,
+      map value a.dual,
+      optimum_in value holds g.task fitting form c.requires.1.0 file other cs us true a.basis (map value zs) (map value a.dual) c.requires.1.1.0
+          (subst (λ (v : List ℚ). IsOptimumAt (benson_system g.task.file g.task.c v true) a.basis (map value zs) (map value a.dual)) same seen),
+    )
 
 pub returns-in_err-first-in-Optimal-clause-left : goal.returns-in_err-first-in-Optimal-clause-left
 returns-in_err-first-in-Optimal-clause-left g c =
@@ -84,15 +86,26 @@ pub described-requires : goal.described-requires
 described-requires g c κs within =
     let value = g.F.Field.value in
     let z = map value c.as_slice-in-Optimal-2.result.now in
-    let first = c.in_ok-first-in-Optimal.first in
-    (within,
-    (c.requires.1.0,
-    (c.requires.1.1.0,
-    (c.requires.1.1.1.0,
-    (c.requires.1.1.1.1.0,
-    (c.requires.1.1.1.1.1,
-    cut_for value g.task first z
-    (subst (λ (d : List ℚ). IsCutOf value g.task.file d z first) c.requires.1.1.0 (c.in_ok-first-in-Optimal.ensures.ok g.task.file c.requires.1.0))))))))
+    let first = c.in_ok-first-in-Optimal.first in (
+      within,
+      (
+        c.requires.1.0,
+        (
+          c.requires.1.1.0,
+          (
+            c.requires.1.1.1.0,
+            (
+              c.requires.1.1.1.1.0,
+              (
+                c.requires.1.1.1.1.1,
+                cut_for value g.task first z
+                    (subst (λ (d : List ℚ). IsCutOf value g.task.file d z first) c.requires.1.1.0 (c.in_ok-first-in-Optimal.ensures.ok g.task.file c.requires.1.0)),
+              ),
+            ),
+          ),
+        ),
+      ),
+    )
 
 pub whole_of-requires : goal.whole_of-requires
 whole_of-requires g c =

@@ -31,14 +31,25 @@ pub ask-requires : goal.ask-requires
 ask-requires g c κs within =
     let value = g.F.Field.value in
     let q_is = c.len.ensures.value ∙ objective_number value g.task.file c.args.form.now c.requires.1.0 in
-    let side = found_side g.task.file.objs c.len.result (normals_of value c.args.cuts.now) (map value c.in_ok-d.d) q_is c.in_ok-d.ensures.ok in
-    (within,
-    (c.requires.1.0,
-    (c.requires.1.1.0,
-    (c.requires.1.1.1.0,
-    (c.requires.1.1.1.1.0,
-    (ap length c.as_slice.ensures.items ∙ sym (length-map c.in_ok-d.d value) ∙ side.flat.wide,
-    c.requires.1.1.1.1.1.0))))))
+    let side = found_side g.task.file.objs c.len.result (normals_of value c.args.cuts.now) (map value c.in_ok-d.d) q_is c.in_ok-d.ensures.ok in (
+      within,
+      (
+        c.requires.1.0,
+        (
+          c.requires.1.1.0,
+          (
+            c.requires.1.1.1.0,
+            (
+              c.requires.1.1.1.1.0,
+              (
+                ap length c.as_slice.ensures.items ∙ sym (length-map c.in_ok-d.d value) ∙ side.flat.wide,
+                c.requires.1.1.1.1.1.0,
+              ),
+            ),
+          ),
+        ),
+      ),
+    )
 
 pub returns-in_err-asked-clause-left : goal.returns-in_err-asked-clause-left
 returns-in_err-asked-clause-left g c = λ trail has.
@@ -69,16 +80,29 @@ opposite-requires g c κs within =
     let holds = g.F.Field.holds in
     let d = map value c.in_ok-d.d in
     let q_is = c.len.ensures.value ∙ objective_number value g.task.file c.args.form.now c.requires.1.0 in
-    let side = found_side g.task.file.objs c.len.result (normals_of value c.args.cuts.now) d q_is c.in_ok-d.ensures.ok in
-    (within,
-    (c.requires.1.0,
-    (c.requires.1.1.0,
-    (c.requires.1.1.1.0,
-    (c.requires.1.1.1.1.0,
-    (c.requires.1.1.1.1.1.0,
-    (sym (length-map c.in_ok-d.d value) ∙ side.flat.wide,
-    reached_is value holds g.task c.requires.1.1.1.1.0 c.in_ok-asked.asked (map value c.as_slice.result.now) d (ap (map value) c.as_slice.ensures.items)
-    c.in_ok-asked.ensures.ok c.in-Reached.forth c.in-Reached.is)))))))
+    let side = found_side g.task.file.objs c.len.result (normals_of value c.args.cuts.now) d q_is c.in_ok-d.ensures.ok in (
+      within,
+      (
+        c.requires.1.0,
+        (
+          c.requires.1.1.0,
+          (
+            c.requires.1.1.1.0,
+            (
+              c.requires.1.1.1.1.0,
+              (
+                c.requires.1.1.1.1.1.0,
+                (
+                  sym (length-map c.in_ok-d.d value) ∙ side.flat.wide,
+                  reached_is value holds g.task c.requires.1.1.1.1.0 c.in_ok-asked.asked (map value c.as_slice.result.now) d (ap (map value) c.as_slice.ensures.items)
+                      c.in_ok-asked.ensures.ok c.in-Reached.forth c.in-Reached.is,
+                ),
+              ),
+            ),
+          ),
+        ),
+      ),
+    )
 
 pub returns-in-Reached-clause-ok : goal.returns-in-Reached-clause-ok
 returns-in-Reached-clause-ok g c =

@@ -11,14 +11,25 @@ use Rattle.recession.proofs.further.opposite.Goals as goal
 pub ask-requires : goal.ask-requires
 ask-requires g c κs within =
     let value = g.F.Field.value in
-    let same = ap (map value) c.as_slice-2.ensures.items ∙ c.in_ok-negated.ensures ∙ ap (λ l. negated (map value l)) c.as_slice.ensures.items in
-    (within,
-    (c.requires.1.0,
-    (c.requires.1.1.0,
-    (c.requires.1.1.1.0,
-    (c.requires.1.1.1.1.0,
-    (sym (length-map c.as_slice-2.result.now value) ∙ ap length same ∙ length-map (map value c.args.d) neg_ℚ ∙ length-map c.args.d value ∙ c.requires.1.1.1.1.1.1.0,
-    c.requires.1.1.1.1.1.0))))))
+    let same = ap (map value) c.as_slice-2.ensures.items ∙ c.in_ok-negated.ensures ∙ ap (λ l. negated (map value l)) c.as_slice.ensures.items in (
+      within,
+      (
+        c.requires.1.0,
+        (
+          c.requires.1.1.0,
+          (
+            c.requires.1.1.1.0,
+            (
+              c.requires.1.1.1.1.0,
+              (
+                sym (length-map c.as_slice-2.result.now value) ∙ ap length same ∙ length-map (map value c.args.d) neg_ℚ ∙ length-map c.args.d value ∙ c.requires.1.1.1.1.1.1.0,
+                c.requires.1.1.1.1.1.0,
+              ),
+            ),
+          ),
+        ),
+      ),
+    )
 
 pub returns-in_err-asked-clause-left : goal.returns-in_err-asked-clause-left
 returns-in_err-asked-clause-left g c = λ trail side.
