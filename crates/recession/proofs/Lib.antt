@@ -1,0 +1,10 @@
+pub mod Agreeing
+pub mod Asking_ends
+pub mod Behind
+pub mod Excluded
+pub mod Free
+pub mod Grown
+pub mod Null
+pub mod Side
+pub mod Trails
+pub mod Written

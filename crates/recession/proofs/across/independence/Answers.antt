@@ -1,0 +1,21 @@
+use Rattle.std.proofs.Common.{◌≡◌, List, [], refl, sym, ◌∙◌, subst}
+use Rattle.exact_field.specs.Rational.{ℚ}
+use Rattle.deriv_log.specs.declared.entry.Entry.{Entry}
+use Rattle.licence.specs.Operands.{AreElimRows, IsElimTable}
+use Rattle.lin_rows.specs.Answers.{IsIndep}
+use Rattle.lin_rows.specs.Read.{numbers}
+use Rattle.overflows.specs.Faults.{Overflows}
+use Rattle.recession.proofs.across.independence.Goals as goal
+
+pub returns-clause-left : goal.returns-clause-left
+returns-clause-left g c = λ s q_is has.
+    let value = g.F.Field.value in
+    let holds = g.F.Field.holds in
+    let t = numbers value c.in_ok-rows.rows.list in
+    subst (λ (trail : List Entry). Overflows holds s trail c.elimination_fault.result) c.new.ensures
+    (c.elimination_fault.ensures.licensed s s.file.objs c.args.q t (AreElimRows.of_normals (c.in_ok-rows.ensures.rows ∙ sym has))
+    (IsElimTable.alone refl (sym q_is)) c.in-Err.ensures.left)
+
+pub returns-in-Ok-clause-ok : goal.returns-in-Ok-clause-ok
+returns-in-Ok-clause-ok g c =
+    subst (λ (rows : List (List ℚ)). IsIndep g.F.Field.value c.args.q rows c.in-Ok.found) c.in_ok-rows.ensures.rows c.in-Ok.ensures.ok

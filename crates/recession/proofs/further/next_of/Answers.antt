@@ -1,0 +1,17 @@
+use Rattle.outer_log.specs.Task.{behind}
+use Rattle.recession.proofs.Trails.{licensed, trail_base, trail_has, trail_of}
+use Rattle.recession.proofs.further.next_of.Goals as goal
+
+pub returns-in_ok-entries-in-Err-clause-left : goal.returns-in_ok-entries-in-Err-clause-left
+returns-in_ok-entries-in-Err-clause-left g c =
+    let value = g.F.Field.value in
+    let holds = g.F.Field.holds in
+    let fitting = c.requires.1.1.1.1.0 in
+    let cuts = c.args.cuts.now in
+    let entries = c.in_ok-entries-in-Err.entries in
+    let says = c.in_ok-entries-in-Err.ensures in
+    let base = trail_base holds g.task fitting value cuts entries c.requires.1.1.1.1.1.1.0 says in
+    let has = trail_has holds g.task fitting value cuts entries c.requires.1.1.1.1.1.1.0 says in
+    let s = behind g.task (trail_of holds g.task fitting entries) in
+    licensed holds g.task fitting entries base c.behind.result
+    (c.behind.ensures.licensed holds s (c.in-Err.ensures.left (trail_of holds g.task fitting entries) has))

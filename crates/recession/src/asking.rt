@@ -1,0 +1,95 @@
+//! What Benson's program says of a vector.
+ghost use Rattle.std.specs.Prelude.{◌≡◌, ◌↔◌, ℕ, List, [], map, length, IfOk, IfErr, IsTrue};
+ghost use Rattle.benson_program.specs.Ends.{IsOptimumAt};
+ghost use Rattle.deriv_log.specs.declared.entry.Entry.{Entry};
+ghost use Rattle.exact_field.specs.Rational.{ℚ, ◌<ℚ◌, zero_ℚ};
+ghost use Rattle.licence.specs.Base.{IsBaseStart};
+ghost use Rattle.lp_form.specs.Data.{IsDataOf};
+ghost use Rattle.lp_form.specs.Programs.{benson_system};
+ghost use Rattle.outer_log.specs.Task.{IsFitting, Task, behind};
+ghost use Rattle.overflows.specs.Faults.{Overflows};
+ghost use Rattle.recession.specs.Asking.{IsAsked, IsProper};
+
+use benson_program::{BensonEnd, Cut, Preimage, benson_end, cut_of, preimage_of};
+use exact_field::Field;
+use lp_form::Data;
+use overflows::SolveFault;
+use src_sink::Items;
+use std::alloc::Global;
+
+/// What Benson's program says of a vector.
+#[derive(Debug, Drop)]
+pub enum Asked<F: Drop> {
+    /// A cut that it does not meet.
+    Cut(Cut<F>),
+    /// What shows that it is in the image, or a direction in the recession cone.
+    Reached(Preimage<F>),
+}
+
+/// Whether a number is positive.
+fn is_positive<F: Field>(x: F) -> bool
+    ensures { IsTrue result ↔ (zero_ℚ <ℚ F.value x) }
+{
+    F::zero() < x
+}
+
+/// What an optimum of Benson's program at `v` says: where its value, the last multiplier, is positive a cut, and else a pre-image.
+fn read_off<F: Field>(
+    alloc: Global,
+    form: &Data<F>,
+    c: &[F],
+    weights: &[F],
+    v: &[F],
+    t: bool,
+    z: &[F],
+    dual: &[F],
+) -> Result<Asked<F>, SolveFault>
+    ghost task: { Task }
+    requires stands { IsDataOf F.value task.file form.now }
+    requires c { map F.value c.now ≡ task.c }
+    requires weights { map F.value weights.now ≡ task.weights }
+    requires fitting { IsFitting F.holds task }
+    requires v { length v.now ≡ task.file.objs }
+    requires optimum { (basis : List ℕ) × IsOptimumAt (benson_system task.file task.c (map F.value v.now) t) basis (map F.value z.now) (map F.value dual.now) }
+    ensures ok { IfOk result (IsAsked F.value task (map F.value v.now) t) }
+    ensures left { (trail : List Entry) → IsBaseStart task.file.objs trail (map F.value v.now) t → IfErr result (Overflows F.holds (behind task trail) []) }
+{
+    if is_positive(dual[dual.len() - 1]) {
+        let cut = cut_of(alloc, form, c, v, t, z)?;
+        Ok(Asked::Cut(cut))
+    } else {
+        let parts = preimage_of(alloc, form, weights, dual)?;
+        Ok(Asked::Reached(parts))
+    }
+}
+
+/// Asks at `v`, a point where `t` and else a direction, whether the image has it: a cut, or a pre-image. `c` is the duality vector, and
+/// the weights combine the generators of the ordering cone to it. `hint` is the basis of the program before, and then of this one.
+pub fn ask<F: Field>(
+    alloc: Global,
+    form: &Data<F>,
+    c: &[F],
+    weights: &[F],
+    v: &[F],
+    t: bool,
+    hint: &mut Items<u32>,
+) -> Result<Asked<F>, SolveFault>
+    ghost task: { Task }
+    requires stands { IsDataOf F.value task.file form.now }
+    requires c { map F.value c.now ≡ task.c }
+    requires weights { map F.value weights.now ≡ task.weights }
+    requires fitting { IsFitting F.holds task }
+    requires v { length v.now ≡ task.file.objs }
+    requires some { IsProper task }
+    ensures ok { IfOk result (IsAsked F.value task (map F.value v.now) t) }
+    ensures left { (trail : List Entry) → IsBaseStart task.file.objs trail (map F.value v.now) t → IfErr result (Overflows F.holds (behind task trail) []) }
+{
+    let end = benson_end(alloc, form, c, v, t, hint.as_slice())?;
+    match end {
+        BensonEnd::Optimal { z, dual, basis } => {
+            *hint = basis;
+            read_off(alloc, form, c, weights, v, t, z.as_slice(), dual.as_slice())
+        }
+        BensonEnd::Empty { .. } => unreachable!(),
+    }
+}

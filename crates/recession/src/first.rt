@@ -1,0 +1,161 @@
+//! The first cuts of an image, or what shows that it has none.
+ghost use Rattle.std.specs.Prelude.{◌≡◌, ◌≤◌, [], map, length, All, IfOk, IfErr};
+ghost use Rattle.licence.specs.Base.{IsBaseChoice};
+ghost use Rattle.licence.specs.Licence.{Licensed};
+ghost use Rattle.lp_form.specs.Data.{IsDataOf};
+ghost use Rattle.outer_log.specs.Cuts.{IsCutFor};
+ghost use Rattle.outer_log.specs.Lines.{IsLineFor};
+ghost use Rattle.outer_log.specs.Task.{IsFitting, Task};
+ghost use Rattle.overflows.specs.Faults.{OnLicence};
+ghost use Rattle.recession.specs.First.{IsFirst};
+ghost use Rattle.recession.specs.Further.{IsLineAcross, normals_of};
+
+use crate::further::{Next, next_of};
+use benson_program::{
+    BensonEnd, Cut, FeasibleEnd, Preimage, WholeParts, benson_end, cut_of, feasible_end, whole_of,
+};
+use exact_field::Field;
+use lp_form::{Data, zeros};
+use outer_log::Line;
+use overflows::SolveFault;
+use src_sink::Items;
+use std::alloc::Global;
+
+/// How the description of an image begins.
+#[derive(Debug, Drop)]
+pub enum First<F: Drop> {
+    /// No point is feasible.
+    Infeasible {
+        /// Multipliers of the sides that contradict each other.
+        u: Items<F>,
+    },
+    /// The image is everything.
+    Whole {
+        /// A feasible point.
+        x: Items<F>,
+        /// What shows it.
+        parts: WholeParts<F>,
+    },
+    /// The image has a line.
+    Line(Line<F>),
+    /// As many cuts as there are objectives, with independent normals.
+    Cuts(Items<Cut<F>>),
+}
+
+/// A line that is found behind cuts, with one of them. x is a feasible point.
+fn line_of<F: Field>(
+    cuts: Items<Cut<F>>,
+    x: Items<F>,
+    d: Items<F>,
+    forth: Preimage<F>,
+    back: Preimage<F>,
+) -> Line<F>
+    ghost task: { Task }
+    requires each { All (IsCutFor F.value task) cuts }
+    requires some { 1 ≤ length cuts }
+    requires choice { IsBaseChoice task.file (map F.value x) }
+    requires line { IsLineAcross F.value task (normals_of F.value cuts) d forth back }
+    ensures { IsLineFor F.value task result }
+{
+    let mut cuts = cuts.into_vec();
+    match cuts.pop() {
+        Some(cut) => Line {
+            cut,
+            d,
+            x,
+            forth,
+            back,
+        },
+        None => unreachable!(),
+    }
+}
+
+/// The first cuts of an image, of which this is one, or its line. x is a feasible point.
+fn described<F: Field>(
+    alloc: Global,
+    form: &Data<F>,
+    c: &[F],
+    weights: &[F],
+    x: Items<F>,
+    first: Cut<F>,
+    basis: Items<u32>,
+) -> Result<First<F>, SolveFault>
+    ghost task: { Task }
+    requires stands { IsDataOf F.value task.file form.now }
+    requires c { map F.value c.now ≡ task.c }
+    requires weights { map F.value weights.now ≡ task.weights }
+    requires fitting { IsFitting F.holds task }
+    requires choice { IsBaseChoice task.file (map F.value x) }
+    requires first { IsCutFor F.value task first }
+    ensures ok { IfOk result (IsFirst F.value task) }
+    ensures left { IfErr result (λ fault. OnLicence fault (Licensed F.holds task.file task.c)) }
+{
+    let mut hint = basis;
+    let mut cuts = Items::new(alloc);
+    cuts.push(first)?;
+    while cuts.len() < form.p.len() {
+        let next = next_of(alloc, form, c, weights, cuts.as_slice(), &mut hint)?;
+        match next {
+            Next::Cut(cut) => cuts.push(cut)?,
+            Next::Line { d, forth, back } => {
+                return Ok(First::Line(line_of(cuts, x, d, forth, back)));
+            }
+        }
+    }
+    Ok(First::Cuts(cuts))
+}
+
+/// How the description begins of an image that is not empty. x is a feasible point.
+fn solvable<F: Field>(
+    alloc: Global,
+    form: &Data<F>,
+    c: &[F],
+    weights: &[F],
+    x: Items<F>,
+) -> Result<First<F>, SolveFault>
+    ghost task: { Task }
+    requires stands { IsDataOf F.value task.file form.now }
+    requires c { map F.value c.now ≡ task.c }
+    requires weights { map F.value weights.now ≡ task.weights }
+    requires fitting { IsFitting F.holds task }
+    requires choice { IsBaseChoice task.file (map F.value x) }
+    ensures ok { IfOk result (IsFirst F.value task) }
+    ensures left { IfErr result (λ fault. OnLicence fault (Licensed F.holds task.file task.c)) }
+{
+    let origin = zeros(alloc, form.p.len() as u32)?;
+    let end = benson_end(alloc, form, c, origin.as_slice(), true, &[])?;
+    match end {
+        BensonEnd::Optimal { z, basis, .. } => {
+            let first = cut_of(alloc, form, c, origin.as_slice(), true, z.as_slice())?;
+            described(alloc, form, c, weights, x, first, basis)
+        }
+        BensonEnd::Empty { dual, .. } => {
+            let parts = whole_of(alloc, form, dual.as_slice())?;
+            Ok(First::Whole { x, parts })
+        }
+    }
+}
+
+/// How the description of an image begins: whether no point is feasible, whether the image is everything or has a line, and else its
+/// first cuts. `c` is the duality vector, and the weights combine the generators of the ordering cone to it. It costs at most twice as
+/// many linear programs as there are objectives.
+pub fn first_cuts<F: Field>(
+    alloc: Global,
+    form: &Data<F>,
+    c: &[F],
+    weights: &[F],
+) -> Result<First<F>, SolveFault>
+    ghost task: { Task }
+    requires stands { IsDataOf F.value task.file form.now }
+    requires c { map F.value c.now ≡ task.c }
+    requires weights { map F.value weights.now ≡ task.weights }
+    requires fitting { IsFitting F.holds task }
+    ensures ok { IfOk result (IsFirst F.value task) }
+    ensures left { IfErr result (λ fault. OnLicence fault (Licensed F.holds task.file task.c)) }
+{
+    let end = feasible_end(alloc, form)?;
+    match end {
+        FeasibleEnd::Contradiction { u } => Ok(First::Infeasible { u }),
+        FeasibleEnd::Point { x } => solvable(alloc, form, c, weights, x),
+    }
+}

@@ -1,0 +1,137 @@
+//! What is found behind some cuts: one more, or a line.
+ghost use Rattle.std.specs.Prelude.{◌≡◌, ◌<◌, false, [], List, map, length, All, IfOk, IfErr};
+ghost use Rattle.benson_program.specs.Preimages.{IsPreimageOf};
+ghost use Rattle.benson_program.specs.declared.cut.Cut.{Cut as CutOf};
+ghost use Rattle.deriv_log.specs.declared.entry.Entry.{Entry};
+ghost use Rattle.licence.specs.Base.{IsSide, trail_normals};
+ghost use Rattle.licence.specs.Licence.{Licensed};
+ghost use Rattle.lp_form.specs.Data.{IsDataOf};
+ghost use Rattle.outer_log.specs.Cuts.{IsCutFor};
+ghost use Rattle.outer_log.specs.Task.{IsFitting, Task, behind};
+ghost use Rattle.overflows.specs.Faults.{OnLicence, Overflows};
+ghost use Rattle.recession.specs.Asking.{IsProper};
+ghost use Rattle.recession.specs.Further.{IsNext, SayCuts, normals_of};
+
+use crate::across::across;
+use crate::asking::{Asked, ask};
+use benson_program::{Cut, Preimage};
+use deriv_log::Entries;
+use exact_field::Field;
+use lp_form::{Data, negative};
+use outer_log::push_cut_entry;
+use overflows::SolveFault;
+use src_sink::{Items, NoMemory};
+use std::alloc::Global;
+
+/// What is found behind some cuts.
+#[derive(Debug, Drop)]
+pub enum Next<F: Drop> {
+    /// One more cut.
+    Cut(Cut<F>),
+    /// A line.
+    Line {
+        /// A direction of it.
+        d: Items<F>,
+        /// A pre-image of the direction.
+        forth: Preimage<F>,
+        /// A pre-image of its negative.
+        back: Preimage<F>,
+    },
+}
+
+/// What is found behind cuts at the negative of a direction `d` which has a pre-image, and at which their normals are 0.
+fn opposite<F: Field>(
+    alloc: Global,
+    form: &Data<F>,
+    c: &[F],
+    weights: &[F],
+    d: Items<F>,
+    forth: Preimage<F>,
+    hint: &mut Items<u32>,
+) -> Result<Next<F>, SolveFault>
+    ghost task: { Task }
+    requires stands { IsDataOf F.value task.file form.now }
+    requires c { map F.value c.now ≡ task.c }
+    requires weights { map F.value weights.now ≡ task.weights }
+    requires fitting { IsFitting F.holds task }
+    requires some { IsProper task }
+    requires wide { length d ≡ task.file.objs }
+    requires forth { IsPreimageOf F.value task.file task.c task.weights (map F.value d) false forth }
+    ensures ok { (cuts : List (CutOf _)) → IsSide task.file.objs (normals_of F.value cuts) (map F.value d) → IfOk result (IsNext F.value task cuts) }
+    ensures left { (trail : List Entry) → IsSide task.file.objs (trail_normals task.file.objs trail) (map F.value d) → IfErr result (Overflows F.holds (behind task trail) []) }
+{
+    let negated = negative(alloc, d.as_slice())?;
+    let asked = ask(alloc, form, c, weights, negated.as_slice(), false, hint)?;
+    match asked {
+        Asked::Cut(cut) => Ok(Next::Cut(cut)),
+        Asked::Reached(back) => Ok(Next::Line { d, forth, back }),
+    }
+}
+
+/// What is found behind cuts, fewer than there are objectives.
+fn found<F: Field>(
+    alloc: Global,
+    form: &Data<F>,
+    c: &[F],
+    weights: &[F],
+    cuts: &[Cut<F>],
+    hint: &mut Items<u32>,
+) -> Result<Next<F>, SolveFault>
+    ghost task: { Task }
+    requires stands { IsDataOf F.value task.file form.now }
+    requires c { map F.value c.now ≡ task.c }
+    requires weights { map F.value weights.now ≡ task.weights }
+    requires fitting { IsFitting F.holds task }
+    requires some { IsProper task }
+    requires each { All (IsCutFor F.value task) cuts.now }
+    requires few { length cuts.now < task.file.objs }
+    ensures ok { IfOk result (IsNext F.value task cuts.now) }
+    ensures left { (trail : List Entry) → trail_normals task.file.objs trail ≡ normals_of F.value cuts.now → IfErr result (Overflows F.holds (behind task trail) []) }
+{
+    let d = across(alloc, form.p.len() as u32, cuts)?;
+    let asked = ask(alloc, form, c, weights, d.as_slice(), false, hint)?;
+    match asked {
+        Asked::Cut(cut) => Ok(Next::Cut(cut)),
+        Asked::Reached(forth) => opposite(alloc, form, c, weights, d, forth, hint),
+    }
+}
+
+/// The entries of cuts.
+fn entries_of<F: Field>(alloc: Global, cuts: &[Cut<F>]) -> Result<Entries, NoMemory>
+    ensures { IfOk result (SayCuts F.value cuts.now) }
+{
+    let mut entries = Entries::new(alloc);
+    for i in 0..cuts.len() {
+        push_cut_entry(alloc, &mut entries, &cuts[i])?;
+    }
+    Ok(entries)
+}
+
+/// What is found behind cuts, fewer than there are objectives. Where an operation overflows, its trail has the cuts.
+pub(crate) fn next_of<F: Field>(
+    alloc: Global,
+    form: &Data<F>,
+    c: &[F],
+    weights: &[F],
+    cuts: &[Cut<F>],
+    hint: &mut Items<u32>,
+) -> Result<Next<F>, SolveFault>
+    ghost task: { Task }
+    requires stands { IsDataOf F.value task.file form.now }
+    requires c { map F.value c.now ≡ task.c }
+    requires weights { map F.value weights.now ≡ task.weights }
+    requires fitting { IsFitting F.holds task }
+    requires some { IsProper task }
+    requires each { All (IsCutFor F.value task) cuts.now }
+    requires few { length cuts.now < task.file.objs }
+    ensures ok { IfOk result (IsNext F.value task cuts.now) }
+    ensures left { IfErr result (λ fault. OnLicence fault (Licensed F.holds task.file task.c)) }
+{
+    match found(alloc, form, c, weights, cuts, hint) {
+        Ok(next) => Ok(next),
+        Err(fault) => {
+            let entries = entries_of(alloc, cuts)?;
+            Err(fault.behind(entries))
+        }
+    }
+}
