@@ -39,7 +39,7 @@ never_words : (shape : Shape) (v w : World) → Outcome shape Words v w → ⊥
 never_words (check file log) v w outcome = check_never_words file log v w outcome
 never_words (solve file log) v w outcome = solve_never_words file log v w outcome
 
-completes : (shape : Shape) (result : Status) (v w : World) → Honest shape v w → Outcome shape result v w → Completes shape result
+completes : (shape : Shape) (result : Status) (v w : World) → Honest shape v w → Outcome shape result v w → Completes result
 completes (check file log) result v w honest outcome = check_complete file log result v w honest outcome
 completes (solve file log) result v w honest outcome = solve_complete file log result v w honest outcome
 
@@ -60,9 +60,9 @@ pub outcome_of : (o : Option Command) (k : Command) (s : Option Shape) (result :
 outcome_of o k s result v w shape is outcome = subst (λ (x : Option Shape). IfSome x (λ shape. Outcome shape result v w)) (seen o k s shape is) outcome
 
 pub complete_of : (o : Option Command) (k : Command) (s : Option Shape) (result : Status) (v w : World) → option_map shape_seen o ≡ s → o ≡ Some k → Outcome (shape_seen k) result v w →
-    IfSome s (λ shape. Honest shape v w → Completes shape result)
+    IfSome s (λ shape. Honest shape v w → Completes result)
 complete_of o k s result v w shape is outcome =
-    subst (λ (x : Option Shape). IfSome x (λ shape. Honest shape v w → Completes shape result)) (seen o k s shape is)
+    subst (λ (x : Option Shape). IfSome x (λ shape. Honest shape v w → Completes result)) (seen o k s shape is)
     (λ honest. completes (shape_seen k) result v w honest outcome)
 
 -- each shape names a problem

@@ -21,7 +21,7 @@ use Rattle.bensolve_main.specs.Outcome.{Outcome}
 use Rattle.bensolve_main.specs.declared.status.LogRefusal.{LogRefusal}
 use Rattle.bensolve_main.specs.declared.status.LogRefusal.TheVariants.{Text, Wrong}
 use Rattle.bensolve_main.specs.declared.status.Status.{Status}
-use Rattle.bensolve_main.specs.declared.status.Status.TheVariants.{Done, Words, FileFault, ConeFault, Left, NoMemory, ReadFault, WriteFault, Refused, TooLong, NotBuilt}
+use Rattle.bensolve_main.specs.declared.status.Status.TheVariants.{Done, Words, FileFault, ConeFault, Left, NoMemory, ReadFault, WriteFault, Refused, TooLong}
 
 -- bytes that are told are those that are read
 pub same_bytes : (left left' : Option (List ℕ)) (limit : ℕ) (told bytes : List ℕ) → left ≡ Some told → ReadsWhole left left' limit bytes → bytes ≡ told
@@ -67,7 +67,6 @@ told_done (ReadFault log) text v w honest told = absurd told
 told_done (WriteFault log sent) text v w honest told = absurd told
 told_done (Refused why) text v w honest told = absurd (not_refused why text v w honest told)
 told_done (ConeFault f) text v w honest told = absurd told
-told_done NotBuilt text v w honest told = absurd told
 told_done (TooLong false read) text v w honest told = absurd (not_long _ _ _ _ _ honest.problem honest.problem_within told.past)
 told_done (TooLong true read) text v w honest told = absurd (not_long _ _ _ _ _ honest.log honest.log_within told.past)
 
@@ -84,7 +83,6 @@ halts_for_memory (WriteFault log sent) v w honest halts = absurd halts
 halts_for_memory (Refused why) v w honest halts = absurd halts
 halts_for_memory (TooLong log read) v w honest halts = absurd halts
 halts_for_memory (ConeFault f) v w honest halts = absurd halts
-halts_for_memory NotBuilt v w honest halts = absurd halts
 
 -- a reply without a log reaches an honest output
 delivered : (status result : Status) (text : List ℕ) (v w : World) → HonestCheck v w → DeliversWith None status text result v w → result ≡ status

@@ -17,7 +17,7 @@ use Rattle.bensolve_main.specs.declared.reading.Reply.{Reply as Made}
 use Rattle.bensolve_main.specs.declared.reading.ProblemEnd.{ProblemEnd}
 use Rattle.bensolve_main.specs.declared.reading.ProblemEnd.TheVariants as problem_end
 use Rattle.bensolve_main.specs.declared.status.Status.{Status}
-use Rattle.bensolve_main.specs.declared.status.Status.TheVariants.{Done, Words, FileFault, ConeFault, Left, NoMemory, ReadFault, WriteFault, Refused, TooLong, NotBuilt}
+use Rattle.bensolve_main.specs.declared.status.Status.TheVariants.{Done, Words, FileFault, ConeFault, Left, NoMemory, ReadFault, WriteFault, Refused, TooLong}
 
 -- ---- from the end of the check of a log
 log_told : (e : StreamEnd) (file : Problem) (old new : Channel) (status : Status) (text : List ℕ) → StreamEnds e file log_limit old.bytes new.bytes old.faults new.faults →
@@ -65,7 +65,6 @@ told file v w (WriteFault log sent) text good h = absurd h.2
 told file v w (Refused why) text good h = record { file = file; good = good; bytes = h.0; read = h.1; verdict = h.2 }
 told file v w (TooLong false count) text good h = absurd h.2
 told file v w (TooLong true count) text good h = record { file = file; good = good; past = h.0; line = h.1 }
-told file v w NotBuilt text good h = absurd h.2
 
 pub both_told : (file : Problem) (v w : Sources) → GoodFile file v.problem w.problem → (r : Result Made Status) →
     IfOk r (λ made. LogTold file made.status made.text v.log_in w.log_in) → IfOk r (λ made. Told made.status made.text v w)
@@ -84,7 +83,6 @@ halts file v w (ReadFault true) good h = record { file = file; good = good; log_
 halts file v w (WriteFault log sent) good h = absurd h
 halts file v w (Refused why) good h = absurd h
 halts file v w (TooLong log count) good h = absurd h
-halts file v w NotBuilt good h = absurd h
 
 pub both_halt : (file : Problem) (v w : Sources) → GoodFile file v.problem w.problem → (r : Result Made Status) → IfErr r (λ s. LogHalts s v.log_in w.log_in) → IfErr r (λ s. CheckHalts s v w)
 both_halt file v w good (Ok made) h = tt
@@ -103,7 +101,6 @@ refused v w (WriteFault log sent) text h = h
 refused v w (Refused why) text h = absurd h
 refused v w (TooLong false count) text h = h
 refused v w (TooLong true count) text h = absurd h
-refused v w NotBuilt text h = h
 
 pub end_refused : (e : ProblemEnd) (v w : Sources) (r : Result Made Status) → EndsProblem e v w → IfOk r (λ made. e ≡ problem_end.Told made) → IfOk r (λ made. Told made.status made.text v w)
 end_refused e v w (Ok made) h is = refused v w made.status made.text (subst (λ (x : ProblemEnd). EndsProblem x v w) is h)
@@ -121,7 +118,6 @@ unread v w (ReadFault true) h = absurd h
 unread v w (WriteFault log sent) h = h
 unread v w (Refused why) h = h
 unread v w (TooLong log count) h = h
-unread v w NotBuilt h = h
 
 pub end_unread : (e : ProblemEnd) (v w : Sources) (r : Result Made Status) → EndsProblem e v w → IfErr r (λ s. e ≡ problem_end.Halted s) → IfErr r (λ s. CheckHalts s v w)
 end_unread e v w (Ok made) h is = tt

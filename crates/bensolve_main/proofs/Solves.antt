@@ -27,7 +27,7 @@ use Rattle.bensolve_main.specs.declared.reading.ProblemEnd.{ProblemEnd}
 use Rattle.bensolve_main.specs.declared.reading.ProblemEnd.TheVariants as problem_end
 use Rattle.bensolve_main.specs.declared.solving.LoggedReply.{LoggedReply}
 use Rattle.bensolve_main.specs.declared.status.Status.{Status}
-use Rattle.bensolve_main.specs.declared.status.Status.TheVariants.{Done, Words, FileFault, ConeFault, Left, NoMemory, ReadFault, WriteFault, Refused, TooLong, NotBuilt}
+use Rattle.bensolve_main.specs.declared.status.Status.TheVariants.{Done, Words, FileFault, ConeFault, Left, NoMemory, ReadFault, WriteFault, Refused, TooLong}
 
 -- ---- the reply
 -- what is told of a file that was read
@@ -66,8 +66,6 @@ unsolved_verdict logs file (solve_end.Cone f) status text ends (same, line) =
     subst (λ (s : Status). SolveVerdict logs file s text None) (sym same) (record { fault = ends; line = line; no_log = refl })
 unsolved_verdict logs file (solve_end.Left l) status text ends (same, line) =
     subst (λ (s : Status). SolveVerdict logs file s text None) (sym same) (record { licensed = ends; line = line; no_log = refl })
-unsolved_verdict logs file solve_end.NotBuilt status text ends (same, line) =
-    subst (λ (s : Status). SolveVerdict logs file s text None) (sym same) (record { unbuilt = ends; line = line; no_log = refl })
 unsolved_verdict logs file solve_end.NoMemory status text ends tells = absurd tells
 
 pub unsolved_told : (logs : Bool) (file : Problem) (e : SolveEnd) (told : Result Made Status) (r : Result LoggedReply Status) → EndsSolving file e →
@@ -139,30 +137,28 @@ not_refused logs (WriteFault log sent) text v w honest told = told
 not_refused logs (Refused why) text v w honest told = told
 not_refused logs (TooLong false read) text v w honest told = not_long _ _ _ _ _ honest.problem honest.problem_within told.past
 not_refused logs (TooLong true read) text v w honest told = told
-not_refused logs NotBuilt text v w honest told = told
 
--- of a sound file without overflows an answer is told, or that it is not solved yet
-solved_or_unbuilt : (logs : Bool) (file : Problem) (status : Status) (text : List ℕ) (log : Option (List ℕ)) → IsSound file → ((l : Licence) → LicensedAnyhow is_held file l → ⊥) →
-    SolveVerdict logs file status text log → (status ≡ Done) ⊎ (status ≡ NotBuilt)
-solved_or_unbuilt logs file Done text log sound held verdict = inl refl
-solved_or_unbuilt logs file Words text log sound held verdict = absurd verdict
-solved_or_unbuilt logs file (FileFault f) text log sound held verdict = absurd verdict
-solved_or_unbuilt logs file (ConeFault f) text log sound held verdict = absurd (faults_exclude.sound file f verdict.fault sound)
-solved_or_unbuilt logs file (Left l) text log sound held verdict = absurd (held l verdict.licensed)
-solved_or_unbuilt logs file NoMemory text log sound held verdict = absurd verdict
-solved_or_unbuilt logs file (ReadFault in_log) text log sound held verdict = absurd verdict
-solved_or_unbuilt logs file (WriteFault in_log sent) text log sound held verdict = absurd verdict
-solved_or_unbuilt logs file (Refused why) text log sound held verdict = absurd verdict
-solved_or_unbuilt logs file (TooLong in_log read) text log sound held verdict = absurd verdict
-solved_or_unbuilt logs file NotBuilt text log sound held verdict = inr refl
+-- of a sound file without overflows an answer is told
+solved_told : (logs : Bool) (file : Problem) (status : Status) (text : List ℕ) (log : Option (List ℕ)) → IsSound file → ((l : Licence) → LicensedAnyhow is_held file l → ⊥) →
+    SolveVerdict logs file status text log → status ≡ Done
+solved_told logs file Done text log sound held verdict = refl
+solved_told logs file Words text log sound held verdict = absurd verdict
+solved_told logs file (FileFault f) text log sound held verdict = absurd verdict
+solved_told logs file (ConeFault f) text log sound held verdict = absurd (faults_exclude.sound file f verdict.fault sound)
+solved_told logs file (Left l) text log sound held verdict = absurd (held l verdict.licensed)
+solved_told logs file NoMemory text log sound held verdict = absurd verdict
+solved_told logs file (ReadFault in_log) text log sound held verdict = absurd verdict
+solved_told logs file (WriteFault in_log sent) text log sound held verdict = absurd verdict
+solved_told logs file (Refused why) text log sound held verdict = absurd verdict
+solved_told logs file (TooLong in_log read) text log sound held verdict = absurd verdict
 
-replied_end : (logs : Bool) (r : Reply) (v w : World) → HonestSolve logs v w → SolveReplies logs r (sources_of v) (sources_of w) → (r.status ≡ Done) ⊎ (r.status ≡ NotBuilt)
+replied_end : (logs : Bool) (r : Reply) (v w : World) → HonestSolve logs v w → SolveReplies logs r (sources_of v) (sources_of w) → r.status ≡ Done
 replied_end logs r v w honest replies =
     elim replies [
       | inl no_file ↦ absurd (not_refused logs r.status r.text v w honest no_file.told)
       | inr solves ↦
           (let reads : Reads honest.bytes solves.file = subst (λ (l : List ℕ). Reads l solves.file) (same_bytes _ _ _ _ _ honest.problem solves.good.read) solves.good.reads in
-          solved_or_unbuilt logs solves.file r.status r.text r.log (honest.sound solves.file reads) (honest.held solves.file reads) solves.verdict)
+          solved_told logs solves.file r.status r.text r.log (honest.sound solves.file reads) (honest.held solves.file reads) solves.verdict)
     ]
 
 -- without a file for it no log is made
@@ -177,7 +173,6 @@ unlogged file (ReadFault in_log) text log verdict = absurd verdict
 unlogged file (WriteFault in_log sent) text log verdict = absurd verdict
 unlogged file (Refused why) text log verdict = absurd verdict
 unlogged file (TooLong in_log read) text log verdict = absurd verdict
-unlogged file NotBuilt text log verdict = verdict.no_log
 
 quiet : (r : Reply) (v w : Sources) → SolveReplies false r v w → r.log ≡ None
 quiet r v w replies =
@@ -221,21 +216,13 @@ halts_for_memory logs (ReadFault true) v w honest halts = absurd halts
 halts_for_memory logs (WriteFault log sent) v w honest halts = absurd halts
 halts_for_memory logs (Refused why) v w honest halts = absurd halts
 halts_for_memory logs (TooLong log read) v w honest halts = absurd halts
-halts_for_memory logs NotBuilt v w honest halts = absurd halts
 
-ends_as : (result status : Status) → result ≡ status → (status ≡ Done) ⊎ (status ≡ NotBuilt) → (result ≡ Done) ⊎ ((result ≡ NotBuilt) ⊎ (result ≡ NoMemory))
-ends_as result status same ends =
-    elim ends [
-      | inl done ↦ inl (same ∙ done)
-      | inr unbuilt ↦ inr (inl (same ∙ unbuilt))
-    ]
-
-pub solve_complete : (file : List ℕ) (log : Option (List ℕ)) (result : Status) (v w : World) → HonestSolve (is_some log) v w → Outcome (solve file log) result v w → Completes (solve file log) result
+pub solve_complete : (file : List ℕ) (log : Option (List ℕ)) (result : Status) (v w : World) → HonestSolve (is_some log) v w → Outcome (solve file log) result v w → Completes result
 solve_complete file log result v w honest outcome =
     elim outcome [
       | inl made ↦
-          ends_as result made.0.status
-          (delivered (is_some log) made.0.log made.0.status result made.0.text v w honest (λ l. wanted (is_some log) made.0 (sources_of v) (sources_of w) l made.1) made.2)
-          (replied_end (is_some log) made.0 v w honest made.1)
-      | inr halts ↦ inr (inr (halts_for_memory (is_some log) result v w honest halts.cause))
+          inl
+          (delivered (is_some log) made.0.log made.0.status result made.0.text v w honest (λ l. wanted (is_some log) made.0 (sources_of v) (sources_of w) l made.1) made.2
+          ∙ replied_end (is_some log) made.0 v w honest made.1)
+      | inr halts ↦ inr (halts_for_memory (is_some log) result v w honest halts.cause)
     ]

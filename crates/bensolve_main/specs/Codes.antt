@@ -1,7 +1,7 @@
 -- The code of each status.
 use Rattle.std.specs.Prelude.{ℕ}
 use Rattle.bensolve_main.specs.declared.status.Status.{Status}
-use Rattle.bensolve_main.specs.declared.status.Status.TheVariants.{Done, Words, FileFault, ConeFault, Left, NoMemory, ReadFault, WriteFault, Refused, TooLong, NotBuilt}
+use Rattle.bensolve_main.specs.declared.status.Status.TheVariants.{Done, Words, FileFault, ConeFault, Left, NoMemory, ReadFault, WriteFault, Refused, TooLong}
 
 abbrev pub code_of : Status → ℕ
 code_of Done = 0
@@ -14,4 +14,3 @@ code_of (ReadFault log) = 7
 code_of (WriteFault log sent) = 8
 code_of (Refused why) = 9
 code_of (TooLong log read) = 10
-code_of NotBuilt = 11

@@ -9,7 +9,7 @@ use Rattle.bensolve_main.specs.Reading.{ProblemHalts}
 use Rattle.bensolve_main.specs.Check.{CheckReplies, CheckHalts, HonestCheck}
 use Rattle.bensolve_main.specs.Solve.{SolveReplies, HonestSolve}
 use Rattle.bensolve_main.specs.declared.status.Status.{Status}
-use Rattle.bensolve_main.specs.declared.status.Status.TheVariants.{Done, NoMemory, NotBuilt}
+use Rattle.bensolve_main.specs.declared.status.Status.TheVariants.{Done, NoMemory}
 
 -- what a reply says of the bytes that were read
 abbrev pub Replies : Shape → Reply → World → World → Type 0
@@ -36,7 +36,6 @@ abbrev pub Honest : Shape → World → World → Type 0
 Honest (check file log) old new = HonestCheck old new
 Honest (solve file log) old new = HonestSolve (is_some log) old new
 
--- how a command then ends: with an answer or for want of memory, and `solve` also with a problem that is not solved yet
-abbrev pub Completes : Shape → Status → Type 0
-Completes (check file log) result = (result ≡ Done) ⊎ (result ≡ NoMemory)
-Completes (solve file log) result = (result ≡ Done) ⊎ ((result ≡ NotBuilt) ⊎ (result ≡ NoMemory))
+-- how a command then ends: with an answer or for want of memory
+abbrev pub Completes : Status → Type 0
+Completes result = (result ≡ Done) ⊎ (result ≡ NoMemory)

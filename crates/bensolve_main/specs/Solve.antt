@@ -11,14 +11,14 @@ use Rattle.log_rules.specs.Report.{report_text}
 use Rattle.cone_rules.specs.Faults.{IsSound, HasFault}
 use Rattle.cone_rules.specs.declared.fault.ConeFault.{ConeFault as AConeFault}
 use Rattle.licence.specs.Licence.{LicensedAnyhow}
-use Rattle.solver.specs.Solving.{IsSolutionOf, IsUnbuilt}
+use Rattle.solver.specs.Solving.{IsSolutionOf}
 use Rattle.solver.specs.declared.end.Solution.{Solution}
-use Rattle.fault_lines.specs.Text.{cone_fault_text, licence_text, not_built_text}
+use Rattle.fault_lines.specs.Text.{cone_fault_text, licence_text}
 use Rattle.bensolve_main.specs.Reading.{problem_limit, GoodFile, ProblemTold}
 use Rattle.bensolve_main.specs.World.{Sources, World, Uncalled}
 use Rattle.bensolve_main.specs.Reply.{Reply}
 use Rattle.bensolve_main.specs.declared.status.Status.{Status}
-use Rattle.bensolve_main.specs.declared.status.Status.TheVariants.{Done, ConeFault, Left, NotBuilt}
+use Rattle.bensolve_main.specs.declared.status.Status.TheVariants.{Done, ConeFault, Left}
 
 -- the log that is written: the text of the entries, where there is a file for it
 abbrev pub log_for : Bool → List Entry → Option (List ℕ)
@@ -44,18 +44,11 @@ pub record Overflowed (l : Licence) (file : Problem) (text : List ℕ) (log : Op
   pub line : text ≡ licence_text l
   pub no_log : log ≡ None
 
--- the problem is not solved yet, the text tells it, and there is no log
-pub record Unbuilt (file : Problem) (text : List ℕ) (log : Option (List ℕ)) : Type 0 where
-  pub unbuilt : IsUnbuilt file
-  pub line : text ≡ not_built_text
-  pub no_log : log ≡ None
-
 -- what a status says of a file, the text that tells it, and the log, which is made or not
 abbrev pub SolveVerdict : Bool → Problem → Status → List ℕ → Option (List ℕ) → Type 0
 SolveVerdict logs file Done text log = Solved logs file text log
 SolveVerdict logs file (ConeFault f) text log = ConeRefused f file text log
 SolveVerdict logs file (Left l) text log = Overflowed l file text log
-SolveVerdict logs file NotBuilt text log = Unbuilt file text log
 SolveVerdict logs file _ text log = ⊥
 
 -- the problem was read to its end, and the status says this of the file as which it reads

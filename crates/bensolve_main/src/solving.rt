@@ -10,7 +10,7 @@ ghost use Rattle.log_rules.specs.Report.{report_text};
 use crate::reading::{Reply, read_problem, reply_at};
 use crate::status::Status;
 use deriv_log::print_log;
-use fault_lines::{cone_fault_line, licence_line, not_built_line};
+use fault_lines::{cone_fault_line, licence_line};
 use sol_writer::report;
 use solver::{Solution, SolveEnd, solve};
 use src_sink::{Bytes, NoMemory, Source};
@@ -62,7 +62,6 @@ fn unsolved_reply(alloc: Global, end: SolveEnd) -> Result<Reply, Status>
             let text = licence_line(alloc, &licence)?;
             (Status::Left(licence), text)
         }
-        SolveEnd::NotBuilt => (Status::NotBuilt, not_built_line(alloc)?),
         SolveEnd::NoMemory => return Err(Status::NoMemory),
     };
     Ok(Reply { status, text })

@@ -38,8 +38,6 @@ pub enum Status {
     Refused(LogRefusal),
     /// More bytes were read than the limit, and so many.
     TooLong { log: bool, read: u64 },
-    /// The ordering cone is sound and some point is feasible, the image is not everything, and such problems are not solved yet.
-    NotBuilt,
 }
 
 impl Status {
@@ -61,7 +59,6 @@ impl Status {
             Status::WriteFault { .. } => 8,
             Status::Refused(_) => 9,
             Status::TooLong { .. } => 10,
-            Status::NotBuilt => 11,
         }
     }
 }

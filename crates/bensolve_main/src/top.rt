@@ -42,11 +42,11 @@ pub fn run<S: Source, L: Source, T: Sink, K: Sink>(
         (world (channel (S.left problem.old) (S.faults problem.old)) (channel (L.left log_in.old) (L.faults log_in.old)) (channel (T.held out.old) (T.faults out.old)) (channel (K.held log_out.old) (K.faults log_out.old)))
         (world (channel (S.left problem.new) (S.faults problem.new)) (channel (L.left log_in.new) (L.faults log_in.new)) (channel (T.held out.new) (T.faults out.new)) (channel (K.held log_out.new) (K.faults log_out.new)))) }
 
-    // Where the outside is honest there is an answer, unless memory is wanting, or to `solve` the file is not solved yet.
+    // Where the outside is honest there is an answer, unless memory is wanting.
     ensures complete { IfSome (shape_of (map string_bytes words.now)) (λ shape. Honest shape
         (world (channel (S.left problem.old) (S.faults problem.old)) (channel (L.left log_in.old) (L.faults log_in.old)) (channel (T.held out.old) (T.faults out.old)) (channel (K.held log_out.old) (K.faults log_out.old)))
         (world (channel (S.left problem.new) (S.faults problem.new)) (channel (L.left log_in.new) (L.faults log_in.new)) (channel (T.held out.new) (T.faults out.new)) (channel (K.held log_out.new) (K.faults log_out.new)))
-        → Completes shape result) }
+        → Completes result) }
 
     // No count of faults falls.
     ensures counts { NoCountFell

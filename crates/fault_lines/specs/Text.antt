@@ -78,7 +78,3 @@ wrong_text entry rule = line_text (codes "fault" ∷ codes "9" ∷ codes "entry"
 -- the fault line of a source (that of the log, or of the problem) with more bytes than the limit, and how many were taken
 abbrev pub too_long_text : Bool → ℕ → List ℕ
 too_long_text log read = line_text (codes "fault" ∷ codes "10" ∷ source_name log ∷ decimal read ∷ [])
-
--- the fault line of a problem whose kind of answer is not built
-abbrev pub not_built_text : List ℕ
-not_built_text = line_text (codes "fault" ∷ codes "11" ∷ codes "NotBuilt" ∷ [])

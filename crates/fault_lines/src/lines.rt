@@ -1,6 +1,6 @@
 //! The fault lines of texts and of their limits, and of what is not built.
 ghost use Rattle.std.specs.Prelude.{◌≡◌, IfOk};
-ghost use Rattle.fault_lines.specs.Text.{file_fault_text, log_fault_text, wrong_text, too_long_text, not_built_text};
+ghost use Rattle.fault_lines.specs.Text.{file_fault_text, log_fault_text, wrong_text, too_long_text};
 
 use deriv_log::LogFault;
 use log_rules::Rule;
@@ -51,14 +51,6 @@ pub fn too_long_line(alloc: Global, log: bool, read: u64) -> Result<Bytes, NoMem
     let source = if log { "log" } else { "problem" };
     let text = format!(in alloc; "fault 10 {source} {read}\n")?;
     let bytes = bytes_of(alloc, text.as_str())?;
-    Ok(bytes)
-}
-
-/// The fault line of a problem whose kind of answer is not built.
-pub fn not_built_line(alloc: Global) -> Result<Bytes, NoMemory>
-    ensures { IfOk result (λ text. text ≡ not_built_text) }
-{
-    let bytes = bytes_of(alloc, "fault 11 NotBuilt\n")?;
     Ok(bytes)
 }
 

@@ -1,6 +1,6 @@
 //! A line of each kind.
 use crate::{
-    cone_fault_line, file_fault_line, licence_line, log_fault_line, not_built_line, too_long_line,
+    cone_fault_line, file_fault_line, licence_line, log_fault_line, too_long_line,
     wrong_line,
 };
 use cone_rules::ConeFault;
@@ -148,13 +148,12 @@ fn writes_licences_of_each_place(rt: HostRuntime) -> Result<(), Fail> {
 }
 
 /// The lines that `text_line` makes.
-const TEXT_LINES: [&str; 6] = [
+const TEXT_LINES: [&str; 5] = [
     "fault 3 line 3 kind 7 Twice\n",
     "fault 9 line 12 kind 5 NoEnd\n",
     "fault 9 entry 2 rule 10 Bound\n",
     "fault 10 problem 16777217\n",
     "fault 10 log 268435457\n",
-    "fault 11 NotBuilt\n",
 ];
 
 fn text_line(alloc: Global, number: usize) -> Result<Bytes, NoMemory> {

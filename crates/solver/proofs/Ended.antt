@@ -13,7 +13,7 @@ use Rattle.overflows.specs.declared.fault.SolveFault.TheVariants.{Left, NoMemory
 use Rattle.licence.specs.Operands.{Setting}
 use Rattle.std.proofs.Common.{refl}
 use Rattle.solver.specs.Ends.{IsSameFault}
-use Rattle.solver.specs.Opening.{IsOwnLog}
+use Rattle.benson_primal.specs.Logs.{IsOwnLog}
 use Rattle.solver.specs.Solving.{EndsSolving}
 use Rattle.solver.specs.declared.end.SolveEnd.{SolveEnd}
 

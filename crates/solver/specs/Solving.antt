@@ -5,10 +5,9 @@ use Rattle.vlp_reader.specs.declared.problem.Problem.{Problem}
 use Rattle.cone_rules.specs.Faults.{IsSound, HasFault}
 use Rattle.cert_check.specs.Verdict.{Accepts}
 use Rattle.licence.specs.Licence.{LicensedAnyhow}
-use Rattle.solver.specs.Opening.{IsToDescribe}
 use Rattle.solver.specs.declared.end.Solution.{Solution}
 use Rattle.solver.specs.declared.end.SolveEnd.{SolveEnd}
-use Rattle.solver.specs.declared.end.SolveEnd.TheVariants.{Cone, Left, NotBuilt, NoMemory}
+use Rattle.solver.specs.declared.end.SolveEnd.TheVariants.{Cone, Left, NoMemory}
 
 -- the ordering cone is sound, the entries are a log of which no event fails, and prove the answer, which is right
 pub record IsSolutionOf (file : Problem) (s : Solution) : Type 0 where
@@ -16,14 +15,8 @@ pub record IsSolutionOf (file : Problem) (s : Solution) : Type 0 where
   pub log : IsLog s.entries
   pub accepts : Accepts file s.entries s.answer
 
--- the ordering cone is sound, and there is an image to describe, which is not done yet
-pub record IsUnbuilt (file : Problem) : Type 0 where
-  pub sound : IsSound file
-  pub opened : IsToDescribe file
-
--- the first fault of the cone; or an overflow that is licensed; or a problem that is not solved yet; nothing of want of memory
+-- the first fault of the cone; or an overflow that is licensed; nothing of want of memory
 abbrev pub EndsSolving : Problem → SolveEnd → Type 0
 EndsSolving file (Cone fault) = HasFault file fault
 EndsSolving file (Left licence) = LicensedAnyhow is_held file licence
-EndsSolving file NotBuilt = IsUnbuilt file
 EndsSolving file NoMemory = Unit {0}

@@ -1,14 +1,15 @@
 //! The solver.
-ghost use Rattle.std.specs.Prelude.{IfOk, IfErr, IsTrue};
+ghost use Rattle.std.specs.Prelude.{◌≡◌, IfOk, IfErr, IsTrue};
+ghost use Rattle.cone_dual.specs.Fitting.{IsDualityOf};
 ghost use Rattle.frac128.specs.Held.{is_held};
 ghost use Rattle.cone_rules.specs.Faults.{IsSound};
 ghost use Rattle.lp_form.specs.Data.{IsDataOf, RefusesNumber};
-ghost use Rattle.solver.specs.Opening.{IsOwnLog};
+ghost use Rattle.benson_primal.specs.Logs.{IsOwnLog};
 ghost use Rattle.solver.specs.Solving.{IsSolutionOf, EndsSolving};
 
 use crate::end::{Solution, SolveEnd};
-use crate::first::opened;
-use cone_dual::cone_facts;
+use benson_primal::primal;
+use cone_dual::{Duality, cone_facts};
 use deriv_log::Entries;
 use exact_field::Field;
 use frac128::Frac;
@@ -59,16 +60,32 @@ fn checked(alloc: Global, problem: &Problem, entries: Entries) -> Result<Solutio
     Ok(Solution { entries, answer })
 }
 
+/// The answer of a problem with a sound ordering cone, by its data and a duality vector.
+fn described(
+    alloc: Global,
+    problem: &Problem,
+    form: &Data<Frac>,
+    duality: Duality<Frac>,
+) -> Result<Solution, SolveEnd>
+    ghost file: { Problem }
+    requires same { file ≡ problem.now }
+    requires stands { IsDataOf (λ q. q) file form.now }
+    requires duality { IsDualityOf (λ q. q) is_held file duality }
+    ensures ok { IfOk result (IsSolutionOf problem.now) }
+    ensures end { IfErr result (EndsSolving problem.now) }
+{
+    let entries = primal(alloc, form, duality)?;
+    checked(alloc, problem, entries)
+}
+
 /// The answer of a problem with the log that proves it, or the first fault of its ordering cone. It costs two linear programs
-/// over the cone, two over the sides, and the check of the log.
+/// over the cone, one over the sides for each vertex, extreme direction and cut of the image, the additions of the cuts to a
+/// double description, and the check of the log.
 pub fn solve(alloc: Global, problem: &Problem) -> Result<Solution, SolveEnd>
     ensures ok { IfOk result (IsSolutionOf problem.now) }
     ensures end { IfErr result (EndsSolving problem.now) }
 {
     let form = data_of(alloc, problem)?;
     let duality = cone_facts(alloc, &form)?;
-    match opened(alloc, &form, duality)? {
-        Some(entries) => checked(alloc, problem, entries),
-        None => Err(SolveEnd::NotBuilt),
-    }
+    described(alloc, problem, &form, duality)
 }

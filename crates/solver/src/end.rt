@@ -20,8 +20,6 @@ pub enum SolveEnd {
     Cone(ConeFault),
     /// An operation whose exact result is not held, with its licence.
     Left(Licence),
-    /// The image is not described yet: some point is feasible, and the image is not everything.
-    NotBuilt,
     /// Want of memory.
     NoMemory,
 }

@@ -1,0 +1,10 @@
+use Rattle.benson_primal.proofs.primal.describe.Given as goal
+
+abbrev pub ghost-started : goal.ghost-started
+ghost-started g a = g.task
+
+abbrev pub ghost-approximate : goal.ghost-approximate
+ghost-approximate g a = g.task
+
+abbrev pub ghost-solved : goal.ghost-solved
+ghost-solved g a = g.task

@@ -1,0 +1,24 @@
+use Rattle.std.proofs.Common.{subst}
+use Rattle.std.specs.Prelude.{IfSome}
+use Rattle.benson_primal.specs.Search.{IsNextCut}
+use Rattle.benson_primal.proofs.Marked.{marks_stay, no_marks}
+use Rattle.benson_primal.proofs.Turned.{turn_falls}
+use Rattle.benson_primal.proofs.search.approximate.Goals as goal
+
+pub loop-hint-init : goal.loop-hint-init
+loop-hint-init g c = record {
+  outer = c.requires.1.1.0;
+  marks = no_marks c.args.trail.now c.in_ok-reached.reached c.in_ok-reached.ensures c.requires.1.1.1;
+}
+
+pub loop-hint-preserved : goal.loop-hint-preserved
+loop-hint-preserved g c = record {
+  outer = c.in_ok-take.ensures.ok;
+  marks = marks_stay c.next_cut.new.trail c.take.new.trail c.next_cut.new.reached c.in_ok-cut.ensures.marks c.in_ok-take.ensures.preimages;
+}
+
+pub loop-hint-smaller : goal.loop-hint-smaller
+loop-hint-smaller g c =
+    let value = g.F.Field.value in
+    turn_falls value g.task c.loop-hint.dd c.take.new.dd c.in-Some.cut
+    (subst (λ o. IfSome o (IsNextCut value g.task c.loop-hint.dd)) c.in-Some.is c.in_ok-cut.ensures.cut) c.in_ok-take.ensures.rows

@@ -1,0 +1,15 @@
+use Rattle.std.proofs.Common.{◌≢◌, [], subst}
+use Rattle.std.specs.Prelude.{IfNone}
+use Rattle.log_rules.specs.Live.{preimages}
+use Rattle.benson_primal.proofs.Marked.{marks_more, stay_reached}
+use Rattle.benson_primal.proofs.search.reach.Goals as goal
+
+pub returns-in_ok-mark-in-None-clause-marks : goal.returns-in_ok-mark-in-None-clause-marks
+returns-in_ok-mark-in-None-clause-marks g c =
+    marks_more c.args.trail.now c.asked.new.trail c.args.g c.args.reached.now c.mark.new.reached c.requires.1.1.1.1 c.in_ok-mark-in-None.ensures
+    (subst (λ o. IfNone o (preimages c.asked.new.trail c.args.g ≢ [])) c.in-None.is c.in_ok-cut.ensures.reached) c.in_ok-cut.ensures.others
+
+pub returns-in_ok-mark-in-None-clause-stay : goal.returns-in_ok-mark-in-None-clause-stay
+returns-in_ok-mark-in-None-clause-stay g c =
+    stay_reached c.args.trail.now c.asked.new.trail c.args.g
+    (subst (λ o. IfNone o (preimages c.asked.new.trail c.args.g ≢ [])) c.in-None.is c.in_ok-cut.ensures.reached) c.in_ok-cut.ensures.others

@@ -1,0 +1,25 @@
+-- The logs of a solver.
+use Rattle.std.specs.Prelude.{Bool, List, []}
+use Rattle.exact_field.specs.Rational.{ℚ}
+use Rattle.vlp_reader.specs.declared.problem.Problem.{Problem}
+use Rattle.deriv_log.specs.Formed.{IsLog}
+use Rattle.deriv_log.specs.declared.entry.Entry.{Entry}
+use Rattle.log_rules.specs.Proves.{AllMeet}
+use Rattle.licence.specs.Licence.{IsPossible}
+use Rattle.licence.specs.Trails.{IsBaseTrail}
+use Rattle.deriv_log.specs.declared.entry.Entry.TheVariants.{Duality}
+use Rattle.outer_log.specs.Task.{Task}
+
+-- the entries are a log of which each meets its rules, and a base trail for a duality vector that is possible
+pub record IsOwnLog (holds : ℚ → Bool) (file : Problem) (entries : List Entry) : Type 0 where
+  pub log : IsLog entries
+  pub meet : AllMeet file entries
+  pub c : List ℚ
+  pub weights : List ℚ
+  pub possible : IsPossible holds file c weights
+  pub base : IsBaseTrail file c weights entries
+
+-- the task of a file with the duality vector of this entry
+abbrev pub task_of : Problem → Entry → Task
+task_of file (Duality c weights picks inverse) = record { file = file; c = c; weights = weights }
+task_of file _ = record { file = file; c = []; weights = [] }

@@ -1,0 +1,33 @@
+-- The search for the cuts of an image.
+use Rattle.std.specs.Prelude.{◌≡◌, ◌≢◌, Bool, List, [], map, All}
+use Rattle.exact_field.specs.Rational.{ℚ}
+use Rattle.polyhedra.specs.Exactness.{row_of}
+use Rattle.deriv_log.specs.declared.entry.Entry.{Entry}
+use Rattle.double_descr.specs.State.{State as Description}
+use Rattle.log_rules.specs.Live.{preimages}
+use Rattle.lp_form.specs.Data.{IsDataOf}
+use Rattle.lp_form.specs.declared.data.Data.{Data}
+use Rattle.licence.specs.Turns.{IsCutTurn, said_row}
+use Rattle.benson_program.specs.declared.cut.Cut.{Cut}
+use Rattle.outer_log.specs.Cuts.{IsCutFor, said_by}
+use Rattle.outer_log.specs.Task.{Task, IsFitting}
+use Rattle.recession.specs.Asking.{IsProper}
+
+-- the data, the duality vector and the weights are those of the task, which has an image to describe
+pub record IsKnown {F : Type 0} (value : F → ℚ) (holds : ℚ → Bool) (task : Task) (form : Data F) (c weights : List F) : Type 0 where
+  pub stands : IsDataOf value task.file form
+  pub c_is : map value c ≡ task.c
+  pub weights_is : map value weights ≡ task.weights
+  pub fitting : IsFitting holds task
+  pub proper : IsProper task
+
+-- the cut of an optimum of Benson's program at a live generator, at which its value is positive: so no row says it yet
+pub record IsNextCut {F : Type 0} (value : F → ℚ) (task : Task) (dd : Description) (cut : Cut F) : Type 0 where
+  pub z : List ℚ
+  pub turn : IsCutTurn task.file task.c dd.rows z
+  pub says : row_of (said_by value cut) ≡ said_row task.file z
+  pub is : IsCutFor value task cut
+
+-- each live generator has a pre-image
+abbrev pub AreAllReached : List Entry → Description → Type 0
+AreAllReached trail dd = All (λ g. preimages trail g.number ≢ []) dd.list.live

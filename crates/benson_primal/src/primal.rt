@@ -1,0 +1,142 @@
+//! From data and a duality vector to the log that describes the image.
+ghost use Rattle.std.specs.Prelude.{◌≡◌, ◌≤◌, [], ℕ, List, map, length, IfOk, IfErr, OnOk};
+ghost use Rattle.exact_field.specs.Rational.{ℚ};
+ghost use Rattle.benson_program.specs.Ends.{IsContradiction};
+ghost use Rattle.benson_program.specs.Wholes.{IsWholeOf};
+ghost use Rattle.cone_dual.specs.Fitting.{IsDualityOf};
+ghost use Rattle.deriv_log.specs.declared.entry.Entry.TheVariants as entry_of;
+ghost use Rattle.licence.specs.Base.{IsBaseChoice};
+ghost use Rattle.licence.specs.Licence.{Licensed, LicensedAnyhow};
+ghost use Rattle.licence.specs.Trails.{IsBaseDuality};
+ghost use Rattle.lp_form.specs.Data.{IsDataOf};
+ghost use Rattle.overflows.specs.Faults.{OnLicence, Overflows};
+ghost use Rattle.outer_log.specs.Standing.{IsBegun, IsEnded, IsOpenTrail};
+ghost use Rattle.outer_log.specs.Cuts.{said_by};
+ghost use Rattle.outer_log.specs.Task.{Task, behind};
+ghost use Rattle.recession.specs.First.{AreFirstCuts};
+ghost use Rattle.log_rules.specs.Live.{preimages};
+ghost use Rattle.upper_image.specs.Shows.{ShowsFitting};
+ghost use Rattle.vlp_reader.specs.declared.problem.Problem.{Problem as File};
+ghost use Rattle.benson_primal.specs.Logs.{IsOwnLog};
+ghost use Rattle.benson_primal.specs.Search.{IsKnown};
+
+use crate::search::approximate;
+use benson_program::{Cut, WholeParts};
+use cone_dual::Duality;
+use deriv_log::{Entries, Entry};
+use exact_field::Field;
+use lp_form::Data;
+use outer_ends::{line_log, solved};
+use outer_log::begun;
+use outer_start::started;
+use overflows::{SolveFault, spots_of};
+use own_check::{infeasible_log, whole_log};
+use recession::{First, first_cuts};
+use src_sink::NoMemory;
+use std::alloc::Global;
+
+/// The log that no point is feasible, by multipliers of the sides.
+fn contradiction_log<F: Field>(alloc: Global, u: &[F]) -> Result<Entries, NoMemory>
+    ghost file: { File }
+    requires short { length u.now ≤ 4294967294 }
+    requires contradiction { IsContradiction file (map F.value u.now) }
+    ensures { IfOk result (λ log. (c weights : List ℚ) → IsEnded (record { file = file; c = c; weights = weights }) log) }
+{
+    let spots = spots_of(alloc, u)?;
+    let log = infeasible_log(alloc, spots)?;
+    Ok(log)
+}
+
+/// The log that the image is everything, by a feasible point, and by a direction along which the objectives fall by the duality
+/// vector.
+fn everything_log<F: Field>(
+    alloc: Global,
+    opening: Entry,
+    x: &[F],
+    parts: &WholeParts<F>,
+) -> Result<Entries, NoMemory>
+    ghost task: { Task }
+    requires short { length x.now ≤ 4294967294 }
+    requires opening { (picks : List ℕ) × (inverse : List ℚ) × (opening ≡ entry_of.Duality task.c task.weights picks inverse) × ShowsFitting task.file task.c task.weights picks inverse × IsBaseDuality task.file task.file.cone task.file.duality task.c task.weights }
+    requires choice { IsBaseChoice task.file (map F.value x.now) }
+    requires whole { IsWholeOf F.value task.file task.c parts.now }
+    ensures { IfOk result (IsEnded task) }
+{
+    let x = spots_of(alloc, x)?;
+    let ray = spots_of(alloc, parts.ray.as_slice())?;
+    let m = spots_of(alloc, parts.m.as_slice())?;
+    let log = whole_log(alloc, opening, x, ray, m)?;
+    Ok(log)
+}
+
+/// Describes an image from its first cuts on, behind a trail that has them.
+fn describe<F: Field>(
+    alloc: Global,
+    form: &Data<F>,
+    c: &[F],
+    weights: &[F],
+    cuts: &[Cut<F>],
+    trail: &mut Entries,
+) -> Result<(), SolveFault>
+    ghost task: { Task }
+    requires known { IsKnown F.value F.holds task form.now c.now weights.now }
+    requires first { AreFirstCuts F.value task cuts.now }
+    requires begun { IsBegun task (map (said_by F.value) cuts.now) trail.old }
+    requires unreached { (k : ℕ) → preimages trail.old k ≡ [] }
+    ensures ok { OnOk result (IsEnded task trail.new) }
+    ensures trail { IfErr result (λ fault. OnLicence fault (λ licence. IsOpenTrail task trail.new)) }
+    ensures left { IfErr result (Overflows F.holds (behind task trail.new) []) }
+{
+    let mut dd = started(alloc, form.p.len() as u32, trail, cuts)?;
+    approximate(alloc, form, c, weights, trail, &mut dd)?;
+    solved(alloc, trail, &dd)?;
+    Ok(())
+}
+
+/// The log of an image with a vertex, from its first cuts on.
+fn described<F: Field>(
+    alloc: Global,
+    form: &Data<F>,
+    c: &[F],
+    weights: &[F],
+    opening: Entry,
+    cuts: &[Cut<F>],
+) -> Result<Entries, SolveFault>
+    ghost task: { Task }
+    requires known { IsKnown F.value F.holds task form.now c.now weights.now }
+    requires opening { (picks : List ℕ) × (inverse : List ℚ) × (opening ≡ entry_of.Duality task.c task.weights picks inverse) × ShowsFitting task.file task.c task.weights picks inverse × IsBaseDuality task.file task.file.cone task.file.duality task.c task.weights }
+    requires first { AreFirstCuts F.value task cuts.now }
+    ensures ok { IfOk result (IsEnded task) }
+    ensures left { IfErr result (λ fault. OnLicence fault (Licensed F.holds task.file task.c)) }
+{
+    let mut trail = begun(alloc, opening, cuts)?;
+    match describe(alloc, form, c, weights, cuts, &mut trail) {
+        Ok(()) => Ok(trail),
+        Err(fault) => Err(fault.behind(trail)),
+    }
+}
+
+/// The log that describes the image of a problem: that it is infeasible, that its image is everything or has a line, or its
+/// vertices, extreme directions and facets, found by Benson's outer approximation (Benson 1998; Löhne 2011) in the image space.
+/// After an overflow the licence has the entries so far as its trail.
+pub fn primal<F: Field>(
+    alloc: Global,
+    form: &Data<F>,
+    duality: Duality<F>,
+) -> Result<Entries, SolveFault>
+    ghost file: { File }
+    requires stands { IsDataOf F.value file form.now }
+    requires duality { IsDualityOf F.value F.holds file duality }
+    ensures ok { IfOk result (IsOwnLog F.holds file) }
+    ensures left { IfErr result (λ fault. OnLicence fault (LicensedAnyhow F.holds file)) }
+{
+    let Duality { c, weights, entry } = duality;
+    let c = c.as_slice();
+    let weights = weights.as_slice();
+    match first_cuts(alloc, form, c, weights)? {
+        First::Infeasible { u } => Ok(contradiction_log(alloc, u.as_slice())?),
+        First::Whole { x, parts } => Ok(everything_log(alloc, entry, x.as_slice(), &parts)?),
+        First::Line(line) => Ok(line_log(alloc, entry, &line)?),
+        First::Cuts(cuts) => described(alloc, form, c, weights, entry, cuts.as_slice()),
+    }
+}
