@@ -1,5 +1,5 @@
 -- Data fix Benson's program, whichever file they stand for.
-use Rattle.std.proofs.Common.{◌≡◌, ℕ, zero, suc, ◌+◌, List, [], ◌∷◌, ◌++◌, map, length, refl, sym, ap, ap₂, ◌∙◌, subst, arith, ◌≤◌, ◌<◌, Bool}
+use Rattle.std.proofs.Common.{◌≡◌, ℕ, zero, suc, ◌+◌, List, [], ◌∷◌, ◌++◌, refl, sym, ap, ap₂, ◌∙◌, arith, ◌≤◌, ◌<◌, Bool}
 use Rattle.std.specs.Prelude.{if◌then◌else◌}
 use Rattle.exact_field.specs.Rational.{ℚ, one_ℚ}
 use Rattle.polyhedra.specs.Negatives.{negated}

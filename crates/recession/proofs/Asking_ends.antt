@@ -1,5 +1,5 @@
 -- What an end of Benson's program says, where some point is feasible and some cut is valid.
-use Rattle.std.proofs.Common.{◌≡◌, ℕ, List, [], map, length, refl, sym, ap, ap₂, ◌∙◌, subst, arith, Bool, true, false, ◌≢◌, ◌<◌, ◌-◌, slice_index_or}
+use Rattle.std.proofs.Common.{◌≡◌, ℕ, List, map, length, refl, sym, ap, ap₂, ◌∙◌, subst, arith, Bool, true, false, ◌≢◌, ◌<◌, ◌-◌, slice_index_or}
 use Rattle.std.proofs.lemmas.List.{length-map, length-take-le}
 use Rattle.exact_field.specs.Rational.{ℚ, zero_ℚ, inverse_ℚ, neg_ℚ, ◌-ℚ◌, ◌<ℚ◌, ◌≤ℚ◌}
 use Rattle.exact_field.specs.Vector.{dot}

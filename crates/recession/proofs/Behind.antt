@@ -1,8 +1,7 @@
 -- What is found at a direction across the normals of some cuts.
-use Rattle.std.proofs.Common.{◌≡◌, ◌≢◌, ℕ, List, map, length, All, refl, sym, ap, ◌∙◌, subst, Bool, false}
+use Rattle.std.proofs.Common.{◌≡◌, ℕ, List, map, length, All, refl, sym, ap, ◌∙◌, subst, Bool, false}
 use Rattle.std.proofs.lemmas.List.{length-map}
-use Rattle.exact_field.specs.Rational.{ℚ, zero_ℚ, neg_ℚ}
-use Rattle.exact_field.specs.Vector.{dot}
+use Rattle.exact_field.specs.Rational.{ℚ, neg_ℚ}
 use Rattle.polyhedra.specs.Negatives.{negated}
 use Rattle.polyhedra.proofs.Algebra.{neg_zero}
 use Rattle.polyhedra.proofs.Members.{all_of_members, member_of}
@@ -16,7 +15,7 @@ use Rattle.benson_program.specs.declared.preimage.Preimage.{Preimage}
 use Rattle.outer_log.specs.Cuts.{IsCutFor}
 use Rattle.outer_log.specs.Task.{Task, IsFitting}
 use Rattle.recession.specs.Asking.{IsAsked, IsAskedCut}
-use Rattle.recession.specs.Further.{IsLineAcross, IsNext, IsOffAcross, normals_of}
+use Rattle.recession.specs.Further.{IsNext, normals_of}
 use Rattle.recession.specs.declared.asking.Asked.{Asked}
 use Rattle.recession.specs.declared.asking.Asked.TheVariants.{Cut, Reached}
 use Rattle.recession.specs.declared.further.Next.TheVariants as next

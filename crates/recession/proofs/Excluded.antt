@@ -2,9 +2,8 @@
 use Rattle.std.proofs.Common.{◌≡◌, ℕ, zero, suc, List, [], ◌∷◌, map, length, All, refl, sym, ap, ◌∙◌, subst, arith, Bool, false}
 use Rattle.std.proofs.lemmas.List.{length-map}
 use Rattle.std.proofs.lemmas.List.Elements.{All-head, All-map}
-use Rattle.exact_field.specs.Rational.{ℚ, zero_ℚ, one_ℚ, neg_ℚ}
+use Rattle.exact_field.specs.Rational.{ℚ, zero_ℚ, neg_ℚ}
 use Rattle.exact_field.proofs.Rationals.{one-not-zero}
-use Rattle.frac128.specs.declared.vectors.Spot.{Spot}
 use Rattle.polyhedra.specs.DoubleDescription.{leading}
 use Rattle.polyhedra.specs.Negatives.{negated}
 use Rattle.polyhedra.specs.Vectors.{zeros}
@@ -29,7 +28,7 @@ use Rattle.outer_log.specs.Cuts.{IsCutFor}
 use Rattle.outer_log.specs.Lines.{IsLineFor}
 use Rattle.outer_log.specs.Task.{Task, IsFitting}
 use Rattle.outer_log.specs.declared.line.Line.{Line as LineOf}
-use Rattle.recession.specs.First.{AreAlike, AreFirstCuts, IsFirst, FirstAnswersExclude}
+use Rattle.recession.specs.First.{AreAlike, AreFirstCuts, IsFirst}
 use Rattle.recession.specs.Further.{normals_of}
 use Rattle.recession.specs.declared.first.First.{First}
 use Rattle.recession.specs.declared.first.First.TheVariants.{Infeasible, Whole, Line, Cuts}

@@ -1,5 +1,5 @@
 -- Vectors of which no combination is 0 but the one with no multiplier: each is not 0 at a vector at which those before it are.
-use Rattle.std.proofs.Common.{◌≡◌, ◌≢◌, ℕ, zero, suc, List, [], ◌∷◌, ◌++◌, length, All, refl, sym, ap, ap₂, ◌∙◌, arith, ◌⊎◌, inl, inr, ◌≤◌}
+use Rattle.std.proofs.Common.{◌≡◌, ◌≢◌, ℕ, suc, List, [], ◌∷◌, ◌++◌, length, All, refl, sym, ap, ap₂, ◌∙◌, arith, ◌⊎◌, inl, inr}
 use Rattle.std.proofs.lemmas.List.{length-append}
 use Rattle.std.proofs.lemmas.List.Elements.{All-nil, All-cons, All-head, All-tail}
 use Rattle.exact_field.specs.Rational.{ℚ, zero_ℚ, ◌+ℚ◌, ◌*ℚ◌, ◌≤ℚ◌}
@@ -11,7 +11,7 @@ use Rattle.polyhedra.specs.Vectors.{AreWide, zeros, values}
 use Rattle.polyhedra.proofs.Algebra.{zero_mul, mul_zero, zero_add}
 use Rattle.polyhedra.proofs.Dependence.{more_are_dependent, dependent_value}
 use Rattle.polyhedra.proofs.Laws.{add_zero, mul_comm, le_refl}
-use Rattle.polyhedra.proofs.Linear.{dot-nil, dot_comm}
+use Rattle.polyhedra.proofs.Linear.{dot-nil}
 use Rattle.polyhedra.proofs.Lists.{wide-nil, wide-cons}
 use Rattle.polyhedra.proofs.Order.{add_nonneg, add_zero_left, add_zero_right, square_nonneg, square_zero}
 use Rattle.recession.specs.Further.{IsOffAcross}

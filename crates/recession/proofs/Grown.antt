@@ -1,5 +1,5 @@
 -- The first cuts as they grow.
-use Rattle.std.proofs.Common.{◌≡◌, ℕ, List, [], ◌∷◌, ◌++◌, map, length, All, sym, ap, ◌∙◌, subst, arith, ◌≤◌, ◌<◌}
+use Rattle.std.proofs.Common.{◌≡◌, List, [], ◌∷◌, ◌++◌, map, length, All, sym, ◌∙◌, subst, arith, ◌≤◌, ◌<◌}
 use Rattle.std.proofs.lemmas.List.{length-map, length-append, map-append}
 use Rattle.std.proofs.lemmas.List.Elements.{All-nil, All-cons, All-head, All-map, All-push}
 use Rattle.exact_field.specs.Rational.{ℚ, zero_ℚ}

@@ -1,5 +1,5 @@
 -- Fewer rows than entries have no full rank.
-use Rattle.std.proofs.Common.{◌≡◌, ℕ, List, length, arith, ◌<◌}
+use Rattle.std.proofs.Common.{ℕ, List, length, ◌<◌}
 use Rattle.exact_field.specs.Rational.{ℚ}
 use Rattle.polyhedra.proofs.Dependence.{null_vector}
 use Rattle.tableaux.specs.Elimination.{AreIndependent}

@@ -1,16 +1,15 @@
 -- A vector that spans those across some normals which are 0 before its first entry is a side of them.
-use Rattle.std.proofs.Common.{◌≡◌, ◌≢◌, ℕ, zero, suc, ◌+◌, ◌-◌, ◌≤◌, ◌<◌, List, [], ◌∷◌, length, All, refl, sym, ap, ◌∙◌, arith, subst, ◌⊎◌, inl, inr, Bool, true, false, slice_index_or}
+use Rattle.std.proofs.Common.{◌≡◌, ◌≢◌, ℕ, zero, suc, ◌+◌, ◌-◌, ◌≤◌, ◌<◌, List, [], ◌∷◌, length, All, refl, sym, ap, ◌∙◌, arith, subst, inl, inr, Bool, true, false, slice_index_or}
 use Rattle.std.specs.Prelude.{if◌then◌else◌}
 use Rattle.std.proofs.Math.Nat.{eq-or-lt_of_le}
 use Rattle.std.proofs.lemmas.List.Elements.{All-nil, All-cons, All-head, All-tail, All-get_or, All-from_get_or}
-use Rattle.exact_field.specs.Rational.{ℚ, zero_ℚ, one_ℚ}
+use Rattle.exact_field.specs.Rational.{ℚ, zero_ℚ}
 use Rattle.exact_field.specs.Vector.{entry, dot}
 use Rattle.exact_field.proofs.Rationals.{one-not-zero}
 use Rattle.polyhedra.specs.DoubleDescription.{is_zero, leading}
 use Rattle.polyhedra.proofs.Tests.{zero_of_test, test_of_zero}
 use Rattle.tableaux.specs.Elimination.{IsSpanning}
-use Rattle.tableaux.specs.Table.{row_of}
-use Rattle.licence.specs.Base.{IsFlat, IsSide}
+use Rattle.licence.specs.Base.{IsSide}
 
 -- ---- the first entry
 leading_at : (v : List ℚ) (k : ℕ) → k < length v → slice_index_or v k zero_ℚ ≢ zero_ℚ → ((j : ℕ) → j < k → slice_index_or v j zero_ℚ ≡ zero_ℚ) →

@@ -1,16 +1,15 @@
 -- The trail behind some cuts, and the licences of calls behind it.
-use Rattle.std.proofs.Common.{◌≡◌, ℕ, List, [], ◌∷◌, ◌++◌, map, All, fold, refl, sym, ap, ◌∙◌, subst, append_assoc, Bool, Some}
+use Rattle.std.proofs.Common.{◌≡◌, ℕ, List, [], ◌∷◌, ◌++◌, map, All, refl, sym, ap, ◌∙◌, subst, append_assoc, Bool}
 use Rattle.std.proofs.lemmas.List.{append-nil, map-append}
 use Rattle.std.proofs.lemmas.List.Elements.{All-head, All-tail}
 use Rattle.std.proofs.lemmas.List.Sums.{fold-append}
 use Rattle.exact_field.specs.Rational.{ℚ}
 use Rattle.frac128.specs.declared.vectors.Spot.{Spot}
-use Rattle.vlp_reader.specs.declared.problem.Problem.{Problem}
 use Rattle.deriv_log.specs.declared.entry.Entry.{Entry}
 use Rattle.deriv_log.specs.declared.entry.Entry.TheVariants as line
 use Rattle.log_rules.specs.Live.{after, nothing, state}
 use Rattle.licence.specs.Base.{trail_normals}
-use Rattle.licence.specs.Licence.{opening, Completes, IsPossible, Licensed, StandsFor}
+use Rattle.licence.specs.Licence.{opening, Completes, Licensed, StandsFor}
 use Rattle.licence.specs.Trails.{IsBaseTrail}
 use Rattle.licence.proofs.Growing.{trail_laws}
 use Rattle.licence.proofs.Without.{licence_laws}

@@ -12,6 +12,45 @@ const FILE: &str = "p vlp min 1 1 1 1 1\na 1 1 1\no 1 1 1\ni 1 u 0\nj 1 l 1\ne\n
 /// What its report tells of the image.
 const IMAGE: &str = "report 1\nanswer infeasible\nfree 0 0\n";
 
+/// Problems, and their reports down to the witnesses.
+const PROBLEMS: [(&str, &str); 7] = [
+    // Two objectives and two constraints.
+    (
+        "p vlp min 2 2 4 2 4\na 1 1 2\na 1 2 1\na 2 1 1\na 2 2 2\no 1 1 1\no 1 2 -1\no 2 1 1\no 2 2 1\ni 1 l 6\ni 2 l 6\nj 1 l 0\nj 2 l 0\ne\n",
+        "report 1\nanswer solved\nfree 0 0\nc 1 1\npoints 2\n1 -6 6\n1 0 4\ndirections 2\n0 -1 1\n0 1 0\nfacets 3\nf 0 1 4\nf 1/4 3/4 3\nf 1/2 1/2 0\ndual 3\n1 0 4\n1 1/4 3\n1 1/2 0\n0 0 -1\nincidence 3\nn 2 2 4\nn 2 1 2\nn 2 1 3\nwitnesses\n",
+    ),
+    // Three objectives and a single choice.
+    (
+        "p vlp min 0 3 0 3 3\no 1 1 1\no 2 2 1\no 3 3 1\nj 1 s 0\nj 2 s 0\nj 3 s 0\ne\n",
+        "report 1\nanswer solved\nfree 0 0\nc 1 1 1\npoints 1\n1 0 0 0\ndirections 3\n0 0 0 1\n0 0 1 0\n0 1 0 0\nfacets 3\nf 0 0 1 0\nf 0 1 0 0\nf 1 0 0 0\ndual 3\n1 0 0 0\n1 0 1 0\n1 1 0 0\n0 0 0 -1\nincidence 3\nn 3 1 3 4\nn 3 1 2 4\nn 3 1 2 3\nwitnesses\n",
+    ),
+    // Two objectives that are maximised.
+    (
+        "p vlp max 1 2 2 2 2\na 1 1 1\na 1 2 1\no 1 1 1\no 2 2 1\ni 1 u 1\nj 1 l 0\nj 2 l 0\ne\n",
+        "report 1\nanswer solved\nfree 0 0\nc 1 1\npoints 2\n1 0 1\n1 1 0\ndirections 2\n0 -1 0\n0 0 -1\nfacets 3\nf 0 1 1\nf 1/2 1/2 1/2\nf 1 0 1\ndual 3\n1 0 1\n1 1/2 1/2\n1 1 1\n0 0 1\nincidence 3\nn 2 1 3\nn 2 1 2\nn 2 2 4\nwitnesses\n",
+    ),
+    // A cone by generators, with a duality vector.
+    (
+        "p vlp min 0 2 0 2 2 cone 2 6\no 1 1 1\no 2 2 1\nk 1 1 2\nk 2 1 1\nk 1 2 1\nk 2 2 2\nk 1 0 1\nk 2 0 1\nj 1 l 0\nj 2 l 0\ne\n",
+        "report 1\nanswer solved\nfree 0 0\nc 1 1\npoints 1\n1 0 0\ndirections 2\n0 0 1\n0 1 0\nfacets 2\nf 0 1 0\nf 1 0 0\ndual 2\n1 0 0\n1 1 0\n0 0 -1\nincidence 2\nn 2 1 3\nn 2 1 2\nwitnesses\n",
+    ),
+    // A cone in dual form, with a duality vector.
+    (
+        "p vlp min 0 2 0 2 2 dualcone 2 6\no 1 1 1\no 2 2 1\nk 1 1 2\nk 2 1 1\nk 1 2 1\nk 2 2 2\nk 1 0 1\nk 2 0 1\nj 1 l 0\nj 2 l 0\ne\n",
+        "report 1\nanswer solved\nfree 0 0\nc 1 1\npoints 1\n1 0 0\ndirections 2\n0 -1 2\n0 1 -1/2\nfacets 2\nf 1/3 2/3 0\nf 2/3 1/3 0\ndual 2\n1 1/3 0\n1 2/3 0\n0 0 -1\nincidence 2\nn 2 1 3\nn 2 1 2\nwitnesses\n",
+    ),
+    // One objective, and a bound with a decimal point.
+    (
+        "p vlp min 0 1 0 1 1\no 1 1 1\nj 1 l 1.5\ne\n",
+        "report 1\nanswer solved\nfree 0 0\nc 1\npoints 1\n1 3/2\ndirections 1\n0 1\nfacets 1\nf 1 3/2\ndual 1\n1 3/2\n0 -1\nincidence 1\nn 1 1\nwitnesses\n",
+    ),
+    // An image with a line, so without a vertex.
+    (
+        "p vlp min 0 2 0 2 2\no 1 1 1\no 2 2 1\nj 1 f\nj 2 l 0\ne\n",
+        "report 1\nanswer novertex\nfree 0 0\nc 1 1\nwitnesses\n",
+    ),
+];
+
 /// The number of the call of each object that fails, 0 for none.
 #[derive(Clone, Copy)]
 struct Faults {
@@ -120,14 +159,25 @@ fn solved_files_have_logs_that_are_accepted(rt: HostRuntime) -> Result<(), Fail>
 }
 
 #[test]
+fn images_are_told_exactly(rt: HostRuntime) -> Result<(), Fail> {
+    let alloc = rt.alloc();
+    for (file, image) in PROBLEMS {
+        let seen = run_on(alloc, &["solve", "a", "b"], file.as_bytes(), &[], NO_FAULTS)?;
+        assert_eq!(rt; seen.status.code(), 0, "of {file:?}");
+        let report = seen.out.contents();
+        assert!(rt; report.starts_with(image.as_bytes()), "of {file:?}");
+
+        let log = seen.log_out.contents();
+        let checked = run_on(alloc, &["check", "a", "b"], file.as_bytes(), log, NO_FAULTS)?;
+        assert_eq!(rt; checked.status.code(), 0, "of {file:?}");
+        assert_eq!(rt; checked.out.contents(), report);
+    }
+    Ok(())
+}
+
+#[test]
 fn files_that_are_not_solved_write_one_line(rt: HostRuntime) -> Result<(), Fail> {
     let table = [
-        // Two objectives, of which the image has two vertices.
-        (
-            "p vlp min 2 2 4 2 4\na 1 1 2\na 1 2 1\na 2 1 1\na 2 2 2\no 1 1 1\no 1 2 -1\no 2 1 1\no 2 2 1\ni 1 l 6\ni 2 l 6\nj 1 l 0\nj 2 l 0\ne\n",
-            11,
-            "fault 11 NotBuilt\n",
-        ),
         (
             "p vlp min 0 2 0 2 2 cone 1 2\no 1 1 1\no 2 2 1\nk 1 1 1\nk 2 1 1\ne\n",
             4,

@@ -1,4 +1,4 @@
-use Rattle.std.proofs.Common.{◌≡◌, ◌<◌, map, length, sym, subst}
+use Rattle.std.proofs.Common.{◌<◌, map, sym, subst}
 use Rattle.std.proofs.lemmas.List.{length-map}
 use Rattle.lin_rows.specs.Answers.{IsIndep}
 use Rattle.recession.specs.Further.{normals_of}

@@ -1,4 +1,4 @@
-use Rattle.std.proofs.Common.{map, length, refl, sym, ap, ◌∙◌, subst, ◌≡◌, ◌-◌, List, [], true≢false, ◌⊎◌, inl, inr, Bool, true, false, ◌↔◌, IsTrue}
+use Rattle.std.proofs.Common.{map, length, refl, sym, ◌∙◌, subst, ◌≡◌, ◌-◌, List, [], true≢false, ◌⊎◌, inl, inr, Bool, false, ◌↔◌, IsTrue}
 use Rattle.std.proofs.lemmas.List.{length-map}
 use Rattle.exact_field.specs.Rational.{ℚ, zero_ℚ, ◌<ℚ◌, ◌≤ℚ◌}
 use Rattle.exact_field.proofs.Inequalities.{le_or_lt}

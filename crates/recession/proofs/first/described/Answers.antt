@@ -1,6 +1,5 @@
-use Rattle.std.proofs.Common.{◌≡◌, ◌++◌, ◌∷◌, [], ◌<◌, List, map, length, All, refl, sym, ap, ◌∙◌, subst, arith}
+use Rattle.std.proofs.Common.{◌++◌, ◌∷◌, [], ◌<◌, List, map, length, All, refl, sym, ap, ◌∙◌, subst, arith}
 use Rattle.std.proofs.lemmas.List.{length-append}
-use Rattle.exact_field.specs.Rational.{ℚ}
 use Rattle.lin_rows.proofs.Errors.{err_holds}
 use Rattle.licence.specs.Base.{IsBaseChoice}
 use Rattle.licence.specs.Licence.{Licensed}

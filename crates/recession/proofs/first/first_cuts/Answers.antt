@@ -3,7 +3,7 @@ use Rattle.licence.specs.Licence.{Licensed}
 use Rattle.overflows.specs.Faults.{OnLicence}
 use Rattle.outer_log.specs.Task.{behind}
 use Rattle.benson_program.specs.Ends.{IsFeasibleEnd}
-use Rattle.std.proofs.Common.{subst, [], refl, map}
+use Rattle.std.proofs.Common.{subst, []}
 use Rattle.recession.proofs.Trails.{licensed, opens, trail_of}
 use Rattle.recession.proofs.first.first_cuts.Goals as goal
 

@@ -1,4 +1,4 @@
-use Rattle.std.proofs.Common.{sym, ap, ◌∙◌, ◌++◌, map}
+use Rattle.std.proofs.Common.{sym, ap, ◌∙◌, ◌++◌}
 use Rattle.std.specs.Option.{option_to_list}
 use Rattle.recession.proofs.Grown.{line_for}
 use Rattle.recession.proofs.first.line_of.Goals as goal

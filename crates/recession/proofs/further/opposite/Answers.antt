@@ -1,4 +1,4 @@
-use Rattle.std.proofs.Common.{map, length, refl, sym, ap, ◌∙◌, []}
+use Rattle.std.proofs.Common.{map, length, sym, ap, ◌∙◌, []}
 use Rattle.std.proofs.lemmas.List.{length-map}
 use Rattle.exact_field.specs.Rational.{neg_ℚ}
 use Rattle.lin_rows.proofs.Errors.{err_holds}
