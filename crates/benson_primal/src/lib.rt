@@ -1,8 +1,8 @@
 //! Benson's outer approximation of the image: from data and a duality vector to the log that describes it.
 #![tactic(auto)]
 
-mod primal;
+mod engine;
 mod search;
 
-pub use primal::primal;
+pub use engine::primal;
 pub use search::approximate;

@@ -170,16 +170,7 @@ pub fn approximate<F: Field>(
 {
     let mut reached = Marks::new(alloc, 0)?;
     let mut hint = Items::new(alloc);
-    while let Some(cut) = next_cut(
-        alloc,
-        form,
-        c,
-        weights,
-        dd,
-        trail,
-        &mut reached,
-        &mut hint,
-    )? {
+    while let Some(cut) = next_cut(alloc, form, c, weights, dd, trail, &mut reached, &mut hint)? {
         take(alloc, trail, dd, &cut)?;
     }
     Ok(())

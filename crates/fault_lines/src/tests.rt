@@ -1,7 +1,6 @@
 //! A line of each kind.
 use crate::{
-    cone_fault_line, file_fault_line, licence_line, log_fault_line, too_long_line,
-    wrong_line,
+    cone_fault_line, file_fault_line, licence_line, log_fault_line, too_long_line, wrong_line,
 };
 use cone_rules::ConeFault;
 use deriv_log::{Family, Licence, LogFault, LogKind, Place, Program};

@@ -24,12 +24,24 @@ ask-requires g c κs within =
     let value = g.F.Field.value in
     let k = c.requires.1.0 in (
       search rules,
-      (k.stands, (k.c_is, (k.weights_is, (k.fitting, (
-        start_long value g.task c.args.trail.now c.args.dd.now c.requires.1.1.0 c.args.g c.generator-generator.result.now c.generator-generator.ensures.listed c.is_point-t.result
-            c.is_point-t.ensures (length c.args.c.now) (width_known value g.F.Field.holds g.task c.args.form.now c.args.c.now c.args.weights.now k)
-            (take (length c.args.c.now) c.generator-generator.result.now) refl,
-        k.proper,
-      ))))),
+      (
+        k.stands,
+        (
+          k.c_is,
+          (
+            k.weights_is,
+            (
+              k.fitting,
+              (
+                start_long value g.task c.args.trail.now c.args.dd.now c.requires.1.1.0 c.args.g c.generator-generator.result.now c.generator-generator.ensures.listed c.is_point-t.result
+                    c.is_point-t.ensures (length c.args.c.now) (width_known value g.F.Field.holds g.task c.args.form.now c.args.c.now c.args.weights.now k)
+                    (take (length c.args.c.now) c.generator-generator.result.now) refl,
+                k.proper,
+              ),
+            ),
+          ),
+        ),
+      ),
     )
 
 pub returns-in_err-cut-clause-left : goal.returns-in_err-cut-clause-left
@@ -46,12 +58,15 @@ push_preimage-requires g c κs within =
     let value = g.F.Field.value in
     let seen = take (length c.args.c.now) c.generator-generator.result.now in (
       search rules,
-      (c.requires.1.1.0.open_trail, (
-        c.requires.1.1.0.started,
-        is_reached value g.task c.args.trail.now c.args.dd.now c.requires.1.1.0 c.args.g c.generator-generator.result.now c.generator-generator.ensures.listed c.is_point-t.result
-            c.is_point-t.ensures (length c.args.c.now) (width_known value g.F.Field.holds g.task c.args.form.now c.args.c.now c.args.weights.now c.requires.1.0) seen refl
-            c.in-Reached.parts c.requires.1.1.1.1 (subst (λ a. IsAsked value g.task (map value seen) c.is_point-t.result a) c.in-Reached.is c.in_ok-cut.ensures.ok),
-      )),
+      (
+        c.requires.1.1.0.open_trail,
+        (
+          c.requires.1.1.0.started,
+          is_reached value g.task c.args.trail.now c.args.dd.now c.requires.1.1.0 c.args.g c.generator-generator.result.now c.generator-generator.ensures.listed c.is_point-t.result
+              c.is_point-t.ensures (length c.args.c.now) (width_known value g.F.Field.holds g.task c.args.form.now c.args.c.now c.args.weights.now c.requires.1.0) seen refl
+              c.in-Reached.parts c.requires.1.1.1.1 (subst (λ a. IsAsked value g.task (map value seen) c.is_point-t.result a) c.in-Reached.is c.in_ok-cut.ensures.ok),
+        ),
+      ),
     )
 
 pub returns-in-Cut-clause-cut : goal.returns-in-Cut-clause-cut

@@ -1,4 +1,4 @@
-use Rattle.benson_primal.proofs.primal.described.Given as goal
+use Rattle.benson_primal.proofs.engine.described.Given as goal
 
 abbrev pub ghost-begun : goal.ghost-begun
 ghost-begun g a = g.task

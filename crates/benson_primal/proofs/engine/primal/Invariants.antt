@@ -1,6 +1,6 @@
 use Rattle.std.proofs.Common.{map}
 use Rattle.benson_primal.specs.Logs.{task_of}
-use Rattle.benson_primal.proofs.primal.primal.Given as goal
+use Rattle.benson_primal.proofs.engine.primal.Given as goal
 
 abbrev pub ghost-first_cuts : goal.ghost-first_cuts
 ghost-first_cuts g a = record { file = g.file; c = map g.F.Field.value a.c.now; weights = map g.F.Field.value a.weights.now }

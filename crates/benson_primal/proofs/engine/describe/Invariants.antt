@@ -1,4 +1,4 @@
-use Rattle.benson_primal.proofs.primal.describe.Given as goal
+use Rattle.benson_primal.proofs.engine.describe.Given as goal
 
 abbrev pub ghost-started : goal.ghost-started
 ghost-started g a = g.task

@@ -1,0 +1,83 @@
+use Rattle.std.proofs.Common.{rules, sym, subst}
+use Rattle.outer_log.specs.Standing.{IsEnded}
+use Rattle.recession.specs.First.{AreFirstCuts, IsFirst}
+use Rattle.benson_primal.proofs.Described.{base, fits, fitting, known, opens, own_log, own_ok, task, task_is}
+use Rattle.benson_primal.proofs.engine.primal.Goals as goal
+
+pub returns-in-Infeasible-clause-ok : goal.returns-in-Infeasible-clause-ok
+returns-in-Infeasible-clause-ok g c =
+    let value = g.F.Field.value in
+    let holds = g.F.Field.holds in
+    let d = c.args.duality in
+    let h = c.requires.1.1 in
+    let cs = c.as_slice-c.result.now in
+    let ws = c.as_slice-weights.result.now in
+    let t = task value holds g.file d h cs ws c.as_slice-c.ensures.items c.as_slice-weights.ensures.items in
+    own_log holds t (fitting value holds g.file d h cs ws c.as_slice-c.ensures.items c.as_slice-weights.ensures.items)
+    c.in_ok-contradiction_log-in-Infeasible.field-0 (c.in_ok-contradiction_log-in-Infeasible.ensures t.c t.weights)
+
+pub returns-in-Whole-clause-ok : goal.returns-in-Whole-clause-ok
+returns-in-Whole-clause-ok g c =
+    let value = g.F.Field.value in
+    let holds = g.F.Field.holds in
+    let d = c.args.duality in
+    let h = c.requires.1.1 in
+    let cs = c.as_slice-c.result.now in
+    let ws = c.as_slice-weights.result.now in
+    let log = c.in_ok-everything_log-in-Whole.field-0 in
+    own_log holds (task value holds g.file d h cs ws c.as_slice-c.ensures.items c.as_slice-weights.ensures.items)
+    (fitting value holds g.file d h cs ws c.as_slice-c.ensures.items c.as_slice-weights.ensures.items) log
+    (subst (λ t. IsEnded t log) (task_is value holds g.file d h cs ws c.as_slice-c.ensures.items c.as_slice-weights.ensures.items)
+    c.in_ok-everything_log-in-Whole.ensures)
+
+pub returns-in-Line-clause-ok : goal.returns-in-Line-clause-ok
+returns-in-Line-clause-ok g c =
+    let value = g.F.Field.value in
+    let holds = g.F.Field.holds in
+    let d = c.args.duality in
+    let h = c.requires.1.1 in
+    let cs = c.as_slice-c.result.now in
+    let ws = c.as_slice-weights.result.now in
+    let log = c.in_ok-line_log-in-Line.field-0 in
+    own_log holds (task value holds g.file d h cs ws c.as_slice-c.ensures.items c.as_slice-weights.ensures.items)
+    (fitting value holds g.file d h cs ws c.as_slice-c.ensures.items c.as_slice-weights.ensures.items) log
+    (subst (λ t. IsEnded t log) (task_is value holds g.file d h cs ws c.as_slice-c.ensures.items c.as_slice-weights.ensures.items)
+    c.in_ok-line_log-in-Line.ensures)
+
+pub described-requires : goal.described-requires
+described-requires g c κs within =
+    let value = g.F.Field.value in
+    let holds = g.F.Field.holds in
+    let d = c.args.duality in
+    let h = c.requires.1.1 in
+    let cs = c.as_slice-c.result.now in
+    let ws = c.as_slice-weights.result.now in
+    let t = task value holds g.file d h cs ws c.as_slice-c.ensures.items c.as_slice-weights.ensures.items in
+    let first : AreFirstCuts value t c.as_slice-in-Cuts.result.now =
+    subst (λ l. AreFirstCuts value t l) (sym c.as_slice-in-Cuts.ensures.items) (subst (λ f. IsFirst value t f) c.in-Cuts.is c.in_ok-u.ensures.ok) in (
+      search rules,
+      (
+        known value holds g.file d h cs ws c.as_slice-c.ensures.items c.as_slice-weights.ensures.items c.args.form.now c.requires.1.0 c.as_slice-in-Cuts.result.now first,
+        (
+          (
+            h.picks,
+            h.inverse,
+            opens value holds g.file d h cs ws c.as_slice-c.ensures.items c.as_slice-weights.ensures.items,
+            fits value holds g.file d h cs ws c.as_slice-c.ensures.items c.as_slice-weights.ensures.items,
+            base value holds g.file d h cs ws c.as_slice-c.ensures.items c.as_slice-weights.ensures.items,
+          ),
+          first,
+        ),
+      ),
+    )
+
+pub returns-clause-ok : goal.returns-clause-ok
+returns-clause-ok g c =
+    let value = g.F.Field.value in
+    let holds = g.F.Field.holds in
+    let d = c.args.duality in
+    let h = c.requires.1.1 in
+    let cs = c.as_slice-c.result.now in
+    let ws = c.as_slice-weights.result.now in
+    own_ok holds (task value holds g.file d h cs ws c.as_slice-c.ensures.items c.as_slice-weights.ensures.items)
+    (fitting value holds g.file d h cs ws c.as_slice-c.ensures.items c.as_slice-weights.ensures.items) c.described.result c.described.ensures.ok
