@@ -173,8 +173,7 @@ fn text_line(alloc: Global, number: usize) -> Result<Bytes, NoMemory> {
         ),
         2 => wrong_line(alloc, 2, Rule::Bound),
         3 => too_long_line(alloc, false, 16_777_217),
-        4 => too_long_line(alloc, true, 268_435_457),
-        _ => not_built_line(alloc),
+        _ => too_long_line(alloc, true, 268_435_457),
     }
 }
 
