@@ -1,5 +1,5 @@
--- A turn of the engine over Benson's program: where all cuts in use hold at the start vector and the last multiplier of the optimal end is
--- positive, the cut that is read off is new, so fewer are left.
+-- A turn of the engine over Benson's program: a cut that is read off and is violated where all cuts in use hold is new, so fewer are left.
+-- Where the last multiplier of the optimal end is positive, the cut is violated at the start vector.
 use Rattle.std.proofs.Common.{◌≡◌, ℕ, zero, suc, List, [], ◌∷◌, ◌++◌, length, drop, All, refl, sym, ap, ap₂, ◌∙◌, subst, arith, ◌<◌, ◌+◌, Bool, slice_index_or}
 use Rattle.std.specs.Prelude.{if◌then◌else◌}
 use Rattle.std.proofs.Math.ListN.{length-append}
@@ -17,8 +17,8 @@ use Rattle.vlp_reader.specs.Sides.{side_bounds}
 use Rattle.frac128.specs.declared.vectors.Spot.{Spot}
 use Rattle.upper_image.specs.Spots.{dense}
 use Rattle.lp_form.specs.Programs.{side_total, dual_equations, benson_system, value_of, u_of, w_of}
-use Rattle.licence.specs.Base.{IsBaseCut}
-use Rattle.licence.specs.Turns.{said_row, CutTurnsEnd, CutsAreBase}
+use Rattle.licence.specs.Base.{IsBaseCut, IsSolutionOff}
+use Rattle.licence.specs.Turns.{said_row, IsCutTurn, CutTurnsEnd, CutsAreBase}
 use Rattle.licence.proofs.Cuts.{benson_cost, length-benson_cost, solution_moves, cuts_left, cuts_left-falls}
 use Rattle.lp_form.proofs.Systems.{benson_ok}
 use Rattle.licence.proofs.Violated.{dot-append, said_violated}
@@ -43,15 +43,24 @@ module _ (file : Problem) (c v : List ℚ) (t : Bool) (z y : List ℚ) where
       let k : ℕ = file.cols + dual_equations file.objs file.cone in
       h.equal ∙ last_value k y (omega (arith, h.one_each, ok.right_each, length-append (zeros k) (one_ℚ ∷ []), length-zeros k))
 
-  pub turn_falls : (basis : List ℕ) (d : Table) (rows : List (List ℚ)) → length c ≡ file.objs → length v ≡ file.objs →
+  -- it is read off at the origin too
+  pub read_at_origin : (basis : List ℕ) (d : Table) → length c ≡ file.objs → length v ≡ file.objs → OptimalAt (benson_system file c v t) basis d z y →
+      IsSolutionOff (benson_system file c (zeros file.objs) true) z
+  read_at_origin basis d c_long v_long read =
+      solution_moves file c v t (benson_ok file c v t c_long v_long) v_long z
+      (record { basis = basis; dictionary = d; full = read.feasible.full; reads = read.x_read })
+
+  pub optimum_turns : (basis : List ℕ) (d : Table) (rows : List (List ℚ)) → length c ≡ file.objs → length v ≡ file.objs →
       IsOptimal (benson_system file c v t) z y → OptimalAt (benson_system file c v t) basis d z y → zero_ℚ <ℚ value_of y →
-      All (λ a. zero_ℚ ≤ℚ dot a (homogenised v (if t then one_ℚ else zero_ℚ))) rows →
-      cuts_left file c (rows ++ said_row file z ∷ []) < cuts_left file c rows
-  turn_falls basis d rows c_long v_long optimal read above holds =
-      cuts_left-falls file c v t z rows (homogenised v (if t then one_ℚ else zero_ℚ)) (benson_ok file c v t c_long v_long) v_long
-      (record { basis = basis; dictionary = d; full = read.feasible.full; reads = read.x_read }) holds
-      (said_violated file v t z v_long (optimal.wide ∙ length-benson_cost file v t v_long)
-      (subst (λ (x : ℚ). zero_ℚ <ℚ x) (sym (optimal_value (benson_ok file c v t c_long v_long) optimal)) above))
+      All (λ a. zero_ℚ ≤ℚ dot a (homogenised v (if t then one_ℚ else zero_ℚ))) rows → IsCutTurn file c rows z
+  optimum_turns basis d rows c_long v_long optimal read above holds = record {
+    c_wide = c_long;
+    solution = read_at_origin basis d c_long v_long read;
+    point = homogenised v (if t then one_ℚ else zero_ℚ);
+    holds = holds;
+    violated = said_violated file v t z v_long (optimal.wide ∙ length-benson_cost file v t v_long)
+        (subst (λ (x : ℚ). zero_ℚ <ℚ x) (sym (optimal_value (benson_ok file c v t c_long v_long) optimal)) above);
+  }
 
 -- the row of a cut whose parts are those of z
 pub row_pushed : (file : Problem) (z w : List ℚ) (gamma : ℚ) (u : List Spot) → w ≡ w_of file z → dense (side_total file) u ≡ u_of file z →
@@ -60,14 +69,15 @@ row_pushed file z w gamma u h k e =
     ap₂ (λ n b. row_of_cut (record { normal = n; bound = b })) h (e ∙ ap (λ d. dot (side_bounds file) d) k)
 
 pub cut_turns_end : CutTurnsEnd
-cut_turns_end file c =
-    (cuts_left file c, λ rows z h. turn_falls file c h.v h.t z h.multipliers h.basis h.dictionary rows h.c_wide h.v_wide h.optimal h.read h.positive h.holds)
+cut_turns_end file c = (
+  cuts_left file c,
+  λ rows z h.
+      let origin = zeros file.objs in
+      let wide = length-zeros file.objs in
+      cuts_left-falls file c origin true z rows h.point (benson_ok file c origin true h.c_wide wide) wide h.solution h.holds h.violated,
+)
 
 pub cuts_are_base : CutsAreBase
 cuts_are_base file c v t z y basis d u m c_long v_long optimal read parts =
-    IsBaseCut.of_benson z (
-      solution_moves file c v t (benson_ok file c v t c_long v_long) v_long z
-          (record { basis = basis; dictionary = d; full = read.feasible.full; reads = read.x_read }),
-      optimal.solves,
-    )
+    IsBaseCut.of_benson z (read_at_origin file c v t z y basis d c_long v_long read, optimal.solves)
     refl parts

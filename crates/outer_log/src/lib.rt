@@ -3,6 +3,8 @@
 
 mod line;
 mod pushes;
+mod row;
 
 pub use line::Line;
 pub use pushes::{begun, push_cut, push_cut_entry, push_preimage};
+pub use row::cut_row;

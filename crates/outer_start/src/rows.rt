@@ -2,11 +2,12 @@
 ghost use Rattle.std.specs.Prelude.{◌≡◌, ◌<◌, suc, length, map, All, IfOk};
 ghost use Rattle.lin_rows.specs.Read.{numbers};
 ghost use Rattle.outer_log.specs.Cuts.{said_by};
-ghost use Rattle.polyhedra.specs.Exactness.{level, row_of, rows_of};
+ghost use Rattle.polyhedra.specs.Exactness.{level, rows_of};
 
 use benson_program::Cut;
 use exact_field::Field;
 use lin_rows::Rows;
+use outer_log::cut_row;
 use src_sink::{Items, NoMemory};
 use std::alloc::Global;
 
@@ -19,16 +20,6 @@ fn level_row<F: Field>(alloc: Global, q: u32) -> Result<Items<F>, NoMemory>
         row.push(F::zero())?;
     }
     row.push(F::one())?;
-    Ok(row)
-}
-
-/// The row of a cut: its w, and then its bound negated.
-fn cut_row<F: Field>(alloc: Global, cut: &Cut<F>) -> Result<Items<F>, NoMemory>
-    ensures { IfOk result (λ row. map F.value row ≡ row_of (said_by F.value cut.now)) }
-{
-    let mut row = Items::new(alloc);
-    row.append(cut.w.as_slice())?;
-    row.push(cut.gamma.neg())?;
     Ok(row)
 }
 

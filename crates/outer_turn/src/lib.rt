@@ -2,7 +2,6 @@
 #![tactic(auto)]
 
 mod pairs;
-mod row;
 mod turn;
 
 pub use turn::take;

@@ -11,13 +11,12 @@ ghost use Rattle.overflows.specs.Faults.{Overflows};
 ghost use Rattle.polyhedra.specs.Exactness.{row_of};
 
 use crate::pairs::log_pairs;
-use crate::row::cut_row;
 use benson_program::Cut;
 use dd_overflows::add_fault;
 use deriv_log::{Entries, Entry, Family};
 use double_descr::{Dd, Pair};
 use exact_field::Field;
-use outer_log::push_cut;
+use outer_log::{cut_row, push_cut};
 use overflows::SolveFault;
 use src_sink::NoMemory;
 use std::alloc::Global;

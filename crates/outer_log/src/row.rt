@@ -8,8 +8,8 @@ use exact_field::Field;
 use src_sink::{Items, NoMemory};
 use std::alloc::Global;
 
-/// The row of a cut: its w, and then its gamma negated.
-pub(crate) fn cut_row<F: Field>(alloc: Global, cut: &Cut<F>) -> Result<Items<F>, NoMemory>
+/// The row of a cut: its w, and then its bound negated.
+pub fn cut_row<F: Field>(alloc: Global, cut: &Cut<F>) -> Result<Items<F>, NoMemory>
     ensures { IfOk result (λ row. map F.value row ≡ row_of (said_by F.value cut.now)) }
 {
     let mut row = Items::new(alloc);
