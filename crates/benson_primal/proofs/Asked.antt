@@ -1,18 +1,20 @@
 -- What is asked at a live generator.
 use Rattle.std.proofs.Common.{◌≡◌, ◌≢◌, ◌↔◌, ℕ, zero, suc, Bool, true, false, List, [], ◌∷◌, ◌++◌, map, take, length, All, Contains, IsTrue, refl, sym, ap, ◌∙◌, subst, arith, true≢false}
 use Rattle.std.proofs.lemmas.List.{length-map}
-use Rattle.exact_field.specs.Rational.{ℚ, zero_ℚ, one_ℚ, ◌≤ℚ◌}
+use Rattle.exact_field.specs.Rational.{ℚ, zero_ℚ, one_ℚ, ◌≤ℚ◌, ◌<ℚ◌}
 use Rattle.exact_field.specs.Vector.{dot, entry}
-use Rattle.polyhedra.specs.Exactness.{homogenised}
+use Rattle.polyhedra.specs.Exactness.{homogenised, row_of}
 use Rattle.polyhedra.specs.LiveList.{Numbered, LiveList}
 use Rattle.deriv_log.specs.declared.entry.Entry.{Entry}
 use Rattle.double_descr.specs.State.{State as Description}
 use Rattle.log_rules.specs.Live.{state, preimages}
 use Rattle.log_rules.proofs.NormedMembers.{front-homogenised, last-homogenised, one_not_zero}
 use Rattle.licence.specs.Base.{IsBaseStart, IsLiveAfter, last_of}
+use Rattle.licence.proofs.CutTurns.{optimum_turns, read_at_origin}
 use Rattle.benson_program.specs.Preimages.{IsPreimageOf}
 use Rattle.benson_program.specs.declared.cut.Cut.{Cut}
 use Rattle.benson_program.specs.declared.preimage.Preimage.{Preimage}
+use Rattle.outer_log.specs.Cuts.{said_by}
 use Rattle.outer_log.specs.Preimages.{IsReached}
 use Rattle.outer_log.specs.Standing.{IsOuter}
 use Rattle.outer_log.specs.Task.{Task, IsFitting}
@@ -93,19 +95,26 @@ module _ {F : Type 0} (value : F → ℚ) (task : Task) (trail : List Entry) (dd
       pub next_cut_is : (holds : ℚ → Bool) → IsFitting holds task → (cut : Cut F) → IsAskedCut value task (map value seen) t cut → IsNextCut value task dd cut
       next_cut_is holds fitting cut h = record {
         z = h.z;
-        turn = record {
-          v = map value seen;
-          t = t;
-          multipliers = h.multipliers;
-          basis = h.basis;
-          dictionary = h.optimum.dictionary;
-          c_wide = fitting.fits.lengths;
-          v_wide = length-map seen value ∙ start_long;
-          optimal = h.optimum.optimal;
-          read = h.optimum.read;
-          positive = h.positive;
-          holds = subst (λ (v : List ℚ). All (λ (row : List ℚ). zero_ℚ ≤ℚ dot row v) dd.rows) vector_is parts.4;
-        };
+        turn = optimum_turns task.file task.c (map value seen) t h.z h.multipliers h.basis h.optimum.dictionary dd.rows fitting.fits.lengths
+            (length-map seen value ∙ start_long) h.optimum.optimal h.optimum.read h.positive
+            (subst (λ (v : List ℚ). All (λ (row : List ℚ). zero_ℚ ≤ℚ dot row v) dd.rows) vector_is parts.4);
         says = h.says;
         is = h.is;
       }
+
+  -- a cut that was asked at another vector, and that the generator violates
+  pub near_cut_is : (holds : ℚ → Bool) → IsFitting holds task → (near : List F) (t : Bool) → length near ≡ task.file.objs → (cut : Cut F) →
+      IsAskedCut value task (map value near) t cut → dot (row_of (said_by value cut)) (map value generator) <ℚ zero_ℚ → IsNextCut value task dd cut
+  near_cut_is holds fitting near t near_long cut h below = record {
+    z = h.z;
+    turn = record {
+      c_wide = fitting.fits.lengths;
+      solution = read_at_origin task.file task.c (map value near) t h.z h.multipliers h.basis h.optimum.dictionary fitting.fits.lengths
+          (length-map near value ∙ near_long) h.optimum.read;
+      point = map value generator;
+      holds = parts.4;
+      violated = subst (λ (row : List ℚ). dot row (map value generator) <ℚ zero_ℚ) h.says below;
+    };
+    says = h.says;
+    is = h.is;
+  }

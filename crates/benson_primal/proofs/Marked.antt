@@ -1,12 +1,18 @@
 -- The set of the numbers that have a pre-image.
-use Rattle.std.proofs.Common.{◌≡◌, ◌≢◌, ◌≤◌, ◌<◌, ◌+◌, ◌-◌, ℕ, Bool, true, false, List, [], ◌||◌, nat_eq, length, refl, sym, ap, ◌∙◌, subst, arith, true≢false, ◌⊎◌, inl, inr, slice_index_or}
+use Rattle.std.proofs.Common.{◌≡◌, ◌≢◌, ◌≤◌, ◌<◌, ◌+◌, ◌-◌, ℕ, Bool, true, false, List, [], ◌||◌, nat_eq, map, length, Contains, refl, sym, ap, ◌∙◌, subst, arith, true≢false, ◌⊎◌, inl, inr, slice_index_or}
 use Rattle.std.proofs.lemmas.List.{get_or-map, length-map}
+use Rattle.std.proofs.lemmas.List.Elements.{Contains-get_or}
+use Rattle.exact_field.specs.Rational.{ℚ}
 use Rattle.polyhedra.specs.LiveList.{Numbered, numbers}
+use Rattle.double_descr.specs.State.{State as Description}
 use Rattle.std.proofs.lemmas.Bool.Decides.{eqb_tells}
 use Rattle.incid_sets.specs.Marks.{has}
 use Rattle.deriv_log.specs.declared.entry.Entry.{Entry}
 use Rattle.log_rules.specs.Live.{preimages}
 use Rattle.outer_log.specs.Preimages.{AreMarks}
+use Rattle.benson_primal.specs.Search.{AreAllReached, AreReached, IsDone, IsInScope}
+use Rattle.benson_primal.specs.declared.search.Scope.{Scope}
+use Rattle.benson_primal.specs.declared.search.Scope.TheVariants.{Both}
 
 pub marks_more : (old new : List Entry) (g : ℕ) (marks more : List Bool) → AreMarks old marks → ((k : ℕ) → has more k ≡ (nat_eq k g || has marks k)) →
     preimages new g ≢ [] → ((k : ℕ) → k ≢ g → preimages new k ≡ preimages old k) → AreMarks new more
@@ -43,21 +49,45 @@ stay_reached old new g here others k had = elim (eqb_tells k g) [
   | inr f ↦ λ none. had (sym (others k f.1) ∙ none)
 ]
 
--- the numbers from the last i on have pre-images; one more
-pub seen_more : (live : List ℕ) (old new : List Entry) (i : ℕ) → i < length live →
-    ((j : ℕ) → length live - i ≤ j → j < length live → preimages old (slice_index_or live j 0) ≢ []) →
-    ((k : ℕ) → preimages old k ≢ [] → preimages new k ≢ []) → preimages new (slice_index_or live (length live - 1 - i) 0) ≢ [] →
-    (j : ℕ) → length live - (i + 1) ≤ j → j < length live → preimages new (slice_index_or live j 0) ≢ []
-seen_more live old new i inside seen stay here j low high = elim (eqb_tells j (length live - 1 - i)) [
-  | inl t ↦ subst (λ (k : ℕ). preimages new (slice_index_or live k 0) ≢ []) (sym t.1) here
+-- what holds of the numbers from the last i on, and of one more
+pub seen_more : (live : List ℕ) (P Q : ℕ → Type 0) (i : ℕ) → i < length live → ((j : ℕ) → length live - i ≤ j → j < length live → P (slice_index_or live j 0)) →
+    ((k : ℕ) → P k → Q k) → Q (slice_index_or live (length live - 1 - i) 0) →
+    (j : ℕ) → length live - (i + 1) ≤ j → j < length live → Q (slice_index_or live j 0)
+seen_more live P Q i inside seen stay here j low high = elim (eqb_tells j (length live - 1 - i)) [
+  | inl t ↦ subst (λ (k : ℕ). Q (slice_index_or live k 0)) (sym t.1) here
   | inr f ↦ stay (slice_index_or live j 0) (seen j (omega (arith, low, high, inside, f.1)) high)
 ]
 
--- all have
-pub all_seen : (live : List ℕ) (gs : List Numbered) (trail : List Entry) (i : ℕ) → live ≡ numbers gs → length live ≤ i →
-    ((j : ℕ) → length live - i ≤ j → j < length live → preimages trail (slice_index_or live j 0) ≢ []) →
-    (k : ℕ) (d : Numbered) → k < length gs → preimages trail (slice_index_or gs k d).number ≢ []
-all_seen live gs trail i is past seen k d inside =
+-- what holds of all numbers of live generators
+all_seen : (live : List ℕ) (gs : List Numbered) (P : ℕ → Type 0) (i : ℕ) → live ≡ numbers gs → length live ≤ i →
+    ((j : ℕ) → length live - i ≤ j → j < length live → P (slice_index_or live j 0)) → (k : ℕ) (d : Numbered) → k < length gs → P (slice_index_or gs k d).number
+all_seen live gs P i is past seen k d inside =
     let long : length live ≡ length gs = ap length is ∙ length-map gs (λ (g : Numbered). g.number) in
-    subst (λ (n : ℕ). preimages trail n ≢ []) (ap (λ (ns : List ℕ). slice_index_or ns k 0) is ∙ get_or-map (λ (g : Numbered). g.number) gs k d 0 inside)
+    subst P (ap (λ (ns : List ℕ). slice_index_or ns k 0) is ∙ get_or-map (λ (g : Numbered). g.number) gs k d 0 inside)
     (seen k (omega (arith, past)) (omega (arith, inside, long)))
+
+-- where each number is done, each generator that is asked has a pre-image
+pub all_done : (scope : Scope) (trail : List Entry) (dd : Description) (live : List ℕ) (i : ℕ) → live ≡ numbers dd.list.live → length live ≤ i →
+    ((j : ℕ) → length live - i ≤ j → j < length live → IsDone scope trail dd (slice_index_or live j 0)) → AreReached scope trail dd
+all_done scope trail dd live i is past seen k d inside = λ asked.
+    all_seen live dd.list.live (IsDone scope trail dd) i is past seen k d inside (slice_index_or dd.list.live k d).vector
+    (Contains-get_or dd.list.live k d inside) asked
+
+-- a generator with a pre-image is done
+pub done_already : (scope : Scope) (trail : List Entry) (dd : Description) (g : ℕ) → preimages trail g ≢ [] → IsDone scope trail dd g
+done_already scope trail dd g here = λ v listed asked. here
+
+-- and so is one that is not asked
+pub done_left_out : {F : Type 0} (value : F → ℚ) (scope : Scope) (trail : List Entry) (dd : Description) (g : ℕ) (generator : List F) →
+    ((v : List ℚ) → Contains dd.list.live (record { number = g; vector = v }) → map value generator ≡ v) → (IsInScope scope (map value generator) → ⊥) →
+    IsDone scope trail dd g
+done_left_out value scope trail dd g generator only out = λ v listed asked. absurd (out (subst (IsInScope scope) (sym (only v listed)) asked))
+
+-- pre-images stay, so what is done does
+pub done_stays : (scope : Scope) (old new : List Entry) (dd : Description) → ((k : ℕ) → preimages old k ≢ [] → preimages new k ≢ []) →
+    (k : ℕ) → IsDone scope old dd k → IsDone scope new dd k
+done_stays scope old new dd stay k done = λ v listed asked. stay k (done v listed asked)
+
+-- where points and directions are asked, all have pre-images
+pub all_reached : (trail : List Entry) (dd : Description) → AreReached Both trail dd → AreAllReached trail dd
+all_reached trail dd h = λ k d inside. h k d inside tt

@@ -1,6 +1,7 @@
 -- The search for the cuts of an image.
-use Rattle.std.specs.Prelude.{◌≡◌, ◌≢◌, Bool, List, [], map, All}
-use Rattle.exact_field.specs.Rational.{ℚ}
+use Rattle.std.specs.Prelude.{◌≡◌, ◌≢◌, ⊤, ℕ, Bool, List, [], map, length, All, Contains}
+use Rattle.exact_field.specs.Rational.{ℚ, zero_ℚ}
+use Rattle.exact_field.specs.Vector.{entry}
 use Rattle.polyhedra.specs.Exactness.{row_of}
 use Rattle.deriv_log.specs.declared.entry.Entry.{Entry}
 use Rattle.double_descr.specs.State.{State as Description}
@@ -12,6 +13,8 @@ use Rattle.benson_program.specs.declared.cut.Cut.{Cut}
 use Rattle.outer_log.specs.Cuts.{IsCutFor, said_by}
 use Rattle.outer_log.specs.Task.{Task, IsFitting}
 use Rattle.recession.specs.Asking.{IsProper}
+use Rattle.benson_primal.specs.declared.search.Scope.{Scope}
+use Rattle.benson_primal.specs.declared.search.Scope.TheVariants.{Both, Directions}
 
 -- the data, the duality vector and the weights are those of the task, which has an image to describe
 pub record IsKnown {F : Type 0} (value : F → ℚ) (holds : ℚ → Bool) (task : Task) (form : Data F) (c weights : List F) : Type 0 where
@@ -21,12 +24,29 @@ pub record IsKnown {F : Type 0} (value : F → ℚ) (holds : ℚ → Bool) (task
   pub fitting : IsFitting holds task
   pub proper : IsProper task
 
--- the cut of an optimum of Benson's program at a live generator, at which its value is positive: so no row says it yet
+-- a base cut that some point violates at which each row is at least 0: so no row says it yet
 pub record IsNextCut {F : Type 0} (value : F → ℚ) (task : Task) (dd : Description) (cut : Cut F) : Type 0 where
   pub z : List ℚ
   pub turn : IsCutTurn task.file task.c dd.rows z
   pub says : row_of (said_by value cut) ≡ said_row task.file z
   pub is : IsCutFor value task cut
+
+-- a generator is asked: points and directions alike, or directions alone, whose last entry is 0
+abbrev pub IsInScope : Scope → List ℚ → Type 0
+IsInScope Both v = ⊤
+IsInScope Directions v = entry v (length v) ≡ zero_ℚ
+
+-- where it is asked, the live generator of this number has a pre-image
+abbrev pub IsDone : Scope → List Entry → Description → ℕ → Type 0
+IsDone scope trail dd g = (v : List ℚ) → Contains dd.list.live (record { number = g; vector = v }) → IsInScope scope v → preimages trail g ≢ []
+
+-- each live generator that is asked has a pre-image
+abbrev pub AreReached : Scope → List Entry → Description → Type 0
+AreReached scope trail dd = All (λ g. IsInScope scope g.vector → preimages trail g.number ≢ []) dd.list.live
+
+-- each live direction has a pre-image
+abbrev pub AreDirectionsReached : List Entry → Description → Type 0
+AreDirectionsReached trail dd = All (λ g. entry g.vector (length g.vector) ≡ zero_ℚ → preimages trail g.number ≢ []) dd.list.live
 
 -- each live generator has a pre-image
 abbrev pub AreAllReached : List Entry → Description → Type 0

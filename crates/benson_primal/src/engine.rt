@@ -20,11 +20,12 @@ ghost use Rattle.vlp_reader.specs.declared.problem.Problem.{Problem as File};
 ghost use Rattle.benson_primal.specs.Logs.{IsOwnLog};
 ghost use Rattle.benson_primal.specs.Search.{IsKnown};
 
-use crate::search::approximate;
+use crate::search::{Scope, approximate, directions};
 use benson_program::{Cut, WholeParts};
 use cone_dual::Duality;
 use deriv_log::{Entries, Entry};
 use exact_field::Field;
+use incid_sets::Marks;
 use lp_form::Data;
 use outer_ends::{line_log, solved};
 use outer_log::begun;
@@ -32,7 +33,7 @@ use outer_start::started;
 use overflows::{SolveFault, spots_of};
 use own_check::{infeasible_log, whole_log};
 use recession::{First, first_cuts};
-use src_sink::NoMemory;
+use src_sink::{Items, NoMemory};
 use std::alloc::Global;
 
 /// The log that no point is feasible, by multipliers of the sides.
@@ -69,7 +70,7 @@ fn everything_log<F: Field>(
     Ok(log)
 }
 
-/// Describes an image from its first cuts on, behind a trail that has them.
+/// Describes an image from its first cuts on, behind a trail that has them: first its directions, then its points.
 fn describe<F: Field>(
     alloc: Global,
     form: &Data<F>,
@@ -88,7 +89,29 @@ fn describe<F: Field>(
     ensures left { IfErr result (Overflows F.holds (behind task trail.new) []) }
 {
     let mut dd = started(alloc, form.p.len() as u32, trail, cuts)?;
-    approximate(alloc, form, c, weights, trail, &mut dd)?;
+    let mut reached = Marks::new(alloc, 0)?;
+    let mut hint = Items::new(alloc);
+    directions(
+        alloc,
+        form,
+        c,
+        weights,
+        trail,
+        &mut dd,
+        &mut reached,
+        &mut hint,
+    )?;
+    approximate(
+        alloc,
+        form,
+        c,
+        weights,
+        Scope::Both,
+        trail,
+        &mut dd,
+        &mut reached,
+        &mut hint,
+    )?;
     solved(alloc, trail, &dd)?;
     Ok(())
 }

@@ -2,7 +2,8 @@
 #![tactic(auto)]
 
 mod engine;
+mod nearby;
 mod search;
 
 pub use engine::primal;
-pub use search::approximate;
+pub use search::directions;

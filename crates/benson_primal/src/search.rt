@@ -1,22 +1,20 @@
 //! The search for cuts: each live generator is asked for a cut that it violates, until all have a pre-image.
-ghost use Rattle.std.specs.Prelude.{◌≡◌, ◌≢◌, ◌≤◌, ◌↔◌, ◌+◌, ◌∷◌, [], ℕ, Bool, List, map, take, length, Contains, IfOk, IfErr, IfSome, IfNone, OnOk, OnErr, IsTrue, nat_eq, ◌||◌};
-ghost use Rattle.exact_field.specs.Rational.{zero_ℚ};
-ghost use Rattle.exact_field.specs.Vector.{entry};
+ghost use Rattle.std.specs.Prelude.{◌≡◌, ◌≢◌, ◌≤◌, ◌||◌, [], ℕ, IfErr, IfNone, IfOk, IfSome, IsTrue, OnOk, length, map, nat_eq, Contains};
 ghost use Rattle.incid_sets.specs.Marks.{has};
 ghost use Rattle.log_rules.specs.Live.{preimages};
-ghost use Rattle.overflows.specs.Faults.{Overflows};
+ghost use Rattle.overflows.specs.Faults.{OnLicence, Overflows};
 ghost use Rattle.polyhedra.specs.LiveList.{numbers};
 ghost use Rattle.outer_log.specs.Preimages.{AreMarks};
-ghost use Rattle.outer_log.specs.Standing.{IsOpenTrail, IsOuter};
+ghost use Rattle.outer_log.specs.Standing.{IsOpenTrail, IsOuter, StandForSame};
 ghost use Rattle.outer_log.specs.Task.{Task, behind};
-ghost use Rattle.benson_primal.specs.Search.{AreAllReached, IsKnown, IsNextCut};
+ghost use Rattle.benson_primal.specs.Search.{AreDirectionsReached, AreReached, IsDone, IsInScope, IsKnown, IsNextCut};
 
+use crate::nearby::{cut_nearby, is_point};
 use benson_program::Cut;
 use deriv_log::Entries;
 use double_descr::Dd;
 use exact_field::Field;
 use incid_sets::Marks;
-use lin_rows::cells::is_zero;
 use lp_form::Data;
 use outer_log::push_preimage;
 use outer_turn::take;
@@ -25,12 +23,24 @@ use recession::{Asked, ask};
 use src_sink::{Items, NoMemory};
 use std::alloc::Global;
 
-/// Whether a generator is a point: its last entry is not 0.
-fn is_point<F: Field>(generator: &[F]) -> bool
+/// Which live generators are asked.
+#[derive(Clone, Copy)]
+pub(crate) enum Scope {
+    /// Directions alone.
+    Directions,
+    /// Points and directions.
+    Both,
+}
+
+/// Whether a generator is left out.
+fn is_left_out<F: Field>(scope: Scope, generator: &[F]) -> bool
     requires { 1 ≤ length generator.now }
-    ensures { IsTrue result ↔ (entry (map F.value generator.now) (length generator.now) ≢ zero_ℚ) }
+    ensures { IsTrue result → IsInScope scope (map F.value generator.now) → ⊥ }
 {
-    !is_zero(generator[generator.len() - 1])
+    match scope {
+        Scope::Directions => is_point(generator),
+        Scope::Both => false,
+    }
 }
 
 /// Asks at the live generator `g`, which has no pre-image yet: a cut that it violates, or none, and then its pre-image stands in
@@ -82,13 +92,15 @@ fn mark(reached: &mut Marks, g: u32) -> Result<(), NoMemory>
     }
 }
 
-/// The same as `asked`, of a live generator that may have a pre-image; the set is that of those that have one.
+/// The same as `asked`, of a live generator that may be left out or have a pre-image; the set is that of those that have one. One with
+/// long entries is asked at a vector near by first.
 fn reach<F: Field>(
     alloc: Global,
     form: &Data<F>,
     c: &[F],
     weights: &[F],
     dd: &Dd<F>,
+    scope: Scope,
     g: u32,
     trail: &mut Entries,
     reached: &mut Marks,
@@ -102,12 +114,18 @@ fn reach<F: Field>(
     ensures outer { IsOuter task trail.new dd.now }
     ensures marks { OnOk result (AreMarks trail.new reached.new) }
     ensures cut { IfOk result (λ r. IfSome r (IsNextCut F.value task dd.now)) }
-    ensures reached { IfOk result (λ r. IfNone r (preimages trail.new g ≢ [])) }
+    ensures done { IfOk result (λ r. IfNone r (IsDone scope trail.new dd.now g)) }
     ensures stay { IfOk result (λ r. (k : ℕ) → preimages trail.old k ≢ [] → preimages trail.new k ≢ []) }
     ensures left { IfErr result (Overflows F.holds (behind task trail.new) []) }
 {
     if reached.has(g) {
         return Ok(None);
+    }
+    if is_left_out(scope, dd.generator(g)) {
+        return Ok(None);
+    }
+    if let Some(near) = cut_nearby(alloc, form, c, weights, dd, g, hint)? {
+        return Ok(Some(near));
     }
     match asked(alloc, form, c, weights, dd, g, trail, hint)? {
         Some(cut) => Ok(Some(cut)),
@@ -118,13 +136,14 @@ fn reach<F: Field>(
     }
 }
 
-/// The first cut that a live generator violates, from the newest to the oldest, or none, and then all have pre-images.
+/// The first cut that a live generator violates, from the newest to the oldest, or none, and then all that are asked have pre-images.
 fn next_cut<F: Field>(
     alloc: Global,
     form: &Data<F>,
     c: &[F],
     weights: &[F],
     dd: &Dd<F>,
+    scope: Scope,
     trail: &mut Entries,
     reached: &mut Marks,
     hint: &mut Items<u32>,
@@ -136,42 +155,74 @@ fn next_cut<F: Field>(
     ensures outer { IsOuter task trail.new dd.now }
     ensures marks { OnOk result (AreMarks trail.new reached.new) }
     ensures cut { IfOk result (λ r. IfSome r (IsNextCut F.value task dd.now)) }
-    ensures none { IfOk result (λ r. IfNone r (AreAllReached trail.new dd.now)) }
+    ensures none { IfOk result (λ r. IfNone r (AreReached scope trail.new dd.now)) }
     ensures left { IfErr result (Overflows F.holds (behind task trail.new) []) }
 {
     let live = dd.live();
     for i in 0..live.len() {
         let g = live[live.len() - 1 - i];
-        if let Some(cut) = reach(alloc, form, c, weights, dd, g, trail, reached, hint)? {
+        if let Some(cut) = reach(alloc, form, c, weights, dd, scope, g, trail, reached, hint)? {
             return Ok(Some(cut));
         }
     }
     Ok(None)
 }
 
-/// Brings cuts into use, one at a time, until each live generator has a pre-image in the log. Each turn costs a linear program
-/// for each live generator that has none, up to the first that violates a cut, and an addition to the double description.
-pub fn approximate<F: Field>(
+/// Brings cuts into use, one at a time, until each live generator that is asked has a pre-image in the log; the set is that of those
+/// that have one. Each turn costs a linear program for each such generator that has none, up to the first that violates a cut, and an
+/// addition to the double description.
+pub(crate) fn approximate<F: Field>(
+    alloc: Global,
+    form: &Data<F>,
+    c: &[F],
+    weights: &[F],
+    scope: Scope,
+    trail: &mut Entries,
+    dd: &mut Dd<F>,
+    reached: &mut Marks,
+    hint: &mut Items<u32>,
+) -> Result<(), SolveFault>
+    ghost task: { Task }
+    requires known { IsKnown F.value F.holds task form.now c.now weights.now }
+    requires outer { IsOuter task trail.old dd.old }
+    requires marks { AreMarks trail.old reached.old }
+    ensures outer { OnOk result (IsOuter task trail.new dd.new) }
+    ensures marks { OnOk result (AreMarks trail.new reached.new) }
+    ensures reached { OnOk result (AreReached scope trail.new dd.new) }
+    ensures trail { IsOpenTrail task trail.new }
+    ensures same { IfErr result (λ fault. OnLicence fault (λ licence. StandForSame task trail.new dd.new)) }
+    ensures left { IfErr result (Overflows F.holds (behind task trail.new) []) }
+{
+    while let Some(cut) = next_cut(alloc, form, c, weights, dd, scope, trail, reached, hint)? {
+        take(alloc, trail, dd, &cut)?;
+    }
+    Ok(())
+}
+
+/// Asks at the live directions, and brings the cuts that they violate into use, until each has a pre-image in the log, so that they
+/// are the extreme directions of the image's recession cone. `reached` is the set of the generators with a pre-image, and `hint` the
+/// basis of the program before. After want of memory the trail is of no use.
+pub fn directions<F: Field>(
     alloc: Global,
     form: &Data<F>,
     c: &[F],
     weights: &[F],
     trail: &mut Entries,
     dd: &mut Dd<F>,
+    reached: &mut Marks,
+    hint: &mut Items<u32>,
 ) -> Result<(), SolveFault>
     ghost task: { Task }
     requires known { IsKnown F.value F.holds task form.now c.now weights.now }
     requires outer { IsOuter task trail.old dd.old }
-    requires unreached { (k : ℕ) → preimages trail.old k ≡ [] }
+    requires marks { AreMarks trail.old reached.old }
     ensures outer { OnOk result (IsOuter task trail.new dd.new) }
-    ensures reached { OnOk result (AreAllReached trail.new dd.new) }
+    ensures marks { OnOk result (AreMarks trail.new reached.new) }
+    ensures reached { OnOk result (AreDirectionsReached trail.new dd.new) }
     ensures trail { IsOpenTrail task trail.new }
+    ensures same { IfErr result (λ fault. OnLicence fault (λ licence. StandForSame task trail.new dd.new)) }
     ensures left { IfErr result (Overflows F.holds (behind task trail.new) []) }
 {
-    let mut reached = Marks::new(alloc, 0)?;
-    let mut hint = Items::new(alloc);
-    while let Some(cut) = next_cut(alloc, form, c, weights, dd, trail, &mut reached, &mut hint)? {
-        take(alloc, trail, dd, &cut)?;
-    }
-    Ok(())
+    let scope = Scope::Directions;
+    approximate(alloc, form, c, weights, scope, trail, dd, reached, hint)
 }

@@ -72,9 +72,11 @@ outer_reached task old new dd g h more open_trail = record {
   open_trail = open_trail;
   started = more.started ∙ h.started;
   all_used = subst (λ (s : State). s.used ≡ range_with_len 1 (length s.cuts)) (sym more.stands) h.all_used;
-  width = h.width;
-  rows = subst (λ (s : State). dd.rows ≡ rows_in_use task.file.objs s) (sym more.stands) h.rows;
-  list = subst (λ (s : State). dd.list ≡ s.list) (sym more.stands) h.list;
+  same = record {
+    width = h.width;
+    rows = subst (λ (s : State). dd.rows ≡ rows_in_use task.file.objs s) (sym more.stands) h.rows;
+    list = subst (λ (s : State). dd.list ≡ s.list) (sym more.stands) h.list;
+  };
 }
 
 -- what stands after a started open trail is described

@@ -29,15 +29,20 @@ pub record IsBegun (task : Task) (cuts : List Inequality) (trail : List Entry) :
   pub unstarted : has order.start trail ≡ false
   pub cuts_are : cuts_of task trail ≡ cuts
 
--- such a trail that is started, all of whose cuts are in use in their order, and a double description of the same rows with the same
--- live generators under the same numbers
+-- a trail and a double description stand for the same cuts: the rows are row 0 and those of the cuts in use, in their order, and the
+-- live generators are the same under the same numbers
+pub record StandForSame (task : Task) (trail : List Entry) (dd : Description) : Type 0 where
+  pub width : dd.width ≡ suc task.file.objs
+  pub rows : dd.rows ≡ rows_in_use task.file.objs (state task.file.objs trail)
+  pub list : dd.list ≡ (state task.file.objs trail).list
+
+-- such a trail that is started, all of whose cuts are in use in their order, beside a double description for the same cuts
 pub record IsOuter (task : Task) (trail : List Entry) (dd : Description) : Type 0 where
   pub open_trail : IsOpenTrail task trail
   pub started : IsTrue (has order.start trail)
   pub all_used : (state task.file.objs trail).used ≡ range_with_len 1 (length (state task.file.objs trail).cuts)
-  pub width : dd.width ≡ suc task.file.objs
-  pub rows : dd.rows ≡ rows_in_use task.file.objs (state task.file.objs trail)
-  pub list : dd.list ≡ (state task.file.objs trail).list
+  pub same : StandForSame task trail dd
+  pub open same use *
 
 -- one more cut stands, which is not in use, and all else is as before
 pub record HasCutMore (task : Task) (cut : Inequality) (old new : List Entry) : Type 0 where

@@ -70,13 +70,15 @@ module _ (task : Task) (cuts : List Inequality) (old : List Entry) (begun : IsBe
     started = has_last order.start old entry refl;
     all_used = subst (λ (s : State). s.used ≡ range_with_len 1 (length s.cuts)) (sym pushed)
         (ap (range_with_len 1) (sym (stated_many objs stands cuts begun.cuts_are many)));
-    width = start.width;
-    rows = start.rows_are ∙ ap (rows_of objs) (sym (listed objs stands cuts begun.cuts_are many)) ∙ ap (rows_in_use objs) (sym pushed);
-    list = start.list_is ∙ ap (starting 1) (sym same ∙ sym corner.vectors_are) ∙ ap (λ (s : State). s.list) (sym pushed);
+    same = record {
+      width = start.width;
+      rows = start.rows_are ∙ ap (rows_of objs) (sym (listed objs stands cuts begun.cuts_are many)) ∙ ap (rows_in_use objs) (sym pushed);
+      list = start.list_is ∙ ap (starting 1) (sym first ∙ sym corner.vectors_are) ∙ ap (λ (s : State). s.list) (sym pushed);
+    };
   }
     where
-      same : vectors dd.list.live ≡ start.vectors
-      same = ap (λ (l : LiveList). vectors l.live) start.list_is ∙ vectors-numbered 1 start.vectors
+      first : vectors dd.list.live ≡ start.vectors
+      first = ap (λ (l : LiveList). vectors l.live) start.list_is ∙ vectors-numbered 1 start.vectors
 
   pub outer_after : IsOuter task new dd
   outer_after = subst (λ (trail : List Entry). IsOuter task trail dd) (sym h.appended) outer

@@ -17,7 +17,10 @@ use Rattle.log_rules.specs.Order.{has, in_order}
 use Rattle.log_rules.specs.Order as order
 use Rattle.log_rules.proofs.Entries.{state-push}
 use Rattle.licence.specs.Operands.{IsAddition}
-use Rattle.outer_log.specs.Standing.{HasCutMore, IsOpenTrail, IsOuter}
+use Rattle.overflows.specs.Faults.{OnLicence}
+use Rattle.overflows.specs.declared.fault.SolveFault.{SolveFault}
+use Rattle.overflows.specs.declared.fault.SolveFault.TheVariants.{Left, NoMemory}
+use Rattle.outer_log.specs.Standing.{HasCutMore, IsOpenTrail, IsOuter, StandForSame}
 use Rattle.outer_log.specs.Task.{Task, behind}
 use Rattle.outer_log.proofs.Growing.{grows, has_same, preimages_stay}
 use Rattle.outer_turn.proofs.Turned.{IsBehind, meets_add, new_exists, new_row, next_list, next_rows, next_used, rows_stay}
@@ -27,6 +30,11 @@ add_in_order : (trail : List Entry) → IsTrue (has order.duality trail) → IsT
 add_in_order [] h k l = absurd (true≢false (sym h))
 add_in_order (t ∷ trail) h k l =
     both_hold _ _ (both_hold _ _ (both_hold _ _ (both_hold _ _ refl h) k) refl) (ap (λ (b : Bool). not b) l)
+
+-- what holds without regard to a licence holds of each
+pub on_any : (P : Type 0) (fault : SolveFault) → P → OnLicence fault (λ licence. P)
+on_any P (Left licence) h = h
+on_any P NoMemory h = tt
 
 module _ (task : Task) (old mid : List Entry) (e : Inequality) (dd : Description) (h : IsOuter task old dd) (o : IsOpenTrail task mid)
     (m : HasCutMore task e old mid) (k : ℕ) (number : k ≡ length dd.rows) where
@@ -52,6 +60,11 @@ module _ (task : Task) (old mid : List Entry) (e : Inequality) (dd : Description
       IsAddition.of_image k exists.0 exists.1 (h.rows ∙ sym (rows_stay q s t e is_behind)) (is ∙ sym (new_row q s t e is_behind k numbered))
       (h.list ∙ sym m.list)
 
+  -- it is not in use yet, so the trail stands for the same cuts as the double description before
+  pub stand_still : (new : Description) → new ≡ dd → StandForSame task mid new
+  stand_still new kept = subst (λ (d : Description). StandForSame task mid d) (sym kept)
+      (record { width = h.width; rows = h.rows ∙ sym (rows_stay q s t e is_behind); list = h.list ∙ sym m.list })
+
   module _ (pairs : List LogPair) (paired : pairs ≡ required_pairs dd.rows dd.list.live (row_of e)) (written : IsTrue (is_formed (Add k pairs))) where
     started : IsTrue (has order.start mid)
     started = m.started ∙ h.started
@@ -71,16 +84,18 @@ module _ (task : Task) (old mid : List Entry) (e : Inequality) (dd : Description
     -- and stands beside the double description with the row
     pub turned : (row : List ℚ) → row ≡ row_of e → (new : Description) →
         new ≡ record { width = dd.width; rows = dd.rows ++ row ∷ []; list = step dd.rows dd.list row } → IsOuter task (mid ++ Add k pairs ∷ []) new
-    turned row is new same = subst (λ (d : Description). IsOuter task (mid ++ Add k pairs ∷ []) d) (sym same) (record {
+    turned row is new grown = subst (λ (d : Description). IsOuter task (mid ++ Add k pairs ∷ []) d) (sym grown) (record {
       open_trail = turned_open;
       started = has_same order.start mid (Add k pairs) refl ∙ started;
       all_used = subst (λ (a : State). a.used ≡ range_with_len 1 (length a.cuts)) (sym stands) (next_used q s t e is_behind k numbered pairs);
-      width = h.width;
-      rows = ap (λ (rows : List (List ℚ)). rows ++ row ∷ []) h.rows ∙ ap (λ (r : List ℚ). rows_in_use q s ++ r ∷ []) is
-          ∙ sym (next_rows q s t e is_behind k numbered pairs) ∙ ap (λ (a : State). rows_in_use q a) (sym stands);
-      list = ap (λ (rows : List (List ℚ)). step rows dd.list row) h.rows ∙ ap (λ (list : LiveList). step (rows_in_use q s) list row) h.list
-          ∙ ap (λ (r : List ℚ). step (rows_in_use q s) s.list r) is ∙ sym (next_list q s t e is_behind k numbered pairs)
-          ∙ ap (λ (a : State). a.list) (sym stands);
+      same = record {
+        width = h.width;
+        rows = ap (λ (rows : List (List ℚ)). rows ++ row ∷ []) h.rows ∙ ap (λ (r : List ℚ). rows_in_use q s ++ r ∷ []) is
+            ∙ sym (next_rows q s t e is_behind k numbered pairs) ∙ ap (λ (a : State). rows_in_use q a) (sym stands);
+        list = ap (λ (rows : List (List ℚ)). step rows dd.list row) h.rows ∙ ap (λ (list : LiveList). step (rows_in_use q s) list row) h.list
+            ∙ ap (λ (r : List ℚ). step (rows_in_use q s) s.list r) is ∙ sym (next_list q s t e is_behind k numbered pairs)
+            ∙ ap (λ (a : State). a.list) (sym stands);
+      };
     })
       where
         stands : state q (mid ++ Add k pairs ∷ []) ≡ after q t (Add k pairs)

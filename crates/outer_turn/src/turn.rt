@@ -4,10 +4,10 @@ ghost use Rattle.deriv_log.specs.Formed.{is_formed};
 ghost use Rattle.deriv_log.specs.declared.entry.Entry.TheVariants as entry_of;
 ghost use Rattle.log_rules.specs.Live.{preimages};
 ghost use Rattle.outer_log.specs.Cuts.{IsCutFor, said_by};
-ghost use Rattle.outer_log.specs.Standing.{IsOpenTrail, IsOuter};
+ghost use Rattle.outer_log.specs.Standing.{IsOpenTrail, IsOuter, StandForSame};
 ghost use Rattle.outer_log.specs.Task.{Task, behind};
 ghost use Rattle.outer_turn.specs.Pairs.{named};
-ghost use Rattle.overflows.specs.Faults.{Overflows};
+ghost use Rattle.overflows.specs.Faults.{OnLicence, Overflows};
 ghost use Rattle.polyhedra.specs.Exactness.{row_of};
 
 use crate::pairs::log_pairs;
@@ -31,7 +31,8 @@ fn push_add(alloc: Global, trail: &mut Entries, cut: u32, pairs: &[Pair]) -> Res
     trail.push(Entry::Add { cut, pairs })
 }
 
-/// Brings one more cut into use. After an overflow it stands behind the others and is not in use.
+/// Brings one more cut into use. After an overflow it stands behind the others and is not in use. After want of memory the double
+/// description may have its row where the trail does not have it in use.
 pub fn take<F: Field>(
     alloc: Global,
     trail: &mut Entries,
@@ -45,6 +46,7 @@ pub fn take<F: Field>(
     ensures rows { OnOk result (dd.new.rows ≡ dd.old.rows ++ row_of (said_by F.value cut.now) ∷ []) }
     ensures preimages { OnOk result ((k : ℕ) → preimages trail.new k ≡ preimages trail.old k) }
     ensures trail { IsOpenTrail task trail.new }
+    ensures same { IfErr result (λ fault. OnLicence fault (λ licence. StandForSame task trail.new dd.new)) }
     ensures left { IfErr result (Overflows F.holds (behind task trail.new) []) }
 {
     let row = cut_row(alloc, cut)?;

@@ -3,6 +3,9 @@ use Rattle.benson_primal.proofs.engine.describe.Given as goal
 abbrev pub ghost-started : goal.ghost-started
 ghost-started g a = g.task
 
+abbrev pub ghost-directions : goal.ghost-directions
+ghost-directions g a = g.task
+
 abbrev pub ghost-approximate : goal.ghost-approximate
 ghost-approximate g a = g.task
 

@@ -1,15 +1,9 @@
 use Rattle.std.proofs.Common.{subst}
 use Rattle.std.specs.Prelude.{IfSome}
 use Rattle.benson_primal.specs.Search.{IsNextCut}
-use Rattle.benson_primal.proofs.Marked.{marks_stay, no_marks}
+use Rattle.benson_primal.proofs.Marked.{marks_stay}
 use Rattle.benson_primal.proofs.Turned.{turn_falls}
 use Rattle.benson_primal.proofs.search.approximate.Goals as goal
-
-pub loop-hint-init : goal.loop-hint-init
-loop-hint-init g c = record {
-  outer = c.requires.1.1.0;
-  marks = no_marks c.args.trail.now c.in_ok-reached.reached c.in_ok-reached.ensures c.requires.1.1.1;
-}
 
 pub loop-hint-preserved : goal.loop-hint-preserved
 loop-hint-preserved g c = record {

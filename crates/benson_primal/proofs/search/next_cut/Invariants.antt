@@ -1,7 +1,7 @@
-use Rattle.std.proofs.Common.{◌≢◌, ◌≤◌, ◌<◌, ◌-◌, ℕ, [], length, slice_index_or}
-use Rattle.log_rules.specs.Live.{preimages}
+use Rattle.std.proofs.Common.{◌≤◌, ◌<◌, ◌-◌, ℕ, length, slice_index_or}
 use Rattle.outer_log.specs.Preimages.{AreMarks}
 use Rattle.outer_log.specs.Standing.{IsOuter}
+use Rattle.benson_primal.specs.Search.{IsDone}
 use Rattle.benson_primal.proofs.search.next_cut.Given as goal
 
 abbrev pub ghost-reach : goal.ghost-reach
@@ -11,5 +11,5 @@ abbrev pub invariant-loop-i : goal.invariant-loop-i
 invariant-loop-i g l = record {
   outer : IsOuter g.task l.trail l.dd;
   marks : AreMarks l.trail l.reached;
-  seen : (j : ℕ) → length l.live - l.i ≤ j → j < length l.live → preimages l.trail (slice_index_or l.live j 0) ≢ [];
+  seen : (j : ℕ) → length l.live - l.i ≤ j → j < length l.live → IsDone l.scope l.trail l.dd (slice_index_or l.live j 0);
 }

@@ -1,7 +1,8 @@
-use Rattle.std.proofs.Common.{◌≢◌, [], subst}
+use Rattle.std.proofs.Common.{◌≢◌, [], subst, arith}
 use Rattle.std.specs.Prelude.{IfNone}
 use Rattle.log_rules.specs.Live.{preimages}
-use Rattle.benson_primal.proofs.Marked.{marks_more, stay_reached}
+use Rattle.benson_primal.proofs.Asked.{long}
+use Rattle.benson_primal.proofs.Marked.{done_already, done_left_out, marks_more, stay_reached}
 use Rattle.benson_primal.proofs.search.reach.Goals as goal
 
 pub returns-in_ok-mark-in-None-clause-marks : goal.returns-in_ok-mark-in-None-clause-marks

@@ -7,11 +7,11 @@ use Rattle.double_descr.specs.State.{State as Description}
 use Rattle.log_rules.specs.Live.{preimages}
 use Rattle.licence.specs.Operands.{IsAddition}
 use Rattle.outer_log.specs.Cuts.{said_by}
-use Rattle.outer_log.specs.Standing.{IsOuter}
+use Rattle.outer_log.specs.Standing.{IsOuter, StandForSame}
 use Rattle.outer_log.specs.Task.{behind}
 use Rattle.outer_turn.specs.Pairs.{named}
 use Rattle.outer_turn.proofs.Added.{named_required}
-use Rattle.outer_turn.proofs.Outer.{is_addition, turned, turned_preimages}
+use Rattle.outer_turn.proofs.Outer.{is_addition, on_any, stand_still, turned, turned_preimages}
 use Rattle.outer_turn.proofs.turn.take.Goals as goal
 
 pub returns-in-Ok-clause-ok : goal.returns-in-Ok-clause-ok
@@ -69,3 +69,10 @@ returns-clause-left g c =
     (subst (λ (d : Description). IsAddition s d.rows row d.list Image) (sym c.in-Err.ensures.err)
     (is_addition g.task c.args.trail.now c.push_cut.new.trail e c.args.dd.now c.requires.1.0 c.in_ok-push_cut.ensures.trail c.in_ok-push_cut.ensures.more
     c.row_count-number.result c.row_count-number.ensures row row_is))
+
+pub returns-clause-same : goal.returns-clause-same
+returns-clause-same g c =
+    let e = said_by g.F.Field.value c.args.cut.now in
+    on_any (StandForSame g.task c.push_cut.new.trail c.add.new.self) c.add_fault.result
+    (stand_still g.task c.args.trail.now c.push_cut.new.trail e c.args.dd.now c.requires.1.0 c.in_ok-push_cut.ensures.trail c.in_ok-push_cut.ensures.more
+    c.row_count-number.result c.row_count-number.ensures c.add.new.self c.in-Err.ensures.err)

@@ -1,0 +1,119 @@
+//! Cuts that are asked at a vector near a generator with long entries.
+ghost use Rattle.std.specs.Prelude.{◌≡◌, ◌≢◌, ◌≤◌, ◌↔◌, ◌+◌, List, IfOk, IfSome, IsTrue, length, map, Contains};
+ghost use Rattle.exact_field.specs.Rational.{zero_ℚ, ◌<ℚ◌};
+ghost use Rattle.exact_field.specs.Vector.{dot, entry};
+ghost use Rattle.deriv_log.specs.declared.entry.Entry.{Entry};
+ghost use Rattle.outer_log.specs.Cuts.{said_by};
+ghost use Rattle.outer_log.specs.Standing.{IsOuter};
+ghost use Rattle.outer_log.specs.Task.{Task};
+ghost use Rattle.polyhedra.specs.Exactness.{row_of};
+ghost use Rattle.polyhedra.specs.LiveList.{numbers};
+ghost use Rattle.benson_primal.specs.Search.{IsKnown, IsNextCut};
+
+use benson_program::Cut;
+use double_descr::Dd;
+use exact_field::Field;
+use lin_rows::cells::is_zero;
+use lin_rows::dot;
+use lp_form::Data;
+use outer_log::cut_row;
+use overflows::SolveFault;
+use recession::{Asked, ask};
+use src_sink::{Items, NoMemory};
+use std::alloc::Global;
+
+/// An entry is long where its numerator or denominator is of this magnitude.
+const LONG: i128 = 1 << 60;
+
+/// Long vectors are rounded to multiples of one part in this number.
+const PARTS: i128 = 1 << 30;
+
+/// Of longer numerators so much is cut off first.
+const CUT_OFF: i128 = 1 << 24;
+
+/// Whether a generator is a point: its last entry is not 0.
+pub(crate) fn is_point<F: Field>(generator: &[F]) -> bool
+    requires { 1 ≤ length generator.now }
+    ensures { IsTrue result ↔ (entry (map F.value generator.now) (length generator.now) ≢ zero_ℚ) }
+{
+    !is_zero(generator[generator.len() - 1])
+}
+
+/// Whether an entry is long. No clause speaks of it.
+fn is_long<F: Field>(x: F) -> bool {
+    x.num() >= LONG || x.num() <= -LONG || x.den() >= LONG
+}
+
+/// A short number near `x`, if one is found. No clause speaks of how near it is.
+fn rounded<F: Field>(x: F) -> Option<F> {
+    let (num, den) = match x.num().checked_mul(PARTS) {
+        Some(scaled) => (scaled, x.den()),
+        None => ((x.num() / CUT_OFF).checked_mul(PARTS)?, x.den() / CUT_OFF),
+    };
+    F::of(num.checked_div(den)?, PARTS)
+}
+
+/// A vector with short entries near `v`, if an entry of `v` is long and such a vector is found.
+fn vector_nearby<F: Field>(alloc: Global, v: &[F]) -> Result<Option<Items<F>>, NoMemory>
+    ensures { IfOk result (λ r. IfSome r (λ near. length near ≡ length v.now)) }
+{
+    if !v.iter().any(|x| is_long(*x)) {
+        return Ok(None);
+    }
+    let mut near = Items::new(alloc);
+    for x in v {
+        let Some(short) = rounded(*x) else {
+            return Ok(None);
+        };
+        near.push(short)?;
+    }
+    Ok(Some(near))
+}
+
+/// Whether a generator is seen to violate a cut: not where the product with its row is not held.
+fn violates<F: Field>(alloc: Global, generator: &[F], cut: &Cut<F>) -> Result<bool, NoMemory>
+    requires { length generator.now ≡ length cut.now.w + 1 }
+    ensures { IfOk result (λ b. IsTrue b → dot (row_of (said_by F.value cut.now)) (map F.value generator.now) <ℚ zero_ℚ) }
+{
+    let row = cut_row(alloc, cut)?;
+    match dot(row.as_slice(), generator) {
+        Ok(product) => Ok(product < F::zero()),
+        Err(_) => Ok(false),
+    }
+}
+
+/// A cut that the live generator `g` violates, asked at a vector with short entries near by, if `g` has long ones and there is such a
+/// cut: each cut of Benson's program is valid, whoever asked for it. An overflow is dropped there, as no licence names such a vector.
+pub(crate) fn cut_nearby<F: Field>(
+    alloc: Global,
+    form: &Data<F>,
+    c: &[F],
+    weights: &[F],
+    dd: &Dd<F>,
+    g: u32,
+    hint: &mut Items<u32>,
+) -> Result<Option<Cut<F>>, NoMemory>
+    ghost task: { Task }
+    requires known { IsKnown F.value F.holds task form.now c.now weights.now }
+    requires outer { (trail : List Entry) × IsOuter task trail dd.now }
+    requires listed { Contains (numbers dd.now.list.live) g }
+    ensures { IfOk result (λ r. IfSome r (IsNextCut F.value task dd.now)) }
+{
+    let generator = dd.generator(g);
+    let Some(near) = vector_nearby(alloc, &generator[..c.len()])? else {
+        return Ok(None);
+    };
+    let t = is_point(generator);
+    match ask(alloc, form, c, weights, near.as_slice(), t, hint) {
+        Ok(Asked::Cut(cut)) => {
+            if violates(alloc, generator, &cut)? {
+                Ok(Some(cut))
+            } else {
+                Ok(None)
+            }
+        }
+        Ok(Asked::Reached(_)) => Ok(None),
+        Err(SolveFault::Left(_)) => Ok(None),
+        Err(SolveFault::NoMemory) => Err(NoMemory),
+    }
+}
