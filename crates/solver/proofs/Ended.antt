@@ -1,6 +1,7 @@
 -- Faults of the parts as ends.
 use Rattle.std.proofs.Common.{◌≡◌, sym, subst, Result, Ok, Err, inl}
-use Rattle.std.specs.Prelude.{IsErrAnd, IfErr}
+use Rattle.std.specs.Prelude.{IsErrAnd, IfErr, Bool}
+use Rattle.exact_field.specs.Rational.{ℚ}
 use Rattle.frac128.specs.Held.{is_held}
 use Rattle.vlp_reader.specs.declared.problem.Problem.{Problem}
 use Rattle.deriv_log.specs.declared.entry.Entry.{Entry}
@@ -14,18 +15,19 @@ use Rattle.licence.specs.Operands.{Setting}
 use Rattle.std.proofs.Common.{refl}
 use Rattle.solver.specs.Ends.{IsSameFault}
 use Rattle.benson_primal.specs.Logs.{IsOwnLog}
-use Rattle.solver.specs.Solving.{EndsSolving}
+use Rattle.solver.specs.Solving.{EndsIn}
 use Rattle.solver.specs.declared.end.SolveEnd.{SolveEnd}
 
 module _ (file : Problem) where
-  same_end : (f : SolveFault) (e : SolveEnd) → IsSameFault f e → OnLicence f (LicensedAnyhow is_held file) → EndsSolving file e
-  same_end (Left licence) e is h = subst (λ (x : SolveEnd). EndsSolving file x) (sym is) h
-  same_end NoMemory e is h = subst (λ (x : SolveEnd). EndsSolving file x) (sym is) tt
+  module _ (holds : ℚ → Bool) where
+    same_end : (f : SolveFault) (e : SolveEnd) → IsSameFault f e → OnLicence f (LicensedAnyhow holds file) → EndsIn holds file e
+    same_end (Left licence) e is h = subst (λ (x : SolveEnd). EndsIn holds file x) (sym is) h
+    same_end NoMemory e is h = subst (λ (x : SolveEnd). EndsIn holds file x) (sym is) tt
 
-  pub fault_ends : {T : Type 0} (r : Result T SolveEnd) (f : SolveFault) → IsErrAnd r (λ e. IsSameFault f e) → OnLicence f (LicensedAnyhow is_held file) →
-      IfErr r (EndsSolving file)
-  fault_ends (Ok x) f h k = tt
-  fault_ends (Err e) f h k = same_end f e h k
+    pub fault_ends : {T : Type 0} (r : Result T SolveEnd) (f : SolveFault) → IsErrAnd r (λ e. IsSameFault f e) →
+        OnLicence f (LicensedAnyhow holds file) → IfErr r (EndsIn holds file)
+    fault_ends (Ok x) f h k = tt
+    fault_ends (Err e) f h k = same_end f e h k
 
   -- the overflow of the check of an own log
   pub own_left : (entries : List Entry) (own : IsOwnLog is_held file entries) (f : SolveFault) →

@@ -1,4 +1,6 @@
 -- What a solution of a problem is, and why there may be none.
+use Rattle.std.specs.Prelude.{Bool}
+use Rattle.exact_field.specs.Rational.{ℚ}
 use Rattle.frac128.specs.Held.{is_held}
 use Rattle.deriv_log.specs.Formed.{IsLog}
 use Rattle.vlp_reader.specs.declared.problem.Problem.{Problem}
@@ -15,8 +17,12 @@ pub record IsSolutionOf (file : Problem) (s : Solution) : Type 0 where
   pub log : IsLog s.entries
   pub accepts : Accepts file s.entries s.answer
 
--- the first fault of the cone; or an overflow that is licensed; nothing of want of memory
+-- the first fault of the cone; or an overflow of an operation on numbers that these are, which is licensed; nothing of want of memory
+abbrev pub EndsIn : (ℚ → Bool) → Problem → SolveEnd → Type 0
+EndsIn holds file (Cone fault) = HasFault file fault
+EndsIn holds file (Left licence) = LicensedAnyhow holds file licence
+EndsIn holds file NoMemory = Unit {0}
+
+-- the same in fractions
 abbrev pub EndsSolving : Problem → SolveEnd → Type 0
-EndsSolving file (Cone fault) = HasFault file fault
-EndsSolving file (Left licence) = LicensedAnyhow is_held file licence
-EndsSolving file NoMemory = Unit {0}
+EndsSolving = EndsIn is_held

@@ -1,15 +1,14 @@
 //! The solver.
-ghost use Rattle.std.specs.Prelude.{◌≡◌, IfOk, IfErr, IsTrue};
-ghost use Rattle.cone_dual.specs.Fitting.{IsDualityOf};
+ghost use Rattle.std.specs.Prelude.{◌≡◌, IfOk, IfErr, OnOk, IsTrue};
 ghost use Rattle.frac128.specs.Held.{is_held};
 ghost use Rattle.cone_rules.specs.Faults.{IsSound};
 ghost use Rattle.lp_form.specs.Data.{IsDataOf, RefusesNumber};
 ghost use Rattle.benson_primal.specs.Logs.{IsOwnLog};
-ghost use Rattle.solver.specs.Solving.{IsSolutionOf, EndsSolving};
+ghost use Rattle.solver.specs.Solving.{IsSolutionOf, EndsIn, EndsSolving};
 
 use crate::end::{Solution, SolveEnd};
 use benson_primal::primal;
-use cone_dual::{Duality, cone_facts};
+use cone_dual::cone_facts;
 use deriv_log::Entries;
 use exact_field::Field;
 use frac128::Frac;
@@ -60,22 +59,18 @@ fn checked(alloc: Global, problem: &Problem, entries: Entries) -> Result<Solutio
     Ok(Solution { entries, answer })
 }
 
-/// The answer of a problem with a sound ordering cone, by its data and a duality vector.
-fn described(
-    alloc: Global,
-    problem: &Problem,
-    form: &Data<Frac>,
-    duality: Duality<Frac>,
-) -> Result<Solution, SolveEnd>
+/// The log of a problem, by its data in some field: a duality vector, and then Benson's outer approximation with it. In place of a
+/// log comes the first fault of the ordering cone, or the licence of the first overflow.
+pub fn log_of<F: Field>(alloc: Global, form: &Data<F>) -> Result<Entries, SolveEnd>
     ghost file: { Problem }
-    requires same { file ≡ problem.now }
-    requires stands { IsDataOf (λ q. q) file form.now }
-    requires duality { IsDualityOf (λ q. q) is_held file duality }
-    ensures ok { IfOk result (IsSolutionOf problem.now) }
-    ensures end { IfErr result (EndsSolving problem.now) }
+    requires stands { IsDataOf F.value file form.now }
+    ensures sound { OnOk result (IsSound file) }
+    ensures own { IfOk result (IsOwnLog F.holds file) }
+    ensures end { IfErr result (EndsIn F.holds file) }
 {
-    let entries = primal(alloc, form, duality)?;
-    checked(alloc, problem, entries)
+    let duality = cone_facts(alloc, form)?;
+    let log = primal(alloc, form, duality)?;
+    Ok(log)
 }
 
 /// The answer of a problem with the log that proves it, or the first fault of its ordering cone. It costs two linear programs
@@ -86,6 +81,6 @@ pub fn solve(alloc: Global, problem: &Problem) -> Result<Solution, SolveEnd>
     ensures end { IfErr result (EndsSolving problem.now) }
 {
     let form = data_of(alloc, problem)?;
-    let duality = cone_facts(alloc, &form)?;
-    described(alloc, problem, &form, duality)
+    let entries = log_of(alloc, &form)?;
+    checked(alloc, problem, entries)
 }

@@ -4,5 +4,5 @@
 mod answering;
 mod end;
 
-pub use answering::solve;
+pub use answering::{log_of, solve};
 pub use end::{Solution, SolveEnd};

@@ -1,4 +1,4 @@
 use Rattle.solver.proofs.answering.solve.Given as goal
 
-abbrev pub ghost-described : goal.ghost-described
-ghost-described a = a.problem.now
+abbrev pub ghost-log_of : goal.ghost-log_of
+ghost-log_of a = a.problem.now

@@ -1,4 +1,4 @@
-use Rattle.solver.proofs.answering.described.Given as goal
+use Rattle.solver.proofs.answering.log_of.Given as goal
 
 abbrev pub ghost-primal : goal.ghost-primal
 ghost-primal g a = g.file
