@@ -1,13 +1,13 @@
 -- What is asked at a live generator.
-use Rattle.std.proofs.Common.{◌≡◌, ◌≢◌, ◌↔◌, ℕ, zero, suc, Bool, true, false, List, [], ◌∷◌, ◌++◌, map, take, length, All, Contains, IsTrue, refl, sym, ap, ◌∙◌, subst, arith, true≢false}
+use Rattle.std.proofs.Common.{◌≡◌, ◌≢◌, ◌↔◌, ℕ, zero, suc, Bool, true, false, List, [], ◌∷◌, map, take, length, All, Contains, IsTrue, refl, sym, ap, ◌∙◌, subst, true≢false}
 use Rattle.std.proofs.lemmas.List.{length-map}
-use Rattle.exact_field.specs.Rational.{ℚ, zero_ℚ, one_ℚ, ◌≤ℚ◌, ◌<ℚ◌}
+use Rattle.exact_field.specs.Rational.{ℚ, zero_ℚ, ◌≤ℚ◌, ◌<ℚ◌}
 use Rattle.exact_field.specs.Vector.{dot, entry}
 use Rattle.polyhedra.specs.Exactness.{homogenised, row_of}
 use Rattle.polyhedra.specs.LiveList.{Numbered, LiveList}
 use Rattle.deriv_log.specs.declared.entry.Entry.{Entry}
 use Rattle.double_descr.specs.State.{State as Description}
-use Rattle.log_rules.specs.Live.{state, preimages}
+use Rattle.log_rules.specs.Live.{preimages}
 use Rattle.log_rules.proofs.NormedMembers.{front-homogenised, last-homogenised, one_not_zero}
 use Rattle.licence.specs.Base.{IsBaseStart, IsLiveAfter, last_of}
 use Rattle.licence.proofs.CutTurns.{optimum_turns, read_at_origin}

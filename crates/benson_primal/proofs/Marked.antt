@@ -73,11 +73,7 @@ all_done scope trail dd live i is past seen k d inside = λ asked.
     all_seen live dd.list.live (IsDone scope trail dd) i is past seen k d inside (slice_index_or dd.list.live k d).vector
     (Contains-get_or dd.list.live k d inside) asked
 
--- a generator with a pre-image is done
-pub done_already : (scope : Scope) (trail : List Entry) (dd : Description) (g : ℕ) → preimages trail g ≢ [] → IsDone scope trail dd g
-done_already scope trail dd g here = λ v listed asked. here
-
--- and so is one that is not asked
+-- a generator that is not asked is done
 pub done_left_out : {F : Type 0} (value : F → ℚ) (scope : Scope) (trail : List Entry) (dd : Description) (g : ℕ) (generator : List F) →
     ((v : List ℚ) → Contains dd.list.live (record { number = g; vector = v }) → map value generator ≡ v) → (IsInScope scope (map value generator) → ⊥) →
     IsDone scope trail dd g

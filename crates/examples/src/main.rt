@@ -4,9 +4,8 @@
 use bensolve_main::run;
 use src_sink::{Bytes, Items, MemSink, MemSource, NoMemory};
 use std::alloc::{AllocError, Global};
-use std::fs;
-use std::io;
 use std::rt::Files;
+use std::{fs, io};
 
 /// The examples, by the names of their files in the folder `data`.
 const NAMES: [&str; 8] = [
@@ -107,9 +106,11 @@ fn agrees<R: Files + AllocGlobal>(rt: &R, name: &str) -> Result<bool, Fault> {
         file.as_bytes(),
         log.as_bytes(),
     )?;
-    Ok(solved.out.contents() == report.as_bytes()
-        && solved.log_out.contents() == log.as_bytes()
-        && checked.out.contents() == report.as_bytes())
+    Ok(
+        solved.out.contents() == report.as_bytes()
+            && solved.log_out.contents() == log.as_bytes()
+            && checked.out.contents() == report.as_bytes(),
+    )
 }
 
 fn main(rt: HostRuntime) -> Result<(), Fault> {

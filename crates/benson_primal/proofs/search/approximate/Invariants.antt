@@ -9,11 +9,11 @@ ghost-next_cut g a = g.task
 abbrev pub ghost-take : goal.ghost-take
 ghost-take g a = g.task
 
-abbrev pub invariant-loop-hint : goal.invariant-loop-hint
-invariant-loop-hint g l = record {
+abbrev pub invariant-loop-cut : goal.invariant-loop-cut
+invariant-loop-cut g l = record {
   outer : IsOuter g.task l.trail l.dd;
   marks : AreMarks l.trail l.reached;
 }
 
-abbrev pub decreases-loop-hint : goal.decreases-loop-hint
-decreases-loop-hint g l = (cut_turns_end g.task.file g.task.c).0 l.dd.rows
+abbrev pub decreases-loop-cut : goal.decreases-loop-cut
+decreases-loop-cut g l = (cut_turns_end g.task.file g.task.c).0 l.dd.rows
