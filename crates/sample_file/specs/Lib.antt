@@ -1,0 +1,5 @@
+pub mod Drawn
+pub mod Draws
+pub mod Laws
+pub mod Sample
+pub mod Summary
