@@ -1,8 +1,8 @@
 -- The text of a sample file reads as this file.
-use Rattle.std.proofs.Common.{◌≡◌, ℕ, zero, suc, ◌+◌, ◌-◌, ◌*◌, ◌/◌, ◌%◌, ◌<◌, ◌≤◌, ◌==◌, ◌&&◌, true, Bool, List, [], ◌∷◌, ◌++◌, map, length, replicate, refl, sym, ap, subst, arith, IsTrue, All, ◌⊎◌, inl, inr, pos, ◌-ℤ◌}
+use Rattle.std.proofs.Common.{◌≡◌, ℕ, zero, suc, ◌+◌, ◌-◌, ◌*◌, ◌/◌, ◌%◌, ◌<◌, ◌≤◌, ◌&&◌, true, Bool, List, [], ◌∷◌, ◌++◌, map, length, replicate, refl, sym, ap, subst, arith, IsTrue, All, pos, ◌-ℤ◌}
 use Rattle.std.specs.List.{flat_map}
-use Rattle.std.proofs.lemmas.Bool.{and_parts, and_from, le-leb, cases_Bool}
-use Rattle.std.proofs.lemmas.Bool.Decides.{nat_tests}
+use Rattle.std.proofs.lemmas.Bool.{and_from, le-leb}
+use Rattle.std.proofs.lemmas.Bool.Decides.{nat_tests, Decides-below_and}
 use Rattle.std.proofs.lemmas.List.Elements.{All-nil, All-cons, All-head, All-tail, All-append}
 use Rattle.exact_field.specs.Rational.{ℚ, zero_ℚ, one_ℚ, whole}
 use Rattle.vlp_reader.specs.Cells.{is_within, are_cells, coefficient}
@@ -21,26 +21,13 @@ use Rattle.sample_file.specs.Sample.{sample_cols, IsSample}
 use Rattle.sample_file.proofs.Places.{each_value, few_cells}
 
 -- ---- the draws have words
--- a test passes at each number below n
+-- whether a test passes at each number below n
 abbrev each_below : (ℕ → Bool) → ℕ → Bool
 each_below p zero = true
 each_below p (suc n) = p n && each_below p n
 
-last_or : (m n : ℕ) → m < suc n → (n ≡ m) ⊎ (m < n)
-last_or m n l = elim (cases_Bool (n == m)) [
-  | inl same ↦ (let e : n ≡ m = grind (arith, nat_tests) in inl e)
-  | inr other ↦ (let k : m < n = grind (arith, nat_tests) in inr k)
-]
-
-passed : (p : ℕ → Bool) (n m : ℕ) → (n ≡ m) ⊎ (m < n) → p n ≡ true → (m < n → p m ≡ true) → p m ≡ true
-passed p n m (inl e) here below = subst (λ (k : ℕ). p k ≡ true) e here
-passed p n m (inr l) here below = below l
-
 one_below : (p : ℕ → Bool) (n m : ℕ) → each_below p n ≡ true → m < n → p m ≡ true
-one_below p zero m h l = absurd (omega (arith, l))
-one_below p (suc n) m h l =
-    let parts = and_parts (p n) (each_below p n) h in
-    passed p n m (last_or m n l) parts.0 (λ k. one_below p n m parts.1 k)
+one_below p n m h l = (Decides-below_and p (λ k. p k ≡ true) (each_below p) (λ k. (λ e. e, λ e. e)) refl (λ _. refl) n).0 h m l
 
 small_are_decimal : each_below (λ m. is_decimal (whole (pos m -ℤ pos 9))) 19 ≡ true
 unfolding whole

@@ -1,5 +1,5 @@
 //! The sample file of a number, and its text.
-ghost use Rattle.std.specs.Prelude.{◌≡◌, ℕ, ◌≤◌, ◌++◌, replicate, OnOk, IfOk};
+ghost use Rattle.std.specs.Prelude.{◌≡◌, ℕ, ◌++◌, replicate, OnOk, IfOk};
 ghost use Rattle.exact_field.specs.Rational.{zero_ℚ, one_ℚ};
 ghost use Rattle.vlp_printer.specs.Printing.{problem_text};
 ghost use Rattle.vlp_reader.specs.declared.problem.Problem.{Problem};
@@ -35,7 +35,6 @@ fn put_entry(row: u32, col: u32, value: Frac, into: &mut Items<Cell>) -> Result<
 
 /// Appends the entries of an objective, from the draws behind a state, and gives the last state.
 fn put_objective(row: u32, cols: u32, state: u32, into: &mut Items<Cell>) -> Result<u32, NoMemory>
-    requires { cols ≤ 100000 }
     ensures state { IfOk result (λ s. s ≡ state_after state cols) }
     ensures cells { OnOk result (into.new ≡ into.old ++ drawn_row state row cols) }
 {
@@ -49,7 +48,6 @@ fn put_objective(row: u32, cols: u32, state: u32, into: &mut Items<Cell>) -> Res
 
 /// The entries of the objectives.
 fn objectives(alloc: Global, number: u32, cols: u32) -> Result<Items<Cell>, NoMemory>
-    requires { cols ≤ 100000 }
     ensures { IfOk result (HasDraws number cols) }
 {
     let mut cells = Items::new(alloc);

@@ -7,6 +7,8 @@ pub mod laws;
 mod lines;
 #[cfg(test)]
 mod tests;
+mod words;
 
 pub use file::{sample_file, sample_text};
 pub use lines::summary;
+pub use words::sample_number;
