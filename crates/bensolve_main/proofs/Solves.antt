@@ -1,5 +1,5 @@
 -- The command `solve`: from what its steps tell to what its result says.
-use Rattle.std.proofs.Common.{◌≡◌, ℕ, List, Bool, true, false, true≢false, Option, Some, None, Result, Ok, Err, IfOk, IfErr, IsTrue, ap, ◌∙◌, subst, sym, refl, ◌⊎◌, inl, inr}
+use Rattle.std.proofs.Common.{◌≡◌, ℕ, List, Bool, true, false, true≢false, Option, Some, None, Result, Ok, Err, IfOk, IfErr, IsTrue, ap, ◌∙◌, subst, sym, refl, inl, inr}
 use Rattle.std.specs.Option.{is_some}
 use Rattle.frac128.specs.Held.{is_held}
 use Rattle.vlp_reader.specs.FirstFault.{Reads}
@@ -91,7 +91,7 @@ solve_replied logs file log result r problem log_in problem' out out' log_out lo
 
 -- ---- words
 -- an outcome with the status of words without a shape has a reply with it
-delivered_words : (log : Option (List ℕ)) (status : Status) (text : List ℕ) (v w : World) → DeliversWith log status text Words v w → Words ≡ status
+pub delivered_words : (log : Option (List ℕ)) (status : Status) (text : List ℕ) (v w : World) → DeliversWith log status text Words v w → Words ≡ status
 delivered_words None status text v w delivers =
     elim delivers.0 [
       | inl whole ↦ whole.0

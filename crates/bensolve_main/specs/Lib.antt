@@ -8,4 +8,5 @@ pub mod Check
 pub mod LogReply
 pub mod Solve
 pub mod SolveReply
+pub mod Sample
 pub mod Outcome

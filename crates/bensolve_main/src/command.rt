@@ -3,11 +3,14 @@ ghost use Rattle.std.specs.Prelude.{◌≡◌, ◌∷◌, [], map, string_bytes}
 ghost use Rattle.std.specs.Option.{option_map};
 ghost use Rattle.bensolve_main.specs.Shapes.{shape_of, shape_seen};
 
-/// A command, with the words that name its files.
+use sample_file::sample_number;
+
+/// A command, with the words that name its files, or the number of a sample.
 #[derive(Clone, Copy)]
 pub(crate) enum Command<'a> {
     Check { file: &'a str, log: &'a str },
     Solve { file: &'a str, log: Option<&'a str> },
+    Sample { number: u32 },
 }
 
 /// The command of these words, if they have a shape.
@@ -21,12 +24,15 @@ pub(crate) fn command_in(words: &[String]) -> Option<Command<'_>>
     }
 }
 
-/// The command of a word and of one that names a file.
+/// The command of a word and of one that names a file, or is the number of a sample.
 fn command_with_file<'a>(word: &str, file: &'a str) -> Option<Command<'a>>
     ensures { option_map shape_seen result ≡ shape_of (word.now ∷ file.now ∷ []) }
 {
     if word == "solve" {
         Some(Command::Solve { file, log: None })
+    } else if word == "sample" {
+        let number = sample_number(file)?;
+        Some(Command::Sample { number })
     } else {
         None
     }

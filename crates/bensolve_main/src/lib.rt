@@ -6,6 +6,7 @@ mod examine;
 mod files;
 mod naming;
 mod reading;
+mod sampling;
 mod solving;
 mod status;
 mod top;
@@ -14,6 +15,3 @@ pub use files::Paths;
 pub use naming::paths;
 pub use status::{LogRefusal, Status};
 pub use top::run;
-
-#[cfg(test)]
-mod tests;

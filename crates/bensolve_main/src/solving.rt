@@ -49,7 +49,7 @@ fn solved_reply(
 }
 
 /// What is told where there is no solution. An `Err` is a status without a text.
-fn unsolved_reply(alloc: Global, end: SolveEnd) -> Result<Reply, Status>
+pub(crate) fn unsolved_reply(alloc: Global, end: SolveEnd) -> Result<Reply, Status>
     ensures told { IfOk result (λ r. TellsUnsolved end r.status r.text) }
     ensures halts { IfErr result (λ s. s ≡ Status.NoMemory) }
 {

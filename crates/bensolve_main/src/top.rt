@@ -2,13 +2,14 @@
 ghost use Rattle.std.specs.Prelude.{◌≡◌, ◌≤◌, ◌↔◌, false, List, ℕ, Bool, Option, None, IfSome, map, string_bytes};
 ghost use Rattle.std.specs.Option.{is_some};
 ghost use Rattle.bensolve_main.specs.Shapes.{shape_of, shape_seen, problem_path, log_in_path, log_out_path};
-ghost use Rattle.bensolve_main.specs.Shapes.Shape.{check, solve};
+ghost use Rattle.bensolve_main.specs.Shapes.Shape.{check, solve, sample};
 ghost use Rattle.bensolve_main.specs.World.{Channel, channel, world, NoCountFell};
 ghost use Rattle.bensolve_main.specs.Reply.{Sends, DeliversWith};
 ghost use Rattle.bensolve_main.specs.Outcome.{Outcome, Honest, Completes};
 
 use crate::command::{Command, command_in};
 use crate::examine::examine;
+use crate::sampling::solve_sample;
 use crate::solving::{LoggedReply, solve_problem};
 use crate::status::Status;
 use src_sink::{Sink, Source, WriteFault, write_all};
@@ -19,7 +20,9 @@ use std::alloc::Global;
 /// `check FILE LOG` reads the problem, then the log, checks the log, and writes the report of the answer
 /// that it proves, or one fault line, to `out`. `solve FILE` reads the problem, solves it, and writes the report
 /// of its answer, or one fault line, to `out`; `solve FILE LOG` then writes a log that proves the answer to
-/// `log_out`, where there is an answer. Everything is read, and every text made, before anything is written.
+/// `log_out`, where there is an answer. `sample N` makes the sample file of a number from 1 to 1000, solves it, and
+/// writes five lines to `out`, which tell how many points, directions and facets its image has, or one fault line.
+/// Everything is read, and every text made, before anything is written.
 pub fn run<S: Source, L: Source, T: Sink, K: Sink>(
     alloc: Global,
     words: &[String],
@@ -68,6 +71,7 @@ fn run_command<S: Source, L: Source, T: Sink, K: Sink>(
     out: &mut T,
     log_out: &mut K,
 ) -> Status
+    ensures problem { problem_path (Some (shape_seen command.entry)) ≡ None → problem.new ≡ problem.old }
     ensures log_in { log_in_path (Some (shape_seen command.entry)) ≡ None → log_in.new ≡ log_in.old }
     ensures log_out { log_out_path (Some (shape_seen command.entry)) ≡ None → log_out.new ≡ log_out.old }
     ensures outcome { Outcome (shape_seen command.entry) result
@@ -80,6 +84,7 @@ fn run_command<S: Source, L: Source, T: Sink, K: Sink>(
     match command {
         Command::Check { .. } => run_check(alloc, problem, log_in, out),
         Command::Solve { log, .. } => run_solve(alloc, log.is_some(), problem, out, log_out),
+        Command::Sample { number } => run_sample(alloc, number, out),
     }
 }
 
@@ -117,6 +122,19 @@ fn run_solve<S: Source, T: Sink, K: Sink>(
 {
     match solve_problem(alloc, problem, logs) {
         Ok(reply) => tell_with_log(out, log_out, reply),
+        Err(status) => status,
+    }
+}
+
+/// Runs `sample N`.
+fn run_sample<T: Sink>(alloc: Global, number: u32, out: &mut T) -> Status
+    ensures counts { T.faults out.old ≤ T.faults out.new }
+    ensures outcome { (problem log_in log_out : Channel) → Outcome (sample number) result
+        (world problem log_in (channel (T.held out.old) (T.faults out.old)) log_out)
+        (world problem log_in (channel (T.held out.new) (T.faults out.new)) log_out) }
+{
+    match solve_sample(alloc, number) {
+        Ok(reply) => send(out, false, reply.status, reply.text.as_slice()),
         Err(status) => status,
     }
 }

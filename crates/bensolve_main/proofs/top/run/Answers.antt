@@ -1,13 +1,13 @@
 use Rattle.std.proofs.Common.{Option, ap, ◌∙◌}
-use Rattle.bensolve_main.specs.Shapes.{Shape, log_in_path, log_out_path}
-use Rattle.bensolve_main.proofs.Commands.{seen, words_of, outcome_of, complete_of, problem_named}
+use Rattle.bensolve_main.specs.Shapes.{Shape, problem_path, log_in_path, log_out_path}
+use Rattle.bensolve_main.proofs.Commands.{seen, words_of, outcome_of, complete_of}
 use Rattle.bensolve_main.proofs.top.run.Goals as goal
 
 pub returns-in-Some-clause-words : goal.returns-in-Some-clause-words
 returns-in-Some-clause-words g c = words_of _ _ _ c.run_command.result _ _ c.command_in.ensures c.in-Some.is c.run_command.ensures.outcome
 
 pub returns-in-Some-clause-problem : goal.returns-in-Some-clause-problem
-returns-in-Some-clause-problem g c = λ none. absurd (problem_named _ _ _ c.command_in.ensures c.in-Some.is none)
+returns-in-Some-clause-problem g c = λ none. c.run_command.ensures.problem (ap (λ (x : Option Shape). problem_path x) (seen _ _ _ c.command_in.ensures c.in-Some.is) ∙ none)
 
 pub returns-in-Some-clause-log_in : goal.returns-in-Some-clause-log_in
 returns-in-Some-clause-log_in g c = λ none. c.run_command.ensures.log_in (ap (λ (x : Option Shape). log_in_path x) (seen _ _ _ c.command_in.ensures c.in-Some.is) ∙ none)

@@ -1,7 +1,7 @@
 //! Whole runs over sources and a sink in memory: statuses and texts that no clause shows.
 ghost use Rattle.std.specs.Prelude.{◌<◌};
 
-use crate::{Status, paths, run};
+use bensolve_main::{Status, paths, run};
 use cert_check::{Refusal, Rule, StreamEnd, check_from};
 use deriv_log::{LogFault, LogKind};
 use src_sink::{Bytes, Items, MemSink, MemSource, NoMemory};
@@ -395,13 +395,19 @@ fn a_solved_log_is_tested_entry_by_entry(rt: HostRuntime) -> Result<(), Fail> {
 
 #[test]
 fn words_without_a_shape_call_nothing(rt: HostRuntime) -> Result<(), Fail> {
-    let shapeless: [&[&str]; 6] = [
+    let shapeless: [&[&str]; 12] = [
         &["check", "a", "a"],
         &["check", "a"],
         &[],
         &["solve"],
         &["solve", "a", "a"],
         &["solve", "a", "b", "c"],
+        &["sample"],
+        &["sample", "0"],
+        &["sample", "01"],
+        &["sample", "+1"],
+        &["sample", "1001"],
+        &["sample", "1", "a"],
     ];
     for list in shapeless {
         let words = words(rt.alloc(), list)?;

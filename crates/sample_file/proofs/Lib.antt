@@ -1,0 +1,7 @@
+pub mod Bounded
+pub mod Drawing
+pub mod Naming
+pub mod Places
+pub mod Printed
+pub mod Samples
+pub mod Told

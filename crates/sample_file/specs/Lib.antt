@@ -1,0 +1,6 @@
+pub mod Drawn
+pub mod Draws
+pub mod Laws
+pub mod Sample
+pub mod Summary
+pub mod Words

@@ -1,0 +1,55 @@
+//! What is told of the answer of a sample file.
+ghost use Rattle.std.specs.Prelude.{◌≡◌, ◌++◌, ◌∷◌, [], decimal, IfOk, OnOk, length};
+ghost use Rattle.src_sink.specs.Texts.{line_text};
+ghost use Rattle.sample_file.specs.Summary.{IsSolved, Sums, summary_text};
+
+use log_rules::Answer;
+use sol_writer::put_natural;
+use src_sink::{Bytes, NoMemory};
+use std::alloc::Global;
+
+/// Appends the line of a name and a count.
+fn put_count(name: &[u8], count: usize, into: &mut Bytes) -> Result<(), NoMemory>
+    ensures { OnOk result (into.new ≡ into.old ++ line_text (name.now ∷ decimal count ∷ [])) }
+{
+    into.append(name)?;
+    put_natural(count, into)?;
+    into.push(b'\n')?;
+    Ok(())
+}
+
+/// The lines of a number and of how many points, directions and facets there are.
+fn counted(
+    alloc: Global,
+    number: u32,
+    points: usize,
+    directions: usize,
+    facets: usize,
+) -> Result<Bytes, NoMemory>
+    ensures { IfOk result (λ text. text ≡ summary_text number points directions facets) }
+{
+    let mut text = Bytes::new(alloc);
+    put_count(b"sample", number as usize, &mut text)?;
+    text.append(b"answer solved\n")?;
+    put_count(b"points", points, &mut text)?;
+    put_count(b"directions", directions, &mut text)?;
+    put_count(b"facets", facets, &mut text)?;
+    Ok(text)
+}
+
+/// Five lines of the answer of a sample file: its number, that it is solved, and how many points,
+/// directions and facets its image has.
+pub fn summary(alloc: Global, number: u32, answer: &Answer) -> Result<Bytes, NoMemory>
+    requires { IsSolved answer.now }
+    ensures { IfOk result (Sums number answer.now) }
+{
+    match answer {
+        Answer::Solved {
+            points,
+            directions,
+            facets,
+            ..
+        } => counted(alloc, number, points.len(), directions.len(), facets.len()),
+        _ => unreachable!(),
+    }
+}
