@@ -359,6 +359,11 @@ fn faults_of_the_outside_leave_fronts_of_the_texts(rt: HostRuntime) -> Result<()
     Ok(())
 }
 
+/// The vertices of this image are the cells into which the columns of the objectives, as planes of
+/// weights, cut the positive weights, and its facets the points where these planes meet. They were
+/// counted apart from this program.
+const SAMPLE: &str = "sample 1\nanswer solved\npoints 17\ndirections 3\nfacets 24\n";
+
 #[test]
 fn a_sample_is_told_alike_at_each_run(rt: HostRuntime) -> Result<(), Fail> {
     // The objects that the words do not name would fail.
@@ -367,17 +372,11 @@ fn a_sample_is_told_alike_at_each_run(rt: HostRuntime) -> Result<(), Fail> {
         log_out: 1,
         ..NO_FAULTS
     };
-    let first = run_on(rt.alloc(), &["sample", "1"], &[], &[], faults)?;
-    assert_eq!(rt; first.status.code(), 0);
-    let text = first.out.contents();
-    assert!(rt; text.starts_with(b"sample 1\nanswer solved\npoints "));
-    assert!(rt; text.ends_with(b"\n"));
-    assert_eq!(rt; text.iter().filter(|byte| **byte == b'\n').count(), 5);
-    let fourth = text.split(|byte| *byte == b'\n').nth(3);
-    assert_eq!(rt; fourth, Some(b"directions 3".as_slice()));
-
-    let second = run_on(rt.alloc(), &["sample", "1"], &[], &[], faults)?;
-    assert_eq!(rt; second.status.code(), 0);
-    assert_eq!(rt; second.out.contents(), text);
+    for _ in 0..2 {
+        let seen = run_on(rt.alloc(), &["sample", "1"], &[], &[], faults)?;
+        assert_eq!(rt; seen.status.code(), 0);
+        assert_eq!(rt; seen.out.contents(), SAMPLE.as_bytes());
+        assert!(rt; seen.log_out.contents().is_empty());
+    }
     Ok(())
 }
