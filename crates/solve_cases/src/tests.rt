@@ -13,7 +13,7 @@ const FILE: &str = "p vlp min 1 1 1 1 1\na 1 1 1\no 1 1 1\ni 1 u 0\nj 1 l 1\ne\n
 const IMAGE: &str = "report 1\nanswer infeasible\nfree 0 0\nwitnesses\n";
 
 /// Problems, and their reports down to the witnesses.
-const PROBLEMS: [(&str, &str); 20] = [
+const PROBLEMS: [(&str, &str); 25] = [
     (FILE, IMAGE),
     // Crossed bounds of a column.
     ("p vlp min 0 1 0 1 1\no 1 1 1\nj 1 d 1 0\ne\n", IMAGE),
@@ -106,6 +106,31 @@ const PROBLEMS: [(&str, &str); 20] = [
     (
         "p vlp min 2 3 4 3 3\na 1 1 1\na 1 2 2\na 2 1 2\na 2 2 1\no 1 1 1\no 2 2 1\no 3 3 1\ni 1 l 6\ni 2 l 6\nj 1 l 0\nj 2 l 0\nj 3 l 1\ne\n",
         "report 1\nanswer solved\nfree 0 0\nc 1 1 1\npoints 3\n1 0 6 1\n1 2 2 1\n1 6 0 1\ndirections 3\n0 0 0 1\n0 0 1 0\n0 1 0 0\nfacets 5\nf 0 0 1 1\nf 0 1 0 0\nf 1/3 2/3 0 2\nf 2/3 1/3 0 2\nf 1 0 0 0\ndual 5\n1 0 0 1\n1 0 1 0\n1 1/3 2/3 2\n1 2/3 1/3 2\n1 1 0 0\n0 0 0 -1\nincidence 5\nn 5 1 2 3 5 6\nn 3 3 4 6\nn 3 2 3 4\nn 3 1 2 4\nn 3 1 4 5\nwitnesses\n",
+    ),
+    // A constraint of the first of these problems twice.
+    (
+        "p vlp min 3 2 6 2 4\na 1 1 2\na 1 2 1\na 2 1 1\na 2 2 2\no 1 1 1\no 1 2 -1\no 2 1 1\no 2 2 1\ni 1 l 6\ni 2 l 6\nj 1 l 0\nj 2 l 0\na 3 1 2\na 3 2 1\ni 3 l 6\ne\n",
+        "report 1\nanswer solved\nfree 0 0\nc 1 1\npoints 2\n1 -6 6\n1 0 4\ndirections 2\n0 -1 1\n0 1 0\nfacets 3\nf 0 1 4\nf 1/4 3/4 3\nf 1/2 1/2 0\ndual 3\n1 0 4\n1 1/4 3\n1 1/2 0\n0 0 -1\nincidence 3\nn 2 2 4\nn 2 1 2\nn 2 1 3\nwitnesses\n",
+    ),
+    // The same problem with a comment, a blank line, tabs, ends of lines as other systems have them, a duality vector, and no last line.
+    (
+        "c made by hand\r\n\r\np\tvlp\tmin 2 2 4 2 4\r\na 1 1 2\r\na 1 2 1\r\na\t2\t1\t1\r\na 2 2 2\r\no 1 1 1\r\no 1 2 -1\r\no 2 1 1\r\no 2 2 1\r\nk 1 0 1\r\nk 2 0 1\r\ni 1 l 6\r\ni 2 l 6\r\nj 1 l 0\r\nj 2 l 0\r\n",
+        "report 1\nanswer solved\nfree 0 0\nc 1 1\npoints 2\n1 -6 6\n1 0 4\ndirections 2\n0 -1 1\n0 1 0\nfacets 3\nf 0 1 4\nf 1/4 3/4 3\nf 1/2 1/2 0\ndual 3\n1 0 4\n1 1/4 3\n1 1/2 0\n0 0 -1\nincidence 3\nn 2 2 4\nn 2 1 2\nn 2 1 3\nwitnesses\n",
+    ),
+    // A side that no program brings in, where a pivot on it would overflow.
+    (
+        "p vlp min 2 1 2 1 1\na 1 1 1\na 2 1 1e-20\no 1 1 1\ni 1 l 0\ni 2 u 1e20\nj 1 f\ne\n",
+        "report 1\nanswer solved\nfree 0 0\nc 1\npoints 1\n1 0\ndirections 1\n0 1\nfacets 1\nf 1 0\ndual 1\n1 0\n0 -1\nincidence 1\nn 1 1\nwitnesses\n",
+    ),
+    // The unit cube in 4 objectives.
+    (
+        "p vlp min 0 4 0 4 4\no 1 1 1\no 2 2 1\no 3 3 1\no 4 4 1\nj 1 d 0 1\nj 2 d 0 1\nj 3 d 0 1\nj 4 d 0 1\ne\n",
+        "report 1\nanswer solved\nfree 0 0\nc 1 1 1 1\npoints 1\n1 0 0 0 0\ndirections 4\n0 0 0 0 1\n0 0 0 1 0\n0 0 1 0 0\n0 1 0 0 0\nfacets 4\nf 0 0 0 1 0\nf 0 0 1 0 0\nf 0 1 0 0 0\nf 1 0 0 0 0\ndual 4\n1 0 0 0 0\n1 0 0 1 0\n1 0 1 0 0\n1 1 0 0 0\n0 0 0 0 -1\nincidence 4\nn 4 1 3 4 5\nn 4 1 2 4 5\nn 4 1 2 3 5\nn 4 1 2 3 4\nwitnesses\n",
+    ),
+    // The unit cube in 5 objectives.
+    (
+        "p vlp min 0 5 0 5 5\no 1 1 1\no 2 2 1\no 3 3 1\no 4 4 1\no 5 5 1\nj 1 d 0 1\nj 2 d 0 1\nj 3 d 0 1\nj 4 d 0 1\nj 5 d 0 1\ne\n",
+        "report 1\nanswer solved\nfree 0 0\nc 1 1 1 1 1\npoints 1\n1 0 0 0 0 0\ndirections 5\n0 0 0 0 0 1\n0 0 0 0 1 0\n0 0 0 1 0 0\n0 0 1 0 0 0\n0 1 0 0 0 0\nfacets 5\nf 0 0 0 0 1 0\nf 0 0 0 1 0 0\nf 0 0 1 0 0 0\nf 0 1 0 0 0 0\nf 1 0 0 0 0 0\ndual 5\n1 0 0 0 0 0\n1 0 0 0 1 0\n1 0 0 1 0 0\n1 0 1 0 0 0\n1 1 0 0 0 0\n0 0 0 0 0 -1\nincidence 5\nn 5 1 3 4 5 6\nn 5 1 2 4 5 6\nn 5 1 2 3 5 6\nn 5 1 2 3 4 6\nn 5 1 2 3 4 5\nwitnesses\n",
     ),
 ];
 
@@ -302,6 +327,12 @@ fn files_that_are_not_solved_write_one_line(rt: HostRuntime) -> Result<(), Fail>
             "p vlp min 0 1 0 2 0 dualcone 1 3\nk 1 1 1\nk 2 1 -1\nk 2 0 1\ne\n",
             4,
             "fault 4 HasLine 2 1 1 0\n",
+        ),
+        // The only vertex is 10^40.
+        (
+            "p vlp min 1 2 2 1 1\na 1 1 -1e20\na 1 2 1\no 1 2 1\ni 1 l 0\nj 1 l 1e20\ne\n",
+            5,
+            "fault 5 ",
         ),
         ("", 3, "fault 3 line 1 kind 1 NoProblem\n"),
     ];
