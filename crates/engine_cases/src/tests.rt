@@ -101,7 +101,7 @@ fn solved(alloc: Global, problem: &Problem) -> Result<Bytes, Fail> {
 fn met(rt: &impl Abort, alloc: Global, text: &str) -> Result<Option<&'static str>, Fail> {
     let problem = problem_of(alloc, text)?;
     let form = Data::<Tiny>::of(alloc, &problem)?;
-    match log_of(alloc, &form) {
+    match log_of(alloc, &problem, &form) {
         Ok(log) => {
             let answer = check(alloc, &problem, &log)?;
             let told = report(alloc, &problem, &answer)?;

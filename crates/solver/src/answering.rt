@@ -61,8 +61,13 @@ fn checked(alloc: Global, problem: &Problem, entries: Entries) -> Result<Solutio
 
 /// The log of a problem, by its data in some field: a duality vector, and then Benson's outer approximation with it. In place of a
 /// log comes the first fault of the ordering cone, or the licence of the first overflow.
-pub fn log_of<F: Field>(alloc: Global, form: &Data<F>) -> Result<Entries, SolveEnd>
+pub fn log_of<F: Field>(
+    alloc: Global,
+    problem: &Problem,
+    form: &Data<F>,
+) -> Result<Entries, SolveEnd>
     ghost file: { Problem }
+    requires same { file ≡ problem.now }
     requires stands { IsDataOf F.value file form.now }
     ensures sound { OnOk result (IsSound file) }
     ensures own { IfOk result (IsOwnLog F.holds file) }
@@ -81,6 +86,6 @@ pub fn solve(alloc: Global, problem: &Problem) -> Result<Solution, SolveEnd>
     ensures end { IfErr result (EndsSolving problem.now) }
 {
     let form = data_of(alloc, problem)?;
-    let entries = log_of(alloc, &form)?;
+    let entries = log_of(alloc, problem, &form)?;
     checked(alloc, problem, entries)
 }
