@@ -3,6 +3,7 @@ use cert_check::check;
 use deriv_log::{Family, Place, Program};
 use exact_field::{Field, Left, Op};
 use frac128::{Frac, Tiny};
+use lin_rows::cells::is_zero;
 use lp_form::Data;
 use sol_writer::report;
 use solver::{SolveEnd, log_of, solve};
@@ -84,7 +85,7 @@ fn overflows<F: Field>(left: &Left<Frac>) -> bool {
             Op::Add => a.add(b).is_err(),
             Op::Sub => a.sub(b).is_err(),
             Op::Mul => a.mul(b).is_err(),
-            Op::Div => b.sign() != 0 && a.div(b).is_err(),
+            Op::Div => !is_zero(b) && a.div(b).is_err(),
         },
         _ => false,
     }
@@ -119,18 +120,18 @@ fn met(rt: &impl Abort, alloc: Global, text: &str) -> Result<Option<&'static str
 
 #[test]
 fn bounds_that_are_too_wide_are_told(rt: HostRuntime) -> Result<(), Fail> {
-    let mut proved = 0;
-    let mut given_up = 0;
+    let mut proved = false;
+    let mut given_up = false;
     for b in 1..128 {
         let text = format!(in rt.alloc();
             "p vlp min 2 2 4 2 4\na 1 1 2\na 1 2 1\na 2 1 1\na 2 2 2\no 1 1 1\no 1 2 -1\no 2 1 1\no 2 2 1\ni 1 l {b}\ni 2 l {b}\nj 1 l 0\nj 2 l 0\ne\n"
         )?;
         match met(&rt, rt.alloc(), text.as_str())? {
-            None => proved += 1,
-            Some(_) => given_up += 1,
+            None => proved = true,
+            Some(_) => given_up = true,
         }
     }
-    assert!(rt; proved > 0 && given_up > 0);
+    assert!(rt; proved && given_up);
     Ok(())
 }
 
