@@ -4,6 +4,7 @@ ghost use Rattle.std.specs.Prelude.{◌<◌};
 use bensolve_main::{Status, run};
 use src_sink::{Bytes, Items, MemSink, MemSource, NoMemory};
 use std::alloc::{AllocError, Global};
+use std::process::Abort;
 use std::test::Fail;
 
 /// A file whose sides contradict each other: x is at most 0 by its row, and at least 1 by its column.
@@ -12,8 +13,8 @@ const FILE: &str = "p vlp min 1 1 1 1 1\na 1 1 1\no 1 1 1\ni 1 u 0\nj 1 l 1\ne\n
 /// Its report down to the witnesses.
 const IMAGE: &str = "report 1\nanswer infeasible\nfree 0 0\nwitnesses\n";
 
-/// Problems, and their reports down to the witnesses.
-const PROBLEMS: [(&str, &str); 25] = [
+/// Problems with each of the four answers, and their reports down to the witnesses.
+const ANSWERS: [(&str, &str); 8] = [
     (FILE, IMAGE),
     // Crossed bounds of a column.
     ("p vlp min 0 1 0 1 1\no 1 1 1\nj 1 d 1 0\ne\n", IMAGE),
@@ -37,16 +38,6 @@ const PROBLEMS: [(&str, &str); 25] = [
         "p vlp max 1 2 2 2 2\na 1 1 1\na 1 2 1\no 1 1 1\no 2 2 1\ni 1 u 1\nj 1 l 0\nj 2 l 0\ne\n",
         "report 1\nanswer solved\nfree 0 0\nc 1 1\npoints 2\n1 0 1\n1 1 0\ndirections 2\n0 -1 0\n0 0 -1\nfacets 3\nf 0 1 1\nf 1/2 1/2 1/2\nf 1 0 1\ndual 3\n1 0 1\n1 1/2 1/2\n1 1 1\n0 0 1\nincidence 3\nn 2 1 3\nn 2 1 2\nn 2 2 4\nwitnesses\n",
     ),
-    // A cone by generators, with a duality vector.
-    (
-        "p vlp min 0 2 0 2 2 cone 2 6\no 1 1 1\no 2 2 1\nk 1 1 2\nk 2 1 1\nk 1 2 1\nk 2 2 2\nk 1 0 1\nk 2 0 1\nj 1 l 0\nj 2 l 0\ne\n",
-        "report 1\nanswer solved\nfree 0 0\nc 1 1\npoints 1\n1 0 0\ndirections 2\n0 0 1\n0 1 0\nfacets 2\nf 0 1 0\nf 1 0 0\ndual 2\n1 0 0\n1 1 0\n0 0 -1\nincidence 2\nn 2 1 3\nn 2 1 2\nwitnesses\n",
-    ),
-    // A cone in dual form, with a duality vector.
-    (
-        "p vlp min 0 2 0 2 2 dualcone 2 6\no 1 1 1\no 2 2 1\nk 1 1 2\nk 2 1 1\nk 1 2 1\nk 2 2 2\nk 1 0 1\nk 2 0 1\nj 1 l 0\nj 2 l 0\ne\n",
-        "report 1\nanswer solved\nfree 0 0\nc 1 1\npoints 1\n1 0 0\ndirections 2\n0 -1 2\n0 1 -1/2\nfacets 2\nf 1/3 2/3 0\nf 2/3 1/3 0\ndual 2\n1 1/3 0\n1 2/3 0\n0 0 -1\nincidence 2\nn 2 1 3\nn 2 1 2\nwitnesses\n",
-    ),
     // One objective, and a bound with a decimal point.
     (
         "p vlp min 0 1 0 1 1\no 1 1 1\nj 1 l 1.5\ne\n",
@@ -56,6 +47,20 @@ const PROBLEMS: [(&str, &str); 25] = [
     (
         "p vlp min 0 2 0 2 2\no 1 1 1\no 2 2 1\nj 1 f\nj 2 l 0\ne\n",
         "report 1\nanswer novertex\nfree 0 0\nc 1 1\nwitnesses\n",
+    ),
+];
+
+/// The same with other ordering cones.
+const CONES: [(&str, &str); 5] = [
+    // A cone by generators, with a duality vector.
+    (
+        "p vlp min 0 2 0 2 2 cone 2 6\no 1 1 1\no 2 2 1\nk 1 1 2\nk 2 1 1\nk 1 2 1\nk 2 2 2\nk 1 0 1\nk 2 0 1\nj 1 l 0\nj 2 l 0\ne\n",
+        "report 1\nanswer solved\nfree 0 0\nc 1 1\npoints 1\n1 0 0\ndirections 2\n0 0 1\n0 1 0\nfacets 2\nf 0 1 0\nf 1 0 0\ndual 2\n1 0 0\n1 1 0\n0 0 -1\nincidence 2\nn 2 1 3\nn 2 1 2\nwitnesses\n",
+    ),
+    // A cone in dual form, with a duality vector.
+    (
+        "p vlp min 0 2 0 2 2 dualcone 2 6\no 1 1 1\no 2 2 1\nk 1 1 2\nk 2 1 1\nk 1 2 1\nk 2 2 2\nk 1 0 1\nk 2 0 1\nj 1 l 0\nj 2 l 0\ne\n",
+        "report 1\nanswer solved\nfree 0 0\nc 1 1\npoints 1\n1 0 0\ndirections 2\n0 -1 2\n0 1 -1/2\nfacets 2\nf 1/3 2/3 0\nf 2/3 1/3 0\ndual 2\n1 1/3 0\n1 2/3 0\n0 0 -1\nincidence 2\nn 2 1 3\nn 2 1 2\nwitnesses\n",
     ),
     // More generators than a cone needs, and one that is 0.
     (
@@ -72,6 +77,10 @@ const PROBLEMS: [(&str, &str); 25] = [
         "p vlp min 1 2 2 2 2 dualcone 4 8\na 1 1 1\na 1 2 1\no 1 1 1\no 2 2 1\nk 1 1 2\nk 2 1 1\nk 1 3 1\nk 2 3 2\nk 1 4 2\nk 2 4 1\nk 1 0 1\nk 2 0 1\ni 1 s 3\nj 1 l 0\nj 2 l 0\ne\n",
         "report 1\nanswer solved\nfree 0 0\nc 1 1\npoints 2\n1 0 3\n1 3 0\ndirections 2\n0 -1 2\n0 1 -1/2\nfacets 3\nf 1/3 2/3 1\nf 1/2 1/2 3/2\nf 2/3 1/3 1\ndual 3\n1 1/3 1\n1 1/2 3/2\n1 2/3 1\n0 0 -1\nincidence 3\nn 2 2 4\nn 2 1 2\nn 2 1 3\nwitnesses\n",
     ),
+];
+
+/// The same of boxes, and of a point.
+const BOXES: [(&str, &str); 5] = [
     // The unit square.
     (
         "p vlp min 0 2 0 2 2\no 1 1 1\no 2 2 1\nj 1 d 0 1\nj 2 d 0 1\ne\n",
@@ -82,15 +91,29 @@ const PROBLEMS: [(&str, &str); 25] = [
         "p vlp max 0 3 0 3 3\no 1 1 1\no 2 2 1\no 3 3 1\nj 1 d 0 1\nj 2 d 0 1\nj 3 d 0 1\ne\n",
         "report 1\nanswer solved\nfree 0 0\nc 1 1 1\npoints 1\n1 1 1 1\ndirections 3\n0 -1 0 0\n0 0 -1 0\n0 0 0 -1\nfacets 3\nf 0 0 1 1\nf 0 1 0 1\nf 1 0 0 1\ndual 3\n1 0 0 1\n1 0 1 1\n1 1 0 1\n0 0 0 1\nincidence 3\nn 3 1 2 3\nn 3 1 2 4\nn 3 1 3 4\nwitnesses\n",
     ),
-    // A simplex with the orthant above it.
+    // The unit cube in 4 objectives.
     (
-        "p vlp min 1 3 3 3 3\na 1 1 1\na 1 2 1\na 1 3 1\no 1 1 1\no 2 2 1\no 3 3 1\ni 1 l 1\nj 1 l 0\nj 2 l 0\nj 3 l 0\ne\n",
-        "report 1\nanswer solved\nfree 0 0\nc 1 1 1\npoints 3\n1 0 0 1\n1 0 1 0\n1 1 0 0\ndirections 3\n0 0 0 1\n0 0 1 0\n0 1 0 0\nfacets 4\nf 0 0 1 0\nf 0 1 0 0\nf 1/3 1/3 1/3 1/3\nf 1 0 0 0\ndual 4\n1 0 0 0\n1 0 1 0\n1 1/3 1/3 1/3\n1 1 0 0\n0 0 0 -1\nincidence 4\nn 4 2 3 5 6\nn 4 1 3 4 6\nn 3 1 2 3\nn 4 1 2 4 5\nwitnesses\n",
+        "p vlp min 0 4 0 4 4\no 1 1 1\no 2 2 1\no 3 3 1\no 4 4 1\nj 1 d 0 1\nj 2 d 0 1\nj 3 d 0 1\nj 4 d 0 1\ne\n",
+        "report 1\nanswer solved\nfree 0 0\nc 1 1 1 1\npoints 1\n1 0 0 0 0\ndirections 4\n0 0 0 0 1\n0 0 0 1 0\n0 0 1 0 0\n0 1 0 0 0\nfacets 4\nf 0 0 0 1 0\nf 0 0 1 0 0\nf 0 1 0 0 0\nf 1 0 0 0 0\ndual 4\n1 0 0 0 0\n1 0 0 1 0\n1 0 1 0 0\n1 1 0 0 0\n0 0 0 0 -1\nincidence 4\nn 4 1 3 4 5\nn 4 1 2 4 5\nn 4 1 2 3 5\nn 4 1 2 3 4\nwitnesses\n",
+    ),
+    // The unit cube in 5 objectives.
+    (
+        "p vlp min 0 5 0 5 5\no 1 1 1\no 2 2 1\no 3 3 1\no 4 4 1\no 5 5 1\nj 1 d 0 1\nj 2 d 0 1\nj 3 d 0 1\nj 4 d 0 1\nj 5 d 0 1\ne\n",
+        "report 1\nanswer solved\nfree 0 0\nc 1 1 1 1 1\npoints 1\n1 0 0 0 0 0\ndirections 5\n0 0 0 0 0 1\n0 0 0 0 1 0\n0 0 0 1 0 0\n0 0 1 0 0 0\n0 1 0 0 0 0\nfacets 5\nf 0 0 0 0 1 0\nf 0 0 0 1 0 0\nf 0 0 1 0 0 0\nf 0 1 0 0 0 0\nf 1 0 0 0 0 0\ndual 5\n1 0 0 0 0 0\n1 0 0 0 1 0\n1 0 0 1 0 0\n1 0 1 0 0 0\n1 1 0 0 0 0\n0 0 0 0 0 -1\nincidence 5\nn 5 1 3 4 5 6\nn 5 1 2 4 5 6\nn 5 1 2 3 5 6\nn 5 1 2 3 4 6\nn 5 1 2 3 4 5\nwitnesses\n",
     ),
     // A shifted cone of four directions.
     (
         "p vlp min 0 3 0 3 3 cone 4 11\no 1 1 1\no 2 2 1\no 3 3 1\nk 1 1 1\nk 3 1 1\nk 1 2 -1\nk 3 2 1\nk 2 3 1\nk 3 3 1\nk 2 4 -1\nk 3 4 1\nk 1 0 0\nk 2 0 0\nk 3 0 1\nj 1 s 1\nj 2 s 2\nj 3 s 0.5\ne\n",
         "report 1\nanswer solved\nfree 0 0\nc 0 0 1\npoints 1\n1 1 2 1/2\ndirections 4\n0 -1 0 1\n0 0 -1 1\n0 0 1 1\n0 1 0 1\nfacets 4\nf -1 -1 1 -5/2\nf -1 1 1 3/2\nf 1 -1 1 -1/2\nf 1 1 1 7/2\ndual 4\n1 -1 -1 -5/2\n1 -1 1 3/2\n1 1 -1 -1/2\n1 1 1 7/2\n0 0 0 -1\nincidence 4\nn 3 1 4 5\nn 3 1 3 5\nn 3 1 2 4\nn 3 1 2 3\nwitnesses\n",
+    ),
+];
+
+/// The same of polyhedra, with cuts that others imply and cuts that meet in one point.
+const MEETING: [(&str, &str); 4] = [
+    // A simplex with the orthant above it.
+    (
+        "p vlp min 1 3 3 3 3\na 1 1 1\na 1 2 1\na 1 3 1\no 1 1 1\no 2 2 1\no 3 3 1\ni 1 l 1\nj 1 l 0\nj 2 l 0\nj 3 l 0\ne\n",
+        "report 1\nanswer solved\nfree 0 0\nc 1 1 1\npoints 3\n1 0 0 1\n1 0 1 0\n1 1 0 0\ndirections 3\n0 0 0 1\n0 0 1 0\n0 1 0 0\nfacets 4\nf 0 0 1 0\nf 0 1 0 0\nf 1/3 1/3 1/3 1/3\nf 1 0 0 0\ndual 4\n1 0 0 0\n1 0 1 0\n1 1/3 1/3 1/3\n1 1 0 0\n0 0 0 -1\nincidence 4\nn 4 2 3 5 6\nn 4 1 3 4 6\nn 3 1 2 3\nn 4 1 2 4 5\nwitnesses\n",
     ),
     // Constraints that others imply, and one twice.
     (
@@ -107,12 +130,16 @@ const PROBLEMS: [(&str, &str); 25] = [
         "p vlp min 2 3 4 3 3\na 1 1 1\na 1 2 2\na 2 1 2\na 2 2 1\no 1 1 1\no 2 2 1\no 3 3 1\ni 1 l 6\ni 2 l 6\nj 1 l 0\nj 2 l 0\nj 3 l 1\ne\n",
         "report 1\nanswer solved\nfree 0 0\nc 1 1 1\npoints 3\n1 0 6 1\n1 2 2 1\n1 6 0 1\ndirections 3\n0 0 0 1\n0 0 1 0\n0 1 0 0\nfacets 5\nf 0 0 1 1\nf 0 1 0 0\nf 1/3 2/3 0 2\nf 2/3 1/3 0 2\nf 1 0 0 0\ndual 5\n1 0 0 1\n1 0 1 0\n1 1/3 2/3 2\n1 2/3 1/3 2\n1 1 0 0\n0 0 0 -1\nincidence 5\nn 5 1 2 3 5 6\nn 3 3 4 6\nn 3 2 3 4\nn 3 1 2 4\nn 3 1 4 5\nwitnesses\n",
     ),
-    // A constraint of the first of these problems twice.
+];
+
+/// The same of files with more than they need.
+const LENIENT: [(&str, &str); 3] = [
+    // Two objectives and two constraints, of which one stands twice.
     (
         "p vlp min 3 2 6 2 4\na 1 1 2\na 1 2 1\na 2 1 1\na 2 2 2\no 1 1 1\no 1 2 -1\no 2 1 1\no 2 2 1\ni 1 l 6\ni 2 l 6\nj 1 l 0\nj 2 l 0\na 3 1 2\na 3 2 1\ni 3 l 6\ne\n",
         "report 1\nanswer solved\nfree 0 0\nc 1 1\npoints 2\n1 -6 6\n1 0 4\ndirections 2\n0 -1 1\n0 1 0\nfacets 3\nf 0 1 4\nf 1/4 3/4 3\nf 1/2 1/2 0\ndual 3\n1 0 4\n1 1/4 3\n1 1/2 0\n0 0 -1\nincidence 3\nn 2 2 4\nn 2 1 2\nn 2 1 3\nwitnesses\n",
     ),
-    // The same problem with a comment, a blank line, tabs, ends of lines as other systems have them, a duality vector, and no last line.
+    // The two constraints once, with a comment, a blank line, tabs, ends of lines as other systems have them, a duality vector, and no last line.
     (
         "c made by hand\r\n\r\np\tvlp\tmin 2 2 4 2 4\r\na 1 1 2\r\na 1 2 1\r\na\t2\t1\t1\r\na 2 2 2\r\no 1 1 1\r\no 1 2 -1\r\no 2 1 1\r\no 2 2 1\r\nk 1 0 1\r\nk 2 0 1\r\ni 1 l 6\r\ni 2 l 6\r\nj 1 l 0\r\nj 2 l 0\r\n",
         "report 1\nanswer solved\nfree 0 0\nc 1 1\npoints 2\n1 -6 6\n1 0 4\ndirections 2\n0 -1 1\n0 1 0\nfacets 3\nf 0 1 4\nf 1/4 3/4 3\nf 1/2 1/2 0\ndual 3\n1 0 4\n1 1/4 3\n1 1/2 0\n0 0 -1\nincidence 3\nn 2 2 4\nn 2 1 2\nn 2 1 3\nwitnesses\n",
@@ -121,16 +148,6 @@ const PROBLEMS: [(&str, &str); 25] = [
     (
         "p vlp min 2 1 2 1 1\na 1 1 1\na 2 1 1e-20\no 1 1 1\ni 1 l 0\ni 2 u 1e20\nj 1 f\ne\n",
         "report 1\nanswer solved\nfree 0 0\nc 1\npoints 1\n1 0\ndirections 1\n0 1\nfacets 1\nf 1 0\ndual 1\n1 0\n0 -1\nincidence 1\nn 1 1\nwitnesses\n",
-    ),
-    // The unit cube in 4 objectives.
-    (
-        "p vlp min 0 4 0 4 4\no 1 1 1\no 2 2 1\no 3 3 1\no 4 4 1\nj 1 d 0 1\nj 2 d 0 1\nj 3 d 0 1\nj 4 d 0 1\ne\n",
-        "report 1\nanswer solved\nfree 0 0\nc 1 1 1 1\npoints 1\n1 0 0 0 0\ndirections 4\n0 0 0 0 1\n0 0 0 1 0\n0 0 1 0 0\n0 1 0 0 0\nfacets 4\nf 0 0 0 1 0\nf 0 0 1 0 0\nf 0 1 0 0 0\nf 1 0 0 0 0\ndual 4\n1 0 0 0 0\n1 0 0 1 0\n1 0 1 0 0\n1 1 0 0 0\n0 0 0 0 -1\nincidence 4\nn 4 1 3 4 5\nn 4 1 2 4 5\nn 4 1 2 3 5\nn 4 1 2 3 4\nwitnesses\n",
-    ),
-    // The unit cube in 5 objectives.
-    (
-        "p vlp min 0 5 0 5 5\no 1 1 1\no 2 2 1\no 3 3 1\no 4 4 1\no 5 5 1\nj 1 d 0 1\nj 2 d 0 1\nj 3 d 0 1\nj 4 d 0 1\nj 5 d 0 1\ne\n",
-        "report 1\nanswer solved\nfree 0 0\nc 1 1 1 1 1\npoints 1\n1 0 0 0 0 0\ndirections 5\n0 0 0 0 0 1\n0 0 0 0 1 0\n0 0 0 1 0 0\n0 0 1 0 0 0\n0 1 0 0 0 0\nfacets 5\nf 0 0 0 0 1 0\nf 0 0 0 1 0 0\nf 0 0 1 0 0 0\nf 0 1 0 0 0 0\nf 1 0 0 0 0 0\ndual 5\n1 0 0 0 0 0\n1 0 0 0 1 0\n1 0 0 1 0 0\n1 0 1 0 0 0\n1 1 0 0 0 0\n0 0 0 0 0 -1\nincidence 5\nn 5 1 3 4 5 6\nn 5 1 2 4 5 6\nn 5 1 2 3 5 6\nn 5 1 2 3 4 6\nn 5 1 2 3 4 5\nwitnesses\n",
     ),
 ];
 
@@ -208,10 +225,9 @@ fn run_on(
     })
 }
 
-#[test]
-fn solved_files_have_logs_that_are_accepted(rt: HostRuntime) -> Result<(), Fail> {
-    let alloc = rt.alloc();
-    for (file, image) in PROBLEMS {
+/// Solves each file with a log and without, compares the report with what it begins with, and checks the log.
+fn are_solved(rt: &impl Abort, alloc: Global, table: &[(&str, &str)]) -> Result<(), Fail> {
+    for (file, image) in table {
         let seen = run_on(alloc, &["solve", "a", "b"], file.as_bytes(), &[], NO_FAULTS)?;
         assert_eq!(rt; seen.status.code(), 0, "of {file:?}");
         assert!(rt;
@@ -234,6 +250,31 @@ fn solved_files_have_logs_that_are_accepted(rt: HostRuntime) -> Result<(), Fail>
         assert!(rt; unlogged.log_out.contents().is_empty());
     }
     Ok(())
+}
+
+#[test]
+fn each_answer_is_told(rt: HostRuntime) -> Result<(), Fail> {
+    are_solved(&rt, rt.alloc(), &ANSWERS)
+}
+
+#[test]
+fn images_above_other_cones_are_told(rt: HostRuntime) -> Result<(), Fail> {
+    are_solved(&rt, rt.alloc(), &CONES)
+}
+
+#[test]
+fn boxes_are_told(rt: HostRuntime) -> Result<(), Fail> {
+    are_solved(&rt, rt.alloc(), &BOXES)
+}
+
+#[test]
+fn cuts_that_meet_are_told(rt: HostRuntime) -> Result<(), Fail> {
+    are_solved(&rt, rt.alloc(), &MEETING)
+}
+
+#[test]
+fn files_with_more_than_they_need_are_read(rt: HostRuntime) -> Result<(), Fail> {
+    are_solved(&rt, rt.alloc(), &LENIENT)
 }
 
 #[test]
