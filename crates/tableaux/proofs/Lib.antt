@@ -5,6 +5,7 @@ pub mod Definition
 pub mod Eliminated
 pub mod Ends
 pub mod Entries
+pub mod Exchange
 pub mod Found
 pub mod FullRank
 pub mod Inverse

@@ -1,6 +1,7 @@
 pub mod Dictionary
 pub mod Elimination
 pub mod Examples
+pub mod Exchange
 pub mod Laws
 pub mod Lex
 pub mod Phases
