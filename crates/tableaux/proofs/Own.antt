@@ -2,13 +2,12 @@
 use Rattle.std.proofs.Common.{◌≡◌, ℕ, List, [], length, refl, sym, ap, ◌∙◌, arith, ◌≤◌, ◌<◌, ◌+◌, ◌-◌, inl, inr, slice_index_or}
 use Rattle.std.specs.Prelude.{◌==◌}
 use Rattle.exact_field.specs.Rational.{zero_ℚ}
-use Rattle.polyhedra.specs.Vectors.{AreWide, combination}
+use Rattle.polyhedra.specs.Vectors.{combination}
 use Rattle.polyhedra.proofs.Linear.{dot_comm, dot-combination_left, length-combination, same_wide}
 use Rattle.tableaux.specs.Table.{Table, row_of, at, listed, unit}
 use Rattle.tableaux.specs.Dictionary.{basic_column, IsDictionary}
 use Rattle.tableaux.proofs.Places.{length-list_from, list_from-place, listed-place, row-wide, same_or_other, if_true, if_false, delta}
-use Rattle.tableaux.proofs.Matrix.{HasMatrix}
-use Rattle.tableaux.proofs.Definition.{delta_sym, unit_entry, unit_value, dictionary_of}
+use Rattle.tableaux.proofs.Definition.{unit_entry, unit_value, dictionary_of}
 
 module _ (width : ℕ) (t : Table) (basis : List ℕ) (d : Table) (h : IsDictionary width t basis d) where
   abbrev units : Table
