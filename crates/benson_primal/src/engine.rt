@@ -25,6 +25,7 @@ use benson_program::{Cut, WholeParts};
 use cone_dual::Duality;
 use deriv_log::{Entries, Entry};
 use exact_field::Field;
+use exact_simplex::Kept;
 use incid_sets::Marks;
 use lp_form::Data;
 use outer_ends::{line_log, solved};
@@ -78,6 +79,7 @@ fn describe<F: Field>(
     weights: &[F],
     cuts: &[Cut<F>],
     trail: &mut Entries,
+    kept: &mut Kept<F>,
 ) -> Result<(), SolveFault>
     ghost task: { Task }
     requires known { IsKnown F.value F.holds task form.now c.now weights.now }
@@ -90,7 +92,6 @@ fn describe<F: Field>(
 {
     let mut dd = started(alloc, form.p.len() as u32, trail, cuts)?;
     let mut reached = Marks::new(alloc, 0)?;
-    let mut hint = Items::new(alloc);
     directions(
         alloc,
         form,
@@ -99,7 +100,7 @@ fn describe<F: Field>(
         trail,
         &mut dd,
         &mut reached,
-        &mut hint,
+        kept,
     )?;
     approximate(
         alloc,
@@ -110,7 +111,7 @@ fn describe<F: Field>(
         trail,
         &mut dd,
         &mut reached,
-        &mut hint,
+        kept,
     )?;
     solved(alloc, trail, &dd)?;
     Ok(())
@@ -124,6 +125,7 @@ fn described<F: Field>(
     weights: &[F],
     opening: Entry,
     cuts: &[Cut<F>],
+    kept: &mut Kept<F>,
 ) -> Result<Entries, SolveFault>
     ghost task: { Task }
     requires known { IsKnown F.value F.holds task form.now c.now weights.now }
@@ -133,7 +135,7 @@ fn described<F: Field>(
     ensures left { IfErr result (λ fault. OnLicence fault (Licensed F.holds task.file task.c)) }
 {
     let mut trail = begun(alloc, opening, cuts)?;
-    match describe(alloc, form, c, weights, cuts, &mut trail) {
+    match describe(alloc, form, c, weights, cuts, &mut trail, kept) {
         Ok(()) => Ok(trail),
         Err(fault) => Err(fault.behind(trail)),
     }
@@ -156,10 +158,13 @@ pub fn primal<F: Field>(
     let Duality { c, weights, entry } = duality;
     let c = c.as_slice();
     let weights = weights.as_slice();
-    match first_cuts(alloc, form, c, weights)? {
+    let mut kept = Kept::new();
+    match first_cuts(alloc, form, c, weights, &mut kept)? {
         First::Infeasible { u } => Ok(contradiction_log(alloc, u.as_slice())?),
         First::Whole { x, parts } => Ok(everything_log(alloc, entry, x.as_slice(), &parts)?),
         First::Line(line) => Ok(line_log(alloc, entry, &line)?),
-        First::Cuts(cuts) => described(alloc, form, c, weights, entry, cuts.as_slice()),
+        First::Cuts(cuts) => {
+            described(alloc, form, c, weights, entry, cuts.as_slice(), &mut kept)
+        }
     }
 }

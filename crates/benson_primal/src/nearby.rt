@@ -13,6 +13,7 @@ ghost use Rattle.benson_primal.specs.Search.{IsKnown, IsNextCut};
 use benson_program::Cut;
 use double_descr::Dd;
 use exact_field::Field;
+use exact_simplex::Kept;
 use lin_rows::cells::is_zero;
 use lin_rows::dot;
 use lp_form::Data;
@@ -91,7 +92,7 @@ pub(crate) fn cut_nearby<F: Field>(
     weights: &[F],
     dd: &Dd<F>,
     g: u32,
-    hint: &mut Items<u32>,
+    kept: &mut Kept<F>,
 ) -> Result<Option<Cut<F>>, NoMemory>
     ghost task: { Task }
     requires known { IsKnown F.value F.holds task form.now c.now weights.now }
@@ -104,7 +105,7 @@ pub(crate) fn cut_nearby<F: Field>(
         return Ok(None);
     };
     let t = is_point(generator);
-    match ask(alloc, form, c, weights, near.as_slice(), t, hint) {
+    match ask(alloc, form, c, weights, near.as_slice(), t, kept) {
         Ok(Asked::Cut(cut)) => {
             if violates(alloc, generator, &cut)? {
                 Ok(Some(cut))

@@ -14,6 +14,7 @@ use benson_program::Cut;
 use deriv_log::Entries;
 use double_descr::Dd;
 use exact_field::Field;
+use exact_simplex::Kept;
 use incid_sets::Marks;
 use lp_form::Data;
 use outer_log::push_preimage;
@@ -53,7 +54,7 @@ fn asked<F: Field>(
     dd: &Dd<F>,
     g: u32,
     trail: &mut Entries,
-    hint: &mut Items<u32>,
+    kept: &mut Kept<F>,
 ) -> Result<Option<Cut<F>>, SolveFault>
     ghost task: { Task }
     requires known { IsKnown F.value F.holds task form.now c.now weights.now }
@@ -69,7 +70,7 @@ fn asked<F: Field>(
 {
     let generator = dd.generator(g);
     let t = is_point(generator);
-    match ask(alloc, form, c, weights, &generator[..c.len()], t, hint)? {
+    match ask(alloc, form, c, weights, &generator[..c.len()], t, kept)? {
         Asked::Cut(cut) => Ok(Some(cut)),
         Asked::Reached(parts) => {
             push_preimage(alloc, trail, g, t, &parts)?;
@@ -104,7 +105,7 @@ fn reach<F: Field>(
     g: u32,
     trail: &mut Entries,
     reached: &mut Marks,
-    hint: &mut Items<u32>,
+    kept: &mut Kept<F>,
 ) -> Result<Option<Cut<F>>, SolveFault>
     ghost task: { Task }
     requires known { IsKnown F.value F.holds task form.now c.now weights.now }
@@ -124,10 +125,10 @@ fn reach<F: Field>(
     if is_left_out(scope, dd.generator(g)) {
         return Ok(None);
     }
-    if let Some(near) = cut_nearby(alloc, form, c, weights, dd, g, hint)? {
+    if let Some(near) = cut_nearby(alloc, form, c, weights, dd, g, kept)? {
         return Ok(Some(near));
     }
-    match asked(alloc, form, c, weights, dd, g, trail, hint)? {
+    match asked(alloc, form, c, weights, dd, g, trail, kept)? {
         Some(cut) => Ok(Some(cut)),
         None => {
             mark(reached, g)?;
@@ -146,7 +147,7 @@ fn next_cut<F: Field>(
     scope: Scope,
     trail: &mut Entries,
     reached: &mut Marks,
-    hint: &mut Items<u32>,
+    kept: &mut Kept<F>,
 ) -> Result<Option<Cut<F>>, SolveFault>
     ghost task: { Task }
     requires known { IsKnown F.value F.holds task form.now c.now weights.now }
@@ -161,7 +162,7 @@ fn next_cut<F: Field>(
     let live = dd.live();
     for i in 0..live.len() {
         let g = live[live.len() - 1 - i];
-        if let Some(cut) = reach(alloc, form, c, weights, dd, scope, g, trail, reached, hint)? {
+        if let Some(cut) = reach(alloc, form, c, weights, dd, scope, g, trail, reached, kept)? {
             return Ok(Some(cut));
         }
     }
@@ -180,7 +181,7 @@ pub(crate) fn approximate<F: Field>(
     trail: &mut Entries,
     dd: &mut Dd<F>,
     reached: &mut Marks,
-    hint: &mut Items<u32>,
+    kept: &mut Kept<F>,
 ) -> Result<(), SolveFault>
     ghost task: { Task }
     requires known { IsKnown F.value F.holds task form.now c.now weights.now }
@@ -193,15 +194,15 @@ pub(crate) fn approximate<F: Field>(
     ensures same { IfErr result (λ fault. OnLicence fault (λ licence. StandForSame task trail.new dd.new)) }
     ensures left { IfErr result (Overflows F.holds (behind task trail.new) []) }
 {
-    while let Some(cut) = next_cut(alloc, form, c, weights, dd, scope, trail, reached, hint)? {
+    while let Some(cut) = next_cut(alloc, form, c, weights, dd, scope, trail, reached, kept)? {
         take(alloc, trail, dd, &cut)?;
     }
     Ok(())
 }
 
 /// Asks at the live directions, and brings the cuts that they violate into use, until each has a pre-image in the log, so that they
-/// are the extreme directions of the image's recession cone. `reached` is the set of the generators with a pre-image, and `hint` the
-/// basis of the program before. After want of memory the trail is of no use.
+/// are the extreme directions of the image's recession cone. `reached` is the set of the generators with a pre-image, and `kept` what
+/// is kept of the last program. After want of memory the trail is of no use.
 pub fn directions<F: Field>(
     alloc: Global,
     form: &Data<F>,
@@ -210,7 +211,7 @@ pub fn directions<F: Field>(
     trail: &mut Entries,
     dd: &mut Dd<F>,
     reached: &mut Marks,
-    hint: &mut Items<u32>,
+    kept: &mut Kept<F>,
 ) -> Result<(), SolveFault>
     ghost task: { Task }
     requires known { IsKnown F.value F.holds task form.now c.now weights.now }
@@ -224,5 +225,5 @@ pub fn directions<F: Field>(
     ensures left { IfErr result (Overflows F.holds (behind task trail.new) []) }
 {
     let scope = Scope::Directions;
-    approximate(alloc, form, c, weights, scope, trail, dd, reached, hint)
+    approximate(alloc, form, c, weights, scope, trail, dd, reached, kept)
 }

@@ -13,19 +13,19 @@ ghost use Rattle.vlp_reader.specs.declared.problem.Problem.{Problem as File};
 
 use crate::ends::{BensonEnd, FeasibleEnd};
 use exact_field::Field;
-use exact_simplex::{LpEnd, solve_lp_from};
+use exact_simplex::{Kept, LpEnd, solve_lp_next};
 use lp_form::{Data, LpName, program};
 use overflows::{SolveFault, program_fault};
 use src_sink::{Items, NoMemory};
 use std::alloc::Global;
 
-/// How a named program ends, from a hint at its last basis on.
+/// How a named program ends, from where the last one ended.
 fn named_end<F: Field>(
     alloc: Global,
     form: &Data<F>,
     c: &[F],
     name: &LpName<F>,
-    hint: &[u32],
+    kept: &mut Kept<F>,
 ) -> Result<LpEnd<F>, SolveFault>
     requires stands { StandForSome F.value form.now }
     requires widths { HasWidths (length form.now.p) c.now name.now }
@@ -34,7 +34,7 @@ fn named_end<F: Field>(
     ensures left { (s : Setting) → IsDataOf F.value s.file form.now → IsAllowed s (named F.value name.now) → named_system s.file (map F.value c.now) (named F.value name.now) ≡ system_in s (named F.value name.now) → IfErr result (Overflows F.holds s []) }
 {
     let system = program(alloc, form, c, name)?;
-    match solve_lp_from(alloc, &system, hint) {
+    match solve_lp_next(alloc, system, kept) {
         Ok(end) => Ok(end),
         Err(fault) => Err(program_fault(alloc, name, fault, Items::new(alloc))),
     }
@@ -47,7 +47,8 @@ pub fn feasible_end<F: Field>(alloc: Global, form: &Data<F>) -> Result<FeasibleE
     ensures left { (s : Setting) → IsDataOf F.value s.file form.now → IfErr result (Overflows F.holds s []) }
 {
     let name = LpName::Feasible;
-    match named_end(alloc, form, &[], &name, &[])? {
+    let mut kept = Kept::new();
+    match named_end(alloc, form, &[], &name, &mut kept)? {
         LpEnd::Optimal { dual, .. } => Ok(FeasibleEnd::Point { x: dual }),
         LpEnd::Unbounded { ray, .. } => Ok(FeasibleEnd::Contradiction { u: ray }),
         LpEnd::Infeasible { .. } => unreachable!(),
@@ -63,15 +64,15 @@ pub(crate) fn benson_name<F: Field>(alloc: Global, v: &[F], t: bool) -> Result<L
     Ok(LpName::Benson { v: start, t })
 }
 
-/// How Benson's program at `v` ends, a point where `t` and else a direction, from a hint at its last basis on: none is a cold
-/// start. `c` is the duality vector.
+/// How Benson's program at `v` ends, a point where `t` and else a direction, from where the last one ended: its equations are the
+/// same at each `v`. `c` is the duality vector.
 pub fn benson_end<F: Field>(
     alloc: Global,
     form: &Data<F>,
     c: &[F],
     v: &[F],
     t: bool,
-    hint: &[u32],
+    kept: &mut Kept<F>,
 ) -> Result<BensonEnd<F>, SolveFault>
     requires c { length c.now ≡ length form.now.p }
     requires v { length v.now ≡ length form.now.p }
@@ -80,7 +81,7 @@ pub fn benson_end<F: Field>(
     ensures left { (s : Setting) → IsDataOf F.value s.file form.now → Knows s (map F.value c.now) → IsBaseStart s.file.objs s.trail (map F.value v.now) t → IfErr result (Overflows F.holds s []) }
 {
     let name = benson_name(alloc, v, t)?;
-    match named_end(alloc, form, c, &name, hint)? {
+    match named_end(alloc, form, c, &name, kept)? {
         LpEnd::Optimal { x, dual, basis } => Ok(BensonEnd::Optimal { z: x, dual, basis }),
         LpEnd::Infeasible { farkas, basis } => Ok(BensonEnd::Empty {
             dual: farkas,

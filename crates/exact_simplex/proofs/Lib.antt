@@ -1,4 +1,6 @@
+pub mod AnotherCost
 pub mod Beginning
+pub mod ClearingCost
 pub mod Choosing
 pub mod Comparing
 pub mod Driven
@@ -8,9 +10,10 @@ pub mod Faults
 pub mod Gathered
 pub mod HintTurns
 pub mod Hinted
-pub mod Kept
+pub mod PhaseKeeps
 pub mod Least
 pub mod Moved
+pub mod NextCost
 pub mod Opened
 pub mod OpeningTurns
 pub mod Order
@@ -22,6 +25,7 @@ pub mod Programs
 pub mod Readings
 pub mod Results
 pub mod SameBasis
+pub mod SameLists
 pub mod Shortened
 pub mod Signed
 pub mod SolvingEnds

@@ -17,7 +17,7 @@ use Rattle.lin_rows.specs.Pivot.{AreTableau, table_of}
 use Rattle.lin_rows.proofs.Pivoted.{at_is, length-table}
 use Rattle.exact_simplex.specs.Phase.{IsEquationBasis, IsStart, IsTurn, StaysDictionary, ArePositive}
 use Rattle.exact_simplex.specs.Ratios.{IsLeaving}
-use Rattle.exact_simplex.proofs.Kept.{positive_kept}
+use Rattle.exact_simplex.proofs.PhaseKeeps.{positive_kept}
 
 module _ (n equations : ℕ) (columns : List ℕ) (start : Table) (first : List ℕ) (s : IsStart n equations columns start first) (ls : List (List Entry)) (basis : List ℕ)
     (turn : IsTurn n equations columns start first ls basis) (row col : ℕ) (low : 1 ≤ col) (high : col ≤ n) (found : IsLeaving ls col columns equations (Some row)) where

@@ -1,7 +1,9 @@
+pub mod Beginnings
 pub mod Candidates
 pub mod Driving
 pub mod Ends
 pub mod Hint
+pub mod GoingOn
 pub mod Phase
 pub mod Program
 pub mod Ratios

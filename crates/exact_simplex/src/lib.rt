@@ -5,6 +5,7 @@
 mod answer;
 mod driving;
 mod hint;
+mod kept;
 mod measure;
 mod opening;
 mod phase;
@@ -13,4 +14,5 @@ mod reading;
 mod solve;
 
 pub use answer::{LpEnd, LpFault};
-pub use solve::{solve_lp, solve_lp_from};
+pub use kept::Kept;
+pub use solve::{solve_lp, solve_lp_from, solve_lp_next};

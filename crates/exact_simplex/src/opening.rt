@@ -72,9 +72,11 @@ fn first_cost_line<F: Field>(alloc: Global, system: &System<F>) -> Result<Vec<Ce
 }
 
 /// The cost row of phase two: the negated cost.
-fn second_cost_line<F: Field>(alloc: Global, system: &System<F>) -> Result<Vec<Cell<F>>, NoMemory>
-    requires lengths { HasLengths system.now }
-    requires fits { system.now.cols + system.now.rows < 4294967293 }
+pub fn second_cost_line<F: Field>(
+    alloc: Global,
+    system: &System<F>,
+) -> Result<Vec<Cell<F>>, NoMemory>
+    requires { HasLengths system.now }
     ensures { IfOk result (λ line. IsLineOf (right_column (system_of F.value system.now)) (row_of (table_of (system_of F.value system.now)) (second_cost (system_of F.value system.now))) (entries F.value line.items)) }
 {
     let cost = system.cost.as_slice();

@@ -19,7 +19,6 @@ use lin_rows::cells::entry_at;
 use lin_rows::tableau::Tableau;
 use lin_rows::{RowFault, System};
 use src_sink::{Items, NoMemory};
-use std::mem::replace;
 
 /// A number with the sign that the artificial column has at an equation with this right side.
 fn signed<F: Field>(right: F, x: F) -> F
@@ -64,13 +63,14 @@ fn farkas<F: Field>(tableau: &mut Tableau<F>, system: &System<F>) -> Result<Item
 }
 
 /// The columns of the equations.
-fn columns_of<F: Field>(tableau: &mut Tableau<F>, system: &System<F>) -> Items<u32>
-    requires held { IsTableauOf F.value (system_of F.value system.now) tableau.old }
-    ensures { result ≡ take system.now.rows tableau.old.basis.items }
+fn columns_of<F: Field>(tableau: &Tableau<F>, system: &System<F>) -> Result<Items<u32>, NoMemory>
+    requires lengths { HasLengths system.now }
+    requires held { IsTableauOf F.value (system_of F.value system.now) tableau.now }
+    ensures { IfOk result (λ basis. basis ≡ take system.now.rows tableau.now.basis.items) }
 {
-    let mut basis = replace(&mut tableau.basis, Vec::new(tableau.alloc));
-    basis.truncate(system.rows as usize);
-    Items::from_vec(basis)
+    let mut columns = Items::new(tableau.alloc);
+    columns.append(&tableau.basis[..system.rows as usize])?;
+    Ok(columns)
 }
 
 /// The solution.
@@ -103,38 +103,38 @@ pub fn infeasible<F: Field>(
     ensures left { IfErr result (IsSystemFault F.value F.holds (system_of F.value system.now)) }
 {
     let farkas = farkas(tableau, system)?;
-    let basis = columns_of(tableau, system);
+    let basis = columns_of(tableau, system)?;
     Ok(LpEnd::Infeasible { farkas, basis })
 }
 
 /// The optimal end, where no unknown betters the second cost.
-pub fn optimal<F: Field>(tableau: &mut Tableau<F>, system: &System<F>) -> Result<LpEnd<F>, NoMemory>
+pub fn optimal<F: Field>(tableau: &Tableau<F>, system: &System<F>) -> Result<LpEnd<F>, NoMemory>
     requires lengths { HasLengths system.now }
-    requires feasible { IsFeasible F.value (system_of F.value system.now) tableau.old }
-    requires best { IsBest (system_of F.value system.now) (second_cost (system_of F.value system.now)) (table_in F.value (system_of F.value system.now) tableau.old) }
+    requires feasible { IsFeasible F.value (system_of F.value system.now) tableau.now }
+    requires best { IsBest (system_of F.value system.now) (second_cost (system_of F.value system.now)) (table_in F.value (system_of F.value system.now) tableau.now) }
     ensures certified { IfOk result (IsCertified F.value (system_of F.value system.now)) }
     ensures read_off { IfOk result (IsReadOff F.value (system_of F.value system.now)) }
-    ensures basis { IfOk result (IsOptimalEnd (λ basis. basis ≡ take system.now.rows tableau.old.basis.items)) }
+    ensures basis { IfOk result (IsOptimalEnd (λ basis. basis ≡ take system.now.rows tableau.now.basis.items)) }
 {
     let x = solution_at(tableau, system)?;
     let dual = dual(tableau, system)?;
-    let basis = columns_of(tableau, system);
+    let basis = columns_of(tableau, system)?;
     Ok(LpEnd::Optimal { x, dual, basis })
 }
 
 /// The unbounded end, where this unknown betters the second cost without limit.
 pub fn unbounded<F: Field>(
-    tableau: &mut Tableau<F>,
+    tableau: &Tableau<F>,
     system: &System<F>,
     col: u32,
 ) -> Result<LpEnd<F>, NoMemory>
     requires lengths { HasLengths system.now }
-    requires feasible { IsFeasible F.value (system_of F.value system.now) tableau.old }
-    requires idle { IsIdle F.value (system_of F.value system.now) tableau.old }
+    requires feasible { IsFeasible F.value (system_of F.value system.now) tableau.now }
+    requires idle { IsIdle F.value (system_of F.value system.now) tableau.now }
     requires low { 1 ≤ col }
     requires high { col ≤ unknown_count (system_of F.value system.now) }
-    requires betters { at (table_in F.value (system_of F.value system.now) tableau.old) (second_cost (system_of F.value system.now)) col <ℚ zero_ℚ }
-    requires unlimited { (i : ℕ) → 1 ≤ i → i ≤ equation_count (system_of F.value system.now) → at (table_in F.value (system_of F.value system.now) tableau.old) i col ≤ℚ zero_ℚ }
+    requires betters { at (table_in F.value (system_of F.value system.now) tableau.now) (second_cost (system_of F.value system.now)) col <ℚ zero_ℚ }
+    requires unlimited { (i : ℕ) → 1 ≤ i → i ≤ equation_count (system_of F.value system.now) → at (table_in F.value (system_of F.value system.now) tableau.now) i col ≤ℚ zero_ℚ }
     ensures certified { IfOk result (IsCertified F.value (system_of F.value system.now)) }
     ensures read_off { IfOk result (IsReadOff F.value (system_of F.value system.now)) }
 {
@@ -146,6 +146,6 @@ pub fn unbounded<F: Field>(
         system.cols,
         col,
     )?;
-    let basis = columns_of(tableau, system);
+    let basis = columns_of(tableau, system)?;
     Ok(LpEnd::Unbounded { x, ray, basis })
 }

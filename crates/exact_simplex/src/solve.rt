@@ -1,16 +1,19 @@
 //! Linear programs by two phases.
 
-ghost use Rattle.std.specs.Prelude.{◌≡◌, ◌↔◌, IsTrue, take, OnOk, IfOk, IfErr};
+ghost use Rattle.std.specs.Prelude.{◌≡◌, ◌↔◌, ℕ, ⊤, List, IsTrue, MatchOption, take, OnOk, IfOk, IfErr};
 ghost use Rattle.exact_field.specs.Rational.{zero_ℚ, ◌<ℚ◌};
 ghost use Rattle.tableaux.specs.Simplex.{IsBest};
 ghost use Rattle.tableaux.specs.Table.{at, first_cost, right_column, second_cost};
 ghost use Rattle.exact_simplex.specs.Ends.{IsCertified, IsLpFault, IsReadOff, IsSystemFault};
+ghost use Rattle.exact_simplex.specs.Beginnings.{IsBegun, IsBegunBest};
+ghost use Rattle.exact_simplex.specs.GoingOn.{CanGoOn};
 ghost use Rattle.exact_simplex.specs.Hint.{IsBestBasis, IsOptimalEnd, NameSame};
 ghost use Rattle.exact_simplex.specs.Program.{HasLengths, IsFeasible, IsIdle, IsPrimal, system_of, table_in};
 
 use crate::answer::{LpEnd, LpFault, lp_fault};
 use crate::driving::drive_out;
 use crate::hint::hinted;
+use crate::kept::{Kept, Last, exchange_cost, has_same_equations};
 use crate::opening::{open, unopened};
 use crate::phase::optimize;
 use crate::ratio::is_negative;
@@ -48,6 +51,7 @@ fn second_phase<F: Field>(
     ensures certified { IfOk result (IsCertified F.value (system_of F.value system.now)) }
     ensures read_off { IfOk result (IsReadOff F.value (system_of F.value system.now)) }
     ensures left { IfErr result (IsSystemFault F.value F.holds (system_of F.value system.now)) }
+    ensures last { OnOk result (CanGoOn F.value system.now tableau.new) }
     ensures still { IsBest (system_of F.value system.now) (second_cost (system_of F.value system.now)) (table_in F.value (system_of F.value system.now) tableau.old) → IfOk result (IsOptimalEnd (λ basis. basis ≡ take system.now.rows tableau.old.basis.items)) }
 {
     match optimize(tableau, system, system.rows as usize + 1)? {
@@ -56,34 +60,107 @@ fn second_phase<F: Field>(
     }
 }
 
-/// Both phases, from a first full basis.
-fn two_phases<F: Field>(
-    tableau: &mut Tableau<F>,
-    system: &System<F>,
-) -> Result<LpEnd<F>, RowFault<F>>
-    requires lengths { HasLengths system.now }
-    requires primal { IsPrimal F.value (system_of F.value system.now) tableau.old }
-    ensures certified { IfOk result (IsCertified F.value (system_of F.value system.now)) }
-    ensures read_off { IfOk result (IsReadOff F.value (system_of F.value system.now)) }
-    ensures left { IfErr result (IsSystemFault F.value F.holds (system_of F.value system.now)) }
-{
-    if first_phase(tableau, system)? {
-        return infeasible(tableau, system);
-    }
-    drive_out(tableau, system)?;
-    second_phase(tableau, system)
+/// How a program begins: in the dictionary from which phase two can go on, or with its end.
+#[derive(Drop)]
+enum Begun<F: Field> {
+    At(Tableau<F>),
+    Ended(LpEnd<F>),
 }
 
-/// The end of the program, from the table of the program on.
+/// A program begins with phase one.
+fn begun_anew<F: Field>(alloc: Global, system: &System<F>) -> Result<Begun<F>, RowFault<F>>
+    requires { HasLengths system.now }
+    ensures begun { IfOk result (IsBegun F.value system.now) }
+    ensures left { IfErr result (IsSystemFault F.value F.holds (system_of F.value system.now)) }
+{
+    let mut tableau = unopened(alloc, system)?;
+    open(&mut tableau, system)?;
+    if first_phase(&mut tableau, system)? {
+        let end = infeasible(&mut tableau, system)?;
+        return Ok(Begun::Ended(end));
+    }
+    drive_out(&mut tableau, system)?;
+    Ok(Begun::At(tableau))
+}
+
+/// A program begins at the columns of a hint, or anew where these give no first basis.
+fn begun_at<F: Field>(
+    alloc: Global,
+    system: &System<F>,
+    columns: &[u32],
+) -> Result<Begun<F>, RowFault<F>>
+    requires { HasLengths system.now }
+    ensures begun { IfOk result (IsBegun F.value system.now) }
+    ensures left { IfErr result (IsSystemFault F.value F.holds (system_of F.value system.now)) }
+    ensures hint { IsBestBasis (system_of F.value system.now) columns.now → IfOk result (IsBegunBest F.value (system_of F.value system.now) columns.now) }
+{
+    match hinted(alloc, system, columns)? {
+        Some(tableau) => Ok(Begun::At(tableau)),
+        None => begun_anew(alloc, system),
+    }
+}
+
+/// A program begins where the last one ended, if both have the same equations.
+fn begun_from<F: Field>(
+    alloc: Global,
+    system: &System<F>,
+    last: Last<F>,
+) -> Result<Begun<F>, RowFault<F>>
+    requires { HasLengths system.now }
+    ensures begun { IfOk result (IsBegun F.value system.now) }
+    ensures left { IfErr result (IsSystemFault F.value F.holds (system_of F.value system.now)) }
+{
+    let Last {
+        system: before,
+        mut tableau,
+    } = last;
+    if !has_same_equations(&before, system) {
+        return begun_anew(alloc, system);
+    }
+    if exchange_cost(&mut tableau, &before, system)? {
+        return Ok(Begun::At(tableau));
+    }
+    begun_at(alloc, system, &tableau.basis)
+}
+
+/// The end of a program, and its last table where it has a solution.
+#[derive(Drop)]
+struct Finished<F: Field> {
+    end: LpEnd<F>,
+    last: Option<Tableau<F>>,
+}
+
+/// The end of a program that has begun.
+fn finish<F: Field>(begun: Begun<F>, system: &System<F>) -> Result<Finished<F>, RowFault<F>>
+    requires { IsBegun F.value system.now begun }
+    ensures certified { IfOk result (λ f. IsCertified F.value (system_of F.value system.now) f.end) }
+    ensures read_off { IfOk result (λ f. IsReadOff F.value (system_of F.value system.now) f.end) }
+    ensures last { IfOk result (λ f. MatchOption f.last ⊤ (CanGoOn F.value system.now)) }
+    ensures left { IfErr result (IsSystemFault F.value F.holds (system_of F.value system.now)) }
+    ensures best { (columns : List ℕ) → IsBegunBest F.value (system_of F.value system.now) columns begun → IfOk result (λ f. IsOptimalEnd (NameSame columns) f.end) }
+{
+    match begun {
+        Begun::Ended(end) => Ok(Finished { end, last: None }),
+        Begun::At(mut tableau) => {
+            let end = second_phase(&mut tableau, system)?;
+            Ok(Finished {
+                end,
+                last: Some(tableau),
+            })
+        }
+    }
+}
+
+/// The end of a program that begins anew.
 fn solved<F: Field>(alloc: Global, system: &System<F>) -> Result<LpEnd<F>, RowFault<F>>
     requires { HasLengths system.now }
     ensures certified { IfOk result (IsCertified F.value (system_of F.value system.now)) }
     ensures read_off { IfOk result (IsReadOff F.value (system_of F.value system.now)) }
     ensures left { IfErr result (IsSystemFault F.value F.holds (system_of F.value system.now)) }
 {
-    let mut tableau = unopened(alloc, system)?;
-    open(&mut tableau, system)?;
-    two_phases(&mut tableau, system)
+    let begun = begun_anew(alloc, system)?;
+    let done = finish(begun, system)?;
+    Ok(done.end)
 }
 
 /// How the program ends: maximise `cost . z` subject to `a z = b` and `z >= 0`.
@@ -104,7 +181,7 @@ pub fn solve_lp<F: Field>(alloc: Global, system: &System<F>) -> Result<LpEnd<F>,
     }
 }
 
-/// The end of the program, from a hint on, or anew where this gives no first basis.
+/// The end of a program that begins at a hint.
 fn solved_from<F: Field>(
     alloc: Global,
     system: &System<F>,
@@ -116,10 +193,9 @@ fn solved_from<F: Field>(
     ensures left { IfErr result (IsSystemFault F.value F.holds (system_of F.value system.now)) }
     ensures hint { IsBestBasis (system_of F.value system.now) columns.now → IfOk result (IsOptimalEnd (NameSame columns.now)) }
 {
-    match hinted(alloc, system, columns)? {
-        Some(mut tableau) => second_phase(&mut tableau, system),
-        None => solved(alloc, system),
-    }
+    let begun = begun_at(alloc, system, columns)?;
+    let done = finish(begun, system)?;
+    Ok(done.end)
 }
 
 /// How the program ends, as `solve_lp` says, with a hint at its last basis.
@@ -139,6 +215,48 @@ pub fn solve_lp_from<F: Field>(
     ensures hint { IsBestBasis (system_of F.value system.now) columns.now → IfOk result (IsOptimalEnd (NameSame columns.now)) }
 {
     match solved_from(alloc, system, columns) {
+        Ok(end) => Ok(end),
+        Err(fault) => Err(lp_fault(fault)),
+    }
+}
+
+/// The end of a program that begins where the last one ended, which then is the last one.
+fn solved_next<F: Field>(
+    alloc: Global,
+    system: System<F>,
+    kept: &mut Kept<F>,
+) -> Result<LpEnd<F>, RowFault<F>>
+    requires { HasLengths system }
+    ensures certified { IfOk result (IsCertified F.value (system_of F.value system)) }
+    ensures read_off { IfOk result (IsReadOff F.value (system_of F.value system)) }
+    ensures left { IfErr result (IsSystemFault F.value F.holds (system_of F.value system)) }
+{
+    let begun = match kept.last.take() {
+        None => begun_anew(alloc, &system)?,
+        Some(last) => begun_from(alloc, &system, last)?,
+    };
+    let Finished { end, last } = finish(begun, &system)?;
+    if let Some(tableau) = last {
+        kept.last = Some(Last { system, tableau });
+    }
+    Ok(end)
+}
+
+/// How the program ends, as `solve_lp` says, from where the last one ended, if both have the same equations and this one had
+/// a solution: its last dictionary gets the new cost, at the price of one sparse row operation for each equation, and phase
+/// two goes on. Where a number of this cost row is not held the last basis is a hint, as that of `solve_lp_from`, and without
+/// a last one the program begins with phase one. After a fault nothing is kept.
+pub fn solve_lp_next<F: Field>(
+    alloc: Global,
+    system: System<F>,
+    kept: &mut Kept<F>,
+) -> Result<LpEnd<F>, LpFault<F>>
+    requires { HasLengths system }
+    ensures certified { IfOk result (IsCertified F.value (system_of F.value system)) }
+    ensures read_off { IfOk result (IsReadOff F.value (system_of F.value system)) }
+    ensures left { IfErr result (IsLpFault F.value F.holds (system_of F.value system)) }
+{
+    match solved_next(alloc, system, kept) {
         Ok(end) => Ok(end),
         Err(fault) => Err(lp_fault(fault)),
     }

@@ -12,6 +12,7 @@ ghost use Rattle.recession.specs.Asking.{IsAsked, IsProper};
 
 use benson_program::{BensonEnd, Cut, Preimage, benson_end, cut_of, preimage_of};
 use exact_field::Field;
+use exact_simplex::Kept;
 use lp_form::Data;
 use overflows::SolveFault;
 use src_sink::Items;
@@ -64,7 +65,7 @@ fn read_off<F: Field>(
 }
 
 /// Asks at `v`, a point where `t` and else a direction, whether the image has it: a cut, or a pre-image. `c` is the duality vector, and
-/// the weights combine the generators of the ordering cone to it. `hint` is the basis of the program before, and then of this one.
+/// the weights combine the generators of the ordering cone to it. What is kept of the last program shortens this one.
 pub fn ask<F: Field>(
     alloc: Global,
     form: &Data<F>,
@@ -72,7 +73,7 @@ pub fn ask<F: Field>(
     weights: &[F],
     v: &[F],
     t: bool,
-    hint: &mut Items<u32>,
+    kept: &mut Kept<F>,
 ) -> Result<Asked<F>, SolveFault>
     ghost task: { Task }
     requires stands { IsDataOf F.value task.file form.now }
@@ -84,10 +85,9 @@ pub fn ask<F: Field>(
     ensures ok { IfOk result (IsAsked F.value task (map F.value v.now) t) }
     ensures left { (trail : List Entry) → IsBaseStart task.file.objs trail (map F.value v.now) t → IfErr result (Overflows F.holds (behind task trail) []) }
 {
-    let end = benson_end(alloc, form, c, v, t, hint.as_slice())?;
+    let end = benson_end(alloc, form, c, v, t, kept)?;
     match end {
-        BensonEnd::Optimal { z, dual, basis } => {
-            *hint = basis;
+        BensonEnd::Optimal { z, dual, .. } => {
             read_off(alloc, form, c, weights, v, t, z.as_slice(), dual.as_slice())
         }
         BensonEnd::Empty { .. } => unreachable!(),

@@ -15,6 +15,7 @@ use benson_program::{
     BensonEnd, Cut, FeasibleEnd, Preimage, WholeParts, benson_end, cut_of, feasible_end, whole_of,
 };
 use exact_field::Field;
+use exact_simplex::Kept;
 use lp_form::{Data, zeros};
 use outer_log::Line;
 use overflows::SolveFault;
@@ -78,7 +79,7 @@ fn described<F: Field>(
     weights: &[F],
     x: Items<F>,
     first: Cut<F>,
-    basis: Items<u32>,
+    kept: &mut Kept<F>,
 ) -> Result<First<F>, SolveFault>
     ghost task: { Task }
     requires stands { IsDataOf F.value task.file form.now }
@@ -90,11 +91,10 @@ fn described<F: Field>(
     ensures ok { IfOk result (IsFirst F.value task) }
     ensures left { IfErr result (λ fault. OnLicence fault (Licensed F.holds task.file task.c)) }
 {
-    let mut hint = basis;
     let mut cuts = Items::new(alloc);
     cuts.push(first)?;
     while cuts.len() < form.p.len() {
-        let next = next_of(alloc, form, c, weights, cuts.as_slice(), &mut hint)?;
+        let next = next_of(alloc, form, c, weights, cuts.as_slice(), kept)?;
         match next {
             Next::Cut(cut) => cuts.push(cut)?,
             Next::Line { d, forth, back } => {
@@ -112,6 +112,7 @@ fn solvable<F: Field>(
     c: &[F],
     weights: &[F],
     x: Items<F>,
+    kept: &mut Kept<F>,
 ) -> Result<First<F>, SolveFault>
     ghost task: { Task }
     requires stands { IsDataOf F.value task.file form.now }
@@ -123,11 +124,11 @@ fn solvable<F: Field>(
     ensures left { IfErr result (λ fault. OnLicence fault (Licensed F.holds task.file task.c)) }
 {
     let origin = zeros(alloc, form.p.len() as u32)?;
-    let end = benson_end(alloc, form, c, origin.as_slice(), true, &[])?;
+    let end = benson_end(alloc, form, c, origin.as_slice(), true, kept)?;
     match end {
-        BensonEnd::Optimal { z, basis, .. } => {
+        BensonEnd::Optimal { z, .. } => {
             let first = cut_of(alloc, form, c, origin.as_slice(), true, z.as_slice())?;
-            described(alloc, form, c, weights, x, first, basis)
+            described(alloc, form, c, weights, x, first, kept)
         }
         BensonEnd::Empty { dual, .. } => {
             let parts = whole_of(alloc, form, dual.as_slice())?;
@@ -138,12 +139,13 @@ fn solvable<F: Field>(
 
 /// How the description of an image begins: whether no point is feasible, whether the image is everything or has a line, and else its
 /// first cuts. `c` is the duality vector, and the weights combine the generators of the ordering cone to it. It costs at most twice as
-/// many linear programs as there are objectives.
+/// many linear programs as there are objectives, and keeps of them what shortens the next one.
 pub fn first_cuts<F: Field>(
     alloc: Global,
     form: &Data<F>,
     c: &[F],
     weights: &[F],
+    kept: &mut Kept<F>,
 ) -> Result<First<F>, SolveFault>
     ghost task: { Task }
     requires stands { IsDataOf F.value task.file form.now }
@@ -156,6 +158,6 @@ pub fn first_cuts<F: Field>(
     let end = feasible_end(alloc, form)?;
     match end {
         FeasibleEnd::Contradiction { u } => Ok(First::Infeasible { u }),
-        FeasibleEnd::Point { x } => solvable(alloc, form, c, weights, x),
+        FeasibleEnd::Point { x } => solvable(alloc, form, c, weights, x, kept),
     }
 }

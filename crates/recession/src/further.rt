@@ -17,6 +17,7 @@ use crate::asking::{Asked, ask};
 use benson_program::{Cut, Preimage};
 use deriv_log::Entries;
 use exact_field::Field;
+use exact_simplex::Kept;
 use lp_form::{Data, negative};
 use outer_log::push_cut_entry;
 use overflows::SolveFault;
@@ -47,7 +48,7 @@ fn opposite<F: Field>(
     weights: &[F],
     d: Items<F>,
     forth: Preimage<F>,
-    hint: &mut Items<u32>,
+    kept: &mut Kept<F>,
 ) -> Result<Next<F>, SolveFault>
     ghost task: { Task }
     requires stands { IsDataOf F.value task.file form.now }
@@ -61,7 +62,7 @@ fn opposite<F: Field>(
     ensures left { (trail : List Entry) → IsSide task.file.objs (trail_normals task.file.objs trail) (map F.value d) → IfErr result (Overflows F.holds (behind task trail) []) }
 {
     let negated = negative(alloc, d.as_slice())?;
-    let asked = ask(alloc, form, c, weights, negated.as_slice(), false, hint)?;
+    let asked = ask(alloc, form, c, weights, negated.as_slice(), false, kept)?;
     match asked {
         Asked::Cut(cut) => Ok(Next::Cut(cut)),
         Asked::Reached(back) => Ok(Next::Line { d, forth, back }),
@@ -75,7 +76,7 @@ fn found<F: Field>(
     c: &[F],
     weights: &[F],
     cuts: &[Cut<F>],
-    hint: &mut Items<u32>,
+    kept: &mut Kept<F>,
 ) -> Result<Next<F>, SolveFault>
     ghost task: { Task }
     requires stands { IsDataOf F.value task.file form.now }
@@ -89,10 +90,10 @@ fn found<F: Field>(
     ensures left { (trail : List Entry) → trail_normals task.file.objs trail ≡ normals_of F.value cuts.now → IfErr result (Overflows F.holds (behind task trail) []) }
 {
     let d = across(alloc, form.p.len() as u32, cuts)?;
-    let asked = ask(alloc, form, c, weights, d.as_slice(), false, hint)?;
+    let asked = ask(alloc, form, c, weights, d.as_slice(), false, kept)?;
     match asked {
         Asked::Cut(cut) => Ok(Next::Cut(cut)),
-        Asked::Reached(forth) => opposite(alloc, form, c, weights, d, forth, hint),
+        Asked::Reached(forth) => opposite(alloc, form, c, weights, d, forth, kept),
     }
 }
 
@@ -114,7 +115,7 @@ pub(crate) fn next_of<F: Field>(
     c: &[F],
     weights: &[F],
     cuts: &[Cut<F>],
-    hint: &mut Items<u32>,
+    kept: &mut Kept<F>,
 ) -> Result<Next<F>, SolveFault>
     ghost task: { Task }
     requires stands { IsDataOf F.value task.file form.now }
@@ -127,7 +128,7 @@ pub(crate) fn next_of<F: Field>(
     ensures ok { IfOk result (IsNext F.value task cuts.now) }
     ensures left { IfErr result (λ fault. OnLicence fault (Licensed F.holds task.file task.c)) }
 {
-    match found(alloc, form, c, weights, cuts, hint) {
+    match found(alloc, form, c, weights, cuts, kept) {
         Ok(next) => Ok(next),
         Err(fault) => {
             let entries = entries_of(alloc, cuts)?;

@@ -2,7 +2,7 @@
 //! overflow.
 
 use exact_field::{Field, Left, Op};
-use exact_simplex::{LpEnd, LpFault, solve_lp, solve_lp_from};
+use exact_simplex::{Kept, LpEnd, LpFault, solve_lp, solve_lp_from, solve_lp_next};
 use frac128::{Frac, Tiny};
 use lin_rows::System;
 use src_sink::Items;
@@ -60,6 +60,19 @@ fn end_from<F: Field>(
     assert!(rt; system.cost.len() == system.cols as usize);
     assert!(rt; system.a.len() == system.rows as usize * system.cols as usize);
     solve_lp_from(alloc, system, columns)
+}
+
+/// How a program ends from where the last one ended.
+fn end_next<F: Field>(
+    rt: &impl Abort,
+    alloc: Global,
+    system: System<F>,
+    kept: &mut Kept<F>,
+) -> Result<LpEnd<F>, LpFault<F>> {
+    assert!(rt; system.b.len() == system.rows as usize);
+    assert!(rt; system.cost.len() == system.cols as usize);
+    assert!(rt; system.a.len() == system.rows as usize * system.cols as usize);
+    solve_lp_next(alloc, system, kept)
 }
 
 /// Whether an end is optimal with this solution, these multipliers and this basis.
@@ -161,6 +174,62 @@ fn hints(rt: HostRuntime) -> Result<(), Fail> {
     assert!(rt; is_optimal(&end, &[two, zero, zero], &[one], &[1]));
     let end = end_from(&rt, alloc, &either, &[0, 2, 2])?;
     assert!(rt; is_optimal(&end, &[zero, two, zero], &[one], &[2]));
+    Ok(())
+}
+
+#[test]
+fn from_one_to_the_next(rt: HostRuntime) -> Result<(), Fail> {
+    let alloc = rt.alloc();
+    let zero = Frac::zero();
+    let one = Frac::one();
+    let two = Frac::new(2, 1)?;
+    let row = &[1, 1, 1];
+    let mut kept = Kept::new();
+    let end = end_next(&rt, alloc, program(&rt, alloc, row, &[2], &[1, 0, 0])?, &mut kept)?;
+    assert!(rt; is_optimal(&end, &[two, zero, zero], &[one], &[1]));
+    let end = end_next(&rt, alloc, program(&rt, alloc, row, &[2], &[0, 0, 1])?, &mut kept)?;
+    assert!(rt; is_optimal(&end, &[zero, zero, two], &[one], &[3]));
+    // Each basis is best, and the last one stays.
+    let end = end_next(&rt, alloc, program(&rt, alloc, row, &[2], &[0, 0, 0])?, &mut kept)?;
+    assert!(rt; is_optimal(&end, &[zero, zero, two], &[zero], &[3]));
+    // Another right side, and then no solution, after which nothing is kept.
+    let end = end_next(&rt, alloc, program(&rt, alloc, row, &[1], &[0, 1, 0])?, &mut kept)?;
+    assert!(rt; is_optimal(&end, &[zero, one, zero], &[one], &[2]));
+    let end = end_next(&rt, alloc, program(&rt, alloc, row, &[-1], &[0, 1, 0])?, &mut kept)?;
+    assert!(rt; is_infeasible(&end));
+    let end = end_next(&rt, alloc, program(&rt, alloc, row, &[1], &[0, 1, 0])?, &mut kept)?;
+    assert!(rt; is_optimal(&end, &[zero, one, zero], &[one], &[2]));
+    // From an end without limit on.
+    let pair = &[1, -1];
+    let end = end_next(&rt, alloc, program(&rt, alloc, pair, &[0], &[1, 0])?, &mut kept)?;
+    assert!(rt; is_unbounded(&end, &[one, one]));
+    let end = end_next(&rt, alloc, program(&rt, alloc, pair, &[0], &[-1, 0])?, &mut kept)?;
+    assert!(rt; has_solution(&end, &[zero, zero]));
+    Ok(())
+}
+
+/// Whether an end is optimal with the solution (1, 1, 0).
+fn is_one_one(end: &LpEnd<Tiny>) -> bool {
+    match end {
+        LpEnd::Optimal {
+            x,
+            dual: _,
+            basis: _,
+        } => x.as_slice() == [Tiny::one(), Tiny::one(), Tiny::zero()].as_slice(),
+        _ => false,
+    }
+}
+
+#[test]
+fn a_cost_row_that_overflows_is_begun_anew(rt: HostRuntime) -> Result<(), Fail> {
+    let alloc = rt.alloc();
+    // The first row of the last dictionary is -90 at the third unknown, and twice this is not held.
+    let rows = &[1, 30, 0, 0, 1, 3];
+    let mut kept = Kept::new();
+    let first = program(&rt, alloc, rows, &[31, 1], &[0, 1, 0])?;
+    assert!(rt; is_one_one(&end_next(&rt, alloc, first, &mut kept)?));
+    let second = program(&rt, alloc, rows, &[31, 1], &[2, 30, -100])?;
+    assert!(rt; is_one_one(&end_next(&rt, alloc, second, &mut kept)?));
     Ok(())
 }
 

@@ -11,12 +11,12 @@ returns-clause-read_off g c =
     let p = c.args.system.now in
     let s = system_of value p in
     let t = c.args.tableau.now in
-    let columns = c.columns_of-basis.ensures ∙ ap (λ k. take k t.basis.items) (sym (equation_count_is value p c.requires.lengths)) in
-    (table_in value s t, optimal_read value s t c.columns_of-basis.result columns (map value c.in_ok-x.x) (map value c.in_ok-dual.dual) c.requires.feasible c.requires.best c.in_ok-x.ensures c.in_ok-dual.ensures)
+    let columns = c.in_ok-basis.ensures ∙ ap (λ k. take k t.basis.items) (sym (equation_count_is value p c.requires.lengths)) in
+    (table_in value s t, optimal_read value s t c.in_ok-basis.basis columns (map value c.in_ok-x.x) (map value c.in_ok-dual.dual) c.requires.feasible c.requires.best c.in_ok-x.ensures c.in_ok-dual.ensures)
 
 pub returns-clause-certified : goal.returns-clause-certified
 returns-clause-certified g c =
     let value = g.F.Field.value in
     let p = c.args.system.now in
     let read = returns-clause-read_off g c in
-    ends_are_right.optimal (system_of value p) c.columns_of-basis.result read.0 (map value c.in_ok-x.x) (map value c.in_ok-dual.dual) (system_ok value p c.requires.lengths) read.1
+    ends_are_right.optimal (system_of value p) c.in_ok-basis.basis read.0 (map value c.in_ok-x.x) (map value c.in_ok-dual.dual) (system_ok value p c.requires.lengths) read.1

@@ -18,7 +18,7 @@ returns-clause-read_off g c =
     let t = c.args.tableau.now in
     let n : ℕ = right_column s in
     let col : ℕ = c.args.col in
-    let columns = c.columns_of-basis.ensures ∙ ap (λ k. take k t.basis.items) (sym (equation_count_is value p c.requires.lengths)) in
+    let columns = c.in_ok-basis.ensures ∙ ap (λ k. take k t.basis.items) (sym (equation_count_is value p c.requires.lengths)) in
     let rows = ap (lines value) c.deref.ensures.value in
     let high : col ≤ n = omega (arith, c.requires.high) in
     let along : map value c.in_ok-ray.ray ≡ ray s t.basis.items (table_in value s t) col =
@@ -27,7 +27,7 @@ returns-clause-read_off g c =
     ∙ ap (λ k. ray_of k t.basis.items (table_in value s t) col) (sym (unknown_count_is value p c.requires.lengths)) in (
       table_in value s t,
       col,
-      unbounded_read value s t c.columns_of-basis.result columns (map value c.in_ok-x.x) (map value c.in_ok-ray.ray) col c.requires.feasible c.requires.idle c.requires.low
+      unbounded_read value s t c.in_ok-basis.basis columns (map value c.in_ok-x.x) (map value c.in_ok-ray.ray) col c.requires.feasible c.requires.idle c.requires.low
           c.requires.high c.requires.betters c.requires.unlimited c.in_ok-x.ensures along,
     )
 
@@ -36,4 +36,4 @@ returns-clause-certified g c =
     let value = g.F.Field.value in
     let p = c.args.system.now in
     let read = returns-clause-read_off g c in
-    ends_are_right.unbounded (system_of value p) c.columns_of-basis.result read.0 read.1 (map value c.in_ok-x.x) (map value c.in_ok-ray.ray) (system_ok value p c.requires.lengths) read.2
+    ends_are_right.unbounded (system_of value p) c.in_ok-basis.basis read.0 read.1 (map value c.in_ok-x.x) (map value c.in_ok-ray.ray) (system_ok value p c.requires.lengths) read.2

@@ -3,7 +3,7 @@ use Rattle.exact_simplex.specs.Program.{system_of, table_in}
 use Rattle.exact_simplex.proofs.Programs.{system_ok}
 use Rattle.exact_simplex.proofs.Testing.{not_negative}
 use Rattle.exact_simplex.proofs.SolvingEnds.{primal_feasible}
-use Rattle.exact_simplex.proofs.solve.two_phases.Goals as goal
+use Rattle.exact_simplex.proofs.solve.begun_anew.Goals as goal
 
 pub drive_out-requires-clause-feasible : goal.drive_out-requires-clause-feasible
 drive_out-requires-clause-feasible g c =
@@ -11,5 +11,5 @@ drive_out-requires-clause-feasible g c =
     let p = c.args.system.now in
     let s = system_of value p in
     let t = c.first_phase.new.tableau in
-    primal_feasible value s (system_ok value p c.requires.lengths) t c.in_ok-first_phase.ensures.primal
+    primal_feasible value s (system_ok value p c.requires) t c.in_ok-first_phase.ensures.primal
     (not_negative c.in_ok-first_phase.field-0 (at (table_in value s t) (first_cost s) (right_column s)) c.in_ok-first_phase.ensures.below c.if-branch.false)
