@@ -1,5 +1,5 @@
 -- The search for the cuts of an image.
-use Rattle.std.specs.Prelude.{◌≡◌, ◌≢◌, ⊤, ℕ, Bool, List, [], map, length, All, Contains}
+use Rattle.std.specs.Prelude.{◌≡◌, ◌≢◌, ⊤, ℕ, Bool, List, [], ◌∷◌, ◌++◌, map, length, All, Contains}
 use Rattle.exact_field.specs.Rational.{ℚ, zero_ℚ}
 use Rattle.exact_field.specs.Vector.{entry}
 use Rattle.polyhedra.specs.Exactness.{row_of}
@@ -30,6 +30,12 @@ pub record IsNextCut {F : Type 0} (value : F → ℚ) (task : Task) (dd : Descri
   pub turn : IsCutTurn task.file task.c dd.rows z
   pub says : row_of (said_by value cut) ≡ said_row task.file z
   pub is : IsCutFor value task cut
+
+-- one more row stands, which says such a cut
+pub record HasGrown {F : Type 0} (value : F → ℚ) (task : Task) (old new : Description) : Type 0 where
+  pub cut : Cut F
+  pub next : IsNextCut value task old cut
+  pub rows : new.rows ≡ old.rows ++ row_of (said_by value cut) ∷ []
 
 -- a generator is asked: points and directions alike, or directions alone, whose last entry is 0
 abbrev pub IsInScope : Scope → List ℚ → Type 0

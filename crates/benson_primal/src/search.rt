@@ -1,5 +1,5 @@
 //! The search for cuts: each live generator is asked for a cut that it violates, until all have a pre-image.
-ghost use Rattle.std.specs.Prelude.{◌≡◌, ◌≢◌, ◌≤◌, ◌||◌, [], ℕ, IfErr, IfNone, IfOk, IfSome, IsTrue, OnOk, length, map, nat_eq, Contains};
+ghost use Rattle.std.specs.Prelude.{◌≡◌, ◌≢◌, ◌≤◌, ◌||◌, [], ℕ, false, IfErr, IfNone, IfOk, IfSome, IsTrue, OnOk, length, map, nat_eq, Contains};
 ghost use Rattle.incid_sets.specs.Marks.{has};
 ghost use Rattle.log_rules.specs.Live.{preimages};
 ghost use Rattle.overflows.specs.Faults.{OnLicence, Overflows};
@@ -7,7 +7,7 @@ ghost use Rattle.polyhedra.specs.LiveList.{numbers};
 ghost use Rattle.outer_log.specs.Preimages.{AreMarks};
 ghost use Rattle.outer_log.specs.Standing.{IsOpenTrail, IsOuter, StandForSame};
 ghost use Rattle.outer_log.specs.Task.{Task, behind};
-ghost use Rattle.benson_primal.specs.Search.{AreDirectionsReached, AreReached, IsDone, IsInScope, IsKnown, IsNextCut};
+ghost use Rattle.benson_primal.specs.Search.{AreDirectionsReached, AreReached, HasGrown, IsDone, IsInScope, IsKnown, IsNextCut};
 
 use crate::nearby::{cut_nearby, is_point};
 use benson_program::Cut;
@@ -18,7 +18,7 @@ use exact_simplex::Kept;
 use incid_sets::Marks;
 use lp_form::Data;
 use outer_log::push_preimage;
-use outer_turn::take;
+use outer_turn::{take, try_take};
 use overflows::SolveFault;
 use recession::{Asked, ask};
 use src_sink::{Items, NoMemory};
@@ -169,6 +169,88 @@ fn next_cut<F: Field>(
     Ok(None)
 }
 
+/// Of so many cuts whose addition overflows another one is looked for.
+const MOST_TRIES: u32 = 6;
+
+/// Brings the first cut into use that a live generator violates, from the newest to the oldest, and whose addition does not overflow,
+/// and answers whether one was found. A few cuts that overflow are passed over: others may take away the long generators.
+fn advance<F: Field>(
+    alloc: Global,
+    form: &Data<F>,
+    c: &[F],
+    weights: &[F],
+    dd: &mut Dd<F>,
+    scope: Scope,
+    trail: &mut Entries,
+    reached: &mut Marks,
+    kept: &mut Kept<F>,
+) -> Result<bool, SolveFault>
+    ghost task: { Task }
+    requires known { IsKnown F.value F.holds task form.now c.now weights.now }
+    requires outer { IsOuter task trail.old dd.old }
+    requires marks { AreMarks trail.old reached.old }
+    ensures outer { OnOk result (IsOuter task trail.new dd.new) }
+    ensures marks { OnOk result (AreMarks trail.new reached.new) }
+    ensures grown { IfOk result (λ more. IsTrue more → HasGrown F.value task dd.old dd.new) }
+    ensures still { IfOk result (λ more. more ≡ false → dd.new ≡ dd.old) }
+    ensures trail { IsOpenTrail task trail.new }
+    ensures same { IfErr result (λ fault. OnLicence fault (λ licence. StandForSame task trail.new dd.new)) }
+    ensures left { IfErr result (Overflows F.holds (behind task trail.new) []) }
+{
+    let count = dd.live().len();
+    let mut tries = 0;
+    for i in 0..count {
+        let live = dd.live();
+        let g = live[count - 1 - i];
+        if let Some(cut) = reach(alloc, form, c, weights, dd, scope, g, trail, reached, kept)? {
+            if try_take(alloc, trail, dd, &cut)? {
+                return Ok(true);
+            }
+            tries += 1;
+            if tries == MOST_TRIES {
+                return Ok(false);
+            }
+        }
+    }
+    Ok(false)
+}
+
+/// Brings one more cut into use, and answers whether there was one: if not, all that are asked have pre-images.
+fn turn<F: Field>(
+    alloc: Global,
+    form: &Data<F>,
+    c: &[F],
+    weights: &[F],
+    dd: &mut Dd<F>,
+    scope: Scope,
+    trail: &mut Entries,
+    reached: &mut Marks,
+    kept: &mut Kept<F>,
+) -> Result<bool, SolveFault>
+    ghost task: { Task }
+    requires known { IsKnown F.value F.holds task form.now c.now weights.now }
+    requires outer { IsOuter task trail.old dd.old }
+    requires marks { AreMarks trail.old reached.old }
+    ensures outer { OnOk result (IsOuter task trail.new dd.new) }
+    ensures marks { OnOk result (AreMarks trail.new reached.new) }
+    ensures grown { IfOk result (λ more. IsTrue more → HasGrown F.value task dd.old dd.new) }
+    ensures reached { IfOk result (λ more. more ≡ false → AreReached scope trail.new dd.new) }
+    ensures trail { IsOpenTrail task trail.new }
+    ensures same { IfErr result (λ fault. OnLicence fault (λ licence. StandForSame task trail.new dd.new)) }
+    ensures left { IfErr result (Overflows F.holds (behind task trail.new) []) }
+{
+    if advance(alloc, form, c, weights, dd, scope, trail, reached, kept)? {
+        return Ok(true);
+    }
+    match next_cut(alloc, form, c, weights, dd, scope, trail, reached, kept)? {
+        None => Ok(false),
+        Some(cut) => {
+            take(alloc, trail, dd, &cut)?;
+            Ok(true)
+        }
+    }
+}
+
 /// Brings cuts into use, one at a time, until each live generator that is asked has a pre-image in the log; the set is that of those
 /// that have one. Each turn costs a linear program for each such generator that has none, up to the first that violates a cut, and an
 /// addition to the double description.
@@ -194,9 +276,7 @@ pub(crate) fn approximate<F: Field>(
     ensures same { IfErr result (λ fault. OnLicence fault (λ licence. StandForSame task trail.new dd.new)) }
     ensures left { IfErr result (Overflows F.holds (behind task trail.new) []) }
 {
-    while let Some(cut) = next_cut(alloc, form, c, weights, dd, scope, trail, reached, kept)? {
-        take(alloc, trail, dd, &cut)?;
-    }
+    while turn(alloc, form, c, weights, dd, scope, trail, reached, kept)? {}
     Ok(())
 }
 

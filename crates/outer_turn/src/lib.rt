@@ -4,4 +4,4 @@
 mod pairs;
 mod turn;
 
-pub use turn::take;
+pub use turn::{take, try_take};

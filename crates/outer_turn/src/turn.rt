@@ -1,5 +1,5 @@
 //! A cut that comes into use.
-ghost use Rattle.std.specs.Prelude.{◌≡◌, ◌++◌, ◌∷◌, [], ℕ, map, IfErr, IsTrue, OnErr, OnOk};
+ghost use Rattle.std.specs.Prelude.{◌≡◌, ◌++◌, ◌∷◌, [], ℕ, false, map, IfErr, IfOk, IsTrue, OnErr, OnOk};
 ghost use Rattle.deriv_log.specs.Formed.{is_formed};
 ghost use Rattle.deriv_log.specs.declared.entry.Entry.TheVariants as entry_of;
 ghost use Rattle.log_rules.specs.Live.{preimages};
@@ -14,7 +14,7 @@ use crate::pairs::log_pairs;
 use benson_program::Cut;
 use dd_overflows::add_fault;
 use deriv_log::{Entries, Entry, Family};
-use double_descr::{Dd, Pair};
+use double_descr::{Dd, DdFault, Pair};
 use exact_field::Field;
 use outer_log::{cut_row, push_cut};
 use overflows::SolveFault;
@@ -55,5 +55,34 @@ pub fn take<F: Field>(
     match dd.add(row.as_slice()) {
         Ok(change) => Ok(push_add(alloc, trail, number, change.pairs.as_slice())?),
         Err(fault) => Err(add_fault(alloc, Family::Image, dd, row.as_slice(), fault)),
+    }
+}
+
+/// Brings one more cut into use, if its addition does not overflow, and answers whether it did: else all is as before.
+pub fn try_take<F: Field>(
+    alloc: Global,
+    trail: &mut Entries,
+    dd: &mut Dd<F>,
+    cut: &Cut<F>,
+) -> Result<bool, NoMemory>
+    ghost task: { Task }
+    requires outer { IsOuter task trail.old dd.old }
+    requires cut { IsCutFor F.value task cut.now }
+    ensures ok { OnOk result (IsOuter task trail.new dd.new) }
+    ensures rows { IfOk result (λ taken. IsTrue taken → dd.new.rows ≡ dd.old.rows ++ row_of (said_by F.value cut.now) ∷ []) }
+    ensures preimages { OnOk result ((k : ℕ) → preimages trail.new k ≡ preimages trail.old k) }
+    ensures as_before { IfOk result (λ taken. taken ≡ false → (trail.new ≡ trail.old) × (dd.new ≡ dd.old)) }
+    ensures trail { IsOpenTrail task trail.new }
+{
+    let row = cut_row(alloc, cut)?;
+    let number = dd.row_count();
+    match dd.add(row.as_slice()) {
+        Ok(change) => {
+            push_cut(alloc, trail, cut)?;
+            push_add(alloc, trail, number, change.pairs.as_slice())?;
+            Ok(true)
+        }
+        Err(DdFault::NoMemory) => Err(NoMemory),
+        Err(_) => Ok(false),
     }
 }
