@@ -75,11 +75,11 @@ pub fn try_take<F: Field>(
     ensures trail { IsOpenTrail task trail.new }
 {
     let row = cut_row(alloc, cut)?;
-    let number = dd.row_count();
+    let cut_number = dd.row_count();
     match dd.add(row.as_slice()) {
         Ok(change) => {
             push_cut(alloc, trail, cut)?;
-            push_add(alloc, trail, number, change.pairs.as_slice())?;
+            push_add(alloc, trail, cut_number, change.pairs.as_slice())?;
             Ok(true)
         }
         Err(DdFault::NoMemory) => Err(NoMemory),
