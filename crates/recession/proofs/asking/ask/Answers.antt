@@ -44,8 +44,8 @@ read_off-requires g c κs within =
                 (
                   a.basis,
                   optimum_seen value g.F.Field.holds g.task c.requires.1.1.1.1.0 c.args.form.now c.requires.1.0 (map value c.args.c.now) (map value c.args.v.now) c.args.t
-                      c.in_ok-end.end c.requires.1.1.0 (c.in_ok-end.ensures.ok g.task.file c.requires.1.0) a.z a.dual c.as_slice-in-Optimal.result.now
-                      c.as_slice-in-Optimal-2.result.now a.basis a.is c.as_slice-in-Optimal.ensures.items c.as_slice-in-Optimal-2.ensures.items,
+                      c.in_ok-end.end c.requires.1.1.0 (c.in_ok-end.ensures.ok g.task.file c.requires.1.0) a.z a.dual c.as_slice.result.now
+                      c.as_slice-in-Optimal.result.now a.basis a.is c.as_slice.ensures.items c.as_slice-in-Optimal.ensures.items,
                 ),
               ),
             ),
