@@ -92,16 +92,7 @@ fn describe<F: Field>(
 {
     let mut dd = started(alloc, form.p.len() as u32, trail, cuts)?;
     let mut reached = Marks::new(alloc, 0)?;
-    directions(
-        alloc,
-        form,
-        c,
-        weights,
-        trail,
-        &mut dd,
-        &mut reached,
-        kept,
-    )?;
+    directions(alloc, form, c, weights, trail, &mut dd, &mut reached, kept)?;
     approximate(
         alloc,
         form,

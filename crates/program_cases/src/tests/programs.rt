@@ -185,25 +185,65 @@ fn from_one_to_the_next(rt: HostRuntime) -> Result<(), Fail> {
     let two = Frac::new(2, 1)?;
     let row = &[1, 1, 1];
     let mut kept = Kept::new();
-    let end = end_next(&rt, alloc, program(&rt, alloc, row, &[2], &[1, 0, 0])?, &mut kept)?;
+    let end = end_next(
+        &rt,
+        alloc,
+        program(&rt, alloc, row, &[2], &[1, 0, 0])?,
+        &mut kept,
+    )?;
     assert!(rt; is_optimal(&end, &[two, zero, zero], &[one], &[1]));
-    let end = end_next(&rt, alloc, program(&rt, alloc, row, &[2], &[0, 0, 1])?, &mut kept)?;
+    let end = end_next(
+        &rt,
+        alloc,
+        program(&rt, alloc, row, &[2], &[0, 0, 1])?,
+        &mut kept,
+    )?;
     assert!(rt; is_optimal(&end, &[zero, zero, two], &[one], &[3]));
     // Each basis is best, and the last one stays.
-    let end = end_next(&rt, alloc, program(&rt, alloc, row, &[2], &[0, 0, 0])?, &mut kept)?;
+    let end = end_next(
+        &rt,
+        alloc,
+        program(&rt, alloc, row, &[2], &[0, 0, 0])?,
+        &mut kept,
+    )?;
     assert!(rt; is_optimal(&end, &[zero, zero, two], &[zero], &[3]));
     // Another right side, and then no solution, after which nothing is kept.
-    let end = end_next(&rt, alloc, program(&rt, alloc, row, &[1], &[0, 1, 0])?, &mut kept)?;
+    let end = end_next(
+        &rt,
+        alloc,
+        program(&rt, alloc, row, &[1], &[0, 1, 0])?,
+        &mut kept,
+    )?;
     assert!(rt; is_optimal(&end, &[zero, one, zero], &[one], &[2]));
-    let end = end_next(&rt, alloc, program(&rt, alloc, row, &[-1], &[0, 1, 0])?, &mut kept)?;
+    let end = end_next(
+        &rt,
+        alloc,
+        program(&rt, alloc, row, &[-1], &[0, 1, 0])?,
+        &mut kept,
+    )?;
     assert!(rt; is_infeasible(&end));
-    let end = end_next(&rt, alloc, program(&rt, alloc, row, &[1], &[0, 1, 0])?, &mut kept)?;
+    let end = end_next(
+        &rt,
+        alloc,
+        program(&rt, alloc, row, &[1], &[0, 1, 0])?,
+        &mut kept,
+    )?;
     assert!(rt; is_optimal(&end, &[zero, one, zero], &[one], &[2]));
     // From an end without limit on.
     let pair = &[1, -1];
-    let end = end_next(&rt, alloc, program(&rt, alloc, pair, &[0], &[1, 0])?, &mut kept)?;
+    let end = end_next(
+        &rt,
+        alloc,
+        program(&rt, alloc, pair, &[0], &[1, 0])?,
+        &mut kept,
+    )?;
     assert!(rt; is_unbounded(&end, &[one, one]));
-    let end = end_next(&rt, alloc, program(&rt, alloc, pair, &[0], &[-1, 0])?, &mut kept)?;
+    let end = end_next(
+        &rt,
+        alloc,
+        program(&rt, alloc, pair, &[0], &[-1, 0])?,
+        &mut kept,
+    )?;
     assert!(rt; has_solution(&end, &[zero, zero]));
     Ok(())
 }

@@ -1,4 +1,4 @@
-use Rattle.std.proofs.Common.{◌≡◌}
+use Rattle.std.proofs.Common.{◌≡◌, ◌<◌}
 use Rattle.outer_log.specs.Preimages.{AreMarks}
 use Rattle.outer_log.specs.Standing.{IsOuter}
 use Rattle.benson_primal.proofs.search.advance.Given as goal
@@ -14,4 +14,5 @@ invariant-loop-i g l = record {
   outer : IsOuter g.task l.trail l.dd;
   marks : AreMarks l.trail l.reached;
   still : l.dd ≡ l.initial.dd;
+  few : l.tries < 6;
 }
