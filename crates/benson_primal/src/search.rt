@@ -215,7 +215,41 @@ fn advance<F: Field>(
     Ok(false)
 }
 
-/// Brings one more cut into use, and answers whether there was one: if not, all that are asked have pre-images.
+/// Brings the first cut into use that a live generator violates, from the newest to the oldest, and answers whether there is one: if
+/// not, all that are asked have pre-images.
+fn take_first<F: Field>(
+    alloc: Global,
+    form: &Data<F>,
+    c: &[F],
+    weights: &[F],
+    dd: &mut Dd<F>,
+    scope: Scope,
+    trail: &mut Entries,
+    reached: &mut Marks,
+    kept: &mut Kept<F>,
+) -> Result<bool, SolveFault>
+    ghost task: { Task }
+    requires known { IsKnown F.value F.holds task form.now c.now weights.now }
+    requires outer { IsOuter task trail.old dd.old }
+    requires marks { AreMarks trail.old reached.old }
+    ensures outer { OnOk result (IsOuter task trail.new dd.new) }
+    ensures marks { OnOk result (AreMarks trail.new reached.new) }
+    ensures grown { IfOk result (λ more. IsTrue more → HasGrown F.value task dd.old dd.new) }
+    ensures reached { IfOk result (λ more. more ≡ false → AreReached scope trail.new dd.new) }
+    ensures trail { IsOpenTrail task trail.new }
+    ensures same { IfErr result (λ fault. OnLicence fault (λ licence. StandForSame task trail.new dd.new)) }
+    ensures left { IfErr result (Overflows F.holds (behind task trail.new) []) }
+{
+    match next_cut(alloc, form, c, weights, dd, scope, trail, reached, kept)? {
+        None => Ok(false),
+        Some(cut) => {
+            take(alloc, trail, dd, &cut)?;
+            Ok(true)
+        }
+    }
+}
+
+/// The same as `take_first`, where another cut is taken if the addition of the first overflows, and that of the other does not.
 fn turn<F: Field>(
     alloc: Global,
     form: &Data<F>,
@@ -242,13 +276,7 @@ fn turn<F: Field>(
     if advance(alloc, form, c, weights, dd, scope, trail, reached, kept)? {
         return Ok(true);
     }
-    match next_cut(alloc, form, c, weights, dd, scope, trail, reached, kept)? {
-        None => Ok(false),
-        Some(cut) => {
-            take(alloc, trail, dd, &cut)?;
-            Ok(true)
-        }
-    }
+    take_first(alloc, form, c, weights, dd, scope, trail, reached, kept)
 }
 
 /// Brings cuts into use, one at a time, until each live generator that is asked has a pre-image in the log; the set is that of those

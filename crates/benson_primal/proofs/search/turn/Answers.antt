@@ -1,24 +1,40 @@
-use Rattle.std.proofs.Common.{◌≡◌, ◌∙◌, List, [], ◌∷◌, ◌++◌, ap, sym, subst}
-use Rattle.std.specs.Prelude.{IfNone, IfSome}
-use Rattle.polyhedra.specs.Exactness.{row_of}
+use Rattle.std.proofs.Common.{subst, true≢false}
+use Rattle.std.specs.Prelude.{IfOk, IsTrue}
 use Rattle.double_descr.specs.State.{State as Description}
-use Rattle.outer_log.specs.Cuts.{said_by}
-use Rattle.benson_primal.specs.Search.{AreReached, IsNextCut}
-use Rattle.benson_primal.proofs.Marked.{marks_stay}
+use Rattle.benson_primal.specs.Search.{HasGrown}
 use Rattle.benson_primal.proofs.search.turn.Goals as goal
 
-pub returns-in_ok-take-in-Some-clause-marks : goal.returns-in_ok-take-in-Some-clause-marks
-returns-in_ok-take-in-Some-clause-marks g c = marks_stay c.next_cut.new.trail c.take.new.trail c.next_cut.new.reached c.in_ok-next_cut.ensures.marks c.in_ok-take-in-Some.ensures.preimages
+pub returns-then-branch-clause-outer : goal.returns-then-branch-clause-outer
+returns-then-branch-clause-outer g c = c.in_ok-advance.ensures.outer
 
-pub returns-in_ok-take-in-Some-clause-grown : goal.returns-in_ok-take-in-Some-clause-grown
-returns-in_ok-take-in-Some-clause-grown g c =
-    let value = g.F.Field.value in
-    let cut = c.in-Some.cut in
-    let row : List _ = row_of (said_by value cut) in
-    let still = c.in_ok-advance.ensures.still c.if-branch.false in
-    λ yes. record {
-      cut = cut;
-      next = subst (λ (d : Description). IsNextCut value g.task d cut) still
-          (subst (λ o. IfSome o (IsNextCut value g.task c.advance.new.dd)) c.in-Some.is c.in_ok-next_cut.ensures.cut);
-      rows = c.in_ok-take-in-Some.ensures.rows ∙ ap (λ (d : Description). d.rows ++ row ∷ []) still;
-    }
+pub returns-then-branch-clause-marks : goal.returns-then-branch-clause-marks
+returns-then-branch-clause-marks g c = c.in_ok-advance.ensures.marks
+
+pub returns-then-branch-clause-grown : goal.returns-then-branch-clause-grown
+returns-then-branch-clause-grown g c = λ yes. c.in_ok-advance.ensures.grown c.if-branch.true
+
+pub returns-then-branch-clause-reached : goal.returns-then-branch-clause-reached
+returns-then-branch-clause-reached g c = λ no. absurd (true≢false no)
+
+pub returns-clause-outer : goal.returns-clause-outer
+returns-clause-outer g c = c.take_first.ensures.outer
+
+pub returns-clause-marks : goal.returns-clause-marks
+returns-clause-marks g c = c.take_first.ensures.marks
+
+pub returns-clause-grown : goal.returns-clause-grown
+returns-clause-grown g c =
+    subst (λ (d : Description). IfOk c.take_first.result (λ more. IsTrue more → HasGrown g.F.Field.value g.task d c.take_first.new.dd))
+    (c.in_ok-advance.ensures.still c.if-branch.false) c.take_first.ensures.grown
+
+pub returns-clause-reached : goal.returns-clause-reached
+returns-clause-reached g c = c.take_first.ensures.reached
+
+pub returns-clause-trail : goal.returns-clause-trail
+returns-clause-trail g c = c.take_first.ensures.trail
+
+pub returns-clause-same : goal.returns-clause-same
+returns-clause-same g c = c.take_first.ensures.same
+
+pub returns-clause-left : goal.returns-clause-left
+returns-clause-left g c = c.take_first.ensures.left
