@@ -132,6 +132,30 @@ fn described<F: Field>(
     }
 }
 
+/// The log as `primal` says, with what is kept of the last program.
+fn primal_with<F: Field>(
+    alloc: Global,
+    form: &Data<F>,
+    duality: Duality<F>,
+    kept: &mut Kept<F>,
+) -> Result<Entries, SolveFault>
+    ghost file: { File }
+    requires stands { IsDataOf F.value file form.now }
+    requires duality { IsDualityOf F.value F.holds file duality }
+    ensures ok { IfOk result (IsOwnLog F.holds file) }
+    ensures left { IfErr result (λ fault. OnLicence fault (LicensedAnyhow F.holds file)) }
+{
+    let Duality { c, weights, entry } = duality;
+    let c = c.as_slice();
+    let weights = weights.as_slice();
+    match first_cuts(alloc, form, c, weights, kept)? {
+        First::Infeasible { u } => Ok(contradiction_log(alloc, u.as_slice())?),
+        First::Whole { x, parts } => Ok(everything_log(alloc, entry, x.as_slice(), &parts)?),
+        First::Line(line) => Ok(line_log(alloc, entry, &line)?),
+        First::Cuts(cuts) => { described(alloc, form, c, weights, entry, cuts.as_slice(), kept) }
+    }
+}
+
 /// The log that describes the image of a problem: that it is infeasible, that its image is everything or has a line, or its
 /// vertices, extreme directions and facets, found by Benson's outer approximation (Benson 1998; Löhne 2011) in the image space.
 /// After an overflow the licence has the entries so far as its trail.
@@ -146,16 +170,6 @@ pub fn primal<F: Field>(
     ensures ok { IfOk result (IsOwnLog F.holds file) }
     ensures left { IfErr result (λ fault. OnLicence fault (LicensedAnyhow F.holds file)) }
 {
-    let Duality { c, weights, entry } = duality;
-    let c = c.as_slice();
-    let weights = weights.as_slice();
     let mut kept = Kept::new();
-    match first_cuts(alloc, form, c, weights, &mut kept)? {
-        First::Infeasible { u } => Ok(contradiction_log(alloc, u.as_slice())?),
-        First::Whole { x, parts } => Ok(everything_log(alloc, entry, x.as_slice(), &parts)?),
-        First::Line(line) => Ok(line_log(alloc, entry, &line)?),
-        First::Cuts(cuts) => {
-            described(alloc, form, c, weights, entry, cuts.as_slice(), &mut kept)
-        }
-    }
+    primal_with(alloc, form, duality, &mut kept)
 }

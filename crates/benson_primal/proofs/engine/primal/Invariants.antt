@@ -1,18 +1,4 @@
-use Rattle.std.proofs.Common.{map}
-use Rattle.benson_primal.specs.Logs.{task_of}
 use Rattle.benson_primal.proofs.engine.primal.Given as goal
 
-abbrev pub ghost-first_cuts : goal.ghost-first_cuts
-ghost-first_cuts g a = record { file = g.file; c = map g.F.Field.value a.c.now; weights = map g.F.Field.value a.weights.now }
-
-abbrev pub ghost-contradiction_log : goal.ghost-contradiction_log
-ghost-contradiction_log g a = g.file
-
-abbrev pub ghost-everything_log : goal.ghost-everything_log
-ghost-everything_log g a = task_of g.file a.opening
-
-abbrev pub ghost-line_log : goal.ghost-line_log
-ghost-line_log g a = task_of g.file a.opening
-
-abbrev pub ghost-described : goal.ghost-described
-ghost-described g a = record { file = g.file; c = map g.F.Field.value a.c.now; weights = map g.F.Field.value a.weights.now }
+abbrev pub ghost-primal_with : goal.ghost-primal_with
+ghost-primal_with g a = g.file
