@@ -9,6 +9,7 @@ pub mod Inverse
 pub mod Lowest
 pub mod Made
 pub mod Parts
+pub mod Short
 pub mod Signs
 pub mod TextLaw
 pub mod Turns

@@ -142,21 +142,29 @@ gcd_of_total n g r k h is = IsGcd-from_mod (n * g + r) g k (subst (λ (z : ℕ).
 divided : (w h u k g r : ℕ) → k * h ≡ g → k * u ≡ r → (w * h + u) * k ≡ w * g + r
 divided w h u k g r e f = rw (← e, ← f) (omega arith)
 
--- the numbers that the sum computes, for a joint numerator of sign s and magnitude w g + r
-pub sum_lowest : (p q : ℚ) (n m : ℤ) (b d g x y : ℕ) (s : Bool) (w r k h u e : ℕ) → IsStored p n b → IsStored q m d → IsGcd b d g → x ≡ b / g → y ≡ d / g → signed s (w * g + r) ≡ n *ℤ pos y +ℤ m *ℤ pos x → r < g → IsGcd r g k → h ≡ g / k → u ≡ r / k → e ≡ d / k → IsLowest (p +ℚ q) s (w * h + u) (x * e)
-sum_lowest p q n m b d g x y s w r k h u e sp sq is_g ex ey et below is_k eh eu ee =
+-- for a joint numerator of sign s and magnitude t
+pub sum_lowest_by : (p q : ℚ) (n m : ℤ) (b d g x y : ℕ) (s : Bool) (t k u e : ℕ) → IsStored p n b → IsStored q m d → IsGcd b d g → x ≡ b / g → y ≡ d / g → signed s t ≡ n *ℤ pos y +ℤ m *ℤ pos x → IsGcd t g k → u * k ≡ t → e ≡ d / k → IsLowest (p +ℚ q) s u (x * e)
+sum_lowest_by p q n m b d g x y s t k u e sp sq is_g ex ey et is_k eu ee =
     let gcd_g : IsGcd p.den q.den g = subst (λ (z : ℕ). IsGcd p.den z g) sq.den (subst (λ (z : ℕ). IsGcd z d g) sp.den is_g) in
     let gx : g * x ≡ p.den = ap (λ (z : ℕ). g * z) ex ∙ mul-div_cancel' g is_g.0 ∙ sp.den in
     let gy : g * y ≡ q.den = ap (λ (z : ℕ). g * z) ey ∙ mul-div_cancel' g is_g.1 ∙ sq.den in
-    let t : ℤ = signed s (w * g + r) in
-    let total : t ≡ p.num *ℤ pos y +ℤ q.num *ℤ pos x = et ∙ ap (λ (z : ℤ). z *ℤ pos y +ℤ m *ℤ pos x) sp.num ∙ ap (λ (z : ℤ). p.num *ℤ pos y +ℤ z *ℤ pos x) sq.num in
-    let gcd_t : IsGcd (unsigned_abs t) g k = subst (λ (z : ℕ). IsGcd z g k) (sym (size-signed s (w * g + r))) (gcd_of_total w g r k below is_k) in
+    let total : signed s t ≡ p.num *ℤ pos y +ℤ q.num *ℤ pos x = et ∙ ap (λ (z : ℤ). z *ℤ pos y +ℤ m *ℤ pos x) sp.num ∙ ap (λ (z : ℤ). p.num *ℤ pos y +ℤ z *ℤ pos x) sq.num in
+    let gcd_t : IsGcd (unsigned_abs (signed s t)) g k = subst (λ (z : ℕ). IsGcd z g k) (sym (size-signed s t)) is_k in
+    let ke : k * e ≡ q.den = ap (λ (z : ℕ). k * z) ee ∙ mul-div_cancel' k (dvd_trans k is_k.1 is_g.1) ∙ sq.den in
+    let parts = sum_parts p q g x y (signed s t) k (signed s u) e gcd_g gx gy total gcd_t (signed-mul_pos s u k ∙ ap (signed s) eu) ke in
+    record { num = parts.0; den = parts.1 }
+
+-- for one of magnitude w g + r
+pub sum_lowest : (p q : ℚ) (n m : ℤ) (b d g x y : ℕ) (s : Bool) (w r k h u e : ℕ) → IsStored p n b → IsStored q m d → IsGcd b d g → x ≡ b / g → y ≡ d / g → signed s (w * g + r) ≡ n *ℤ pos y +ℤ m *ℤ pos x → r < g → IsGcd r g k → h ≡ g / k → u ≡ r / k → e ≡ d / k → IsLowest (p +ℚ q) s (w * h + u) (x * e)
+sum_lowest p q n m b d g x y s w r k h u e sp sq is_g ex ey et below is_k eh eu ee =
     let kh : k * h ≡ g = ap (λ (z : ℕ). k * z) eh ∙ mul-div_cancel' k is_k.1 in
     let ku : k * u ≡ r = ap (λ (z : ℕ). k * z) eu ∙ mul-div_cancel' k is_k.0 in
-    let ke : k * e ≡ q.den = ap (λ (z : ℕ). k * z) ee ∙ mul-div_cancel' k (dvd_trans k is_k.1 is_g.1) ∙ sq.den in
-    let parts = sum_parts p q g x y t k (signed s (w * h + u)) e gcd_g gx gy total gcd_t
-    (signed-mul_pos s (w * h + u) k ∙ ap (signed s) (divided w h u k g r kh ku)) ke in
-    record { num = parts.0; den = parts.1 }
+    sum_lowest_by p q n m b d g x y s (w * g + r) k (w * h + u) e sp sq is_g ex ey et (gcd_of_total w g r k below is_k) (divided w h u k g r kh ku) ee
+
+-- for one that is a whole number t
+pub sum_lowest_of : (p q : ℚ) (n m : ℤ) (b d g x y : ℕ) (t : ℤ) (k e : ℕ) → IsStored p n b → IsStored q m d → IsGcd b d g → x ≡ b / g → y ≡ d / g → t ≡ n *ℤ pos y +ℤ m *ℤ pos x → IsGcd (unsigned_abs t) g k → e ≡ d / k → IsLowest (p +ℚ q) (is_below_zero t) (unsigned_abs t / k) (x * e)
+sum_lowest_of p q n m b d g x y t k e sp sq is_g ex ey et is_k ee =
+    sum_lowest_by p q n m b d g x y (is_below_zero t) (unsigned_abs t) k (unsigned_abs t / k) e sp sq is_g ex ey (signed_is t ∙ et) is_k (mul_comm (unsigned_abs t / k) k ∙ mul-div_cancel' k is_k.0) ee
 
 wide_quotient : (t g k m : ℕ) → 0 < g → k ∣ g → m * g ≤ t → m ≤ t / k
 wide_quotient t g k m h kg big =
@@ -167,17 +175,11 @@ wide_quotient t g k m h kg big =
 -- where the joint numerator is at least 2^120 times the greatest common divisor of the denominators, the sum is not held
 pub sum_wide : (p q : ℚ) (n m : ℤ) (b d g x y : ℕ) → IsStored p n b → IsStored q m d → 0 < g → IsGcd b d g → x ≡ b / g → y ≡ d / g → 2 ^ 120 * g ≤ unsigned_abs (n *ℤ pos y +ℤ m *ℤ pos x) → IsFalse (is_held (p +ℚ q))
 sum_wide p q n m b d g x y sp sq some is_g ex ey big =
-    let gcd_g : IsGcd p.den q.den g = subst (λ (z : ℕ). IsGcd p.den z g) sq.den (subst (λ (z : ℕ). IsGcd z d g) sp.den is_g) in
-    let gx : g * x ≡ p.den = ap (λ (z : ℕ). g * z) ex ∙ mul-div_cancel' g is_g.0 ∙ sp.den in
-    let gy : g * y ≡ q.den = ap (λ (z : ℕ). g * z) ey ∙ mul-div_cancel' g is_g.1 ∙ sq.den in
     let t : ℤ = n *ℤ pos y +ℤ m *ℤ pos x in
-    let total : t ≡ p.num *ℤ pos y +ℤ q.num *ℤ pos x = ap (λ (z : ℤ). z *ℤ pos y +ℤ m *ℤ pos x) sp.num ∙ ap (λ (z : ℤ). p.num *ℤ pos y +ℤ z *ℤ pos x) sq.num in
     let k : ℕ = gcd (unsigned_abs t) g in
     let is_k : IsGcd (unsigned_abs t) g k = gcd_is (unsigned_abs t) g in
-    let parts = sum_parts p q g x y t k (signed (is_below_zero t) (unsigned_abs t / k)) (q.den / k) gcd_g gx gy total is_k
-    (quotient_times t k is_k.0) (mul-div_cancel' k (dvd_trans k is_k.1 gcd_g.1)) in
-    let lowest : IsLowest (p +ℚ q) (is_below_zero t) (unsigned_abs t / k) (x * (q.den / k)) = record { num = parts.0; den = parts.1 } in
-    lowest_wide_num (p +ℚ q) (is_below_zero t) (unsigned_abs t / k) (x * (q.den / k)) lowest (wide_quotient (unsigned_abs t) g k (2 ^ 120) some is_k.1 big)
+    let lowest = sum_lowest_of p q n m b d g x y t k (d / k) sp sq is_g ex ey refl is_k refl in
+    lowest_wide_num (p +ℚ q) (is_below_zero t) (unsigned_abs t / k) (x * (d / k)) lowest (wide_quotient (unsigned_abs t) g k (2 ^ 120) some is_k.1 big)
 
 -- ---- a quotient of two whole numbers
 

@@ -15,6 +15,11 @@ is_held q = nat_lt (unsigned_abs q.num) (2 ^ 120) && nat_lt q.den (2 ^ 120)
 abbrev pub is_tiny : ℚ → Bool
 is_tiny q = nat_lt (unsigned_abs q.num) (2 ^ 7) && nat_lt q.den (2 ^ 7)
 
+-- the numerator's magnitude and the denominator are below 2^59
+pub record IsShort (q : ℚ) : Type 0 where
+  pub num : unsigned_abs q.num < 2 ^ 59
+  pub den : q.den < 2 ^ 59
+
 pub held_zero : IsTrue (is_held zero_ℚ)
 unfolding whole
 held_zero = refl

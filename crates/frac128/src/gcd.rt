@@ -29,9 +29,12 @@ fn gcd_odd(a: u64, b: u64) -> u64
 }
 
 /// The greatest common divisor, by differences of odd numbers.
-fn gcd_words(a: u64, b: u64) -> u64
+pub(crate) fn gcd_words(a: u64, b: u64) -> u64
     ensures { IsGcd a b result }
 {
+    if a == 1 || b == 1 {
+        return 1;
+    }
     if a == 0 {
         return b;
     }
@@ -113,6 +116,14 @@ pub(crate) fn gcd(a: u128, b: u128) -> u128
     } else {
         gcd_wide(a, b)
     }
+}
+
+/// The quotient, without a division by 1.
+pub(crate) fn quotient_words(x: u64, y: u64) -> u64
+    requires { 0 < y }
+    ensures { result ≡ x / y }
+{
+    if y == 1 { x } else { x / y }
 }
 
 /// The quotient, without a wide division where words hold both numbers.

@@ -1,21 +1,115 @@
 //! The field of fractions.
 
-ghost use Rattle.std.specs.Prelude.{◌≡◌, ◌≢◌, refl};
+ghost use Rattle.std.specs.Prelude.{◌≡◌, ◌≢◌, ◌*◌, ◌<◌, ◌^◌, pos, ◌+ℤ◌, ◌*ℤ◌, unsigned_abs, Some, refl};
+ghost use Rattle.std.specs.Bool.{OnTrue};
 ghost use Rattle.exact_field.specs.Field.{AnswersHeld};
 ghost use Rattle.exact_field.specs.Rational.{zero_ℚ, inverse_ℚ, ◌+ℚ◌, ◌*ℚ◌};
-ghost use Rattle.frac128.specs.Held.{is_held, held_zero, held_one, held_neg, held_small};
+ghost use Rattle.frac128.specs.Held.{is_held, IsShort, held_zero, held_one, held_neg, held_small};
 
 use super::Frac;
 use crate::exact::exact_quotient;
-use crate::gcd::{gcd, product, product_plus};
+use crate::gcd::{gcd, gcd_words, product, product_plus, quotient, quotient_words};
 use crate::joint::numerator;
 use crate::sign::opposite;
 use exact_field::{Field, Left, Op};
 
+/// Parts below this have sums and products that are held.
+const SHORT: u128 = 1 << 59;
+
+/// The product, of all its bits.
+fn wide(x: u64, y: u64) -> u128
+    ensures { result ≡ x * y }
+{
+    u128::from(x) * u128::from(y)
+}
+
+/// `a x + c y`.
+fn sum_of_products(a: i128, x: u64, c: i128, y: u64) -> i128
+    requires a_small { unsigned_abs a < 2 ^ 59 }
+    requires c_small { unsigned_abs c < 2 ^ 59 }
+    requires x_small { x < 2 ^ 59 }
+    requires y_small { y < 2 ^ 59 }
+    ensures value { result ≡ a *ℤ pos x +ℤ c *ℤ pos y }
+    ensures size { unsigned_abs result < 2 ^ 119 }
+{
+    a * i128::from(x) + c * i128::from(y)
+}
+
 impl Frac {
-    /// The sum where it is held: with g the greatest common divisor of the denominators, t = a (d / g) + c (b / g)
-    /// and k that of t and g, it is t / k over (b / g) (d / k).
+    /// The sum where it is held.
     pub(crate) fn plus(self, other: Frac) -> Option<Frac>
+        ensures { AnswersHeld (λ q. q) is_held (self +ℚ other) result }
+    {
+        if self.is_short() && other.is_short() {
+            Some(self.short_sum(other))
+        } else {
+            self.long_sum(other)
+        }
+    }
+
+    /// The product where it is held.
+    pub(crate) fn times(self, other: Frac) -> Option<Frac>
+        ensures { AnswersHeld (λ q. q) is_held (self *ℚ other) result }
+    {
+        if self.is_short() && other.is_short() {
+            Some(self.short_product(other))
+        } else {
+            self.long_product(other)
+        }
+    }
+
+    /// Whether the magnitude of the numerator and the denominator are below 2^59.
+    fn is_short(self) -> bool
+        ensures { OnTrue result (IsShort self) }
+    {
+        self.num.unsigned_abs() < SHORT && self.den < SHORT
+    }
+
+    /// The sum: with g the greatest common divisor of the denominators, t = a (d / g) + c (b / g) and k that of t and g,
+    /// it is t / k over (b / g) (d / k).
+    fn short_sum(self, other: Frac) -> Frac
+        requires short { IsShort self }
+        requires other_short { IsShort other }
+        ensures { AnswersHeld (λ q. q) is_held (self +ℚ other) (Some result) }
+    {
+        let den = self.den as u64;
+        let other_den = other.den as u64;
+        let common = gcd_words(den, other_den);
+        let left = quotient_words(den, common);
+        let right = quotient_words(other_den, common);
+        let sum = sum_of_products(self.num, right, other.num, left);
+        let size = sum.unsigned_abs();
+        let shared = gcd(size, u128::from(common));
+        let num = quotient(size, shared);
+        let den = wide(left, quotient_words(other_den, shared as u64));
+        Frac::signed(sum < 0, num, den)
+    }
+
+    /// The product: each numerator is divided by what it has in common with the other denominator.
+    fn short_product(self, other: Frac) -> Frac
+        requires short { IsShort self }
+        requires other_short { IsShort other }
+        ensures { AnswersHeld (λ q. q) is_held (self *ℚ other) (Some result) }
+    {
+        let size = self.num.unsigned_abs() as u64;
+        let other_size = other.num.unsigned_abs() as u64;
+        let den = self.den as u64;
+        let other_den = other.den as u64;
+        let first = gcd_words(size, other_den);
+        let second = gcd_words(other_size, den);
+        let num = wide(
+            quotient_words(size, first),
+            quotient_words(other_size, second),
+        );
+        let den = wide(
+            quotient_words(den, second),
+            quotient_words(other_den, first),
+        );
+        Frac::signed(opposite(self.num, other.num), num, den)
+    }
+
+    /// The sum, as the short one, with t carried as quotient and remainder by g.
+    fn long_sum(self, other: Frac) -> Option<Frac>
         ensures { AnswersHeld (λ q. q) is_held (self +ℚ other) result }
     {
         let common = gcd(self.den, other.den);
@@ -32,8 +126,8 @@ impl Frac {
         Some(Frac::signed(sum.negative, num, den))
     }
 
-    /// The product where it is held: each numerator is divided by what it has in common with the other denominator.
-    pub(crate) fn times(self, other: Frac) -> Option<Frac>
+    /// The product, as the short one.
+    fn long_product(self, other: Frac) -> Option<Frac>
         ensures { AnswersHeld (λ q. q) is_held (self *ℚ other) result }
     {
         let size = self.num.unsigned_abs();

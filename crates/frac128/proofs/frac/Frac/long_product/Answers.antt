@@ -3,7 +3,7 @@ use Rattle.std.proofs.lemmas.Int.{ints}
 use Rattle.frac128.specs.Signed.{differ, is_below_zero}
 use Rattle.frac128.proofs.Lowest.{product_lowest, stored, lowest_at, lowest_positive, lowest_coprime, lowest_held, lowest_wide_num, lowest_wide_den, lowest_same}
 use Rattle.frac128.proofs.Signs.{kept, same_signs}
-use Rattle.frac128.proofs.frac.Frac.times.Goals as goal
+use Rattle.frac128.proofs.frac.Frac.long_product.Goals as goal
 
 pub returns-in_err-num : goal.returns-in_err-num
 returns-in_err-num c =

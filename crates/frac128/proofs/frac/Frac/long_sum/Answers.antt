@@ -3,7 +3,7 @@ use Rattle.std.proofs.Math.Nat.{le_of_dvd, dvd_trans, div-le_self}
 use Rattle.frac128.proofs.Carried.{same_total}
 use Rattle.frac128.proofs.Lowest.{sum_lowest, sum_wide, stored, lowest_at, lowest_positive, lowest_coprime, lowest_held, lowest_wide_num, lowest_wide_den, lowest_same}
 use Rattle.frac128.proofs.Signs.{kept}
-use Rattle.frac128.proofs.frac.Frac.plus.Goals as goal
+use Rattle.frac128.proofs.frac.Frac.long_sum.Goals as goal
 
 pub returns-in_err-sum : goal.returns-in_err-sum
 returns-in_err-sum c =
