@@ -1,10 +1,10 @@
 -- The greatest common divisor of odd numbers by differences without their powers of 2.
-use Rattle.std.specs.Prelude.{◌≡◌, ℕ, zero, suc, ◌*◌, ◌+◌, ◌-◌, ◌/◌, ◌%◌, ◌^◌, ◌<◌, ◌≤◌, ◌⊎◌, min, max}
+use Rattle.std.specs.Prelude.{◌≡◌, ◌≢◌, ℕ, zero, suc, ◌*◌, ◌+◌, ◌-◌, ◌/◌, ◌%◌, ◌^◌, ◌<◌, ◌≤◌, ◌⊎◌, min, max}
 use mir.Syntax.{Width, w64}
 use mir.Val.{bits}
 use Rattle.std.specs.Int.{IsGcd, ◌∣◌, bit_at, trailing_zeros}
 use Rattle.std.proofs.Common.{arith, sym, ap, ◌∙◌, subst, inl, inr}
-use Rattle.std.proofs.Math.Nat.{one-dvd, dvd_refl, dvd_trans, dvd-mul_left, dvd-mul_right, mul-dvd-mul_left, dvd_of_mul-dvd-mul_left, mul-div_cancel', mul-div_cancel_left, mul_comm, mod-eq-zero_of_dvd, eq-zero_of_zero-dvd, le_of_dvd, mod-eq_of_lt, pow-suc, div-add-mod}
+use Rattle.std.proofs.Math.Nat.{one-dvd, dvd_refl, dvd_trans, dvd-mul_left, dvd-mul_right, mul-dvd-mul_left, dvd_of_mul-dvd-mul_left, mul-div_cancel', mul-div_cancel_left, mul_comm, mod-eq-zero_of_dvd, eq-zero_of_zero-dvd, le_of_dvd, mod-eq_of_lt, pow-suc, div-add-mod, mul-sub, lt_of_mul-lt-mul_left}
 use Rattle.std.proofs.lemmas.Bool.{cases_lt}
 use Rattle.std.proofs.lemmas.Nat.{pow_pos, pow-add, mod-pow-add}
 use Rattle.std.proofs.lemmas.Nat.Bits.{bit_at-trailing_zeros}
@@ -139,6 +139,40 @@ odd_part_is w n t e some small =
       bound = subst (λ (k : ℕ). k < bits w) (sym e) place.0;
     }
 
+half_of_word : (t : ℕ) → t < 64 → 2 ^ t * (2 * 2 ^ (63 - t)) ≡ 2 ^ 64
+half_of_word t below =
+    let sum : t + (1 + (63 - t)) ≡ 64 = omega arith in
+    ap (λ (z : ℕ). 2 ^ t * z) (sym (pow-add 2 1 (63 - t))) ∙ sym (pow-add 2 t (1 + (63 - t))) ∙ ap (λ (z : ℕ). 2 ^ z) sum
+
+-- a number has the power of 2 of what it lacks to 2^64
+pub odd_of_rest : (n m t : ℕ) → 0 < n → m + n ≡ 2 ^ 64 → IsOddPart w64 m t → IsOddPart w64 n t
+odd_of_rest n m t some e is =
+    let q : ℕ = m / 2 ^ t in
+    let h : ℕ = 2 ^ (63 - t) in
+    let split : 2 ^ t * (2 * h) ≡ 2 ^ 64 = half_of_word t is.bound in
+    let whole : 2 ^ t * q ≡ m = is.whole in
+    let odd : q % 2 ≡ 1 = is.odd in
+    let less : q < 2 * h = lt_of_mul-lt-mul_left (2 ^ t) (omega arith) in
+    let all : 2 ^ t * (2 * h - q) ≡ n = mul-sub (2 ^ t) (2 * h) q ∙ omega arith in
+    let quotient : n / 2 ^ t ≡ 2 * h - q = ap (λ (z : ℕ). z / 2 ^ t) (sym all) ∙ mul-div_cancel_left (2 * h - q) (pow_pos t) in
+    record {
+      whole = ap (λ (z : ℕ). 2 ^ t * z) quotient ∙ all;
+      odd = omega arith;
+      bound = is.bound;
+    }
+
+difference_by : (x y great less w t : ℕ) → x < 2 ^ 64 → y < 2 ^ 64 → x ≢ y → great ≡ max x y → less ≡ min x y → w ≡ (x + (2 ^ 64 - y)) % 2 ^ 64 → t ≡ trailing_zeros w64 w → (x < y) ⊎ (y ≤ x) → IsOddPart w64 (great - less) t
+difference_by x y great less w t hx hy other eg el ew et (inl h) =
+    let rest : w ≡ x + (2 ^ 64 - y) = ew ∙ mod-eq_of_lt (omega arith) in odd_of_rest (great - less) w t (omega arith) (omega arith) (odd_part_is w64 w t et (omega arith) (omega arith))
+difference_by x y great less w t hx hy other eg el ew et (inr h) =
+    let same : w ≡ great - less = omega arith in
+    let some : 0 < w = omega arith in
+    subst (λ (n : ℕ). IsOddPart w64 n t) same (odd_part_is w64 w t et some (omega arith))
+
+-- the difference of two words has the power of 2 of their wrapping difference
+pub odd_part_of_difference : (x y great less w t : ℕ) → x < 2 ^ 64 → y < 2 ^ 64 → x ≢ y → great ≡ max x y → less ≡ min x y → w ≡ (x + (2 ^ 64 - y)) % 2 ^ 64 → t ≡ trailing_zeros w64 w → IsOddPart w64 (great - less) t
+odd_part_of_difference x y great less w t hx hy other eg el ew et = difference_by x y great less w t hx hy other eg el ew et (cases_lt x y)
+
 -- a number whose low word is 0 has the odd part of its high word
 pub odd_of_high : (n h k r : ℕ) → n % 2 ^ 64 ≡ 0 → h ≡ n / 2 ^ 64 → 2 ^ k * r ≡ h → 2 ^ (64 + k) * r ≡ n
 odd_of_high n h k r low eh e =
@@ -153,8 +187,7 @@ pub odd_by_low : (n low t : ℕ) → low ≡ n % 2 ^ 64 → IsOddPart w64 low t 
 odd_by_low n low t e is =
     let whole : 2 ^ 64 * (n / 2 ^ 64) + n % 2 ^ 64 ≡ n = div-add-mod n (2 ^ 64) in
     let below : t < 64 = is.bound in
-    let sum : t + (1 + (63 - t)) ≡ 64 = omega arith in
-    let split : 2 ^ t * (2 * 2 ^ (63 - t)) ≡ 2 ^ 64 = ap (λ (z : ℕ). 2 ^ t * z) (sym (pow-add 2 1 (63 - t))) ∙ sym (pow-add 2 t (1 + (63 - t))) ∙ ap (λ (z : ℕ). 2 ^ z) sum in
+    let split : 2 ^ t * (2 * 2 ^ (63 - t)) ≡ 2 ^ 64 = half_of_word t below in
     let all : 2 ^ t * (2 * (2 ^ (63 - t) * (n / 2 ^ 64)) + low / 2 ^ t) ≡ n = omega (arith, is.whole, ap (λ (z : ℕ). z * (n / 2 ^ 64)) split) in
     let quotient : n / 2 ^ t ≡ 2 * (2 ^ (63 - t) * (n / 2 ^ 64)) + low / 2 ^ t = ap (λ (z : ℕ). z / 2 ^ t) (sym all) ∙ mul-div_cancel_left (2 * (2 ^ (63 - t) * (n / 2 ^ 64)) + low / 2 ^ t) (pow_pos t) in (
       ap (λ (z : ℕ). z % 2) quotient ∙ even_and_odd (2 ^ (63 - t)) (n / 2 ^ 64) (low / 2 ^ t) is.odd,

@@ -1,7 +1,7 @@
 -- Fractions whose parts are below 2^59, and their sums and products.
 use mir.Syntax.{w128}
 use mir.Val.{to_z, of_z}
-use Rattle.std.specs.Prelude.{◌≡◌, ℕ, ℤ, pos, ◌+◌, ◌*◌, ◌/◌, ◌+ℤ◌, ◌*ℤ◌, ◌^◌, ◌<◌, unsigned_abs, refl}
+use Rattle.std.specs.Prelude.{◌≡◌, ℕ, ℤ, pos, ◌*◌, ◌/◌, ◌+ℤ◌, ◌*ℤ◌, ◌^◌, ◌<◌, unsigned_abs, refl}
 use Rattle.std.specs.Int.{IsGcd}
 use Rattle.std.proofs.Common.{arith, sym, ap, ◌∙◌, subst}
 use Rattle.std.proofs.Math.Nat.{div-le_self}

@@ -1,5 +1,5 @@
 //! The greatest common divisor, quotients and products, in short ways where words hold the numbers.
-ghost use Rattle.std.specs.Prelude.{◌≡◌, ◌+◌, ◌*◌, ◌/◌, ◌%◌, ◌^◌, ◌<◌, ◌≤◌, ℕ, SomeIff};
+ghost use Rattle.std.specs.Prelude.{◌≡◌, ◌≢◌, ◌+◌, ◌-◌, ◌*◌, max, min, ◌/◌, ◌%◌, ◌^◌, ◌<◌, ◌≤◌, ℕ, SomeIff};
 ghost use Rattle.std.specs.Int.{IsGcd};
 
 use crate::size::{LIMIT, WORD, bits};
@@ -13,6 +13,17 @@ fn odd_part(n: u64) -> u64
     n >> n.trailing_zeros()
 }
 
+/// The difference without its power of 2. Its zeros are counted in the wrapping difference, which has as many and is
+/// known before the greater number is.
+fn odd_difference(x: u64, y: u64) -> u64
+    requires { x ≢ y }
+    ensures odd { result % 2 ≡ 1 }
+    ensures power { (k : ℕ) × (2 ^ k * result ≡ max x y - min x y) }
+{
+    let zeros = x.wrapping_sub(y).trailing_zeros();
+    (x.max(y) - x.min(y)) >> zeros
+}
+
 fn gcd_odd(a: u64, b: u64) -> u64
     requires a_odd { a % 2 ≡ 1 }
     requires b_odd { b % 2 ≡ 1 }
@@ -22,7 +33,7 @@ fn gcd_odd(a: u64, b: u64) -> u64
     let mut y = b;
     while x != y {
         let less = x.min(y);
-        x = odd_part(x.max(y) - less);
+        x = odd_difference(x, y);
         y = less;
     }
     x
