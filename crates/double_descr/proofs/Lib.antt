@@ -2,6 +2,7 @@ pub mod Covering
 pub mod KeptNext
 pub mod MadePairs
 pub mod MarkedSoFar
+pub mod NegativePlaces
 pub mod NextLists
 pub mod NormedCorners
 pub mod NormingLeft

@@ -153,16 +153,6 @@ pair_fault value holds uncovered block (Elim fault) e h = h
 pair_fault value holds uncovered block NoMemory e h = tt
 
 -- ---- the candidates
-pub negatives_at : (row : List ℚ) (p m : Numbered) (all all' : List Numbered) → all ≡ m ∷ all' → (b : Bool) → b ≡ lt_ℚ (dot row m.vector) zero_ℚ →
-    with_negatives row p all ≡ cond b (record { plus_side = p; minus_side = m } ∷ with_negatives row p all') (with_negatives row p all')
-negatives_at row p m all all' e b f = ap (with_negatives row p) e ∙ ap (λ c. map (λ k. record { plus_side = p; minus_side = k }) (cond c (m ∷ filter (λ g. lt_ℚ (dot row g.vector) zero_ℚ) all')
-    (filter (λ g. lt_ℚ (dot row g.vector) zero_ℚ) all'))) (sym f) ∙ go b
-  where
-    go : (c : Bool) → map (λ k. record { plus_side = p; minus_side = k }) (cond c (m ∷ filter (λ g. lt_ℚ (dot row g.vector) zero_ℚ) all') (filter (λ g. lt_ℚ (dot row g.vector) zero_ℚ) all'))
-        ≡ cond c (record { plus_side = p; minus_side = m } ∷ with_negatives row p all') (with_negatives row p all')
-    go true = refl
-    go false = refl
-
 -- the candidates of all generators are the opposite pairs
 pub candidates_are : (row : List ℚ) (ps all : List Numbered) →
     candidates row ps all ≡ products (filter (λ g. lt_ℚ zero_ℚ (dot row g.vector)) ps) (filter (λ g. lt_ℚ (dot row g.vector) zero_ℚ) all)

@@ -1,5 +1,5 @@
 -- The new generators of an addition, made one opposite pair at a time.
-use Rattle.std.specs.Prelude.{ℕ, ◌+◌, ◌<◌, ◌≡◌, List, [], ◌∷◌, ◌++◌, map, length, filter, All, Contains, Bool, true, false, if◌then◌else◌}
+use Rattle.std.specs.Prelude.{ℕ, suc, ◌+◌, ◌<◌, ◌≡◌, List, [], ◌∷◌, ◌++◌, map, length, get_or, filter, All, Contains, Bool, true, false, if◌then◌else◌}
 use Rattle.exact_field.specs.Rational.{ℚ, zero_ℚ, lt_ℚ, ◌<ℚ◌}
 use Rattle.exact_field.specs.Vector.{dot}
 use Rattle.polyhedra.specs.DoubleDescription.{normed, made}
@@ -35,6 +35,15 @@ candidates_of row p live = if lt_ℚ zero_ℚ (dot row p.vector) then with_negat
 abbrev pub candidates : List ℚ → List Numbered → List Numbered → List LivePair
 candidates row [] live = []
 candidates row (p ∷ ps) live = candidates_of row p live ++ candidates row ps live
+
+-- the places of the numbers below 0, where the first number has this place
+abbrev pub negative_places : ℕ → List ℚ → List ℕ
+negative_places first [] = []
+negative_places first (x ∷ xs) = if lt_ℚ x zero_ℚ then first ∷ negative_places (suc first) xs else negative_places (suc first) xs
+
+-- the pair of a generator with the one at this place
+abbrev pub pair_at : {F : Type 0} → (F → ℚ) → List (Generator F) → Generator F → ℕ → LivePair
+pair_at value gens p j = record { plus_side = numbered_of value p; minus_side = get_or (live_of value gens) j (numbered_of value p) }
 
 -- one pair was taken, with its new generator, or was covered and left out
 pub record AddsPair {F : Type 0} (value : F → ℚ) (holds : ℚ → Bool) (p m : Generator F) (a b : ℚ) (old new : Made F) : Type 0 where

@@ -1,18 +1,18 @@
 //! The new generators of an addition.
-ghost use Rattle.std.specs.Prelude.{◌≡◌, ◌≢◌, ◌+◌, ◌<◌, ◌++◌, ℕ, List, All, Contains, [], IfErr, OnOk, drop, length};
+ghost use Rattle.std.specs.Prelude.{◌≡◌, ◌≢◌, ◌+◌, ◌<◌, ◌++◌, ℕ, List, All, Contains, [], ◌∷◌, IfErr, OnOk, drop, get_or, length, map};
 ghost use Rattle.exact_field.specs.Rational.{ℚ, zero_ℚ, ◌<ℚ◌};
 ghost use Rattle.exact_field.specs.Vector.{dot};
 ghost use Rattle.polyhedra.specs.DoubleDescription.{norming};
 ghost use Rattle.polyhedra.specs.LiveList.{LivePair, Numbered, is_uncovered_live, live_pairs};
 ghost use Rattle.double_descr.specs.Adding.{IsAddFault, block_of, pair_blocks};
-ghost use Rattle.double_descr.specs.Making.{IsAddition, IsMadeSoFar, IsPairFault, IsPlus, IsTried, candidates, with_negatives};
+ghost use Rattle.double_descr.specs.Making.{IsAddition, IsMadeSoFar, IsPairFault, IsPlus, IsTried, candidates, negative_places, pair_at, with_negatives};
 ghost use Rattle.double_descr.specs.State.{AreTwoLive, live_of, numbered_of, pair_of};
 ghost use Rattle.double_descr.specs.Steps.{between, values};
 
 use crate::fault::{DdFault, Pair};
 use crate::generator::{Generator, between_two};
 use crate::pairs::are_adjacent;
-use crate::signs::{is_above, is_below};
+use crate::signs::is_above;
 use exact_field::Field;
 use incid_sets::Marks;
 use src_sink::{Items, MOST_ITEMS};
@@ -72,8 +72,8 @@ fn try_pair<F: Field>(
     Ok(())
 }
 
-/// Makes the new generator of one generator, at which the row is positive, with generator `j`, if the row is negative there.
-fn try_minus<F: Field>(
+/// Makes the new generator of one generator, at which the row is positive, with generator `j`, at which it is negative.
+fn meet_at<F: Field>(
     alloc: Global,
     generators: &[Generator<F>],
     values: &[F],
@@ -85,42 +85,35 @@ fn try_minus<F: Field>(
     requires plus { (n : ℕ) × (rows : List (List ℚ)) × (row : List ℚ) × IsPlus F.value n rows row generators.now values.now plus.now at_plus × (length so_far.old.common ≡ length rows) }
     requires same { length values.now ≡ length generators.now }
     requires inside { j < length generators.now }
+    requires below { get_or (map F.value values.now) j zero_ℚ <ℚ zero_ℚ }
     ensures bound { length so_far.new.common ≡ length so_far.old.common }
-    ensures ok { (kept : List Numbered) (n next : ℕ) (rows : List (List ℚ)) (row : List ℚ) (left : List LivePair) → IsPlus F.value n rows row generators.now values.now plus.now at_plus → IsMadeSoFar F.value F.holds rows row (live_of F.value generators.now) kept next (with_negatives row (numbered_of F.value plus.now) (drop j (live_of F.value generators.now)) ++ left) so_far.old → OnOk result (IsMadeSoFar F.value F.holds rows row (live_of F.value generators.now) kept next (with_negatives row (numbered_of F.value plus.now) (drop (j + 1) (live_of F.value generators.now)) ++ left) so_far.new) }
-    ensures left { (kept : List Numbered) (n next : ℕ) (rows : List (List ℚ)) (row : List ℚ) (left : List LivePair) → IsPlus F.value n rows row generators.now values.now plus.now at_plus → IsMadeSoFar F.value F.holds rows row (live_of F.value generators.now) kept next (with_negatives row (numbered_of F.value plus.now) (drop j (live_of F.value generators.now)) ++ left) so_far.old → IfErr result (λ fault. IsAddFault F.value F.holds (pair_blocks rows (live_of F.value generators.now) row) fault) }
+    ensures ok { (kept : List Numbered) (n next : ℕ) (rows : List (List ℚ)) (row : List ℚ) (left : List LivePair) → IsPlus F.value n rows row generators.now values.now plus.now at_plus → IsMadeSoFar F.value F.holds rows row (live_of F.value generators.now) kept next (pair_at F.value generators.now plus.now j ∷ left) so_far.old → OnOk result (IsMadeSoFar F.value F.holds rows row (live_of F.value generators.now) kept next left so_far.new) }
+    ensures left { (kept : List Numbered) (n next : ℕ) (rows : List (List ℚ)) (row : List ℚ) (left : List LivePair) → IsPlus F.value n rows row generators.now values.now plus.now at_plus → IsMadeSoFar F.value F.holds rows row (live_of F.value generators.now) kept next (pair_at F.value generators.now plus.now j ∷ left) so_far.old → IfErr result (λ fault. IsAddFault F.value F.holds (pair_blocks rows (live_of F.value generators.now) row) fault) }
 {
+    let minus = &generators[j];
     let at_minus = values[j];
-    if !is_below(at_minus) {
-        return Ok(());
-    }
-    try_pair(
-        alloc,
-        generators,
-        plus,
-        &generators[j],
-        at_plus,
-        at_minus,
-        so_far,
-    )
+    try_pair(alloc, generators, plus, minus, at_plus, at_minus, so_far)
 }
 
-/// Makes the new generators of one generator at which the row is positive, with each at which it is negative.
+/// Makes the new generators of one generator at which the row is positive, with each at which it is negative, from their places.
 fn meet_with<F: Field>(
     alloc: Global,
     generators: &[Generator<F>],
     values: &[F],
     plus: &Generator<F>,
     at_plus: F,
+    below: &[usize],
     so_far: &mut Made<F>,
 ) -> Result<(), DdFault<F>>
     requires plus { (n : ℕ) × (rows : List (List ℚ)) × (row : List ℚ) × IsPlus F.value n rows row generators.now values.now plus.now at_plus × (length so_far.old.common ≡ length rows) }
     requires same { length values.now ≡ length generators.now }
+    requires places { below.now ≡ negative_places 0 (map F.value values.now) }
     ensures bound { length so_far.new.common ≡ length so_far.old.common }
     ensures ok { (kept : List Numbered) (n next : ℕ) (rows : List (List ℚ)) (row : List ℚ) (left : List LivePair) → IsPlus F.value n rows row generators.now values.now plus.now at_plus → IsMadeSoFar F.value F.holds rows row (live_of F.value generators.now) kept next (with_negatives row (numbered_of F.value plus.now) (live_of F.value generators.now) ++ left) so_far.old → OnOk result (IsMadeSoFar F.value F.holds rows row (live_of F.value generators.now) kept next left so_far.new) }
     ensures left { (kept : List Numbered) (n next : ℕ) (rows : List (List ℚ)) (row : List ℚ) (left : List LivePair) → IsPlus F.value n rows row generators.now values.now plus.now at_plus → IsMadeSoFar F.value F.holds rows row (live_of F.value generators.now) kept next (with_negatives row (numbered_of F.value plus.now) (live_of F.value generators.now) ++ left) so_far.old → IfErr result (λ fault. IsAddFault F.value F.holds (pair_blocks rows (live_of F.value generators.now) row) fault) }
 {
-    for j in 0..generators.len() {
-        try_minus(alloc, generators, values, plus, at_plus, j, so_far)?;
+    for k in 0..below.len() {
+        meet_at(alloc, generators, values, plus, at_plus, below[k], so_far)?;
     }
     Ok(())
 }
@@ -130,11 +123,13 @@ fn try_plus<F: Field>(
     alloc: Global,
     generators: &[Generator<F>],
     values: &[F],
+    below: &[usize],
     i: usize,
     so_far: &mut Made<F>,
 ) -> Result<(), DdFault<F>>
     requires addition { (n : ℕ) × (rows : List (List ℚ)) × (row : List ℚ) × IsAddition F.value n rows row generators.now values.now × (length so_far.old.common ≡ length rows) }
     requires same { length values.now ≡ length generators.now }
+    requires places { below.now ≡ negative_places 0 (map F.value values.now) }
     requires inside { i < length generators.now }
     ensures bound { length so_far.new.common ≡ length so_far.old.common }
     ensures ok { (kept : List Numbered) (n next : ℕ) (rows : List (List ℚ)) (row : List ℚ) → IsAddition F.value n rows row generators.now values.now → IsMadeSoFar F.value F.holds rows row (live_of F.value generators.now) kept next (candidates row (drop i (live_of F.value generators.now)) (live_of F.value generators.now)) so_far.old → OnOk result (IsMadeSoFar F.value F.holds rows row (live_of F.value generators.now) kept next (candidates row (drop (i + 1) (live_of F.value generators.now)) (live_of F.value generators.now)) so_far.new) }
@@ -145,25 +140,27 @@ fn try_plus<F: Field>(
     if !is_above(at_plus) {
         return Ok(());
     }
-    meet_with(alloc, generators, values, plus, at_plus, so_far)
+    meet_with(alloc, generators, values, plus, at_plus, below, so_far)
 }
 
-/// Makes all new generators of an addition, from the values of the row at the live generators. The cost is at the worst that
-/// of the opposite pairs times the live generators times the words of a tight set. Pairs with too few common tight rows are not
-/// scanned, and most other scans stop early.
+/// Makes all new generators of an addition, from the values of the row at the live generators, and the places of those below 0.
+/// The cost is at the worst that of the opposite pairs times the live generators times the words of a tight set. Pairs with too
+/// few common tight rows are not scanned, and most other scans stop early.
 pub fn meet_all<F: Field>(
     alloc: Global,
     generators: &[Generator<F>],
     values: &[F],
+    below: &[usize],
     so_far: &mut Made<F>,
 ) -> Result<(), DdFault<F>>
     requires addition { (n : ℕ) × (rows : List (List ℚ)) × (row : List ℚ) × IsAddition F.value n rows row generators.now values.now × (length so_far.old.common ≡ length rows) }
     requires same { length values.now ≡ length generators.now }
+    requires places { below.now ≡ negative_places 0 (map F.value values.now) }
     ensures ok { (kept : List Numbered) (n next : ℕ) (rows : List (List ℚ)) (row : List ℚ) → IsAddition F.value n rows row generators.now values.now → IsMadeSoFar F.value F.holds rows row (live_of F.value generators.now) kept next (candidates row (live_of F.value generators.now) (live_of F.value generators.now)) so_far.old → OnOk result (IsMadeSoFar F.value F.holds rows row (live_of F.value generators.now) kept next [] so_far.new) }
     ensures left { (kept : List Numbered) (n next : ℕ) (rows : List (List ℚ)) (row : List ℚ) → IsAddition F.value n rows row generators.now values.now → IsMadeSoFar F.value F.holds rows row (live_of F.value generators.now) kept next (candidates row (live_of F.value generators.now) (live_of F.value generators.now)) so_far.old → IfErr result (λ fault. IsAddFault F.value F.holds (pair_blocks rows (live_of F.value generators.now) row) fault) }
 {
     for i in 0..generators.len() {
-        try_plus(alloc, generators, values, i, so_far)?;
+        try_plus(alloc, generators, values, below, i, so_far)?;
     }
     Ok(())
 }

@@ -11,7 +11,7 @@ ghost use Rattle.double_descr.specs.Steps.{values};
 use crate::fault::{Change, DdFault};
 use crate::generator::Generator;
 use crate::made::{Made, meet_all};
-use crate::parts::{keep_all, numbers_of, values_at};
+use crate::parts::{keep_all, numbers_of, places_below, values_at};
 use exact_field::Field;
 use incid_sets::Marks;
 use src_sink::{Items, MOST_ITEMS, NoMemory};
@@ -81,7 +81,14 @@ pub fn next_list<F: Field>(
 {
     let vals = values_at(alloc, row, generators)?;
     let (mut so_far, dropped) = begin(alloc, count, generators, vals.as_slice(), first_new)?;
-    meet_all(alloc, generators, vals.as_slice(), &mut so_far)?;
+    let below = places_below(alloc, vals.as_slice())?;
+    meet_all(
+        alloc,
+        generators,
+        vals.as_slice(),
+        below.as_slice(),
+        &mut so_far,
+    )?;
     let next = first_new as usize + so_far.pairs.len();
     if next > MOST_ITEMS + 1 {
         return Err(DdFault::NoMemory);

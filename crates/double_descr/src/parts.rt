@@ -1,9 +1,10 @@
-//! The parts of an addition: the values of the row, and the generators that stay.
+//! The parts of an addition: the values of the row, the places of those below 0, and the generators that stay.
 ghost use Rattle.std.specs.Prelude.{◌≡◌, ◌+◌, ◌<◌, ◌++◌, List, All, [], ◌∷◌, IfErr, IfOk, MatchResult, OnOk, length, map};
 ghost use Rattle.exact_field.specs.Rational.{ℚ};
 ghost use Rattle.exact_field.specs.Vector.{dot};
 ghost use Rattle.polyhedra.specs.LiveList.{dropped, staying};
 ghost use Rattle.double_descr.specs.Adding.{AreHeld, IsAddFault, IsFault, value_block};
+ghost use Rattle.double_descr.specs.Making.{negative_places};
 ghost use Rattle.double_descr.specs.State.{HasTightSet, live_of, numbered_of};
 ghost use Rattle.double_descr.specs.Steps.{values};
 
@@ -48,6 +49,19 @@ pub fn values_at<F: Field>(
     let mut out = Items::new(alloc);
     for i in 0..generators.len() {
         out.push(value_at(row, &generators[i])?)?;
+    }
+    Ok(out)
+}
+
+/// The places of the values below 0, rising.
+pub fn places_below<F: Field>(alloc: Global, values: &[F]) -> Result<Items<usize>, NoMemory>
+    ensures { IfOk result (λ places. places ≡ negative_places 0 (map F.value values.now)) }
+{
+    let mut out = Items::new(alloc);
+    for j in 0..values.len() {
+        if is_below(values[j]) {
+            out.push(j)?;
+        }
     }
     Ok(out)
 }

@@ -33,8 +33,8 @@ meet_all-requires-clause-addition g c =
       n,
       rows,
       row,
-      addition value holds n rows row gens first l tight c.as_slice-2.result.now (length-map c.args.row.now value)
-          c.requires.narrow (omega (arith, many, c.requires.room)) (ap (map value) c.as_slice-2.ensures.items ∙ c.in_ok-vals.ensures.value),
+      addition value holds n rows row gens first l tight c.as_slice-3.result.now (length-map c.args.row.now value)
+          c.requires.narrow (omega (arith, many, c.requires.room)) (ap (map value) c.as_slice-3.ensures.items ∙ c.in_ok-vals.ensures.value),
       c.in_ok-so_far.ensures.bound ∙ sym many,
     )
 
@@ -47,8 +47,8 @@ returns-in_err-meet_all-clause-left g c = λ rows l tight many.
     let row = map value c.args.row.now in
     let first = c.args.first_new in
     let so_far = c.in_ok-so_far.so_far in
-    let ctx : IsAddition value n rows row gens c.as_slice-2.result.now = addition value holds n rows row gens first l tight c.as_slice-2.result.now (length-map c.args.row.now value)
-    c.requires.narrow (omega (arith, many, c.requires.room)) (ap (map value) c.as_slice-2.ensures.items ∙ c.in_ok-vals.ensures.value) in
+    let ctx : IsAddition value n rows row gens c.as_slice-3.result.now = addition value holds n rows row gens first l tight c.as_slice-3.result.now (length-map c.args.row.now value)
+    c.requires.narrow (omega (arith, many, c.requires.room)) (ap (map value) c.as_slice-3.ensures.items ∙ c.in_ok-vals.ensures.value) in
     let at = ap (map value) c.as_slice.ensures.items ∙ c.in_ok-vals.ensures.value in
     let start : IsMadeSoFar value holds rows row (live_of value gens) (staying row (live_of value gens)) first (candidates row (live_of value gens) (live_of value gens)) so_far =
     begun value holds n rows row gens first l tight so_far c.in_ok-so_far.ensures.pairs (c.in_ok-so_far.ensures.stays row at)
@@ -66,8 +66,8 @@ returns-clause-next g c = λ rows l tight many.
     let row = map value c.args.row.now in
     let first = c.args.first_new in
     let so_far = c.in_ok-so_far.so_far in
-    let ctx : IsAddition value n rows row gens c.as_slice-2.result.now = addition value holds n rows row gens first l tight c.as_slice-2.result.now (length-map c.args.row.now value)
-    c.requires.narrow (omega (arith, many, c.requires.room)) (ap (map value) c.as_slice-2.ensures.items ∙ c.in_ok-vals.ensures.value) in
+    let ctx : IsAddition value n rows row gens c.as_slice-3.result.now = addition value holds n rows row gens first l tight c.as_slice-3.result.now (length-map c.args.row.now value)
+    c.requires.narrow (omega (arith, many, c.requires.room)) (ap (map value) c.as_slice-3.ensures.items ∙ c.in_ok-vals.ensures.value) in
     let at = ap (map value) c.as_slice.ensures.items ∙ c.in_ok-vals.ensures.value in
     let start : IsMadeSoFar value holds rows row (live_of value gens) (staying row (live_of value gens)) first (candidates row (live_of value gens) (live_of value gens)) so_far =
     begun value holds n rows row gens first l tight so_far c.in_ok-so_far.ensures.pairs (c.in_ok-so_far.ensures.stays row at)
@@ -80,7 +80,7 @@ returns-clause-next g c = λ rows l tight many.
       change = record { dropped = c.in_ok-so_far.dropped; pairs = c.meet_all.new.so_far.pairs; first_new = first };
     })) (sym c.len.ensures.value)
     (next_is value holds n rows row gens first l tight c.meet_all.new.so_far h c.in_ok-numbers.numbers
-    (c.in_ok-numbers.ensures ∙ ap (map (λ (u : Generator _). u.number)) c.as_slice-3.ensures.items)
+    (c.in_ok-numbers.ensures ∙ ap (map (λ (u : Generator _). u.number)) c.as_slice-5.ensures.items)
     (record { dropped = c.in_ok-so_far.dropped; pairs = c.meet_all.new.so_far.pairs; first_new = first }))
 
 pub returns-clause-change : goal.returns-clause-change
@@ -92,8 +92,8 @@ returns-clause-change g c = λ rows l tight many.
     let row = map value c.args.row.now in
     let first = c.args.first_new in
     let so_far = c.in_ok-so_far.so_far in
-    let ctx : IsAddition value n rows row gens c.as_slice-2.result.now = addition value holds n rows row gens first l tight c.as_slice-2.result.now (length-map c.args.row.now value)
-    c.requires.narrow (omega (arith, many, c.requires.room)) (ap (map value) c.as_slice-2.ensures.items ∙ c.in_ok-vals.ensures.value) in
+    let ctx : IsAddition value n rows row gens c.as_slice-3.result.now = addition value holds n rows row gens first l tight c.as_slice-3.result.now (length-map c.args.row.now value)
+    c.requires.narrow (omega (arith, many, c.requires.room)) (ap (map value) c.as_slice-3.ensures.items ∙ c.in_ok-vals.ensures.value) in
     let at = ap (map value) c.as_slice.ensures.items ∙ c.in_ok-vals.ensures.value in
     let start : IsMadeSoFar value holds rows row (live_of value gens) (staying row (live_of value gens)) first (candidates row (live_of value gens) (live_of value gens)) so_far =
     begun value holds n rows row gens first l tight so_far c.in_ok-so_far.ensures.pairs (c.in_ok-so_far.ensures.stays row at)
@@ -111,8 +111,8 @@ returns-clause-held g c = λ rows l tight many.
     let row = map value c.args.row.now in
     let first = c.args.first_new in
     let so_far = c.in_ok-so_far.so_far in
-    let ctx : IsAddition value n rows row gens c.as_slice-2.result.now = addition value holds n rows row gens first l tight c.as_slice-2.result.now (length-map c.args.row.now value)
-    c.requires.narrow (omega (arith, many, c.requires.room)) (ap (map value) c.as_slice-2.ensures.items ∙ c.in_ok-vals.ensures.value) in
+    let ctx : IsAddition value n rows row gens c.as_slice-3.result.now = addition value holds n rows row gens first l tight c.as_slice-3.result.now (length-map c.args.row.now value)
+    c.requires.narrow (omega (arith, many, c.requires.room)) (ap (map value) c.as_slice-3.ensures.items ∙ c.in_ok-vals.ensures.value) in
     let at = ap (map value) c.as_slice.ensures.items ∙ c.in_ok-vals.ensures.value in
     let start : IsMadeSoFar value holds rows row (live_of value gens) (staying row (live_of value gens)) first (candidates row (live_of value gens) (live_of value gens)) so_far =
     begun value holds n rows row gens first l tight so_far c.in_ok-so_far.ensures.pairs (c.in_ok-so_far.ensures.stays row at)
