@@ -1,5 +1,5 @@
 -- What an `add` entry does to the live generators, by the parts that the calls go through.
-use Rattle.std.specs.Prelude.{◌≡◌, ℕ, suc, ◌+◌, ◌<◌, ◌≤◌, List, [], ◌∷◌, ◌++◌, length, map, filter, take, drop, All, AllPairs, ◌&&◌, Bool, false, not, ◌||◌, nat_eq, if◌then◌else◌, None}
+use Rattle.std.specs.Prelude.{◌≡◌, ℕ, suc, ◌+◌, ◌<◌, ◌≤◌, List, [], ◌∷◌, ◌++◌, length, map, filter, take, drop, All, AllPairs, Bool, false, not, ◌||◌, nat_eq, if◌then◌else◌, None}
 use Rattle.std.specs.List.{flat_map}
 use Rattle.exact_field.specs.Rational.{ℚ, zero_ℚ, one_ℚ, neg_ℚ, ◌*ℚ◌, ◌/ℚ◌, le_ℚ, lt_ℚ}
 use Rattle.exact_field.specs.Vector.{dot, entry}
@@ -77,17 +77,21 @@ pair_events q a b plus minus =
 abbrev pub new_entries : ℕ → List ℚ → List ℚ
 new_entries q z = map (λ x. x /ℚ divisor q z) (take q z) ++ (if is_zero (entry z (suc q)) then zero_ℚ else one_ℚ) ∷ []
 
--- the pair of two generators that a row parts and no third one covers, or none
-abbrev pub uncovered_pair : List (List ℚ) → List Numbered → List ℚ → Numbered → Numbered → List LogPair
-uncovered_pair rows live row p m =
-    if lt_ℚ (value row m) zero_ℚ && is_uncovered_live rows live record { plus_side = p; minus_side = m } then record { plus = p.number; minus = m.number } ∷ [] else []
+-- the pair of two generators, if no third one covers it
+abbrev pub uncovered_pair : List (List ℚ) → List Numbered → Numbered → Numbered → List LogPair
+uncovered_pair rows live p m =
+    if is_uncovered_live rows live record { plus_side = p; minus_side = m } then record { plus = p.number; minus = m.number } ∷ [] else []
 
--- the pairs of a generator with those of a list, and of the generators of a list at which the row is positive with all live ones
-abbrev pub pairs_with : List (List ℚ) → List Numbered → List ℚ → Numbered → List Numbered → List LogPair
-pairs_with rows live row p ms = flat_map (uncovered_pair rows live row p) ms
+-- the generators at which a row is negative
+abbrev pub negatives_of : List ℚ → List Numbered → List Numbered
+negatives_of row live = filter (λ g. lt_ℚ (value row g) zero_ℚ) live
+
+-- the pairs of a generator with those of a list, and of the generators of a list at which the row is positive with those at which it is negative
+abbrev pub pairs_with : List (List ℚ) → List Numbered → Numbered → List Numbered → List LogPair
+pairs_with rows live p ms = flat_map (uncovered_pair rows live p) ms
 
 abbrev pub pairs_at : List (List ℚ) → List Numbered → List ℚ → Numbered → List LogPair
-pairs_at rows live row p = if lt_ℚ zero_ℚ (value row p) then pairs_with rows live row p live else []
+pairs_at rows live row p = if lt_ℚ zero_ℚ (value row p) then pairs_with rows live p (negatives_of row live) else []
 
 abbrev pub pairs_from : List (List ℚ) → List Numbered → List ℚ → List Numbered → List LogPair
 pairs_from rows live row ps = flat_map (pairs_at rows live row) ps

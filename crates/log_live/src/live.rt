@@ -64,6 +64,22 @@ fn no_rows(alloc: Global, generators: &[Generator]) -> Result<Marks, NoMemory>
     Marks::new(alloc, bound)
 }
 
+/// Whether the pairs are those that a row with these values asks for.
+fn are_asked(
+    alloc: Global,
+    generators: &[Generator],
+    values: &[Frac],
+    pairs: &[LogPair],
+) -> Result<bool, NoMemory>
+    requires values { length values.now ≡ length generators.now }
+    requires rows { (rows : List (List ℚ)) × All (HasTightSet rows) generators.now }
+    ensures { (rows : List (List ℚ)) (row : List ℚ) → All (HasTightSet rows) generators.now → values.now ≡ map (λ g. dot row g.vector) generators.now
+        → IfOk result (λ answer. answer ≡ same_pairs pairs.now (required_pairs rows (live_of generators.now) row)) }
+{
+    let common = no_rows(alloc, generators)?;
+    has_pairs(alloc, generators, values, pairs, common)
+}
+
 /// The test that the pairs are those that a row with these values asks for.
 fn test_pairs(
     alloc: Global,
@@ -76,8 +92,8 @@ fn test_pairs(
     ensures { (rows : List (List ℚ)) (row : List ℚ) (taken : ℕ) → All (HasTightSet rows) generators.now → values.now ≡ map (λ g. dot row g.vector) generators.now
         → Runs is_held (test rule.Pairs (same_pairs pairs.now (required_pairs rows (live_of generators.now) row)) ∷ []) taken taken (λ _. ⊤) result }
 {
-    match no_rows(alloc, generators) {
-        Ok(common) => pass(Rule::Pairs, has_pairs(generators, values, pairs, common)),
+    match are_asked(alloc, generators, values, pairs) {
+        Ok(asked) => pass(Rule::Pairs, asked),
         Err(_) => Err(Stop::NoMemory),
     }
 }

@@ -82,11 +82,12 @@ fn are_required(
     assert!(rt; numbers.len() == live.len());
     assert!(rt; are_below(common.bound(), live.as_slice()));
     Ok(has_pairs(
+        alloc,
         live.as_slice(),
         numbers.as_slice(),
         named.as_slice(),
         common,
-    ))
+    )?)
 }
 
 #[test]
