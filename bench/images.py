@@ -9,6 +9,7 @@ import collections
 import os
 import re
 import resource
+import shutil
 import signal
 import subprocess
 import sys
@@ -99,11 +100,11 @@ def files():
         yield from (make(count, columns, number) for count, columns in sizes for number in (1, 2))
 
 
-def run(words):
+def run(words, limit=LIMIT):
     """One run, with the seconds of processor time that it and what it started took; None for a status if it was ended."""
     with tempfile.TemporaryFile() as out:
-        limit = lambda: resource.setrlimit(resource.RLIMIT_CPU, (LIMIT, LIMIT + 1))
-        child = subprocess.Popen(words, stdout=out, stderr=subprocess.DEVNULL, preexec_fn=limit)
+        set_limit = lambda: resource.setrlimit(resource.RLIMIT_CPU, (limit, limit + 1))
+        child = subprocess.Popen(words, stdout=out, stderr=subprocess.DEVNULL, preexec_fn=set_limit)
         _, status, used = os.wait4(child.pid, 0)
         child.returncode = os.waitstatus_to_exitcode(status)
         out.seek(0)
@@ -184,6 +185,23 @@ def seconds(each):
     return f"over {LIMIT}" if each.status is None else f"{each.time:.3f}"
 
 
+def pivots(program, path, log, folder):
+    """How many pivots a run of the program takes, as valgrind counts the calls; none where valgrind is not there."""
+    counts = os.path.join(folder, "counts")
+    words = ["valgrind", "--tool=callgrind", f"--callgrind-out-file={counts}", program, "solve", path, log]
+    if not shutil.which(words[0]) or run(words, 100 * LIMIT).status is None:
+        return ""
+    names, total, called = {}, 0, None
+    with open(counts) as lines:
+        for line in lines:
+            name = re.match(r"c?fn=(\(\d+\))(?: (.*))?", line)
+            if name:
+                called = names.setdefault(name.group(1), name.group(2))
+            elif line.startswith("calls=") and called and called.startswith("lin_rows::tableau::Tableau::pivot::"):
+                total += int(line[len("calls="):].split()[0])
+    return str(total)
+
+
 def row(each, program, folder):
     """Prints the line of a problem; returns its status and whether all answers are the same."""
     path, log = os.path.join(folder, each.name + ".vlp"), os.path.join(folder, each.name + ".log")
@@ -203,6 +221,7 @@ def row(each, program, folder):
     else:
         print(" | | |", end="")
     print(f" {seconds(theirs[0])} | {seconds(theirs[1])} | {asked.group(1) if asked else ''} |", end="")
+    print(f" {pivots(program, path, log, folder) if mine and mine.status == 0 else ''} |", end="")
     ratios = [f"{mine.time / r.time:.2f}" if mine and mine.status == 0 and r.status == 0 else "" for r in theirs]
     print(f" {ratios[0]} | {ratios[1]} |", end="")
     print("" if same else " DIFFERENT", flush=True)
@@ -222,8 +241,8 @@ def main():
     if program and not os.access(program, os.X_OK):
         sys.exit(f"{program} is not built")
     print("| file | constraints x columns, objectives | points / directions / facets | bits | bits in the log | status | ours, s "
-          "| PPL, s | QSopt_ex and PPL, s | programs | beside PPL | beside QSopt_ex and PPL |")
-    print("|" + "---|" * 12)
+          "| PPL, s | QSopt_ex and PPL, s | programs | pivots | beside PPL | beside QSopt_ex and PPL |")
+    print("|" + "---|" * 13)
     statuses, same = [], True
     with tempfile.TemporaryDirectory() as folder:
         for each in files():

@@ -177,74 +177,92 @@ fn hints(rt: HostRuntime) -> Result<(), Fail> {
     Ok(())
 }
 
+/// How a program is to end, in whole numbers.
+enum Wanted {
+    /// With this solution, these multipliers and this basis.
+    Optimal(&'static [i64], &'static [i64], &'static [u32]),
+    /// With none.
+    Infeasible,
+    /// Without limit along this ray.
+    Unbounded(&'static [i64]),
+}
+
+/// Programs of one equation, one behind the other: its row, its right side, the cost and the end.
+const TURNS: [(&[i64], i64, &[i64], Wanted); 8] = [
+    (
+        &[1, 1, 1],
+        2,
+        &[1, 0, 0],
+        Wanted::Optimal(&[2, 0, 0], &[1], &[1]),
+    ),
+    (
+        &[1, 1, 1],
+        2,
+        &[0, 0, 1],
+        Wanted::Optimal(&[0, 0, 2], &[1], &[3]),
+    ),
+    // Each basis is best, and the last one stays.
+    (
+        &[1, 1, 1],
+        2,
+        &[0, 0, 0],
+        Wanted::Optimal(&[0, 0, 2], &[0], &[3]),
+    ),
+    // Another right side, and then no solution, after which nothing is kept.
+    (
+        &[1, 1, 1],
+        1,
+        &[0, 1, 0],
+        Wanted::Optimal(&[0, 1, 0], &[1], &[2]),
+    ),
+    (&[1, 1, 1], -1, &[0, 1, 0], Wanted::Infeasible),
+    (
+        &[1, 1, 1],
+        1,
+        &[0, 1, 0],
+        Wanted::Optimal(&[0, 1, 0], &[1], &[2]),
+    ),
+    // From an end without limit on.
+    (&[1, -1], 0, &[1, 0], Wanted::Unbounded(&[1, 1])),
+    (&[1, -1], 0, &[-1, 0], Wanted::Optimal(&[0, 0], &[-1], &[1])),
+];
+
+/// Whether these are the numbers.
+fn are(numbers: &[Frac], wanted: &[i64]) -> bool {
+    if numbers.len() != wanted.len() {
+        return false;
+    }
+    for i in 0..wanted.len() {
+        if numbers[i] != Frac::from(wanted[i]) {
+            return false;
+        }
+    }
+    true
+}
+
+/// Whether a program ended as it is to end.
+fn is_wanted(end: &LpEnd<Frac>, wanted: &Wanted) -> bool {
+    match (end, wanted) {
+        (LpEnd::Optimal { x, dual, basis }, Wanted::Optimal(values, multipliers, columns)) => {
+            are(x.as_slice(), values)
+                && are(dual.as_slice(), multipliers)
+                && basis.as_slice() == *columns
+        }
+        (LpEnd::Infeasible { .. }, Wanted::Infeasible) => true,
+        (LpEnd::Unbounded { ray, .. }, Wanted::Unbounded(along)) => are(ray.as_slice(), along),
+        _ => false,
+    }
+}
+
 #[test]
 fn from_one_to_the_next(rt: HostRuntime) -> Result<(), Fail> {
     let alloc = rt.alloc();
-    let zero = Frac::zero();
-    let one = Frac::one();
-    let two = Frac::new(2, 1)?;
-    let row = &[1, 1, 1];
     let mut kept = Kept::new();
-    let end = end_next(
-        &rt,
-        alloc,
-        program(&rt, alloc, row, &[2], &[1, 0, 0])?,
-        &mut kept,
-    )?;
-    assert!(rt; is_optimal(&end, &[two, zero, zero], &[one], &[1]));
-    let end = end_next(
-        &rt,
-        alloc,
-        program(&rt, alloc, row, &[2], &[0, 0, 1])?,
-        &mut kept,
-    )?;
-    assert!(rt; is_optimal(&end, &[zero, zero, two], &[one], &[3]));
-    // Each basis is best, and the last one stays.
-    let end = end_next(
-        &rt,
-        alloc,
-        program(&rt, alloc, row, &[2], &[0, 0, 0])?,
-        &mut kept,
-    )?;
-    assert!(rt; is_optimal(&end, &[zero, zero, two], &[zero], &[3]));
-    // Another right side, and then no solution, after which nothing is kept.
-    let end = end_next(
-        &rt,
-        alloc,
-        program(&rt, alloc, row, &[1], &[0, 1, 0])?,
-        &mut kept,
-    )?;
-    assert!(rt; is_optimal(&end, &[zero, one, zero], &[one], &[2]));
-    let end = end_next(
-        &rt,
-        alloc,
-        program(&rt, alloc, row, &[-1], &[0, 1, 0])?,
-        &mut kept,
-    )?;
-    assert!(rt; is_infeasible(&end));
-    let end = end_next(
-        &rt,
-        alloc,
-        program(&rt, alloc, row, &[1], &[0, 1, 0])?,
-        &mut kept,
-    )?;
-    assert!(rt; is_optimal(&end, &[zero, one, zero], &[one], &[2]));
-    // From an end without limit on.
-    let pair = &[1, -1];
-    let end = end_next(
-        &rt,
-        alloc,
-        program(&rt, alloc, pair, &[0], &[1, 0])?,
-        &mut kept,
-    )?;
-    assert!(rt; is_unbounded(&end, &[one, one]));
-    let end = end_next(
-        &rt,
-        alloc,
-        program(&rt, alloc, pair, &[0], &[-1, 0])?,
-        &mut kept,
-    )?;
-    assert!(rt; has_solution(&end, &[zero, zero]));
+    for (row, right, cost, wanted) in &TURNS {
+        let system = program(&rt, alloc, row, &[*right], cost)?;
+        let end = end_next(&rt, alloc, system, &mut kept)?;
+        assert!(rt; is_wanted(&end, wanted), "of {row:?} {right} {cost:?}");
+    }
     Ok(())
 }
 
