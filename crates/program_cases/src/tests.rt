@@ -1,3 +1,4 @@
 //! One table a subject.
+mod guesses;
 mod programs;
 mod rows;

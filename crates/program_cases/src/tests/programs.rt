@@ -20,7 +20,7 @@ fn numbers<F: Field>(rt: &impl Abort, alloc: Global, values: &[i64]) -> Result<I
 }
 
 /// A program in whole numbers.
-fn program<F: Field>(
+pub fn program<F: Field>(
     rt: &impl Abort,
     alloc: Global,
     a: &[i64],
