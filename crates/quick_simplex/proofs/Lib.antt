@@ -1,0 +1,3 @@
+pub mod AddedRow
+pub mod Choosing
+pub mod Optima
