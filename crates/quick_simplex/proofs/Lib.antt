@@ -1,3 +1,5 @@
 pub mod AddedRow
 pub mod Choosing
+pub mod Entered
+pub mod Gathering
 pub mod Optima

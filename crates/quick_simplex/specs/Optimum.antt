@@ -41,6 +41,10 @@ pub record IsAllowed (s : System) (basis : List ℕ) (d : Table) : Type 0 where
 abbrev pub equations_at : System → ℕ → List ℚ
 equations_at s j = column_of (equation_table s) j
 
+-- the negated cost of column j, and its numbers in the equations
+abbrev pub price_row : System → ℕ → List ℚ
+price_row s j = at (table_of s) (second_cost s) j ∷ equations_at s j
+
 -- the multipliers make up for the cost of each column
 pub record ArePrices (s : System) (columns : List ℕ) (y : List ℚ) : Type 0 where
   pub one_each : length y ≡ equation_count s
