@@ -1,4 +1,5 @@
 //! One table a subject.
 mod guesses;
+mod optima;
 mod programs;
 mod rows;

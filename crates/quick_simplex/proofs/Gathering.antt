@@ -1,6 +1,6 @@
 -- Rows that are written entry by entry, and lists of them.
 use Rattle.std.proofs.Common.{◌≡◌, ℕ, List, [], ◌∷◌, ◌++◌, length, map, take, sym, ap, ap₂, ◌∙◌, arith, ◌<◌, ◌≤◌, ◌+◌, ◌-◌, slice_index_or}
-use Rattle.std.proofs.lemmas.List.{append_assoc, get_or-map, length-map, map-append, map_push, take_all, take_more}
+use Rattle.std.proofs.lemmas.List.{get_or-map, length-map, map-append, map_push, take_all, take_more}
 use Rattle.std.proofs.Math.ListN.{length-append}
 use Rattle.exact_field.specs.Rational.{ℚ, zero_ℚ}
 use Rattle.exact_field.specs.Vector.{entry}
@@ -10,11 +10,10 @@ use Rattle.tableaux.proofs.Entries.{equation-right}
 use Rattle.tableaux.proofs.Ties.{column_entry}
 use Rattle.tableaux.proofs.Unique.{same_tables}
 use Rattle.lin_rows.specs.declared.system.System.{System as Program}
-use Rattle.lin_rows.specs.Read.{numbers}
 use Rattle.exact_simplex.specs.Program.{HasLengths}
-use Rattle.quick_simplex.specs.Chosen.{chosen, chosen_row}
+use Rattle.quick_simplex.specs.Chosen.{chosen_row}
 use Rattle.quick_simplex.specs.Optimum.{AreColumns, beside_right, equation_table, equations_at, price_row}
-use Rattle.quick_simplex.proofs.Entered.{s, ok, n_is, m_is}
+use Rattle.quick_simplex.proofs.Entered.{s, ok, m_is}
 use Rattle.quick_simplex.proofs.Optima.{eqs-long, eqs-row, column-long_m}
 
 -- a list of the values of a function at a table's rows

@@ -1,12 +1,11 @@
 -- What the tests of a guessed basis show.
-use Rattle.std.proofs.Common.{◌≡◌, ℕ, zero, suc, List, [], ◌∷◌, ◌++◌, length, map, take, drop, sym, ap, ap₂, ◌∙◌, subst, arith, ◌<◌, ◌≤◌, ◌+◌, ◌-◌, Option, None, Some, Result, Ok, Err, slice_index_or}
+use Rattle.std.proofs.Common.{◌≡◌, ℕ, suc, List, [], ◌∷◌, length, map, drop, sym, ap, ap₂, ◌∙◌, subst, arith, ◌<◌, ◌≤◌, ◌+◌, ◌-◌, Option, None, Some, Result, Ok, Err, slice_index_or}
 use Rattle.std.specs.Prelude.{⊤, IfOk, MatchOption}
 use Rattle.std.specs.declared.alloc.Global.{Global}
 use Rattle.std.specs.declared.vec.Vec.{Vec}
-use Rattle.std.proofs.lemmas.List.{get_or-map, length-map, map_push, take_all, take_more, map-append}
-use Rattle.exact_field.specs.Rational.{ℚ, zero_ℚ, one_ℚ, ◌+ℚ◌, ◌*ℚ◌, ◌≤ℚ◌}
+use Rattle.std.proofs.lemmas.List.{get_or-map, length-map}
+use Rattle.exact_field.specs.Rational.{ℚ, zero_ℚ, one_ℚ, ◌+ℚ◌, ◌≤ℚ◌}
 use Rattle.exact_field.specs.Vector.{entry, dot}
-use Rattle.polyhedra.specs.Sparse.{Entry}
 use Rattle.polyhedra.proofs.Laws.{mul_one}
 use Rattle.polyhedra.proofs.Linear.{dot_comm}
 use Rattle.tableaux.specs.Table.{Table, row_of, at, column_of, listed, table_of, equation_count, unknown_count, second_cost}
@@ -17,7 +16,7 @@ use Rattle.lin_rows.specs.declared.cells.Cell.{Cell}
 use Rattle.lin_rows.specs.declared.system.System.{System as Program}
 use Rattle.lin_rows.specs.declared.tableau.Tableau.{Tableau}
 use Rattle.lin_rows.specs.Eliminate.{IsEnd}
-use Rattle.lin_rows.specs.Lines.{AreLines, Rises, entries, lines, sum_at}
+use Rattle.lin_rows.specs.Lines.{Rises, entries, lines, sum_at}
 use Rattle.lin_rows.specs.Pivot.{AreTableau}
 use Rattle.lin_rows.specs.Read.{numbers}
 use Rattle.lin_rows.proofs.ManyLines.{length-lines}

@@ -1,5 +1,5 @@
 -- Totals over the rows of a program.
-use Rattle.std.proofs.Common.{◌≡◌, ℕ, List, [], length, map, take, sym, ap, ap₂, ◌∙◌, subst, arith, ◌<◌, ◌≤◌, ◌+◌, ◌-◌, inl, inr, slice_index_or, slice_set, get_or-set_same, get_or-set_other}
+use Rattle.std.proofs.Common.{◌≡◌, ℕ, List, [], length, map, sym, ap, ap₂, ◌∙◌, subst, arith, ◌<◌, ◌≤◌, ◌+◌, ◌-◌, inl, inr, slice_index_or, slice_set, get_or-set_same, get_or-set_other}
 use Rattle.std.proofs.lemmas.Bool.{cases_eq}
 use Rattle.std.proofs.lemmas.List.{get_or-map, length-map, map-set, take_all}
 use Rattle.exact_field.specs.Rational.{ℚ, zero_ℚ, ◌+ℚ◌, ◌*ℚ◌, ◌≤ℚ◌}
@@ -7,14 +7,14 @@ use Rattle.exact_field.specs.Vector.{entry, dot}
 use Rattle.polyhedra.specs.Vectors.{zeros}
 use Rattle.polyhedra.proofs.Laws.{add_zero}
 use Rattle.polyhedra.proofs.Algebra.{zero_mul}
-use Rattle.tableaux.specs.Table.{Table, row_of, column_of, equation_count, unknown_count}
+use Rattle.tableaux.specs.Table.{Table, column_of}
 use Rattle.tableaux.specs.Simplex.{BoundsColumns}
 use Rattle.tableaux.proofs.Ties.{column_entry}
 use Rattle.tableaux.proofs.Unique.{column-long, slice-zeros}
 use Rattle.lin_rows.specs.declared.system.System.{System as Program}
 use Rattle.lin_rows.specs.Sums.{partial}
 use Rattle.lin_rows.proofs.Summing.{partial-more}
-use Rattle.exact_simplex.specs.Program.{HasLengths, coefficients_of, system_of}
+use Rattle.exact_simplex.specs.Program.{HasLengths, coefficients_of}
 use Rattle.exact_simplex.proofs.Programs.{equation-row}
 use Rattle.quick_simplex.proofs.Entered.{s, n_is, m_is}
 

@@ -5,5 +5,7 @@ mod bounds;
 mod columns;
 pub mod laws;
 mod optimum;
+mod solve;
 
 pub use optimum::optimum_at;
+pub use solve::solve_lp;

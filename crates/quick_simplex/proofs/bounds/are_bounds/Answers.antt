@@ -1,6 +1,3 @@
-use Rattle.std.proofs.Common.{◌≡◌, ◌≤◌, ℕ, length, map, subst, List}
-use Rattle.exact_field.specs.Rational.{◌≤ℚ◌}
-use Rattle.exact_field.specs.Vector.{entry}
 use Rattle.quick_simplex.proofs.Totals.{bounds_are, within_as}
 use Rattle.quick_simplex.proofs.bounds.are_bounds.Goals as goal
 

@@ -1,4 +1,4 @@
-use Rattle.std.proofs.Common.{◌≡◌, ◌∙◌, List, ap, length, map, subst, sym}
+use Rattle.std.proofs.Common.{◌∙◌, List, ap, length, map, subst, sym}
 use Rattle.exact_field.specs.Vector.{entry}
 use Rattle.tableaux.specs.Dictionary.{value_of_column}
 use Rattle.tableaux.specs.Simplex.{BoundsColumns}

@@ -1,4 +1,4 @@
-use Rattle.std.proofs.Common.{◌≡◌, ◌∙◌, None, subst}
+use Rattle.std.proofs.Common.{◌∙◌, subst}
 use Rattle.lin_rows.specs.Eliminate.{IsEnd}
 use Rattle.lin_rows.specs.Lines.{lines}
 use Rattle.lin_rows.specs.Pivot.{table_of}
