@@ -1,5 +1,3 @@
 //! One table a subject.
-mod guesses;
-mod optima;
 mod programs;
 mod rows;

@@ -20,7 +20,7 @@ fn numbers<F: Field>(rt: &impl Abort, alloc: Global, values: &[i64]) -> Result<I
 }
 
 /// A program in whole numbers.
-pub fn program<F: Field>(
+fn program<F: Field>(
     rt: &impl Abort,
     alloc: Global,
     a: &[i64],
