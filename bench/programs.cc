@@ -252,21 +252,26 @@ template <typename Make> static bool line(const char *name, size_t size, Make ma
 // In place of what QSopt_ex would print.
 static void say_nothing(const char *, void *) {}
 
-// With the word `cover` or `dense` and a size: one such program, by ours alone, for a profiler.
+// With the name of a kind and a size: one such program, by ours alone, for a profiler.
+static int alone(const std::string &kind, size_t size) {
+    Source source(1);
+    Answer mine;
+    run_ours(kind == "cover"       ? cover(size, source)
+             : kind == "transport" ? transport(size, source)
+             : kind == "ties"      ? ties(size, source)
+                                   : dense(size, kind == "dense99" ? 99 : 9, source),
+             mine);
+    printf("ended with %u after %.1f ms\n", mine.end, mine.time);
+    return mine.end != 1;
+}
+
 int main(int argc, char **argv) {
-    if (argc == 3) {
-        Source source(1);
-        size_t size = std::stoul(argv[2]);
-        Answer mine;
-        run_ours(argv[1][0] == 'c' ? cover(size, source) : dense(size, 9, source), mine);
-        printf("ended with %u after %.1f ms\n", mine.end, mine.time);
-        return mine.end != 1;
-    }
+    if (argc == 3) return alone(argv[1], std::stoul(argv[2]));
     QSexactStart();
     QSlog_set_handler(say_nothing, nullptr);
     QSexact_set_precision(128);
     bool same = true;
-    puts("| programs | equations x unknowns | bits | Left | exact_simplex, ms | QSopt_ex, ms | PPL, ms | beside QSopt_ex | beside PPL |");
+    puts("| programs | equations x unknowns | bits | Left | ours, ms | QSopt_ex, ms | PPL, ms | beside QSopt_ex | beside PPL |");
     puts("|---|---|---|---|---|---|---|---|---|");
     for (size_t size : {20, 40, 60, 100, 200}) same &= line("dense, to 9", size, [](size_t n, Source &s) { return dense(n, 9, s); });
     for (size_t size : {20, 40, 60, 100}) same &= line("dense, to 99", size, [](size_t n, Source &s) { return dense(n, 99, s); });
