@@ -2,6 +2,7 @@
 ghost use Rattle.std.specs.Prelude.{◌≡◌, ℕ, List, IfOk};
 ghost use Rattle.benson_primal.specs.Search.{IsKnown};
 ghost use Rattle.cone_dual.specs.Fitting.{IsDualityOf};
+ghost use Rattle.deriv_log.specs.Formed.{IsLog};
 ghost use Rattle.deriv_log.specs.declared.entry.Entry.TheVariants as entry_of;
 ghost use Rattle.exact_field.specs.Rational.{ℚ};
 ghost use Rattle.licence.specs.Trails.{IsBaseDuality};
@@ -24,7 +25,7 @@ use outer_log::begun;
 use outer_start::started;
 use recession::{First, first_cuts};
 use sol_writer::report;
-use src_sink::Items;
+use src_sink::{Bytes, Items};
 use std::alloc::Global;
 use std::test::Fail;
 use vlp_reader::{Problem, read_vlp};
@@ -133,13 +134,32 @@ fn directions_of<F: Field>(alloc: Global, problem: &Problem) -> Result<Entries, 
     }
 }
 
+/// The duality vector of a problem.
+fn duality_vector<F: Field>(alloc: Global, problem: &Problem) -> Result<Items<F>, Fail>
+    ghost file: { Problem }
+    requires { file ≡ problem.now }
+{
+    let (_, duality) = known::<F>(alloc, problem)?;
+    let Duality { c, .. } = duality;
+    Ok(c)
+}
+
 /// The log of a problem.
 fn log_of<F: Field>(alloc: Global, problem: &Problem) -> Result<Entries, Fail>
     ghost file: { Problem }
     requires { file ≡ problem.now }
+    ensures { IfOk result IsLog }
 {
     let (form, duality) = known::<F>(alloc, problem)?;
     Ok(primal(alloc, &form, duality)?)
+}
+
+/// The report of the answer that a log of a problem proves.
+fn report_of(alloc: Global, problem: &Problem, log: &Entries) -> Result<Bytes, Fail>
+    requires { IsLog log.now }
+{
+    let answer = check(alloc, problem, log)?;
+    Ok(report(alloc, problem, &answer)?)
 }
 
 #[test]
@@ -168,14 +188,19 @@ fn directions_are_reached(rt: HostRuntime) -> Result<(), Fail> {
 }
 
 #[test]
+fn a_duality_vector_is_found(rt: HostRuntime) -> Result<(), Fail> {
+    let alloc = rt.alloc();
+    let c = duality_vector::<Frac>(alloc, &problem_of(alloc, PLANE)?)?;
+    assert!(rt; c.as_slice() == [Frac::from(1), Frac::from(1)].as_slice());
+    Ok(())
+}
+
+#[test]
 fn a_log_describes_the_image(rt: HostRuntime) -> Result<(), Fail> {
     let alloc = rt.alloc();
     let problem = problem_of(alloc, PLANE)?;
-    let (_, duality) = known::<Frac>(alloc, &problem)?;
-    let one = Frac::from(1);
-    assert!(rt; duality.c.as_slice() == [one, one].as_slice());
-    let answer = check(alloc, &problem, &log_of::<Frac>(alloc, &problem)?)?;
-    let told = report(alloc, &problem, &answer)?;
-    assert!(rt; told.as_slice().starts_with(IMAGE.as_bytes()));
+    let log = log_of::<Frac>(alloc, &problem)?;
+    let text = report_of(alloc, &problem, &log)?;
+    assert!(rt; text.as_slice().starts_with(IMAGE.as_bytes()));
     Ok(())
 }
