@@ -1,5 +1,5 @@
 -- The optimal end is read off the columns of a basis.
-use Rattle.std.proofs.Common.{◌≡◌, ◌≢◌, ℕ, zero, suc, List, [], ◌∷◌, ◌++◌, length, map, All, refl, sym, ap, ap₂, ◌∙◌, subst, arith, ◌<◌, ◌≤◌, ◌+◌, ◌-◌, inl, inr, slice_index_or}
+use Rattle.std.proofs.Common.{Contains, ◌≡◌, ◌≢◌, ℕ, zero, suc, List, [], ◌∷◌, ◌++◌, length, map, All, refl, sym, ap, ap₂, ◌∙◌, subst, arith, ◌<◌, ◌≤◌, ◌+◌, ◌-◌, inl, inr, slice_index_or}
 use Rattle.std.specs.Prelude.{◌==◌, if◌then◌else◌}
 use Rattle.std.proofs.lemmas.Bool.{cases_lt}
 use Rattle.std.proofs.lemmas.List.{append_assoc, get_or_append_left, get_or-map, get_or_past, length-map, map-append}
@@ -22,6 +22,7 @@ use Rattle.tableaux.proofs.Places.{length-list_from, listed-is, entry-plus, entr
 use Rattle.tableaux.proofs.Reading.{sign_twice}
 use Rattle.tableaux.proofs.Ties.{column_entry}
 use Rattle.tableaux.proofs.Unique.{dot-unit, entry-combination, column-long}
+use Rattle.exact_simplex.specs.Hint.{NameSame}
 use Rattle.quick_simplex.specs.Chosen.{chosen, chosen_row, name_of, named, IsCleared}
 use Rattle.quick_simplex.specs.Optimum.{AreColumns, ArePrices, IsAllowed, IsSolved, OptimumIsRead, beside_right, equation_table, equations_at, value_at}
 use Rattle.quick_simplex.proofs.AddedRow.{added, cleared, long_more, more_before, more_last, none_more, wide_more}
@@ -413,3 +414,40 @@ module _ (s : System) (ok : IsSystem s) where
 pub optimum_read : OptimumIsRead
 optimum_read s columns basis d x y ok c h allowed prices bounds e =
     (all s ok columns basis d x y c h allowed prices, optimal_at s ok columns basis d x y c h allowed prices e bounds)
+
+-- the basis names the columns that were given
+pub same_names : (s : System) (columns basis : List ℕ) (d : Table) → AreColumns s columns → IsSolved s columns basis d → NameSame columns (named columns basis)
+same_names s columns basis d c h k = (forth, back)
+  where
+    nb : List ℕ
+    nb = named columns basis
+
+    long : length nb ≡ equation_count s
+    long = length-map basis (name_of columns) ∙ h.one_each
+
+    forth : Contains columns k → Contains nb k
+    forth (i, l, e) =
+        let row = h.eliminated.named (i + 1) (omega arith) (omega (arith, l, c.one_each)) in
+        let r : ℕ = row.0 in
+        let inside : r - 1 < length nb = omega (arith, row.1, row.2, long) in
+        let place : i + 1 - 1 ≡ i = omega arith in (
+          r - 1,
+          inside,
+          same_default nb (r - 1) k 0 inside ∙ named-column columns basis r ∙ ap (name_of columns) row.3 ∙ name-some columns (i + 1) (omega arith)
+              ∙ ap (λ p. slice_index_or columns p 0) place ∙ same_default columns i 0 k l ∙ e,
+        )
+
+    back : Contains nb k → Contains columns k
+    back (r, l, e) =
+        let here : r < length basis = omega (arith, l, long, h.one_each) in
+        let place : r + 1 - 1 ≡ r = omega arith in
+        let j : ℕ = basic_column basis (r + 1) in
+        let count : named_count basis ≡ length basis = omega (arith, h.eliminated.count, h.one_each) in
+        let some : j ≢ 0 = λ z. all_named basis count r here (ap (λ p. slice_index_or basis p 0) (sym place) ∙ z) in
+        let within : j ≤ equation_count s = h.eliminated.within (r + 1) in
+        let inside : j - 1 < length columns = omega (arith, some, within, c.one_each) in (
+          j - 1,
+          inside,
+          same_default columns (j - 1) k 0 inside ∙ sym (name-some columns j (omega (arith, some))) ∙ sym (named-column columns basis (r + 1))
+              ∙ ap (λ p. slice_index_or nb p 0) place ∙ same_default nb r 0 k l ∙ e,
+        )

@@ -32,7 +32,7 @@ pub record IsSolved (s : System) (columns basis : List ℕ) (d : Table) : Type 0
 abbrev pub value_at : System → Table → ℕ → ℚ
 value_at s d i = at d i (suc (equation_count s))
 
--- no value is negative, and that of an artificial column is 0
+-- the basis is feasible: no value is negative, and that of an artificial column is 0
 pub record IsAllowed (s : System) (basis : List ℕ) (d : Table) : Type 0 where
   pub at_least_zero : (i : ℕ) → 1 ≤ i → i ≤ equation_count s → zero_ℚ ≤ℚ value_at s d i
   pub artificial : (i : ℕ) → 1 ≤ i → i ≤ equation_count s → unknown_count s < basic_column basis i → value_at s d i ≡ zero_ℚ
@@ -45,7 +45,7 @@ equations_at s j = column_of (equation_table s) j
 abbrev pub price_row : System → ℕ → List ℚ
 price_row s j = at (table_of s) (second_cost s) j ∷ equations_at s j
 
--- the multipliers make up for the cost of each column
+-- the simplex multipliers of the columns: they make up for the cost of each
 pub record ArePrices (s : System) (columns : List ℕ) (y : List ℚ) : Type 0 where
   pub one_each : length y ≡ equation_count s
   pub equal : All (λ c. at (table_of s) (second_cost s) c +ℚ dot y (equations_at s c) ≡ zero_ℚ) columns

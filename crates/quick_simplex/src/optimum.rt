@@ -7,6 +7,7 @@ ghost use Rattle.lin_rows.specs.Pivot.{AreTableau};
 ghost use Rattle.tableaux.specs.Dictionary.{value_of_column};
 ghost use Rattle.tableaux.specs.Table.{column_of, listed};
 ghost use Rattle.exact_simplex.specs.Ends.{IsCertified, IsReadOff};
+ghost use Rattle.exact_simplex.specs.Hint.{IsOptimalEnd, NameSame};
 ghost use Rattle.exact_simplex.specs.Program.{HasLengths, system_of};
 ghost use Rattle.quick_simplex.specs.Chosen.{name_of, named};
 ghost use Rattle.quick_simplex.specs.Optimum.{AreColumns, ArePrices, IsAllowed};
@@ -165,6 +166,7 @@ pub fn optimum_at<F: Field>(
     requires { HasLengths system.now }
     ensures certified { IfOk result (λ found. MatchOption found ⊤ (IsCertified F.value (system_of F.value system.now))) }
     ensures read_off { IfOk result (λ found. MatchOption found ⊤ (IsReadOff F.value (system_of F.value system.now))) }
+    ensures same { IfOk result (λ found. MatchOption found ⊤ (IsOptimalEnd (NameSame columns.now))) }
 {
     if !are_columns(system, columns) {
         return Ok(None);

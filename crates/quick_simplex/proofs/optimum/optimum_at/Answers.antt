@@ -10,6 +10,8 @@ use Rattle.exact_simplex.proofs.Programs.{equation_count_is, system_ok}
 use Rattle.quick_simplex.specs.Chosen.{named}
 use Rattle.quick_simplex.specs.Optimum.{ArePrices, IsAllowed}
 use Rattle.quick_simplex.specs.Tested.{IsSolvedAt, table_at}
+use Rattle.exact_simplex.specs.Hint.{NameSame}
+use Rattle.quick_simplex.proofs.Optima.{same_names}
 use Rattle.quick_simplex.proofs.Tests.{found_is, many_is, named_long, optimum_is, width_is}
 use Rattle.quick_simplex.proofs.optimum.optimum_at.Goals as goal
 
@@ -96,3 +98,13 @@ returns-clause-certified g c =
     let p = c.args.system.now in
     let read = returns-clause-read_off g c in
     ends_are_right.optimal (system_of value p) c.in_ok-basis.basis read.0 (map value c.in_ok-x.x) (map value c.in-Some-2.dual) (system_ok value p c.requires) read.1
+
+pub returns-clause-same : goal.returns-clause-same
+returns-clause-same g c =
+    let value = g.F.Field.value in
+    let s = system_of value c.args.system.now in
+    let columns = c.args.columns.now in
+    let t = c.in-Some.tableau in
+    let solved = found_is (IsSolvedAt value s columns) c.in_ok-tableau.field-0 t c.in-Some.is c.in_ok-tableau.ensures in
+    subst (NameSame columns) (sym (c.in_ok-basis.ensures ∙ ap (named columns) c.deref.ensures.value))
+    (same_names s columns t.basis.items (table_at value t) (c.are_columns.ensures c.if-not-are_columns.false) solved.solved)
