@@ -1,6 +1,7 @@
 -- What a call of an exact field answers: the exact value where it is held, and what it was asked where it is not.
-use Rattle.std.specs.Prelude.{ℤ, pos, ◌≡◌, ◌<◌, ◌≤ℤ◌, ◌<ℤ◌, ◌^◌, ◌⊎◌, unsigned_abs, Bool, IsTrue, IsFalse, Option, Result, MatchOption, MatchResult}
-use Rattle.exact_field.specs.Rational.{ℚ, fraction}
+use Rattle.std.specs.Prelude.{ℤ, pos, ⊤, ◌≡◌, ◌<◌, ◌≤ℤ◌, ◌<ℤ◌, ◌^◌, ◌⊎◌, unsigned_abs, Bool, IsTrue, IsFalse, List, [], ◌∷◌, Option, Result, IfSome, MatchOption, MatchResult}
+use Rattle.exact_field.specs.Rational.{ℚ, zero_ℚ, fraction, ◌+ℚ◌, ◌*ℚ◌}
+use Rattle.exact_field.specs.Vector.{dot}
 use Rattle.exact_field.specs.declared.op.Op.{Op}
 use Rattle.exact_field.specs.declared.op.Left.{Left}
 
@@ -18,6 +19,17 @@ abbrev pub AnswersFraction : {F : Type 0} → (F → ℚ) → (ℚ → Bool) →
 AnswersFraction value holds n d result =
     let exact = fraction n (unsigned_abs d) in
     MatchOption result ((d ≤ℤ pos 0) ⊎ IsFalse (holds exact)) (λ r. (pos 0 <ℤ d) × (value r ≡ exact) × IsTrue (holds exact))
+
+-- from this total on, each product of two entries is held and each sum of those so far
+abbrev pub AreSumsHeld : (ℚ → Bool) → ℚ → List ℚ → List ℚ → Type 0
+AreSumsHeld holds total [] ys = ⊤
+AreSumsHeld holds total (x ∷ xs) [] = ⊤
+AreSumsHeld holds total (x ∷ xs) (y ∷ ys) =
+    IsTrue (holds (x *ℚ y)) × IsTrue (holds (total +ℚ x *ℚ y)) × AreSumsHeld holds (total +ℚ x *ℚ y) xs ys
+
+-- an answer is the product of the vectors, and entry by entry all that comes before it is held
+abbrev pub IsShortDot : {F : Type 0} → (F → ℚ) → (ℚ → Bool) → List ℚ → List ℚ → Option F → Type 0
+IsShortDot value holds xs ys result = IfSome result (λ r. (value r ≡ dot xs ys) × AreSumsHeld holds zero_ℚ xs ys)
 
 -- the magnitude of the numerator and the denominator are below 2^120
 pub record IsSmall (q : ℚ) : Type 0 where

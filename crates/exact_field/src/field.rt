@@ -1,7 +1,7 @@
 //! Exact fields: finite sets of rational numbers whose operations answer the exact value or say that it is not held.
 
-ghost use Rattle.std.specs.Prelude.{ℤ, pos, ◌≡◌, ◌≢◌, Bool, IsTrue};
-ghost use Rattle.exact_field.specs.Field.{Answers, AnswersFraction, AnswersHeld, IsSmall};
+ghost use Rattle.std.specs.Prelude.{ℤ, pos, ◌≡◌, ◌≢◌, Bool, IsTrue, length, map};
+ghost use Rattle.exact_field.specs.Field.{Answers, AnswersFraction, AnswersHeld, IsShortDot, IsSmall};
 ghost use Rattle.exact_field.specs.Order.{cmp_ℚ, same_ℚ, sign_ℚ};
 ghost use Rattle.exact_field.specs.Rational.{ℚ, zero_ℚ, one_ℚ, whole, ◌+ℚ◌, ◌-ℚ◌, ◌*ℚ◌, ◌/ℚ◌, neg_ℚ};
 ghost use Rattle.exact_field.specs.declared.op.Op.TheVariants.{Add, Sub, Mul, Div};
@@ -68,6 +68,13 @@ pub trait Field: Copy + Eq + Ord {
     fn div(self, other: Self) -> Result<Self, Left<Self>>
         requires { value other ≢ zero_ℚ }
         ensures { Answers value holds Div self other (value self /ℚ value other) result };
+
+    /// The product of two vectors of one width, calculated in a short way of the type's own. An answer says that each
+    /// product of two entries is held and each sum of those so far, so that entry by entry the same comes out.
+    /// `None` says nothing: then the product is calculated entry by entry.
+    fn short_dot(row: &[Self], vector: &[Self]) -> Option<Self>
+        requires { length row.now ≡ length vector.now }
+        ensures { IsShortDot value holds (map value row.now) (map value vector.now) result };
 
     /// 0 is held.
     ghost holds_zero: { IsTrue (holds zero_ℚ) };
