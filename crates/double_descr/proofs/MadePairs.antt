@@ -9,19 +9,19 @@ use Rattle.exact_field.specs.Vector.{dot}
 use Rattle.incid_sets.specs.Marks.{IsMeet}
 use Rattle.polyhedra.specs.DoubleDescription.{is_zero, normed, made, meeting}
 use Rattle.polyhedra.specs.Generators.{IsTightAtBoth}
-use Rattle.polyhedra.specs.LiveList.{staying, dropped, Numbered, LivePair, vectors, numbers, numbered, products, without_numbers, is_uncovered_live}
+use Rattle.polyhedra.specs.LiveList.{staying, dropped, Numbered, LivePair, vectors, numbers, numbered, products, tight_set, without_numbers, is_uncovered_live}
 use Rattle.polyhedra.proofs.Generators.{tight_at_meeting}
 use Rattle.polyhedra.proofs.Order.{lt_irrefl, lt_trans}
 use Rattle.polyhedra.proofs.Members.{member_of, Contains-map}
 use Rattle.double_descr.specs.Steps.{values, between}
-use Rattle.double_descr.specs.State.{numbered_of, live_of, pair_of, HasTightSet, AreTwoLive, tight_set}
+use Rattle.double_descr.specs.State.{numbered_of, live_of, pair_of, HasTightSet, AreTwoLive}
 use Rattle.double_descr.specs.Adding.{Block, AreHeld, IsFault, IsAddFault, value_block, block_of, pair_block, pair_blocks}
 use Rattle.double_descr.specs.Making.{IsAddition, with_negatives, candidates_of, candidates, AddsPair, IsTried, IsPairFault, pair_numbers, live_numbers, IsMadeSoFar}
 use Rattle.double_descr.specs.declared.generator.Generator.{Generator}
 use Rattle.double_descr.specs.declared.made.Made.{Made}
 use Rattle.double_descr.specs.declared.fault.DdFault.{DdFault}
 use Rattle.double_descr.specs.declared.fault.DdFault.TheVariants.{Elim, Left as Stuck, NoMemory}
-use Rattle.double_descr.proofs.Covering.{meet_is_tight, tight_with}
+use Rattle.polyhedra.proofs.Covering.{meet_is_tight, tight_with}
 use Rattle.polyhedra.proofs.Tests.{test_of_zero}
 
 -- ---- numbered vectors
@@ -62,7 +62,7 @@ module _ {F : Type 0} (value : F → ℚ) (holds : ℚ → Bool) (n : ℕ) (rows
       let meet' : IsMeet common (tight_set rows (values value p.vector.items)) (tight_set rows (values value m.vector.items)) =
       subst (λ (s : List Bool × List Bool). IsMeet common s.0 s.1)
       (λ i. (member_of (HasTightSet value rows) gens p ctx.tight pc i, member_of (HasTightSet value rows) gens m ctx.tight mc i)) meet in
-      tight ∙ ap (λ c. c ++ true ∷ []) (meet_is_tight rows (values value p.vector.items) (values value m.vector.items) z common meet' law.in_use)
+      tight ∙ ap (λ c. c ++ true ∷ []) (meet_is_tight rows (values value p.vector.items) (values value m.vector.items) z common meet'.bound meet'.common law.in_use)
       ∙ ap (λ b. tight_set rows z ++ b ∷ []) (sym (test_of_zero (dot row z) law.new_row)) ∙ sym (tight_with rows row z) ∙ ap (tight_set (rows ++ row ∷ [])) (sym is)
 
   module _ (p m : Generator F) (pc : Contains gens p) (mc : Contains gens m) (a b : ℚ) (ae : a ≡ dot row (values value p.vector.items))

@@ -1,13 +1,14 @@
 -- Corners stay corners when they are normed.
-use Rattle.std.proofs.Common.{◌≡◌, ◌≢◌, ℕ, ◌<◌, ◌≤◌, List, [], map, length, All, Bool, true, false, true≢false, refl, sym, ap, ◌∙◌, subst, arith, nat_eq, slice_index_or, ◌⊎◌, inl, inr}
+use Rattle.std.proofs.Common.{◌≡◌, ◌≢◌, ℕ, ◌<◌, List, [], map, length, All, Bool, true, false, true≢false, refl, sym, ap, ◌∙◌, subst, arith, nat_eq, slice_index_or}
 use Rattle.std.specs.Prelude.{not}
-use Rattle.std.proofs.lemmas.List.{get_or-map, get_or_past, length-map}
+use Rattle.std.proofs.lemmas.List.{ext_get_or, get_or-map, length-map}
 use Rattle.std.proofs.lemmas.List.Elements.{All-from_get_or}
-use Rattle.std.proofs.lemmas.Bool.{cases_lt, eqb-true, eq-eqb}
+use Rattle.std.proofs.lemmas.Bool.{eqb-true, eq-eqb}
 use Rattle.exact_field.specs.Rational.{ℚ, zero_ℚ, ◌*ℚ◌, ◌<ℚ◌}
 use Rattle.exact_field.specs.Vector.{dot}
 use Rattle.polyhedra.specs.Dependence.{AreCorners}
 use Rattle.polyhedra.specs.DoubleDescription.{IsNormed, is_zero, normed, norming}
+use Rattle.polyhedra.specs.LiveList.{tight_set}
 use Rattle.polyhedra.proofs.Algebra.{mul_zero}
 use Rattle.polyhedra.proofs.Linear.{dot-scaled, length-scaled}
 use Rattle.polyhedra.proofs.Lists.{wide-map}
@@ -15,9 +16,7 @@ use Rattle.polyhedra.proofs.Norming.{norm_factor, norm_factor-positive, normed_i
 use Rattle.polyhedra.proofs.Order.{mul_positive, not_zero_of_positive}
 use Rattle.polyhedra.proofs.Tests.{test_of_other, test_of_zero}
 use Rattle.incid_sets.specs.Marks.{has}
-use Rattle.double_descr.specs.State.{tight_set}
 use Rattle.double_descr.specs.Starting.{IsAllBut}
-use Rattle.double_descr.proofs.Covering.{same_marks}
 
 module _ (n : ℕ) (rows vectors : List (List ℚ)) (c : AreCorners n rows vectors) where
   -- row i is not 0 at vector i
@@ -58,8 +57,8 @@ module _ (n : ℕ) (rows vectors : List (List ℚ)) (c : AreCorners n rows vecto
 
   -- at a normed corner all rows but its own are tight
   pub corner_tight : (i : ℕ) → i < n → (marks : List Bool) → IsAllBut n i marks → marks ≡ tight_set rows (normed (slice_index_or vectors i []))
-  corner_tight i l marks m = same_marks marks (tight_set rows (normed (slice_index_or vectors i [])))
-      (m.bounded ∙ sym (length-map rows test ∙ c.rows_many)) (λ k. go k (cases_lt k n))
+  corner_tight i l marks m = ext_get_or false marks (tight_set rows (normed (slice_index_or vectors i [])))
+      (m.bounded ∙ sym (length-map rows test ∙ c.rows_many)) (λ k l. go k (let many : length marks ≡ n = m.bounded in omega arith))
     where
       test : List ℚ → Bool
       test r = is_zero (dot r (normed (slice_index_or vectors i [])))
@@ -74,9 +73,6 @@ module _ (n : ℕ) (rows vectors : List (List ℚ)) (c : AreCorners n rows vecto
       inside k k_in false e = sym (ap is_zero (value_is k) ∙ is_zero-scaled (norm_factor (slice_index_or vectors i [])) (dot (slice_index_or rows k []) (slice_index_or vectors i [])) (factor i l)
           ∙ test_of_zero (dot (slice_index_or rows k []) (slice_index_or vectors i [])) (c.zero_elsewhere k i k_in l (λ same. true≢false (sym (eq-eqb k i same) ∙ e))))
 
-      go : (k : ℕ) → (k < n) ⊎ (n ≤ k) → has marks k ≡ has (tight_set rows (normed (slice_index_or vectors i []))) k
-      go k (inl k_in) = m.others k k_in ∙ inside k k_in (nat_eq k i) refl
+      go : (k : ℕ) → k < n → has marks k ≡ has (tight_set rows (normed (slice_index_or vectors i []))) k
+      go k k_in = m.others k k_in ∙ inside k k_in (nat_eq k i) refl
           ∙ sym (get_or-map test rows k [] false (let many : length rows ≡ n = c.rows_many in omega arith))
-      go k (inr k_out) = get_or_past marks k false (let many : length marks ≡ n = m.bounded in omega arith)
-          ∙ sym (get_or_past (tight_set rows (normed (slice_index_or vectors i []))) k false
-          (let many : length (tight_set rows (normed (slice_index_or vectors i []))) ≡ n = length-map rows test ∙ c.rows_many in omega arith))

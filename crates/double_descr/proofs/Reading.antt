@@ -4,10 +4,10 @@ use Rattle.std.proofs.lemmas.List.{get_or-map, get_or_default, length-map}
 use Rattle.std.proofs.lemmas.Bool.{cases_lt}
 use Rattle.std.proofs.lemmas.List.Elements.{All-contains}
 use Rattle.exact_field.specs.Rational.{ℚ}
-use Rattle.polyhedra.specs.LiveList.{Numbered}
+use Rattle.polyhedra.specs.LiveList.{Numbered, tight_set}
 use Rattle.polyhedra.proofs.LiveList.{numbers_tell_apart}
 use Rattle.polyhedra.proofs.Members.{Contains-map, pairs-map}
-use Rattle.double_descr.specs.State.{HasTightSet, IsKept, live_of, list_of, numbered_of, tight_set}
+use Rattle.double_descr.specs.State.{HasTightSet, IsKept, live_of, list_of, numbered_of}
 use Rattle.double_descr.specs.Steps.{values}
 use Rattle.double_descr.specs.declared.generator.Generator.{Generator}
 

@@ -2,9 +2,8 @@
 use Rattle.std.specs.Prelude.{ℕ, ◌<◌, List, ◌≡◌, map, All, Contains, Bool, not, ◌||◌, nat_eq, refl}
 use Rattle.std.specs.Coded.{Coded, code_by, coded×, coded_ℕ, coded_list}
 use Rattle.exact_field.specs.Rational.{ℚ, coded_ℚ}
-use Rattle.exact_field.specs.Vector.{dot}
-use Rattle.polyhedra.specs.DoubleDescription.{is_zero, covers}
-use Rattle.polyhedra.specs.LiveList.{Numbered, LiveList, LivePair, numbers}
+use Rattle.polyhedra.specs.DoubleDescription.{covers}
+use Rattle.polyhedra.specs.LiveList.{Numbered, LiveList, LivePair, numbers, tight_set}
 use Rattle.polyhedra.specs.LiveSteps.{IsLive}
 use Rattle.double_descr.specs.Steps.{values}
 use Rattle.double_descr.specs.declared.generator.Generator.{Generator}
@@ -25,10 +24,6 @@ list_code = code_by (List Numbered × ℕ) (coded× (coded_list numbered_code) c
 abbrev pub state_code : Coded State
 state_code = code_by (ℕ × (List (List ℚ) × LiveList)) (coded× coded_ℕ (coded× (coded_list (coded_list coded_ℚ)) list_code))
     (λ s. (s.width, (s.rows, s.list))) (λ p. record { width = p.0; rows = p.1.0; list = p.1.1 }) (λ _. refl)
-
--- the set of the rows that are tight at a vector, as tests of the rows in their order
-abbrev pub tight_set : List (List ℚ) → List ℚ → List Bool
-tight_set rows v = map (λ r. is_zero (dot r v)) rows
 
 -- a generator in numbers
 abbrev pub numbered_of : {F : Type 0} → (F → ℚ) → Generator F → Numbered

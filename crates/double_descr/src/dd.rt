@@ -2,12 +2,11 @@
 ghost use Rattle.std.specs.Prelude.{◌≡◌, ◌<◌, ◌≤◌, List, [], ◌∷◌, ◌++◌, All, Contains, IfErr, IfOk, OnErr, OnOk, length, slice_index_or};
 ghost use Rattle.exact_field.specs.Rational.{ℚ};
 ghost use Rattle.polyhedra.specs.Cone.{HasFullRank};
-ghost use Rattle.polyhedra.specs.LiveList.{numbers, step};
+ghost use Rattle.polyhedra.specs.LiveList.{numbers, step, tight_set};
 ghost use Rattle.polyhedra.specs.LiveSteps.{IsLive};
 ghost use Rattle.lin_rows.specs.Read.{numbers as table};
 ghost use Rattle.double_descr.specs.Starting.{IsStart, IsStartFault};
 ghost use Rattle.double_descr.specs.Adding.{AreHeld, IsAddFault, IsChange, add_blocks};
-ghost use Rattle.double_descr.specs.State.{tight_set};
 ghost use Rattle.double_descr.specs.Steps.{values};
 
 use crate::fault::{Change, DdFault};

@@ -1,17 +1,14 @@
 -- Sets of tight generators: what it means that one lies in another.
-use Rattle.std.proofs.Common.{◌≡◌, ℕ, zero, suc, ◌<◌, List, [], ◌∷◌, map, length, Bool, true, false, true≢false, not, ◌&&◌, ◌||◌, refl, sym, ◌∙◌, subst, Contains, slice_index_or, ap, arith, ◌≤◌, ◌⊎◌, inl, inr}
+use Rattle.std.proofs.Common.{◌≡◌, ℕ, zero, suc, ◌<◌, List, [], ◌∷◌, map, length, Bool, true, false, true≢false, not, ◌&&◌, ◌||◌, refl, sym, ◌∙◌, subst, Contains, slice_index_or, ap, arith, ◌≤◌}
 use Rattle.std.specs.Prelude.{IsTrue, ◌↔◌}
-use Rattle.std.proofs.lemmas.List.{get_or-map, get_or_past, length-map}
-use Rattle.std.proofs.lemmas.Bool.{cases_lt}
+use Rattle.std.proofs.lemmas.List.{ext_get_or, get_or-map, length-map}
 use Rattle.exact_field.specs.Rational.{ℚ}
 use Rattle.exact_field.specs.Vector.{dot}
 use Rattle.incid_sets.specs.Marks.{ContainsAll, has}
 use Rattle.polyhedra.specs.DoubleDescription.{is_zero}
 use Rattle.polyhedra.specs.FirstNamed.{tight_lies_in}
-use Rattle.polyhedra.specs.LiveList.{Numbered, numbers, vectors}
+use Rattle.polyhedra.specs.LiveList.{Numbered, numbers, tight_set, vectors}
 use Rattle.polyhedra.proofs.Tests.{both_hold, both_true, implied, implies, same_tests}
-use Rattle.double_descr.specs.State.{tight_set}
-use Rattle.double_descr.proofs.Covering.{same_marks}
 use Rattle.double_descr.proofs.MarkedSoFar.{IsMarkedBelow}
 use Rattle.geo_duality.specs.Facets.{row_at, tight_places}
 
@@ -66,12 +63,11 @@ and_false false = refl
 -- ---- one row at all generators
 pub marks_done : (gens : List (List ℚ)) (row : List ℚ) (marks : List Bool) (i : ℕ) →
     IsMarkedBelow (length gens) i (λ j. is_zero (dot row (slice_index_or gens j []))) marks → length gens ≤ i → marks ≡ tight_places gens row
-marks_done gens row marks i h l = same_marks marks (tight_places gens row) (h.bounded ∙ sym (length-map gens (λ g. is_zero (dot row g)))) (λ k. go k (cases_lt k (length gens)))
+marks_done gens row marks i h l = ext_get_or false marks (tight_places gens row) (h.bounded ∙ sym (length-map gens (λ g. is_zero (dot row g))))
+    (λ k m. go k (let b : length marks ≡ length gens = h.bounded in omega arith))
   where
-    go : (k : ℕ) → (k < length gens) ⊎ (length gens ≤ k) → has marks k ≡ has (tight_places gens row) k
-    go k (inl less) = h.done k (omega arith) ∙ sym (get_or-map (λ g. is_zero (dot row g)) gens k [] false less)
-    go k (inr other) = get_or_past marks k false (let b : length marks ≡ length gens = h.bounded in omega arith)
-        ∙ sym (get_or_past (tight_places gens row) k false (let b : length (tight_places gens row) ≡ length gens = length-map gens (λ g. is_zero (dot row g)) in omega arith))
+    go : (k : ℕ) → k < length gens → has marks k ≡ has (tight_places gens row) k
+    go k less = h.done k (omega arith) ∙ sym (get_or-map (λ g. is_zero (dot row g)) gens k [] false less)
 
 pub has_place : (rows : List (List ℚ)) (live : List Numbered) (k i n : ℕ) (marks : List Bool) (found : Bool) → k < length rows → i < length (numbers live) →
     n ≡ slice_index_or (numbers live) i 0 → ((v : List ℚ) → Contains live (record { number = n; vector = v }) → marks ≡ tight_set rows v) → found ≡ has marks k →

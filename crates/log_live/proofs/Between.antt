@@ -5,7 +5,7 @@ use Rattle.exact_field.specs.Rational.{ℚ, zero_ℚ, neg_ℚ, ◌/ℚ◌, ◌<�
 use Rattle.exact_field.specs.Vector.{dot}
 use Rattle.incid_sets.specs.Marks.{IsMeet}
 use Rattle.polyhedra.specs.DoubleDescription.{normed, meeting, norming}
-use Rattle.polyhedra.specs.LiveList.{Numbered, LivePair, vectors, live_pairs}
+use Rattle.polyhedra.specs.LiveList.{Numbered, LivePair, tight_set, vectors, live_pairs}
 use Rattle.polyhedra.proofs.Generators.{tight_at_meeting}
 use Rattle.polyhedra.proofs.Members.{member_of, Contains-map, pairs-map}
 use Rattle.polyhedra.proofs.Order.{neg_positive, not_zero_of_positive}
@@ -15,7 +15,7 @@ use Rattle.log_rules.specs.Events as events
 use Rattle.log_rules.specs.Live.{find}
 use Rattle.log_rules.proofs.Kept.{Earlier, find_is}
 use Rattle.log_live.specs.Adding.{AreAtRow, IsBetween, IsPointOrDirection, new_entries, pair_events, pair_named}
-use Rattle.log_live.specs.Live.{numbered_of, live_of, HasTightSet, tight_set}
+use Rattle.log_live.specs.Live.{numbered_of, live_of, HasTightSet}
 use Rattle.log_live.specs.declared.generator.Generator.{Generator}
 use Rattle.log_rules.specs.Runs.{steps}
 use Rattle.log_live.proofs.Bridges.{few_steps, pair_as}

@@ -1,7 +1,7 @@
 -- The generators of a `start`, with their sets.
 use Rattle.std.proofs.Common.{◌≡◌, ◌≢◌, ℕ, zero, suc, ◌+◌, ◌-◌, ◌*◌, ◌<◌, ◌≤◌, List, [], ◌∷◌, ◌++◌, refl, sym, ap, ap₂, ◌∙◌, subst, arith, ◌⊎◌, inl, inr, Bool, false, not, nat_eq, length, map, take, drop, All, None, slice_index_or, length-append}
-use Rattle.std.proofs.lemmas.Bool.{cases_eq, cases_lt, eq-eqb, ne_eqb}
-use Rattle.std.proofs.lemmas.List.{length-map, map-append, get_or-map, take_more}
+use Rattle.std.proofs.lemmas.Bool.{cases_eq, eq-eqb, ne_eqb}
+use Rattle.std.proofs.lemmas.List.{ext_get_or, length-map, map-append, get_or-map, take_more}
 use Rattle.std.proofs.lemmas.List.Elements.{All-nil, All-cons, All-append, All-weaker}
 use Rattle.exact_field.specs.Rational.{ℚ, zero_ℚ, one_ℚ, neg_ℚ, ◌+ℚ◌}
 use Rattle.exact_field.specs.Vector.{dot}
@@ -9,7 +9,8 @@ use Rattle.incid_sets.specs.Marks.{has}
 use Rattle.polyhedra.specs.DoubleDescription.{is_zero}
 use Rattle.polyhedra.specs.Exactness.{homogenised, row_of, rows_of, IsCornerOf}
 use Rattle.polyhedra.specs.Inequality.{Inequality}
-use Rattle.polyhedra.specs.LiveList.{Numbered, numbered, starting}
+use Rattle.polyhedra.specs.LiveList.{Numbered, numbered, starting, tight_set}
+use Rattle.polyhedra.proofs.Covering.{length-tight_set}
 use Rattle.polyhedra.proofs.Homogenised.{level_value, row_value_point, row_value_direction}
 use Rattle.polyhedra.proofs.Laws.{add_neg, zero_lt_one}
 use Rattle.polyhedra.proofs.Lists.{all_from_map}
@@ -20,23 +21,17 @@ use Rattle.polyhedra.proofs.Tests.{test_of_other, test_of_zero}
 use Rattle.upper_image.specs.Spots.{pieces}
 use Rattle.log_tests.proofs.RisingNumbers.{length-pieces, pieces-at}
 use Rattle.log_rules.specs.Live.{first_vectors, preimages}
-use Rattle.log_live.specs.Live.{AreLive, HasPreimage, HasTightSet, listed, live_of, numbered_of, tight_set}
+use Rattle.log_live.specs.Live.{AreLive, HasPreimage, HasTightSet, listed, live_of, numbered_of}
 use Rattle.log_live.specs.Starting.{IsAllBut, IsFirst}
 use Rattle.log_live.specs.Tight.{row_at}
 use Rattle.log_live.specs.declared.generator.Generator.{Generator}
 use Rattle.log_live.proofs.LivePairs.{length-take_to, numbered_push, take_all_of}
-use Rattle.log_live.proofs.NewSets.{length-tight_set, same_marks}
 
 -- ---- a set of all rows but one
-past_end : (xs : List Bool) (k : ℕ) → length xs ≤ k → has xs k ≡ false
-past_end [] k h = refl
-past_end (x ∷ xs) zero h = absurd (omega (arith, h))
-past_end (x ∷ xs) (suc k) h = past_end xs k (omega (arith, h))
-
 pub all_but_tight : (rows : List (List ℚ)) (v : List ℚ) (out : ℕ) (marks : List Bool) → IsAllBut (length rows) out marks →
     (dot (row_at rows out) v ≡ zero_ℚ → ⊥) → ((k : ℕ) → k < length rows → k ≢ out → dot (row_at rows k) v ≡ zero_ℚ) → marks ≡ tight_set rows v
 all_but_tight rows v out marks a other zeros =
-    same_marks marks (tight_set rows v) (a.bounded ∙ sym (length-tight_set rows v)) (λ k. elim (cases_lt k (length rows)) [ inl l ↦ inside k l | inr u ↦ outside k u ])
+    ext_get_or false marks (tight_set rows v) (a.bounded ∙ sym (length-tight_set rows v)) (λ k l. inside k (let b = a.bounded in omega (arith, b, l)))
   where
     read : (k : ℕ) → k < length rows → has (tight_set rows v) k ≡ is_zero (dot (row_at rows k) v)
     read k l = get_or-map (λ r. is_zero (dot r v)) rows k [] false l
@@ -46,12 +41,6 @@ all_but_tight rows v out marks a other zeros =
       | inl e ↦ a.others k l ∙ ap not (eq-eqb k out e) ∙ sym (test_of_other (dot (row_at rows k) v) (λ z. other (ap (λ n. dot (row_at rows n) v) (sym e) ∙ z))) ∙ sym (read k l)
       | inr o ↦ a.others k l ∙ ap not (ne_eqb k out o) ∙ sym (test_of_zero (dot (row_at rows k) v) (zeros k l o)) ∙ sym (read k l)
     ]
-
-    outside : (k : ℕ) → length rows ≤ k → has marks k ≡ has (tight_set rows v) k
-    outside k u =
-        let b = a.bounded in
-        let t = length-tight_set rows v in
-        past_end marks k (omega (arith, b, u)) ∙ sym (past_end (tight_set rows v) k (omega (arith, t, u)))
 
 at_last : (xs : List Bool) (b : Bool) → has (xs ++ b ∷ []) (length xs) ≡ b
 at_last [] b = refl

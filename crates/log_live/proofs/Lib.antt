@@ -2,7 +2,7 @@ pub mod Columns
 pub mod Finding
 pub mod OneMore
 pub mod ValuesAt
-pub mod Covering
+pub mod ListItems
 pub mod PairMatches
 pub mod NotZero
 pub mod NewVectors

@@ -1,9 +1,7 @@
 -- The live generators of a log, as the code keeps them.
-use Rattle.std.specs.Prelude.{◌≡◌, ℕ, ◌≤◌, ◌<◌, List, [], ◌∷◌, map, length, All, Bool, true, Option, None, Some, slice_index_or}
+use Rattle.std.specs.Prelude.{◌≡◌, ℕ, ◌≤◌, ◌<◌, List, [], ◌∷◌, map, length, All, true, Option, None, Some, slice_index_or}
 use Rattle.exact_field.specs.Rational.{ℚ}
-use Rattle.exact_field.specs.Vector.{dot}
-use Rattle.polyhedra.specs.DoubleDescription.{is_zero}
-use Rattle.polyhedra.specs.LiveList.{Numbered, LiveList}
+use Rattle.polyhedra.specs.LiveList.{Numbered, LiveList, tight_set}
 use Rattle.frac128.specs.declared.vectors.Spot.{Spot}
 use Rattle.deriv_log.specs.declared.entry.Entry.{Entry}
 use Rattle.vlp_reader.specs.declared.problem.Problem.{Problem}
@@ -19,10 +17,6 @@ numbered_of g = record { number = g.number; vector = g.vector }
 
 abbrev pub live_of : List Generator → List Numbered
 live_of gens = map numbered_of gens
-
--- the set of the rows that are tight at a vector, as tests of the rows in their order
-abbrev pub tight_set : List (List ℚ) → List ℚ → List Bool
-tight_set rows v = map (λ r. is_zero (dot r v)) rows
 
 -- the generator's set is that of the rows that are tight at it
 abbrev pub HasTightSet : List (List ℚ) → Generator → Type 0

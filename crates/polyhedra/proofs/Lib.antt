@@ -6,6 +6,7 @@ pub mod ConvexSets
 pub mod CornerStarts
 pub mod Corners
 pub mod CoveredPairs
+pub mod Covering
 pub mod Dependence
 pub mod Duality
 pub mod Enclosed

@@ -1,9 +1,10 @@
 use Rattle.std.proofs.Common.{◌+◌, drop, refl, sym, ap, ◌∙◌, arith}
 use Rattle.std.specs.List.{list_all}
+use Rattle.std.proofs.lemmas.Bool.{not_from_false, not_from_true}
 use Rattle.std.proofs.lemmas.List.{drop_all, length-map}
+use Rattle.polyhedra.proofs.Covering.{none_at, all_but}
 use Rattle.double_descr.specs.State.{HasTightSet, live_of, numbered_of, pair_of, third_test}
 use Rattle.double_descr.proofs.pairs.is_uncovered.Goals as goal
-use Rattle.double_descr.proofs.Covering.{none_at, test_false, all_but, test_true}
 use Rattle.double_descr.proofs.StepLists.{listed, drop_value}
 
 pub loop-i-init : goal.loop-i-init
@@ -12,22 +13,22 @@ loop-i-init g c = λ rows all a b m. refl
 pub returns-then-covers_pair : goal.returns-then-covers_pair
 returns-then-covers_pair g c = λ rows all a b m. sym (none_at (numbered_of g.F.Field.value) (third_test rows (pair_of g.F.Field.value c.args.plus.now c.args.minus.now)) c.args.generators.now
     c.args.last.now c.index-generators-last.result c.if-last-generators.true c.index-generators-last.is
-    (test_false c.covers_pair.result _ (c.covers_pair.ensures rows (listed (HasTightSet g.F.Field.value rows) c.args.generators.now c.args.last.now c.index-generators-last.result all c.if-last-generators.true c.index-generators-last.is) a b m)
-    c.if-covers_pair.true))
+    (sym (c.covers_pair.ensures rows (listed (HasTightSet g.F.Field.value rows) c.args.generators.now c.args.last.now c.index-generators-last.result all c.if-last-generators.true c.index-generators-last.is) a b m)
+    ∙ not_from_true c.covers_pair.result c.if-covers_pair.true))
 
 pub returns-then-covers_pair-2 : goal.returns-then-covers_pair-2
 returns-then-covers_pair-2 g c = λ rows all a b m. sym (none_at (numbered_of g.F.Field.value) (third_test rows (pair_of g.F.Field.value c.args.plus.now c.args.minus.now)) c.args.generators.now
     c.loop-i.i c.index-generators-i.result c.loop-i-test.true c.index-generators-i.is
-    (test_false c.covers_pair-in-loop-i.result _ (c.covers_pair-in-loop-i.ensures rows (listed (HasTightSet g.F.Field.value rows) c.args.generators.now c.loop-i.i c.index-generators-i.result all c.loop-i-test.true c.index-generators-i.is) a b m)
-    c.if-covers_pair-2.true))
+    (sym (c.covers_pair-in-loop-i.ensures rows (listed (HasTightSet g.F.Field.value rows) c.args.generators.now c.loop-i.i c.index-generators-i.result all c.loop-i-test.true c.index-generators-i.is) a b m)
+    ∙ not_from_true c.covers_pair-in-loop-i.result c.if-covers_pair-2.true))
 
 pub loop-i-preserved : goal.loop-i-preserved
 loop-i-preserved g c = λ rows all a b m.
     all_but (third_test rows (pair_of g.F.Field.value c.args.plus.now c.args.minus.now)) (numbered_of g.F.Field.value c.index-generators-i.result)
     (drop c.loop-i.i (live_of g.F.Field.value c.args.generators.now)) (drop (c.loop-i.i + 1) (live_of g.F.Field.value c.args.generators.now))
     (drop_value (numbered_of g.F.Field.value) c.args.generators.now c.loop-i.i c.index-generators-i.result c.loop-i-test.true c.index-generators-i.is)
-    (test_true c.covers_pair-in-loop-i.result _ (c.covers_pair-in-loop-i.ensures rows (listed (HasTightSet g.F.Field.value rows) c.args.generators.now c.loop-i.i c.index-generators-i.result all c.loop-i-test.true c.index-generators-i.is) a b m)
-    c.if-covers_pair-2.false)
+    (sym (c.covers_pair-in-loop-i.ensures rows (listed (HasTightSet g.F.Field.value rows) c.args.generators.now c.loop-i.i c.index-generators-i.result all c.loop-i-test.true c.index-generators-i.is) a b m)
+    ∙ not_from_false c.covers_pair-in-loop-i.result c.if-covers_pair-2.false)
     ∙ c.loop-i.invariant rows all a b m
 
 pub returns : goal.returns

@@ -3,12 +3,12 @@ use Rattle.std.proofs.lemmas.List.{get_or-map, map-append}
 use Rattle.std.proofs.lemmas.List.Elements.{All-push, All-more}
 use Rattle.exact_field.specs.Rational.{ℚ}
 use Rattle.polyhedra.specs.DoubleDescription.{norming, normed}
-use Rattle.polyhedra.specs.LiveList.{Numbered}
+use Rattle.polyhedra.specs.LiveList.{Numbered, tight_set}
 use Rattle.lin_rows.specs.Read.{numbers}
 use Rattle.lin_rows.proofs.Building.{numbers_long}
 use Rattle.lin_rows.proofs.Errors.{err_holds}
 use Rattle.double_descr.specs.Starting.{IsAllBut, norming_steps}
-use Rattle.double_descr.specs.State.{HasTightSet, live_of, numbered_of, tight_set}
+use Rattle.double_descr.specs.State.{HasTightSet, live_of, numbered_of}
 use Rattle.double_descr.specs.Steps.{IsHeld, values}
 use Rattle.double_descr.specs.declared.generator.Generator.{Generator}
 use Rattle.double_descr.proofs.NormedCorners.{corner_norming, corner_tight}

@@ -1,5 +1,6 @@
 use Rattle.std.proofs.Common.{◌≡◌, ℕ, List, AllPairs, ◌<◌, Contains, length, sym, ap, ◌∙◌, subst, get_or, slice_index}
-use Rattle.double_descr.specs.State.{State, tight_set}
+use Rattle.polyhedra.specs.LiveList.{tight_set}
+use Rattle.double_descr.specs.State.{State}
 use Rattle.double_descr.specs.declared.generator.Generator.{Generator}
 use Rattle.double_descr.proofs.Reading.{numbers_rise, tight_here}
 use Rattle.double_descr.proofs.dd.Dd.tight.Goals as goal
