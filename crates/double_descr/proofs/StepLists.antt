@@ -2,8 +2,9 @@
 use Rattle.std.proofs.Common.{◌≡◌, ℕ, zero, suc, ◌+◌, ◌<◌, ◌≤◌, List, [], ◌∷◌, ◌++◌, length, drop, map, All, Bool, true, false, cond, refl, sym, ap, ap₂, ◌∙◌, subst, arith, ◌||◌, ◌⊎◌, inl, inr, slice_index_or, append_assoc, length-append}
 use Rattle.std.specs.Prelude.{IsFalse}
 use Rattle.std.proofs.lemmas.List.{append-nil, map-append}
-use Rattle.exact_field.specs.declared.op.Op.TheVariants.{Div}
+use Rattle.exact_field.specs.declared.op.Op.TheVariants.{Add, Mul, Div}
 use Rattle.std.proofs.lemmas.List.Elements.{All-nil, All-cons, All-append}
+use Rattle.exact_field.specs.Field.{AreSumsHeld}
 use Rattle.exact_field.specs.Rational.{ℚ}
 use Rattle.exact_field.specs.declared.op.Left.{Left}
 use Rattle.exact_field.specs.Rational.{zero_ℚ, ◌+ℚ◌, ◌*ℚ◌}
@@ -107,6 +108,22 @@ product_done holds steps total s row vector n e h k = (
   at_last holds steps n (same_left holds steps (product_steps total row vector) [] n (ap (λ r. product_steps total r vector) e) h),
   sym (add_zero total) ∙ ap (λ r. total +ℚ dot r vector) (sym e) ∙ k,
 )
+
+-- a product whose every term and sum is held takes no step that is not
+pub either_way : (holds : ℚ → Bool) (steps : List Step) (b : Bool) → All (IsHeld holds) steps → All (IsHeld holds) (cond b [] steps)
+either_way holds steps true h = All-nil (IsHeld holds)
+either_way holds steps false h = h
+
+pub short_steps : (holds : ℚ → Bool) (total : ℚ) (xs ys : List ℚ) → AreSumsHeld holds total xs ys → All (IsHeld holds) (product_steps total xs ys)
+short_steps holds total [] ys h = All-nil (IsHeld holds)
+short_steps holds total (x ∷ xs) [] h = All-nil (IsHeld holds)
+short_steps holds total (x ∷ xs) (y ∷ ys) (term, sum, rest) =
+    let mul : Step = record { op = Mul; a = x; b = y } in
+    let add : Step = record { op = Add; a = total; b = x *ℚ y } in
+    All-append (IsHeld holds) (term_steps total x y) (product_steps (total +ℚ x *ℚ y) xs ys)
+    (either_way holds (multiple_steps total x y) (is_zero x || is_zero y)
+    (All-cons (IsHeld holds) mul (add ∷ []) term (All-cons (IsHeld holds) add [] sum (All-nil (IsHeld holds)))))
+    (short_steps holds (total +ℚ x *ℚ y) xs ys rest)
 
 -- ---- what a `?` hands on
 pub stop_runs : {T F : Type 0} (value : F → ℚ) (holds : ℚ → Bool) (steps : List Step) (r : Result T (Stop F)) (stop : Stop F) (Right : T → Type 0) →

@@ -57,8 +57,9 @@ fn add_term<F: Field>(x: F, y: F, total: F, done: u64) -> Result<(F, u64), Stop<
     }
 }
 
-/// The product of two vectors of one width.
-pub fn product<F: Field>(row: &[F], vector: &[F]) -> Result<F, Stop<F>>
+/// The product of two vectors of one width, step by step: where the short way has no answer. The first
+/// step that is not held is told.
+fn product_by_steps<F: Field>(row: &[F], vector: &[F]) -> Result<F, Stop<F>>
     requires same { length row.now ≡ length vector.now }
     requires narrow { length row.now < 4294967296 }
     ensures { Runs F.value F.holds (product_steps zero_ℚ (values F.value row.now) (values F.value vector.now)) result (λ r. F.value r ≡ dot (values F.value row.now) (values F.value vector.now)) }
@@ -69,6 +70,18 @@ pub fn product<F: Field>(row: &[F], vector: &[F]) -> Result<F, Stop<F>>
         (total, done) = add_term(row[i], vector[i], total, done)?;
     }
     Ok(total)
+}
+
+/// The product of two vectors of one width.
+pub fn product<F: Field>(row: &[F], vector: &[F]) -> Result<F, Stop<F>>
+    requires same { length row.now ≡ length vector.now }
+    requires narrow { length row.now < 4294967296 }
+    ensures { Runs F.value F.holds (product_steps zero_ℚ (values F.value row.now) (values F.value vector.now)) result (λ r. F.value r ≡ dot (values F.value row.now) (values F.value vector.now)) }
+{
+    match F::short_dot(row, vector) {
+        Some(value) => Ok(value),
+        None => product_by_steps(row, vector),
+    }
 }
 
 /// The entries of one vector plus a factor times those of another, with the number of steps before.

@@ -1,7 +1,7 @@
 use Rattle.std.proofs.Common.{◌≡◌, ◌*◌, ◌≤◌, drop, map}
 use Rattle.exact_field.specs.Rational.{zero_ℚ, ◌+ℚ◌}
 use Rattle.exact_field.specs.Vector.{dot}
-use Rattle.double_descr.proofs.steps.product.Given as goal
+use Rattle.double_descr.proofs.steps.product_by_steps.Given as goal
 use Rattle.double_descr.specs.Steps.{IsSoFar, product_steps}
 
 abbrev pub invariant-loop-i : goal.invariant-loop-i
