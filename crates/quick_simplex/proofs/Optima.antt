@@ -16,9 +16,10 @@ use Rattle.tableaux.specs.Dictionary.{basic_column, AreBasicMultipliers, IsDicti
 use Rattle.tableaux.specs.Elimination.{named_count}
 use Rattle.tableaux.specs.Simplex.{BoundsColumns, IsBest, OptimalAt}
 use Rattle.tableaux.proofs.Definition.{same_default, slice_eq, unit_entry, delta_sym}
+use Rattle.tableaux.proofs.Eliminated.{all_named}
 use Rattle.tableaux.proofs.Entries.{sign_of, table-long, table-wide, equation-unknown, equation-artificial, second-unknown, second-artificial}
 use Rattle.tableaux.proofs.Found.{list_from-same}
-use Rattle.tableaux.proofs.Places.{length-list_from, listed-is, entry-plus, entry-scaled, row-wide, same_or_other, if_true, if_false, delta, delta-other}
+use Rattle.tableaux.proofs.Places.{length-list_from, listed-is, entry-plus, entry-scaled, row-wide, same_or_other, delta, delta-other}
 use Rattle.tableaux.proofs.Reading.{sign_twice}
 use Rattle.tableaux.proofs.Ties.{column_entry}
 use Rattle.tableaux.proofs.Unique.{dot-unit, entry-combination, column-long}
@@ -30,33 +31,6 @@ use Rattle.quick_simplex.proofs.Choosing.{chosen-at, chosen_whole, named-column,
 
 next : (k : ℕ) → 1 + k - 1 ≡ k
 next k = omega arith
-
--- where as many rows have a column as there are, each has one
-named_at_most : (basis : List ℕ) → named_count basis ≤ length basis
-named_at_most [] = omega arith
-named_at_most (c ∷ basis) =
-    let rest : named_count basis ≤ length basis = named_at_most basis in
-    elim (same_or_other c 0) [
-      | inl s ↦ let first = if_true {A = ℕ} (c == 0) 0 1 s.1 in omega (arith, first, rest)
-      | inr o ↦ let first = if_false {A = ℕ} (c == 0) 0 1 o.1 in omega (arith, first, rest)
-    ]
-
-all_named : (basis : List ℕ) → named_count basis ≡ length basis → (k : ℕ) → k < length basis → slice_index_or basis k 0 ≢ 0
-all_named [] e k l = absurd (omega arith)
-all_named (c ∷ basis) e zero l =
-    let rest : named_count basis ≤ length basis = named_at_most basis in
-    elim (same_or_other c 0) [
-      | inl s ↦ let first = if_true {A = ℕ} (c == 0) 0 1 s.1 in absurd (omega (arith, e, first, rest))
-      | inr o ↦ o.0
-    ]
-all_named (c ∷ basis) e (suc k) l =
-    let rest : named_count basis ≤ length basis = named_at_most basis in
-    let count : named_count basis ≡ length basis =
-    elim (same_or_other c 0) [
-      | inl s ↦ let first = if_true {A = ℕ} (c == 0) 0 1 s.1 in absurd (omega (arith, e, first, rest))
-      | inr o ↦ let first = if_false {A = ℕ} (c == 0) 0 1 o.1 in omega (arith, e, first)
-    ] in
-    all_named basis count k (omega arith)
 
 -- values behind the last place of a basis count for nothing
 value-front : (basis : List ℕ) (vs more : List ℚ) (j : ℕ) → length basis ≡ length vs → value_of_column basis (vs ++ more) j ≡ value_of_column basis vs j
