@@ -8,8 +8,8 @@ ghost use Rattle.tableaux.specs.Simplex.{BoundsColumns};
 ghost use Rattle.tableaux.specs.Table.{column_of};
 ghost use Rattle.exact_simplex.specs.Program.{HasLengths, system_of};
 
-use crate::columns::coefficients;
 use exact_field::{Field, Left};
+use exact_simplex::coefficients;
 use lin_rows::cells::is_zero;
 use lin_rows::{System, add_product};
 use src_sink::NoMemory;

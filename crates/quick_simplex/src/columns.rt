@@ -2,36 +2,16 @@
 
 ghost use Rattle.std.specs.Prelude.{◌≡◌, ◌+◌, ◌<◌, ◌≤◌, map, IfOk, IsTrue};
 ghost use Rattle.lin_rows.specs.Read.{numbers};
-ghost use Rattle.tableaux.specs.Table.{artificial_sign, at, row_of, second_cost, table_of};
-ghost use Rattle.exact_simplex.specs.Program.{HasLengths, coefficients_of, system_of};
+ghost use Rattle.tableaux.specs.Table.{at, row_of, second_cost, table_of};
+ghost use Rattle.exact_simplex.specs.Program.{HasLengths, system_of};
 ghost use Rattle.quick_simplex.specs.Chosen.{chosen, chosen_row};
 ghost use Rattle.quick_simplex.specs.Optimum.{AreColumns, beside_right, equation_table, price_row};
 
 use exact_field::Field;
+use exact_simplex::{artificial, coefficients};
 use lin_rows::{Rows, System};
 use src_sink::{Items, NoMemory};
 use std::alloc::Global;
-
-/// What an artificial column holds in its equation: 1, or -1 where the right side is negative.
-fn artificial<F: Field>(right: F) -> F
-    ensures { F.value result ≡ artificial_sign (F.value right) }
-{
-    if right < F::zero() {
-        F::one().neg()
-    } else {
-        F::one()
-    }
-}
-
-/// The coefficients of equation `i`, counted from 0.
-pub fn coefficients<F: Field>(system: &System<F>, i: u32) -> &[F]
-    requires lengths { HasLengths system.now }
-    requires inside { i < system.now.rows }
-    ensures { result.now ≡ coefficients_of system.now (i + 1) }
-{
-    let start = i as usize * system.cols as usize;
-    &system.a.as_slice()[start..start + system.cols as usize]
-}
 
 /// The entry of equation `i`, counted from 0, in the column of an unknown or of an artificial.
 fn equation_entry<F: Field>(system: &System<F>, i: u32, col: u32) -> F
