@@ -108,7 +108,7 @@ sign_from_test n s h e = ap is_below_zero (sym (kept n h)) ∙ sym (below_zero (
 
 -- ---- equality
 
-same_bits : (n m : ℤ) → unsigned_abs n < 2 ^ 120 → unsigned_abs m < 2 ^ 120 → of_z w128 n ≡ of_z w128 m → n ≡ m
+pub same_bits : (n m : ℤ) → unsigned_abs n < 2 ^ 120 → unsigned_abs m < 2 ^ 120 → of_z w128 n ≡ of_z w128 m → n ≡ m
 same_bits n m h k e = sym (kept n h) ∙ ap (to_z w128) e ∙ kept m k
 
 eqb_is : (x y : ℕ) → IsTrue (x == y) → x ≡ y

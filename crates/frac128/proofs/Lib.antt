@@ -12,5 +12,6 @@ pub mod Parts
 pub mod Short
 pub mod Signs
 pub mod TextLaw
+pub mod Totals
 pub mod Turns
 pub mod Whole

@@ -14,22 +14,24 @@ use Rattle.frac128.proofs.Coprime.{abs_sum}
 use Rattle.frac128.proofs.Lowest.{IsLowest, IsStored, sum_lowest_of, lowest_at}
 use Rattle.frac128.proofs.Signs.{kept}
 
-pub product_size : (a : ℤ) (x : ℕ) → unsigned_abs a < 2 ^ 59 → x < 2 ^ 59 → unsigned_abs (a *ℤ pos x) < 2 ^ 118
-product_size a x ha hx = omega (arith, unsigned_abs-mul a (pos x), mul-lt (unsigned_abs a) x (2 ^ 59) (2 ^ 59) ha hx)
+-- a product of numbers below 2^k
+product_size : (k : ℕ) (a : ℤ) (x : ℕ) → unsigned_abs a < 2 ^ k → x < 2 ^ k → unsigned_abs (a *ℤ pos x) < 2 ^ k * 2 ^ k
+product_size k a x ha hx = omega (arith, unsigned_abs-mul a (pos x), mul-lt (unsigned_abs a) x (2 ^ k) (2 ^ k) ha hx)
 
-pub sum_size : (a c : ℤ) (x y : ℕ) → unsigned_abs a < 2 ^ 59 → unsigned_abs c < 2 ^ 59 → x < 2 ^ 59 → y < 2 ^ 59 → unsigned_abs (a *ℤ pos x +ℤ c *ℤ pos y) < 2 ^ 119
-sum_size a c x y ha hc hx hy = omega (arith, abs_sum (a *ℤ pos x) (c *ℤ pos y), product_size a x ha hx, product_size c y hc hy)
+-- a sum of two of them
+pub sum_size : (k : ℕ) (a c : ℤ) (x y : ℕ) → unsigned_abs a < 2 ^ k → unsigned_abs c < 2 ^ k → x < 2 ^ k → y < 2 ^ k → unsigned_abs (a *ℤ pos x +ℤ c *ℤ pos y) < 2 * (2 ^ k * 2 ^ k)
+sum_size k a c x y ha hc hx hy = omega (arith, abs_sum (a *ℤ pos x) (c *ℤ pos y), product_size k a x ha hx, product_size k c y hc hy)
 
 -- a product as it is computed, of a number and of m that is x
-computed_product : (a m : ℤ) (x : ℕ) → m ≡ pos x → unsigned_abs a < 2 ^ 59 → x < 2 ^ 59 → to_z w128 (of_z w128 (to_z w128 (of_z w128 a) *ℤ to_z w128 (of_z w128 m))) ≡ a *ℤ pos x
+computed_product : (a m : ℤ) (x : ℕ) → m ≡ pos x → unsigned_abs a < 2 ^ 60 → x < 2 ^ 60 → to_z w128 (of_z w128 (to_z w128 (of_z w128 a) *ℤ to_z w128 (of_z w128 m))) ≡ a *ℤ pos x
 computed_product a m x e ha hx =
     let size : unsigned_abs m ≡ x = ap unsigned_abs e in
     ap (λ (z : ℤ). to_z w128 (of_z w128 (z *ℤ to_z w128 (of_z w128 m)))) (kept a (omega arith))
     ∙ ap (λ (z : ℤ). to_z w128 (of_z w128 (a *ℤ z))) (kept m (omega arith) ∙ e)
-    ∙ kept (a *ℤ pos x) (let small = product_size a x ha hx in omega arith)
+    ∙ kept (a *ℤ pos x) (let small = product_size 60 a x ha hx in omega arith)
 
 -- two of them
-pub computed_terms : (a m c n : ℤ) (x y : ℕ) → m ≡ pos x → n ≡ pos y → unsigned_abs a < 2 ^ 59 → unsigned_abs c < 2 ^ 59 → x < 2 ^ 59 → y < 2 ^ 59 → to_z w128 (of_z w128 (to_z w128 (of_z w128 a) *ℤ to_z w128 (of_z w128 m))) +ℤ to_z w128 (of_z w128 (to_z w128 (of_z w128 c) *ℤ to_z w128 (of_z w128 n))) ≡ a *ℤ pos x +ℤ c *ℤ pos y
+pub computed_terms : (a m c n : ℤ) (x y : ℕ) → m ≡ pos x → n ≡ pos y → unsigned_abs a < 2 ^ 60 → unsigned_abs c < 2 ^ 60 → x < 2 ^ 60 → y < 2 ^ 60 → to_z w128 (of_z w128 (to_z w128 (of_z w128 a) *ℤ to_z w128 (of_z w128 m))) +ℤ to_z w128 (of_z w128 (to_z w128 (of_z w128 c) *ℤ to_z w128 (of_z w128 n))) ≡ a *ℤ pos x +ℤ c *ℤ pos y
 computed_terms a m c n x y e f ha hc hx hy =
     ap (λ (z : ℤ). z +ℤ to_z w128 (of_z w128 (to_z w128 (of_z w128 c) *ℤ to_z w128 (of_z w128 n)))) (computed_product a m x e ha hx)
     ∙ ap (λ (z : ℤ). a *ℤ pos x +ℤ z) (computed_product c n y f hc hy)
@@ -42,6 +44,13 @@ short_den q n d is short = subst (λ (z : ℕ). z < 2 ^ 59) (sym is.den) short.d
 
 pub quotient_short : (b g x : ℕ) → b < 2 ^ 59 → x ≡ b / g → x < 2 ^ 59
 quotient_short b g x h e = omega (arith, div-le_self b g)
+
+-- the joint numerator of two short fractions
+pub short_sum_size : (p q : ℚ) (n m : ℤ) (b d g x y : ℕ) (t : ℤ) → IsStored p n b → IsStored q m d → IsShort p → IsShort q → x ≡ b / g → y ≡ d / g → t ≡ n *ℤ pos y +ℤ m *ℤ pos x → unsigned_abs t < 2 ^ 119
+short_sum_size p q n m b d g x y t sp sq short_p short_q ex ey et =
+    let few = sum_size 59 n m y x (short_num p n b sp short_p) (short_num q m d sq short_q) (quotient_short d g y (short_den q m d sq short_q) ey) (quotient_short b g x (short_den p n b sp short_p) ex) in
+    let size : unsigned_abs t ≡ unsigned_abs (n *ℤ pos y +ℤ m *ℤ pos x) = ap unsigned_abs et in
+    omega arith
 
 pub quotient_held : (t : ℤ) (w k u : ℕ) → unsigned_abs t < 2 ^ 119 → w ≡ unsigned_abs t → u ≡ w / k → u < 2 ^ 120
 quotient_held t w k u h e f = omega (arith, div-le_self w k)

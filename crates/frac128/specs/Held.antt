@@ -20,6 +20,11 @@ pub record IsShort (q : ℚ) : Type 0 where
   pub num : unsigned_abs q.num < 2 ^ 59
   pub den : q.den < 2 ^ 59
 
+-- the numerator's magnitude and the denominator are below 2^30
+pub record IsNarrow (q : ℚ) : Type 0 where
+  pub num : unsigned_abs q.num < 2 ^ 30
+  pub den : q.den < 2 ^ 30
+
 pub held_zero : IsTrue (is_held zero_ℚ)
 unfolding whole
 held_zero = refl

@@ -12,6 +12,7 @@ ghost use Rattle.frac128.specs.New.{Makes};
 ghost use Rattle.frac128.specs.Signed.{signed};
 
 mod arith;
+mod dot;
 
 use crate::exact::exact_quotient;
 use crate::fault::FracFault;

@@ -7,6 +7,7 @@ ghost use Rattle.exact_field.specs.Rational.{zero_ℚ, inverse_ℚ, ◌+ℚ◌, 
 ghost use Rattle.frac128.specs.Held.{is_held, IsShort, held_zero, held_one, held_neg, held_small};
 
 use super::Frac;
+use super::dot::dot;
 use crate::exact::exact_quotient;
 use crate::gcd::{gcd, gcd_words, product, product_plus, quotient, quotient_words};
 use crate::joint::numerator;
@@ -14,23 +15,23 @@ use crate::sign::opposite;
 use exact_field::{Field, Left, Op};
 
 /// Parts below this have sums and products that are held.
-const SHORT: u128 = 1 << 59;
+pub(super) const SHORT: u128 = 1 << 59;
 
 /// The product, of all its bits.
-fn wide(x: u64, y: u64) -> u128
+pub(super) fn wide(x: u64, y: u64) -> u128
     ensures { result ≡ x * y }
 {
     u128::from(x) * u128::from(y)
 }
 
 /// `a x + c y`.
-fn sum_of_products(a: i128, x: u64, c: i128, y: u64) -> i128
-    requires a_small { unsigned_abs a < 2 ^ 59 }
-    requires c_small { unsigned_abs c < 2 ^ 59 }
-    requires x_small { x < 2 ^ 59 }
-    requires y_small { y < 2 ^ 59 }
+pub(super) fn sum_of_products(a: i128, x: u64, c: i128, y: u64) -> i128
+    requires a_small { unsigned_abs a < 2 ^ 60 }
+    requires c_small { unsigned_abs c < 2 ^ 60 }
+    requires x_small { x < 2 ^ 60 }
+    requires y_small { y < 2 ^ 60 }
     ensures value { result ≡ a *ℤ pos x +ℤ c *ℤ pos y }
-    ensures size { unsigned_abs result < 2 ^ 119 }
+    ensures size { unsigned_abs result < 2 ^ 121 }
 {
     a * i128::from(x) + c * i128::from(y)
 }
@@ -229,6 +230,10 @@ impl Field for Frac {
             a: self,
             b: other,
         })
+    }
+
+    fn short_dot(row: &[Frac], vector: &[Frac]) -> Option<Frac> {
+        dot(row, vector)
     }
 
     ghost holds_zero = { held_zero };

@@ -4,7 +4,7 @@ use Rattle.std.proofs.lemmas.Int.{ints}
 use Rattle.frac128.specs.Signed.{is_below_zero}
 use Rattle.frac128.proofs.Carried.{same_total}
 use Rattle.frac128.proofs.Lowest.{stored, lowest_at, lowest_positive, lowest_coprime, lowest_held, lowest_same}
-use Rattle.frac128.proofs.Short.{short_num, short_den, quotient_short, quotient_held, product_held, short_sum_lowest}
+use Rattle.frac128.proofs.Short.{short_num, short_den, quotient_short, quotient_held, product_held, short_sum_size, short_sum_lowest}
 use Rattle.frac128.proofs.Signs.{below_zero, kept}
 use Rattle.frac128.proofs.frac.Frac.short_sum.Goals as goal
 
@@ -18,11 +18,15 @@ pub sum_of_products-sum-requires : goal.sum_of_products-sum-requires
 sum_of_products-sum-requires c =
     let left = stored _ _ c.self.view_is in
     let right = stored _ _ c.other.view_is in
+    let num = short_num _ _ _ left c.requires.short in
+    let other_num = short_num _ _ _ right c.requires.other_short in
+    let x_below = quotient_short _ _ _ (short_den _ _ _ right c.requires.other_short) c.quotient_words-right.ensures in
+    let y_below = quotient_short _ _ _ (short_den _ _ _ left c.requires.short) c.quotient_words-left.ensures in
     record {
-      a_small = subst (λ (z : ℤ). unsigned_abs z < 2 ^ 59) (sym (kept c.self.inside.num c.self.invariant.0)) (short_num _ _ _ left c.requires.short);
-      c_small = subst (λ (z : ℤ). unsigned_abs z < 2 ^ 59) (sym (kept c.other.inside.num c.other.invariant.0)) (short_num _ _ _ right c.requires.other_short);
-      x_small = quotient_short _ _ _ (short_den _ _ _ right c.requires.other_short) c.quotient_words-right.ensures;
-      y_small = quotient_short _ _ _ (short_den _ _ _ left c.requires.short) c.quotient_words-left.ensures;
+      a_small = subst (λ (z : ℤ). unsigned_abs z < 2 ^ 60) (sym (kept c.self.inside.num c.self.invariant.0)) (omega arith);
+      c_small = subst (λ (z : ℤ). unsigned_abs z < 2 ^ 60) (sym (kept c.other.inside.num c.other.invariant.0)) (omega arith);
+      x_small = omega arith;
+      y_small = omega arith;
     }
 
 pub quotient-num-requires : goal.quotient-num-requires
@@ -52,8 +56,9 @@ signed-requires c =
     let size : c.unsigned_abs-size.result ≡ unsigned_abs c.sum_of_products-sum.result = omega (arith, ints, c.unsigned_abs-size.ensures.value) in
     let exact = short_sum_lowest c.args.self c.args.other c.self.inside.num c.other.inside.num c.self.inside.den c.other.inside.den _ _ _ c.sum_of_products-sum.result _ _ _ _ _ c.wide-den.result
     left right c.gcd_words-common.ensures c.quotient_words-left.ensures c.quotient_words-right.ensures total size c.from.ensures c.gcd-shared.ensures.gcd c.quotient-num.ensures c.quotient_words.ensures c.wide-den.ensures in
+    let few = short_sum_size _ _ _ _ _ _ _ _ _ c.sum_of_products-sum.result left right c.requires.short c.requires.other_short c.quotient_words-left.ensures c.quotient_words-right.ensures total in
     record {
-      num_small = quotient_held c.sum_of_products-sum.result _ _ _ c.sum_of_products-sum.ensures.size size c.quotient-num.ensures;
+      num_small = quotient_held c.sum_of_products-sum.result _ _ _ few size c.quotient-num.ensures;
       den_small = product_held c.self.inside.den _ c.other.inside.den _ _ _ _ (short_den _ _ _ left c.requires.short) (short_den _ _ _ right c.requires.other_short) c.quotient_words-left.ensures c.quotient_words.ensures c.wide-den.ensures;
       positive = lowest_positive _ _ _ _ exact;
       lowest = lowest_coprime _ _ _ _ exact;
@@ -67,7 +72,8 @@ returns c =
     let size : c.unsigned_abs-size.result ≡ unsigned_abs c.sum_of_products-sum.result = omega (arith, ints, c.unsigned_abs-size.ensures.value) in
     let exact = short_sum_lowest c.args.self c.args.other c.self.inside.num c.other.inside.num c.self.inside.den c.other.inside.den _ _ _ c.sum_of_products-sum.result _ _ _ _ _ c.wide-den.result
     left right c.gcd_words-common.ensures c.quotient_words-left.ensures c.quotient_words-right.ensures total size c.from.ensures c.gcd-shared.ensures.gcd c.quotient-num.ensures c.quotient_words.ensures c.wide-den.ensures in
-    let sign = below_zero _ ∙ ap is_below_zero (kept c.sum_of_products-sum.result (let small = c.sum_of_products-sum.ensures.size in omega arith)) in (
+    let few = short_sum_size _ _ _ _ _ _ _ _ _ c.sum_of_products-sum.result left right c.requires.short c.requires.other_short c.quotient_words-left.ensures c.quotient_words-right.ensures total in
+    let sign = below_zero _ ∙ ap is_below_zero (kept c.sum_of_products-sum.result (omega arith)) in (
       lowest_same _ _ _ _ _ (lowest_at _ _ _ _ _ _ _ exact sign refl refl) c.signed.ensures.num c.signed.ensures.den,
-      lowest_held _ _ _ _ exact (quotient_held c.sum_of_products-sum.result _ _ _ c.sum_of_products-sum.ensures.size size c.quotient-num.ensures) (product_held c.self.inside.den _ c.other.inside.den _ _ _ _ (short_den _ _ _ left c.requires.short) (short_den _ _ _ right c.requires.other_short) c.quotient_words-left.ensures c.quotient_words.ensures c.wide-den.ensures),
+      lowest_held _ _ _ _ exact (quotient_held c.sum_of_products-sum.result _ _ _ few size c.quotient-num.ensures) (product_held c.self.inside.den _ c.other.inside.den _ _ _ _ (short_den _ _ _ left c.requires.short) (short_den _ _ _ right c.requires.other_short) c.quotient_words-left.ensures c.quotient_words.ensures c.wide-den.ensures),
     )
