@@ -1,6 +1,6 @@
 -- Sums of products, as code takes them: place by place of two vectors, or at the places of a sparse one.
 use Rattle.std.proofs.Common.{◌≡◌, ℕ, zero, suc, ◌+◌, ◌-◌, ◌<◌, ◌≤◌, List, [], ◌∷◌, ◌++◌, refl, sym, ap, ap₂, ◌∙◌, subst, arith, Bool, true, false, ◌||◌, None, length, map, if◌then◌else◌, drop, slice_index_or, IsTrue, All, nat_le, nat_lt, not, ◌&&◌}
-use Rattle.std.specs.Prelude.{Ok, ℤ, pos, negsuc, unsigned_abs, ◌*ℤ◌, int_le, int_lt}
+use Rattle.std.specs.Prelude.{Ok, Some, ℤ, pos, negsuc, unsigned_abs, ◌*ℤ◌, int_le, int_lt}
 use Rattle.std.specs.List.{zip}
 use Rattle.std.specs.Int.{◌∣◌}
 use Rattle.std.proofs.lemmas.Bool.{eqb-true, le-leb, ltb-true, and_parts}
@@ -9,6 +9,7 @@ use Rattle.std.proofs.Math.Nat.{dvd-zero, dvd_refl, eq-one_of_dvd-one}
 use Rattle.exact_field.proofs.Integers.{not-le_ℤ, mul-one_ℤ, mul-zero_ℤ, mul_comm_ℤ}
 use Rattle.exact_field.proofs.RationalLaws.{le_represented, represents_parts, represents_whole}
 use Rattle.exact_field.specs.Rational.{ℚ, zero_ℚ, le_ℚ, lt_ℚ, whole, same_parts, ◌+ℚ◌, ◌*ℚ◌}
+use Rattle.exact_field.specs.Field.{AreSumsHeld, IsShortDot}
 use Rattle.exact_field.specs.Vector.{dot, entry}
 use Rattle.exact_field.specs.declared.op.Op.TheVariants as op
 use Rattle.exact_field.proofs.Rationals.{add-zero_ℚ, zero-add_ℚ, add_assoc_ℚ, zero-mul_ℚ, mul-zero_ℚ}
@@ -21,11 +22,12 @@ use Rattle.frac128.specs.declared.vectors.Spot.{Spot}
 use Rattle.upper_image.specs.Spots.{IsVector, dense, product}
 use Rattle.log_rules.specs.Events.{Event, first_failure, sum_from, dot_steps, product_steps}
 use Rattle.log_rules.specs.Events.Event.{step, test}
+use Rattle.log_rules.specs.Events.Failure.{left as not_held}
 use Rattle.log_rules.specs.Runs.{Runs, Stops, steps}
 use Rattle.log_rules.specs.declared.stop.Stop.{Stop}
 use Rattle.log_rules.proofs.Failures.{steps-append}
 use Rattle.vlp_matrices.proofs.Lists.{drop-next}
-use Rattle.std.proofs.lemmas.List.{get_or_default, drop_all}
+use Rattle.std.proofs.lemmas.List.{get_or_default, drop_all, map-id}
 use Rattle.log_rules.proofs.SparseSteps.{end_at, product_steps-sparse}
 use Rattle.log_rules.proofs.Through.{IsThrough, through-start, through-more, through-stop, through-end, through-as}
 
@@ -265,3 +267,50 @@ leading-next v i x h p z =
     let k : suc i ≡ i + 1 = omega arith in
     ap (λ (u : List ℚ). poly.leading u) (drop-next i v x h p) ∙ ap (λ (b : Bool). if b then poly.leading (drop (suc i) v) else x) (sym (zero_tests x) ∙ z)
     ∙ ap (λ (j : ℕ). poly.leading (drop j v)) k
+
+-- ---- a product in a short way
+-- the steps are as many, whatever the total before them is
+steps-any_total : (t u : ℚ) (fs : List (ℚ × ℚ)) → steps (sum_from t fs) ≡ steps (sum_from u fs)
+steps-any_total t u [] = refl
+steps-any_total t u ((a, b) ∷ fs) = go (λ r s. steps-any_total r s fs) (is_zero a || is_zero b)
+  where
+    go : ((r s : ℚ) → steps (sum_from r fs) ≡ steps (sum_from s fs)) → (x : Bool) →
+        steps (if x then sum_from t fs else step op.Mul a b ∷ step op.Add t (a *ℚ b) ∷ sum_from (t +ℚ a *ℚ b) fs)
+        ≡ steps (if x then sum_from u fs else step op.Mul a b ∷ step op.Add u (a *ℚ b) ∷ sum_from (u +ℚ a *ℚ b) fs)
+    go more true = more t u
+    go more false = ap (λ (k : ℕ). suc (suc k)) (more (t +ℚ a *ℚ b) (u +ℚ a *ℚ b))
+
+-- the steps of the next product, and of those that are left
+pub steps-next : (fs : List (ℚ × ℚ)) (i : ℕ) (a b : ℚ) → i < length fs → (a, b) ≡ slice_index_or fs i (a, b) →
+    steps (sum_from zero_ℚ (drop i fs)) ≡ steps (sum_from zero_ℚ ((a, b) ∷ [])) + steps (sum_from zero_ℚ (drop (suc i) fs))
+steps-next fs i a b h p =
+    ap (λ (gs : List (ℚ × ℚ)). steps (sum_from zero_ℚ gs)) (drop-next i fs (a, b) h p)
+    ∙ ap steps (sum_from-cons zero_ℚ a b (drop (suc i) fs))
+    ∙ steps-append (sum_from zero_ℚ ((a, b) ∷ [])) (sum_from (zero_ℚ +ℚ a *ℚ b) (drop (suc i) fs))
+    ∙ ap (λ (k : ℕ). steps (sum_from zero_ℚ ((a, b) ∷ [])) + k) (steps-any_total (zero_ℚ +ℚ a *ℚ b) zero_ℚ (drop (suc i) fs))
+
+pub steps-none : (fs : List (ℚ × ℚ)) (i : ℕ) → i ≡ length fs → steps (sum_from zero_ℚ (drop i fs)) ≡ 0
+steps-none fs i h = ap (λ (gs : List (ℚ × ℚ)). steps (sum_from zero_ℚ gs)) (drop_all i fs (omega (arith, h)))
+
+-- where each product and each sum is held, no step fails
+held-none : (n : ℕ) (t : ℚ) (v w : List ℚ) → AreSumsHeld is_held t v w → first_failure is_held n (sum_from t (zip v w)) ≡ None
+held-none n t [] w h = refl
+held-none n t (x ∷ v) [] h = refl
+held-none n t (x ∷ v) (y ∷ w) h = go (λ m r k. held-none m r v w k) (is_zero x || is_zero y) refl
+  where
+    go : ((m : ℕ) (r : ℚ) → AreSumsHeld is_held r v w → first_failure is_held m (sum_from r (zip v w)) ≡ None) → (z : Bool) → (is_zero x || is_zero y) ≡ z →
+        first_failure is_held n (if z then sum_from t (zip v w) else step op.Mul x y ∷ step op.Add t (x *ℚ y) ∷ sum_from (t +ℚ x *ℚ y) (zip v w)) ≡ None
+    go more true e = more n t (subst (λ (r : ℚ). AreSumsHeld is_held r v w) (none_more t x y e) h.2)
+    go more false e =
+        ap (λ (b : Bool). elim b [ true ↦ first_failure is_held (suc n) (step op.Add t (x *ℚ y) ∷ sum_from (t +ℚ x *ℚ y) (zip v w)) | false ↦ Some (not_held n op.Mul x y) ]) h.0
+        ∙ ap (λ (b : Bool). elim b [ true ↦ first_failure is_held (suc (suc n)) (sum_from (t +ℚ x *ℚ y) (zip v w)) | false ↦ Some (not_held (suc n) op.Add t (x *ℚ y)) ]) h.1
+        ∙ more (suc (suc n)) (t +ℚ x *ℚ y) h.2
+
+-- an answer of the short way, with the steps counted, is that of the steps
+pub short-run : (v w : List ℚ) (taken now : ℕ) (total : ℚ) → IsShortDot (λ (q : ℚ). q) is_held (map (λ (q : ℚ). q) v) (map (λ (q : ℚ). q) w) (Some total) →
+    now ≡ taken + steps (dot_steps v w) → Runs is_held (dot_steps v w) taken now (λ t. t ≡ dot v w) (Ok total)
+short-run v w taken now total h e =
+    let short : IsShortDot (λ (q : ℚ). q) is_held v w (Some total) =
+    subst (λ (ys : List ℚ). IsShortDot (λ (q : ℚ). q) is_held v ys (Some total)) (map-id w)
+    (subst (λ (xs : List ℚ). IsShortDot (λ (q : ℚ). q) is_held xs (map (λ (q : ℚ). q) w) (Some total)) (map-id v) h) in
+    (held-none (suc taken) zero_ℚ v w short.1, e, short.0)

@@ -82,8 +82,23 @@ impl Steps {
         self.add(total, product)
     }
 
-    /// The product of two vectors.
+    /// The product of two vectors, in the short way where that answers.
     pub fn dot(&mut self, v: &[Frac], w: &[Frac]) -> Result<Frac, Stop>
+        requires lengths { length v.now ≡ length w.now }
+        requires room { self.old.taken + steps (dot_steps v.now w.now) < 2 ^ 63 }
+        ensures { Runs is_held (dot_steps v.now w.now) self.old.taken self.new.taken (λ t. t ≡ dot v.now w.now) result }
+    {
+        match Frac::short_dot(v, w) {
+            Some(total) => {
+                self.taken += steps_of_dot(v, w);
+                Ok(total)
+            }
+            None => self.dot_by_steps(v, w),
+        }
+    }
+
+    /// The product of two vectors, a step at a time.
+    fn dot_by_steps(&mut self, v: &[Frac], w: &[Frac]) -> Result<Frac, Stop>
         requires lengths { length v.now ≡ length w.now }
         requires room { self.old.taken + steps (dot_steps v.now w.now) < 2 ^ 63 }
         ensures { Runs is_held (dot_steps v.now w.now) self.old.taken self.new.taken (λ t. t ≡ dot v.now w.now) result }
@@ -123,6 +138,26 @@ impl Steps {
         }
         Ok(total)
     }
+}
+
+/// How many steps one more product takes: two where neither factor is 0.
+fn steps_of_product(a: Frac, b: Frac) -> u64
+    ensures { result ≡ steps (sum_from zero_ℚ ((a, b) ∷ [])) }
+{
+    if is_zero(a) || is_zero(b) { 0 } else { 2 }
+}
+
+/// How many steps the product of two vectors takes.
+fn steps_of_dot(v: &[Frac], w: &[Frac]) -> u64
+    requires lengths { length v.now ≡ length w.now }
+    requires room { steps (dot_steps v.now w.now) < 2 ^ 63 }
+    ensures { result ≡ steps (dot_steps v.now w.now) }
+{
+    let mut taken = 0;
+    for (a, b) in v.iter().zip(w) {
+        taken += steps_of_product(*a, *b);
+    }
+    taken
 }
 
 /// Whether a number is 0.
