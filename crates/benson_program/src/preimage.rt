@@ -1,5 +1,5 @@
 //! Pre-images that are read off Benson's program.
-ghost use Rattle.std.specs.Prelude.{◌≡◌, ◌↔◌, ◌≤◌, ◌+◌, ℕ, Bool, List, [], map, take, length, IfOk, IfErr, IsTrue};
+ghost use Rattle.std.specs.Prelude.{◌≡◌, ◌≤◌, ◌+◌, ℕ, Bool, List, [], map, take, length, IfOk, IfErr};
 ghost use Rattle.exact_field.specs.Rational.{ℚ, ◌<ℚ◌, neg_ℚ, zero_ℚ};
 ghost use Rattle.benson_program.specs.Preimages.{AreLowMultipliers, IsPreimageOf};
 ghost use Rattle.licence.specs.Base.{IsBaseStart};
@@ -13,6 +13,7 @@ ghost use Rattle.vlp_reader.specs.declared.problem.Problem.{Problem as File};
 
 use crate::whole::generator_count;
 use exact_field::Field;
+use lin_rows::cells::is_negative;
 use lin_rows::{Rows, combine};
 use lp_form::{Data, negative};
 use overflows::{SolveFault, elimination_fault};
@@ -26,13 +27,6 @@ pub struct Preimage<F: Drop> {
     pub x: Items<F>,
     /// A multiplier for each generator of the ordering cone, or none where it is given otherwise.
     pub m: Items<F>,
-}
-
-/// Whether a number is negative.
-fn is_negative<F: Field>(x: F) -> bool
-    ensures { IsTrue result ↔ (F.value x <ℚ zero_ℚ) }
-{
-    x < F::zero()
 }
 
 /// The first entries of a list.

@@ -11,11 +11,11 @@ ghost use Rattle.lp_form.specs.Data.{IsDataOf, cone_of, duality_of};
 ghost use Rattle.vlp_reader.specs.declared.problem.Problem.{Problem as File};
 
 use crate::duality::{ConeEnd, Duality};
-use crate::lists::is_positive;
 use cone_rules::ConeFault;
 use deriv_log::Entry;
 use exact_field::Field;
 use frac128::Sparse;
+use lin_rows::cells::is_positive;
 use lp_form::Data;
 use overflows::{divided, fractions};
 use src_sink::{Items, NoMemory};

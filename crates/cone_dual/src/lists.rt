@@ -1,5 +1,5 @@
 //! Lists of numbers.
-ghost use Rattle.std.specs.Prelude.{◌≡◌, ◌↔◌, ◌≤◌, ◌+◌, ◌<◌, map, length, All, IfOk, IfSome, IfNone, IsTrue};
+ghost use Rattle.std.specs.Prelude.{◌≡◌, ◌≤◌, ◌+◌, ◌<◌, map, length, All, IfOk, IfSome, IfNone};
 ghost use Rattle.exact_field.specs.Rational.{zero_ℚ, ◌≤ℚ◌, ◌<ℚ◌};
 ghost use Rattle.exact_field.specs.Vector.{entry};
 ghost use Rattle.lin_rows.specs.Read.{numbers};
@@ -8,15 +8,9 @@ ghost use Rattle.tableaux.specs.Table.{row_of};
 
 use exact_field::Field;
 use lin_rows::Rows;
+use lin_rows::cells::is_positive;
 use src_sink::{Items, NoMemory};
 use std::alloc::Global;
-
-/// Whether a number is positive.
-pub fn is_positive<F: Field>(x: F) -> bool
-    ensures { IsTrue result ↔ (zero_ℚ <ℚ F.value x) }
-{
-    F::zero() < x
-}
 
 /// The place of the first entry that is not positive, counted from 0.
 pub fn first_not_positive<F: Field>(list: &[F]) -> Option<usize>

@@ -8,10 +8,9 @@ ghost use Rattle.tableaux.specs.Table.{artificial_sign, first_cost, right_column
 ghost use Rattle.exact_simplex.specs.Ends.{IsSystemFault};
 ghost use Rattle.exact_simplex.specs.Program.{HasLengths, IsPrimal, IsUnopened, coefficients_of, system_of};
 
-use crate::ratio::is_negative;
 use exact_field::Field;
 use lin_rows::build::{line_of, push_kept};
-use lin_rows::cells::Cell;
+use lin_rows::cells::{Cell, is_negative};
 use lin_rows::tableau::Tableau;
 use lin_rows::{RowFault, System};
 use src_sink::{MOST_ITEMS, NoMemory};

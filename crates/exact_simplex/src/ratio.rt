@@ -1,8 +1,8 @@
 //! The choice of a column and of a row: the signs of a cost row, and the lexicographic order of the quotients of rows.
 
-ghost use Rattle.std.specs.Prelude.{◌≡◌, ◌≢◌, ◌+◌, ◌<◌, ◌≤◌, ◌↔◌, ℕ, ⊤, length, IfOk, IfErr, IsTrue, MatchOption};
+ghost use Rattle.std.specs.Prelude.{◌≡◌, ◌≢◌, ◌+◌, ◌<◌, ◌≤◌, ℕ, ⊤, length, IfOk, IfErr, MatchOption};
 ghost use Rattle.exact_field.specs.Order.{cmp_ℚ};
-ghost use Rattle.exact_field.specs.Rational.{zero_ℚ, ◌/ℚ◌, ◌<ℚ◌};
+ghost use Rattle.exact_field.specs.Rational.{zero_ℚ, ◌/ℚ◌};
 ghost use Rattle.lin_rows.specs.Lines.{AreLines, entries, lines, Rises, sum_at};
 ghost use Rattle.exact_simplex.specs.Candidates.{IsBetterColumn, IsEnteringCandidate};
 ghost use Rattle.exact_simplex.specs.Ratios.{IsEither, IsEitherAt, IsEntering, IsLeaving, IsTestLeft, IsTestOf, ratios};
@@ -10,22 +10,8 @@ ghost use Rattle.tableaux.specs.Lex.{lex_less};
 
 use crate::measure::{magnitude, measure};
 use exact_field::{Field, Left};
-use lin_rows::cells::{Cell, entry_at};
+use lin_rows::cells::{Cell, entry_at, is_negative, is_positive};
 use std::cmp::Ordering;
-
-/// Whether a number is above 0.
-fn is_positive<F: Field>(x: F) -> bool
-    ensures { IsTrue result ↔ (zero_ℚ <ℚ F.value x) }
-{
-    F::zero() < x
-}
-
-/// Whether a number is below 0.
-pub fn is_negative<F: Field>(x: F) -> bool
-    ensures { IsTrue result ↔ (F.value x <ℚ zero_ℚ) }
-{
-    x < F::zero()
-}
 
 /// Which of two rows an overflow concerns.
 pub enum Either<F> {

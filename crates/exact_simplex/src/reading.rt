@@ -12,10 +12,9 @@ ghost use Rattle.exact_simplex.specs.Program.{HasLengths, IsFeasible, IsIdle, Is
 use crate::answer::LpEnd;
 use crate::opening::artificial_column;
 use crate::phase::given_up;
-use crate::ratio::is_negative;
 use exact_field::Field;
 use lin_rows::build::{column_values, ray};
-use lin_rows::cells::entry_at;
+use lin_rows::cells::{entry_at, is_negative};
 use lin_rows::tableau::Tableau;
 use lin_rows::{RowFault, System};
 use src_sink::{Items, NoMemory};

@@ -15,9 +15,9 @@ ghost use Rattle.upper_image.specs.Spots.{pieces};
 
 use crate::line::leading;
 use crate::numbers::are_picks;
-use crate::steps::{Steps, is_nonnegative, is_positive, is_zero, pass};
+use crate::steps::{Steps, is_nonnegative, is_positive, pass};
 use exact_field::Field;
-use frac128::{Frac, Sparse, Vector};
+use frac128::{Frac, Sparse, Vector, is_zero};
 use log_rules::{Rule, Stop};
 use vlp_reader::Problem;
 

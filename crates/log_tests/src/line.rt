@@ -9,9 +9,9 @@ ghost use Rattle.vlp_matrices.specs.Sheets.{IsSheetOf};
 ghost use Rattle.polyhedra.specs.DoubleDescription.{leading};
 
 use crate::image::{above, append, in_feasible, in_recession};
-use crate::steps::{Steps, is_zero, pass};
+use crate::steps::{Steps, pass};
 use exact_field::Field;
-use frac128::{Frac, Spot};
+use frac128::{Frac, Spot, is_zero};
 use log_rules::{Rule, Stop};
 use std::alloc::Global;
 use vlp_matrices::Sheet;

@@ -4,10 +4,9 @@ ghost use Rattle.std.specs.List.{list_all};
 ghost use Rattle.frac128.specs.Sparse.{rises_above};
 ghost use Rattle.vlp_matrices.specs.Sheets.{IsSheetOf};
 
-use crate::steps::is_zero;
 use crate::{Cut, check_cut, check_duality, check_farkas, check_line, check_start, check_whole};
 use deriv_log::{Entry, read_log};
-use frac128::{Frac, Sparse, Spot, Vector};
+use frac128::{Frac, Sparse, Spot, Vector, is_zero};
 use log_rules::{Rule, Stop};
 use src_sink::{Items, NoMemory};
 use std::alloc::Global;

@@ -1,8 +1,8 @@
 //! What Benson's program says of a vector.
-ghost use Rattle.std.specs.Prelude.{◌≡◌, ◌↔◌, ℕ, List, [], map, length, IfOk, IfErr, IsTrue};
+ghost use Rattle.std.specs.Prelude.{◌≡◌, ℕ, List, [], map, length, IfOk, IfErr};
 ghost use Rattle.benson_program.specs.Ends.{IsOptimumAt};
 ghost use Rattle.deriv_log.specs.declared.entry.Entry.{Entry};
-ghost use Rattle.exact_field.specs.Rational.{ℚ, ◌<ℚ◌, zero_ℚ};
+ghost use Rattle.exact_field.specs.Rational.{ℚ};
 ghost use Rattle.licence.specs.Base.{IsBaseStart};
 ghost use Rattle.lp_form.specs.Data.{IsDataOf};
 ghost use Rattle.lp_form.specs.Programs.{benson_system};
@@ -13,6 +13,7 @@ ghost use Rattle.recession.specs.Asking.{IsAsked, IsProper};
 use benson_program::{BensonEnd, Cut, Preimage, benson_end, cut_of, preimage_of};
 use exact_field::Field;
 use exact_simplex::Kept;
+use lin_rows::cells::is_positive;
 use lp_form::Data;
 use overflows::SolveFault;
 use src_sink::Items;
@@ -25,13 +26,6 @@ pub enum Asked<F: Drop> {
     Cut(Cut<F>),
     /// What shows that it is in the image, or a direction in the recession cone.
     Reached(Preimage<F>),
-}
-
-/// Whether a number is positive.
-fn is_positive<F: Field>(x: F) -> bool
-    ensures { IsTrue result ↔ (zero_ℚ <ℚ F.value x) }
-{
-    F::zero() < x
 }
 
 /// What an optimum of Benson's program at `v` says: where its value, the last multiplier, is positive a cut, and else a pre-image.

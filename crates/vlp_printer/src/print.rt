@@ -9,8 +9,7 @@ ghost use Rattle.vlp_printer.specs.Printing.{behind, bound_line, bound_words, bo
 use crate::decimal::Decimal;
 use crate::fault::PrintFault;
 use crate::numbers::wide_number;
-use exact_field::Field;
-use frac128::{Frac, Vector, Vectors};
+use frac128::{Frac, Vector, Vectors, is_zero};
 use itoa::Buffer;
 use src_sink::{Bytes, Items, NoMemory};
 use std::alloc::Global;
@@ -82,13 +81,6 @@ fn put_duality(duality: &Vector, into: &mut Bytes) -> Result<(), NoMemory>
         put_entry(b'k', before as u128 + 1, 0, entries[before], into)?;
     }
     Ok(())
-}
-
-/// Whether a number is 0.
-fn is_zero(number: Frac) -> bool
-    ensures { result ≡ is_zero number }
-{
-    number.num().unsigned_abs() == 0
 }
 
 /// Appends the line of an entry of a cone vector, where it is not 0.
