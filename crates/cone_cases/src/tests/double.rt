@@ -101,19 +101,20 @@ fn add_all<F: Field + Debug>(
     Ok(())
 }
 
-/// The double description of rows, of which the first are independent and as many as they have entries.
+/// The double description of rows over a denominator, of which the first are independent and as many as they have entries.
 fn described<F: Field + Debug>(
     rt: &impl Abort,
     alloc: Global,
     width: u32,
     first: &[i64],
     more: &[i64],
+    den: i64,
 ) -> Result<Dd<F>, Fail>
     ensures { IfOk result (λ dd. dd.width ≡ width) }
 {
-    let rows = rows_of(rt, alloc, width, first, 1)?;
+    let rows = rows_of(rt, alloc, width, first, den)?;
     let mut dd = started(rt, alloc, &rows)?;
-    let rows = rows_of(rt, alloc, width, more, 1)?;
+    let rows = rows_of(rt, alloc, width, more, den)?;
     add_all(rt, &mut dd, width, &rows)?;
     Ok(dd)
 }
@@ -147,34 +148,93 @@ fn has_tight<F: Field>(rt: &impl Abort, dd: &Dd<F>, g: u32, numbers: &[u32]) -> 
     (0..dd.row_count()).all(|k| tight.has(k) == numbers.contains(&k))
 }
 
-/// Whether an addition changed this.
-fn is_change(change: &Change, dropped: &[u32], pairs: &[Pair], first_new: u32) -> bool {
-    change.dropped.as_slice() == dropped
-        && change.pairs.as_slice() == pairs
-        && change.first_new == first_new
+/// The live generators, their entries one behind the other, and the rows that are 0 at some of them.
+type Shape = (
+    &'static [u32],
+    &'static [i64],
+    &'static [(u32, &'static [u32])],
+);
+
+/// Whether a double description has this shape.
+fn has_shape<F: Field>(
+    rt: &impl Abort,
+    alloc: Global,
+    dd: &Dd<F>,
+    shape: &Shape,
+) -> Result<bool, Fail> {
+    let (numbers, vectors, tight) = shape;
+    for (g, rows) in *tight {
+        if !has_tight(rt, dd, *g, rows) {
+            return Ok(false);
+        }
+    }
+    has_live(rt, alloc, dd, numbers, vectors)
 }
+
+/// A row that is added, and what there is then.
+#[derive(Debug)]
+struct Turn {
+    /// The row, over its denominator.
+    row: &'static [i64],
+    den: i64,
+    /// The generators that are dropped, the pairs that give a new one, and its first number.
+    dropped: &'static [u32],
+    pairs: &'static [Pair],
+    first_new: u32,
+    /// The facets.
+    facets: &'static [u32],
+}
+
+/// Whether an addition changed this.
+fn is_change(change: &Change, turn: &Turn) -> bool {
+    change.dropped.as_slice() == turn.dropped
+        && change.pairs.as_slice() == turn.pairs
+        && change.first_new == turn.first_new
+}
+
+/// Whether the addition of a row changes what it is to change.
+fn is_turn<F: Field + Debug>(
+    rt: &impl Abort,
+    alloc: Global,
+    dd: &mut Dd<F>,
+    width: u32,
+    turn: &Turn,
+) -> Result<bool, Fail>
+    requires { dd.old.width ≡ width }
+    ensures { dd.new.width ≡ width }
+{
+    let row = fractions(rt, alloc, turn.row, turn.den)?;
+    assert!(rt; row.len() == width as usize);
+    let change = dd.add(&row)?;
+    let facets = facets_of(alloc, dd)?;
+    Ok(is_change(&change, turn) && facets.as_slice() == turn.facets)
+}
+
+/// A cone before and after one more row.
+const BEFORE: Shape = (&[1, 2, 3], &[-4, 4, 1, 1, 0, 0, -1, 1, 0], &[(1, &[1, 2])]);
+
+const MORE: Turn = Turn {
+    row: &[1, 3, -12],
+    den: 4,
+    dropped: &[1],
+    pairs: &[Pair { plus: 2, minus: 1 }, Pair { plus: 3, minus: 1 }],
+    first_new: 4,
+    facets: &[1, 2, 3],
+};
+
+const AFTER: Shape = (
+    &[2, 3, 4, 5],
+    &[1, 0, 0, -1, 1, 0, 0, 4, 1, -6, 6, 1],
+    &[(4, &[2, 3]), (5, &[1, 3])],
+);
 
 #[test]
 fn a_cone_and_one_more_row(rt: HostRuntime) -> Result<(), Fail> {
-    let rows: Rows<Frac> = rows_of(&rt, rt.alloc(), 3, &[0, 0, 4, 2, 2, 0, 0, 4, -16], 4)?;
-    let mut dd = started(&rt, rt.alloc(), &rows)?;
-    assert!(rt;
-        has_live(
-            &rt,
-            rt.alloc(),
-            &dd,
-            &[1, 2, 3],
-            &[-4, 4, 1, 1, 0, 0, -1, 1, 0]
-        )?
-    );
-    assert!(rt; has_tight(&rt, &dd, 1, &[1, 2]));
-    let change = dd.add(&[Frac::new(1, 4)?, Frac::new(3, 4)?, Frac::new(-3, 1)?])?;
-    let pairs = [Pair { plus: 2, minus: 1 }, Pair { plus: 3, minus: 1 }];
-    assert!(rt; is_change(&change, &[1], &pairs, 4));
-    let vectors = [1, 0, 0, -1, 1, 0, 0, 4, 1, -6, 6, 1];
-    assert!(rt; has_live(&rt, rt.alloc(), &dd, &[2, 3, 4, 5], &vectors)?);
-    assert!(rt; has_tight(&rt, &dd, 4, &[2, 3]) && has_tight(&rt, &dd, 5, &[1, 3]));
-    assert!(rt; facets_of(rt.alloc(), &dd)?.as_slice() == [1, 2, 3].as_slice());
+    let rows = [0, 0, 4, 2, 2, 0, 0, 4, -16];
+    let mut dd: Dd<Frac> = described(&rt, rt.alloc(), 3, &rows, &[], 4)?;
+    assert!(rt; has_shape(&rt, rt.alloc(), &dd, &BEFORE)?);
+    assert!(rt; is_turn(&rt, rt.alloc(), &mut dd, 3, &MORE)?);
+    assert!(rt; has_shape(&rt, rt.alloc(), &dd, &AFTER)?);
     Ok(())
 }
 
@@ -213,25 +273,6 @@ fn is_elimination(
     }
 }
 
-/// Whether the fault is this step of an addition.
-fn is_addition(
-    fault: &DdFault<Tiny>,
-    first: u32,
-    second: u32,
-    step: u64,
-    left: Left<Tiny>,
-) -> bool {
-    match fault {
-        DdFault::Left {
-            first: f,
-            second: g,
-            step: s,
-            left: l,
-        } => *f == first && *g == second && *s == step && *l == left,
-        _ => false,
-    }
-}
-
 #[test]
 fn each_step_of_a_start_overflows(rt: HostRuntime) -> Result<(), Fail> {
     let norming = rows_of(&rt, rt.alloc(), 3, &[0, 0, 10, 1, -20, 0, 0, 1, -10], 1)?;
@@ -257,30 +298,64 @@ fn each_step_of_a_start_overflows(rt: HostRuntime) -> Result<(), Fail> {
     Ok(())
 }
 
+/// Additions that are given up: the row over its denominator, the numbers of the fault, its step, and the sum of two numbers
+/// that is not held.
+const GIVEN_UP: [(&[i64], i64, (u32, u32, u64), (i128, i128)); 2] = [
+    (&[100, 100], 1, (1, 0, 4), (100, 100)),
+    (&[128, -1], 2, (1, 2, 5), (1, 127)),
+];
+
+/// What stays after them.
+const KEPT: Shape = (&[1, 2], &[1, 1, 0, 1], &[(1, &[1]), (2, &[0])]);
+
+/// Whether the fault is this step of an addition, at the sum of these two whole numbers.
+fn is_addition<F: Field>(fault: &DdFault<F>, place: (u32, u32, u64), sum: (i128, i128)) -> bool {
+    match fault {
+        DdFault::Left {
+            first,
+            second,
+            step,
+            left,
+        } => (*first, *second, *step) == place && is_sum(left, sum.0, sum.1),
+        _ => false,
+    }
+}
+
+/// Whether this is the sum of two whole numbers.
+fn is_sum<F: Field>(left: &Left<F>, a: i128, b: i128) -> bool {
+    left.op == Op::Add
+        && left.a.num() == a
+        && left.a.den() == 1
+        && left.b.num() == b
+        && left.b.den() == 1
+}
+
+/// Whether an addition is given up there.
+fn is_given_up<F: Field>(
+    dd: &mut Dd<F>,
+    row: &[F],
+    place: (u32, u32, u64),
+    sum: (i128, i128),
+) -> bool
+    requires { length row.now ≡ dd.old.width }
+    ensures { dd.new.width ≡ dd.old.width }
+{
+    match dd.add(row) {
+        Err(fault) => is_addition(&fault, place, sum),
+        Ok(_) => false,
+    }
+}
+
 #[test]
 fn each_step_of_an_addition_overflows(rt: HostRuntime) -> Result<(), Fail> {
-    let mut dd: Dd<Tiny> = described(&rt, rt.alloc(), 2, &[1, 0, -1, 1], &[])?;
-    let hundred = tiny(&rt, 100, 1);
-    let left = Left {
-        op: Op::Add,
-        a: hundred,
-        b: hundred,
-    };
-    match dd.add(&[hundred, hundred]) {
-        Err(fault) => assert!(rt; is_addition(&fault, 1, 0, 4, left)),
-        Ok(_) => assert!(rt; false),
+    let mut dd: Dd<Tiny> = described(&rt, rt.alloc(), 2, &[1, 0, -1, 1], &[], 1)?;
+    for (nums, den, place, sum) in &GIVEN_UP {
+        let row = fractions(&rt, rt.alloc(), nums, *den)?;
+        assert!(rt; row.len() == 2);
+        assert!(rt; is_given_up(&mut dd, &row, *place, *sum), "of {nums:?}");
     }
-    let left = Left {
-        op: Op::Add,
-        a: Tiny::one(),
-        b: tiny(&rt, 127, 1),
-    };
-    match dd.add(&[tiny(&rt, 64, 1), tiny(&rt, -1, 2)]) {
-        Err(fault) => assert!(rt; is_addition(&fault, 1, 2, 5, left)),
-        Ok(_) => assert!(rt; false),
-    }
-    assert!(rt; dd.row_count() == 2 && has_live(&rt, rt.alloc(), &dd, &[1, 2], &[1, 1, 0, 1])?);
-    assert!(rt; has_tight(&rt, &dd, 1, &[1]) && has_tight(&rt, &dd, 2, &[0]));
+    assert!(rt; dd.row_count() == 2);
+    assert!(rt; has_shape(&rt, rt.alloc(), &dd, &KEPT)?);
     Ok(())
 }
 
@@ -292,7 +367,7 @@ fn live_count(
     first: &[i64],
     more: &[i64],
 ) -> Result<usize, Fail> {
-    let dd: Dd<Tiny> = described(rt, alloc, width, first, more)?;
+    let dd: Dd<Tiny> = described(rt, alloc, width, first, more, 1)?;
     Ok(dd.live().len())
 }
 
@@ -320,19 +395,42 @@ fn cubes_and_cross_polytopes(rt: HostRuntime) -> Result<(), Fail> {
     Ok(())
 }
 
+/// Rows that change nothing, and one that leaves nothing.
+const TURNS: [Turn; 3] = [
+    Turn {
+        row: &[1, 0, 1],
+        den: 1,
+        dropped: &[],
+        pairs: &[],
+        first_new: 6,
+        facets: &[1, 2, 3],
+    },
+    Turn {
+        row: &[1, 0, 1],
+        den: 1,
+        dropped: &[],
+        pairs: &[],
+        first_new: 6,
+        facets: &[1, 2, 3],
+    },
+    Turn {
+        row: &[0, 0, -1],
+        den: 1,
+        dropped: &[1, 3, 4, 5],
+        pairs: &[],
+        first_new: 6,
+        facets: &[],
+    },
+];
+
 #[test]
 fn rows_that_change_nothing_or_leave_nothing(rt: HostRuntime) -> Result<(), Fail> {
     let square = [1, 0, 1, 0, 1, 1, -1, 0, 1];
-    let mut dd: Dd<Tiny> = described(&rt, rt.alloc(), 3, &square, &[0, -1, 1])?;
-    let (one, zero) = (Tiny::one(), Tiny::zero());
-    let next = 6;
-    assert!(rt; dd.live().len() == 4);
-    assert!(rt; is_change(&dd.add(&[one, zero, one])?, &[], &[], next));
-    assert!(rt; is_change(&dd.add(&[one, zero, one])?, &[], &[], next));
-    assert!(rt; facets_of(rt.alloc(), &dd)?.as_slice() == [1, 2, 3].as_slice());
-    let live = dd.live().to_vec(rt.alloc())?;
-    assert!(rt; is_change(&dd.add(&[zero, zero, one.neg()])?, &live, &[], next));
+    let mut dd: Dd<Tiny> = described(&rt, rt.alloc(), 3, &square, &[0, -1, 1], 1)?;
+    assert!(rt; dd.live() == [1, 3, 4, 5].as_slice());
+    for turn in &TURNS {
+        assert!(rt; is_turn(&rt, rt.alloc(), &mut dd, 3, turn)?, "of {turn:?}");
+    }
     assert!(rt; dd.live().is_empty() && dd.row_count() == 7);
-    assert!(rt; facets_of(rt.alloc(), &dd)?.as_slice().is_empty());
     Ok(())
 }
