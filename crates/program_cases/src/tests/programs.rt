@@ -1,14 +1,19 @@
 //! Linear programs: the three ends, ties, equations that repeat or contradict each other, hints, and each step that can
 //! overflow.
 
-use exact_field::{Field, Left, Op};
+use super::rows::{Place, is_operation};
+use exact_field::{Field, Op};
 use exact_simplex::{Kept, LpEnd, LpFault, solve_lp, solve_lp_from, solve_lp_next};
 use frac128::{Frac, Tiny};
 use lin_rows::System;
 use src_sink::Items;
 use std::alloc::Global;
+use std::fmt::Debug;
 use std::process::Abort;
 use std::test::Fail;
+
+/// A program in whole numbers: its coefficients, its right sides and its cost.
+type Program = (&'static [i64], &'static [i64], &'static [i64]);
 
 /// Whole numbers.
 fn numbers<F: Field>(rt: &impl Abort, alloc: Global, values: &[i64]) -> Result<Items<F>, Fail> {
@@ -20,13 +25,12 @@ fn numbers<F: Field>(rt: &impl Abort, alloc: Global, values: &[i64]) -> Result<I
 }
 
 /// A program in whole numbers.
-fn program<F: Field>(
+fn system_of<F: Field>(
     rt: &impl Abort,
     alloc: Global,
-    a: &[i64],
-    b: &[i64],
-    cost: &[i64],
+    program: &Program,
 ) -> Result<System<F>, Fail> {
+    let (a, b, cost) = program;
     assert!(rt; b.len() < 1000 && cost.len() < 1000);
     Ok(System {
         rows: b.len() as u32,
@@ -63,177 +67,139 @@ fn end_from<F: Field>(
 }
 
 /// How a program ends from where the last one ended.
-fn end_next<F: Field>(
+fn end_next<F: Field + Debug>(
     rt: &impl Abort,
     alloc: Global,
-    system: System<F>,
+    program: &Program,
     kept: &mut Kept<F>,
-) -> Result<LpEnd<F>, LpFault<F>> {
+) -> Result<LpEnd<F>, Fail> {
+    let system = system_of(rt, alloc, program)?;
     assert!(rt; system.b.len() == system.rows as usize);
     assert!(rt; system.cost.len() == system.cols as usize);
     assert!(rt; system.a.len() == system.rows as usize * system.cols as usize);
-    solve_lp_next(alloc, system, kept)
-}
-
-/// Whether an end is optimal with this solution, these multipliers and this basis.
-fn is_optimal(end: &LpEnd<Frac>, values: &[Frac], multipliers: &[Frac], columns: &[u32]) -> bool {
-    match end {
-        LpEnd::Optimal { x, dual, basis } => {
-            x.as_slice() == values && dual.as_slice() == multipliers && basis.as_slice() == columns
-        }
-        _ => false,
-    }
-}
-
-/// Whether an end is optimal with this solution.
-fn has_solution(end: &LpEnd<Frac>, values: &[Frac]) -> bool {
-    match end {
-        LpEnd::Optimal {
-            x,
-            dual: _,
-            basis: _,
-        } => x.as_slice() == values,
-        _ => false,
-    }
-}
-
-/// Whether an end is infeasible.
-fn is_infeasible(end: &LpEnd<Frac>) -> bool {
-    match end {
-        LpEnd::Infeasible {
-            farkas: _,
-            basis: _,
-        } => true,
-        _ => false,
-    }
-}
-
-/// Whether an end is unbounded along this ray.
-fn is_unbounded(end: &LpEnd<Frac>, along: &[Frac]) -> bool {
-    match end {
-        LpEnd::Unbounded {
-            x: _,
-            ray,
-            basis: _,
-        } => ray.as_slice() == along,
-        _ => false,
-    }
-}
-
-/// Whether a program was given up at this row, column and step.
-fn is_left(
-    end: &Result<LpEnd<Tiny>, LpFault<Tiny>>,
-    place: (u32, u32, u8),
-    wanted: Left<Tiny>,
-) -> bool {
-    match end {
-        Err(
-            LpFault::Left {
-                basis: _,
-                row,
-                col,
-                step,
-                left,
-            },
-        ) => *row == place.0 && *col == place.1 && *step == place.2 && *left == wanted,
-        _ => false,
-    }
-}
-
-#[test]
-fn the_three_ends(rt: HostRuntime) -> Result<(), Fail> {
-    let alloc = rt.alloc();
-    let zero = Frac::zero();
-    let one = Frac::one();
-    let two = Frac::new(2, 1)?;
-    let one_row = program(&rt, alloc, &[1, 1, 1], &[2], &[1, 0, 0])?;
-    let end = end_of(&rt, alloc, &one_row)?;
-    assert!(rt; is_optimal(&end, &[two, zero, zero], &[one], &[1]));
-    let negative = program(&rt, alloc, &[1], &[-1], &[0])?;
-    let end = end_of(&rt, alloc, &negative)?;
-    assert!(rt; is_infeasible(&end));
-    let open = program(&rt, alloc, &[1, -1], &[0], &[1, 0])?;
-    let end = end_of(&rt, alloc, &open)?;
-    assert!(rt; is_unbounded(&end, &[one, one]));
-    Ok(())
-}
-
-#[test]
-fn hints(rt: HostRuntime) -> Result<(), Fail> {
-    let alloc = rt.alloc();
-    let zero = Frac::zero();
-    let one = Frac::one();
-    let two = Frac::new(2, 1)?;
-    let second = program(&rt, alloc, &[1, 1, 1], &[2], &[0, 1, 0])?;
-    let end = end_from(&rt, alloc, &second, &[1])?;
-    assert!(rt; is_optimal(&end, &[zero, two, zero], &[one], &[2]));
-    let end = end_from(&rt, alloc, &second, &[9])?;
-    assert!(rt; is_optimal(&end, &[zero, two, zero], &[one], &[2]));
-    let either = program(&rt, alloc, &[1, 1, 1], &[2], &[1, 1, 0])?;
-    let end = end_from(&rt, alloc, &either, &[1])?;
-    assert!(rt; is_optimal(&end, &[two, zero, zero], &[one], &[1]));
-    let end = end_from(&rt, alloc, &either, &[0, 2, 2])?;
-    assert!(rt; is_optimal(&end, &[zero, two, zero], &[one], &[2]));
-    Ok(())
+    Ok(solve_lp_next(alloc, system, kept)?)
 }
 
 /// How a program is to end, in whole numbers.
 enum Wanted {
     /// With this solution, these multipliers and this basis.
     Optimal(&'static [i64], &'static [i64], &'static [u32]),
+    /// With this solution over this denominator.
+    Solution(&'static [i64], i128),
     /// With none.
     Infeasible,
     /// Without limit along this ray.
     Unbounded(&'static [i64]),
 }
 
-/// Programs of one equation, one behind the other: its row, its right side, the cost and the end.
-const TURNS: [(&[i64], i64, &[i64], Wanted); 8] = [
+/// Programs and how they end.
+const ENDS: [(Program, Wanted); 11] = [
     (
-        &[1, 1, 1],
-        2,
-        &[1, 0, 0],
+        (&[1, 1, 1], &[2], &[1, 0, 0]),
+        Wanted::Optimal(&[2, 0, 0], &[1], &[1]),
+    ),
+    ((&[1], &[-1], &[0]), Wanted::Infeasible),
+    ((&[1, -1], &[0], &[1, 0]), Wanted::Unbounded(&[1, 1])),
+    // Beale, with the rows and the cost multiplied by 4, 2, 1 and 4.
+    (
+        (
+            &[
+                4, 0, 0, 1, -32, -4, 36, 0, 2, 0, 1, -24, -1, 6, 0, 0, 1, 0, 0, 1, 0,
+            ],
+            &[0, 0, 1],
+            &[0, 0, 0, 3, -80, 2, -24],
+        ),
+        Wanted::Solution(&[3, 0, 0, 4, 0, 4, 0], 4),
+    ),
+    // Kuhn, with the second row multiplied by 3.
+    (
+        (
+            &[
+                1, 0, 0, -2, -9, 1, 9, 0, 3, 0, 1, 3, -1, -6, 0, 0, 1, 2, 3, -1, -12,
+            ],
+            &[0, 0, 2],
+            &[0, 0, 0, 2, 3, -1, -12],
+        ),
+        Wanted::Solution(&[2, 0, 0, 2, 0, 2, 0], 1),
+    ),
+    // Marshall and Suurballe, with the first two rows multiplied by 2.
+    (
+        (
+            &[
+                1, -11, -5, 18, 2, 0, 0, 1, -3, -1, 2, 0, 2, 0, 1, 0, 0, 0, 0, 0, 1,
+            ],
+            &[0, 0, 1],
+            &[10, -57, -9, -24, 0, 0, 0],
+        ),
+        Wanted::Solution(&[1, 0, 1, 0, 2, 0, 0], 1),
+    ),
+    // An equation twice, once with the other sign, and two that contradict each other.
+    (
+        (&[1, 1, -1, -1], &[1, -1], &[0, -1]),
+        Wanted::Solution(&[1, 0], 1),
+    ),
+    ((&[1, 1], &[1, 2], &[1]), Wanted::Infeasible),
+    // No equation, no unknown, and as many of both.
+    ((&[], &[], &[1]), Wanted::Unbounded(&[1])),
+    ((&[], &[1], &[]), Wanted::Infeasible),
+    (
+        (&[1, 0, 0, 1], &[1, 2], &[-1, 1]),
+        Wanted::Optimal(&[1, 2], &[-1, 1], &[1, 2]),
+    ),
+];
+
+/// Costs over three unknowns with the sum 2, hints, and how the program ends from there.
+const HINTS: [(&[i64], &[u32], Wanted); 4] = [
+    (&[0, 1, 0], &[1], Wanted::Optimal(&[0, 2, 0], &[1], &[2])),
+    (&[0, 1, 0], &[9], Wanted::Optimal(&[0, 2, 0], &[1], &[2])),
+    (&[1, 1, 0], &[1], Wanted::Optimal(&[2, 0, 0], &[1], &[1])),
+    (
+        &[1, 1, 0],
+        &[0, 2, 2],
+        Wanted::Optimal(&[0, 2, 0], &[1], &[2]),
+    ),
+];
+
+/// Programs of one equation, one behind the other, and how they end.
+const TURNS: [(Program, Wanted); 8] = [
+    (
+        (&[1, 1, 1], &[2], &[1, 0, 0]),
         Wanted::Optimal(&[2, 0, 0], &[1], &[1]),
     ),
     (
-        &[1, 1, 1],
-        2,
-        &[0, 0, 1],
+        (&[1, 1, 1], &[2], &[0, 0, 1]),
         Wanted::Optimal(&[0, 0, 2], &[1], &[3]),
     ),
     // Each basis is best, and the last one stays.
     (
-        &[1, 1, 1],
-        2,
-        &[0, 0, 0],
+        (&[1, 1, 1], &[2], &[0, 0, 0]),
         Wanted::Optimal(&[0, 0, 2], &[0], &[3]),
     ),
     // Another right side, and then no solution, after which nothing is kept.
     (
-        &[1, 1, 1],
-        1,
-        &[0, 1, 0],
+        (&[1, 1, 1], &[1], &[0, 1, 0]),
         Wanted::Optimal(&[0, 1, 0], &[1], &[2]),
     ),
-    (&[1, 1, 1], -1, &[0, 1, 0], Wanted::Infeasible),
+    ((&[1, 1, 1], &[-1], &[0, 1, 0]), Wanted::Infeasible),
     (
-        &[1, 1, 1],
-        1,
-        &[0, 1, 0],
+        (&[1, 1, 1], &[1], &[0, 1, 0]),
         Wanted::Optimal(&[0, 1, 0], &[1], &[2]),
     ),
     // From an end without limit on.
-    (&[1, -1], 0, &[1, 0], Wanted::Unbounded(&[1, 1])),
-    (&[1, -1], 0, &[-1, 0], Wanted::Optimal(&[0, 0], &[-1], &[1])),
+    ((&[1, -1], &[0], &[1, 0]), Wanted::Unbounded(&[1, 1])),
+    (
+        (&[1, -1], &[0], &[-1, 0]),
+        Wanted::Optimal(&[0, 0], &[-1], &[1]),
+    ),
 ];
 
-/// Whether these are the numbers.
-fn are(numbers: &[Frac], wanted: &[i64]) -> bool {
+/// Whether these are the numbers over the denominator.
+fn are(numbers: &[Frac], wanted: &[i64], den: i128) -> bool {
     if numbers.len() != wanted.len() {
         return false;
     }
     for i in 0..wanted.len() {
-        if numbers[i] != Frac::from(wanted[i]) {
+        if Frac::of(i128::from(wanted[i]), den) != Some(numbers[i]) {
             return false;
         }
     }
@@ -244,27 +210,60 @@ fn are(numbers: &[Frac], wanted: &[i64]) -> bool {
 fn is_wanted(end: &LpEnd<Frac>, wanted: &Wanted) -> bool {
     match (end, wanted) {
         (LpEnd::Optimal { x, dual, basis }, Wanted::Optimal(values, multipliers, columns)) => {
-            are(x.as_slice(), values)
-                && are(dual.as_slice(), multipliers)
+            are(x.as_slice(), values, 1)
+                && are(dual.as_slice(), multipliers, 1)
                 && basis.as_slice() == *columns
         }
+        (LpEnd::Optimal { x, .. }, Wanted::Solution(values, den)) => are(
+            x.as_slice(),
+            values,
+            *den,
+        ),
         (LpEnd::Infeasible { .. }, Wanted::Infeasible) => true,
-        (LpEnd::Unbounded { ray, .. }, Wanted::Unbounded(along)) => are(ray.as_slice(), along),
+        (LpEnd::Unbounded { ray, .. }, Wanted::Unbounded(along)) => are(ray.as_slice(), along, 1),
         _ => false,
     }
+}
+
+#[test]
+fn programs_end(rt: HostRuntime) -> Result<(), Fail> {
+    let alloc = rt.alloc();
+    for (program, wanted) in &ENDS {
+        let system = system_of(&rt, alloc, program)?;
+        let end = end_of(&rt, alloc, &system)?;
+        assert!(rt; is_wanted(&end, wanted), "of {program:?}");
+    }
+    Ok(())
+}
+
+#[test]
+fn hints(rt: HostRuntime) -> Result<(), Fail> {
+    let alloc = rt.alloc();
+    for (cost, columns, wanted) in &HINTS {
+        let system = system_of(&rt, alloc, &(&[1, 1, 1], &[2], *cost))?;
+        let end = end_from(&rt, alloc, &system, columns)?;
+        assert!(rt; is_wanted(&end, wanted), "of {cost:?} from {columns:?}");
+    }
+    Ok(())
 }
 
 #[test]
 fn from_one_to_the_next(rt: HostRuntime) -> Result<(), Fail> {
     let alloc = rt.alloc();
     let mut kept = Kept::new();
-    for (row, right, cost, wanted) in &TURNS {
-        let system = program(&rt, alloc, row, &[*right], cost)?;
-        let end = end_next(&rt, alloc, system, &mut kept)?;
-        assert!(rt; is_wanted(&end, wanted), "of {row:?} {right} {cost:?}");
+    for (program, wanted) in &TURNS {
+        let end = end_next(&rt, alloc, program, &mut kept)?;
+        assert!(rt; is_wanted(&end, wanted), "of {program:?}");
     }
     Ok(())
 }
+
+/// Programs with the solution (1, 1, 0), one behind the other. The first row of the last dictionary is -90 at the third unknown,
+/// and twice this is not held.
+const ONE_ONE: [Program; 2] = [
+    (&[1, 30, 0, 0, 1, 3], &[31, 1], &[0, 1, 0]),
+    (&[1, 30, 0, 0, 1, 3], &[31, 1], &[2, 30, -100]),
+];
 
 /// Whether an end is optimal with the solution (1, 1, 0).
 fn is_one_one(end: &LpEnd<Tiny>) -> bool {
@@ -281,166 +280,107 @@ fn is_one_one(end: &LpEnd<Tiny>) -> bool {
 #[test]
 fn a_cost_row_that_overflows_is_begun_anew(rt: HostRuntime) -> Result<(), Fail> {
     let alloc = rt.alloc();
-    // The first row of the last dictionary is -90 at the third unknown, and twice this is not held.
-    let rows = &[1, 30, 0, 0, 1, 3];
     let mut kept = Kept::new();
-    let first = program(&rt, alloc, rows, &[31, 1], &[0, 1, 0])?;
-    assert!(rt; is_one_one(&end_next(&rt, alloc, first, &mut kept)?));
-    let second = program(&rt, alloc, rows, &[31, 1], &[2, 30, -100])?;
-    assert!(rt; is_one_one(&end_next(&rt, alloc, second, &mut kept)?));
+    for program in &ONE_ONE {
+        let end = end_next(&rt, alloc, program, &mut kept)?;
+        assert!(rt; is_one_one(&end), "of {program:?}");
+    }
     Ok(())
 }
 
-#[test]
-fn examples_that_cycle_end(rt: HostRuntime) -> Result<(), Fail> {
-    let alloc = rt.alloc();
-    let zero = Frac::zero();
-    let one = Frac::one();
-    let two = Frac::new(2, 1)?;
-    // Beale, with the rows and the cost multiplied by 4, 2, 1 and 4.
-    let a = [
-        4, 0, 0, 1, -32, -4, 36, 0, 2, 0, 1, -24, -1, 6, 0, 0, 1, 0, 0, 1, 0,
-    ];
-    let beale = program(&rt, alloc, &a, &[0, 0, 1], &[0, 0, 0, 3, -80, 2, -24])?;
-    let end = end_of(&rt, alloc, &beale)?;
-    assert!(rt; has_solution(&end, &[Frac::new(3, 4)?, zero, zero, one, zero, one, zero]));
-    // Kuhn, with the second row multiplied by 3.
-    let a = [
-        1, 0, 0, -2, -9, 1, 9, 0, 3, 0, 1, 3, -1, -6, 0, 0, 1, 2, 3, -1, -12,
-    ];
-    let kuhn = program(&rt, alloc, &a, &[0, 0, 2], &[0, 0, 0, 2, 3, -1, -12])?;
-    let end = end_of(&rt, alloc, &kuhn)?;
-    assert!(rt; has_solution(&end, &[two, zero, zero, two, zero, two, zero]));
-    // Marshall and Suurballe, with the first two rows multiplied by 2.
-    let a = [
-        1, -11, -5, 18, 2, 0, 0, 1, -3, -1, 2, 0, 2, 0, 1, 0, 0, 0, 0, 0, 1,
-    ];
-    let marshall = program(&rt, alloc, &a, &[0, 0, 1], &[10, -57, -9, -24, 0, 0, 0])?;
-    let end = end_of(&rt, alloc, &marshall)?;
-    assert!(rt; has_solution(&end, &[one, zero, one, zero, two, zero, zero]));
-    Ok(())
-}
+/// A program without a cost in fractions: its coefficients, its right sides and a 0 for each unknown.
+type Fractions = (&'static [(i128, i128)], &'static [i64], &'static [i64]);
 
-#[test]
-fn equations_repeat_or_contradict(rt: HostRuntime) -> Result<(), Fail> {
-    let alloc = rt.alloc();
-    let one = Frac::one();
-    let opposite = program(&rt, alloc, &[1, 1, -1, -1], &[1, -1], &[0, -1])?;
-    let end = end_of(&rt, alloc, &opposite)?;
-    assert!(rt; has_solution(&end, &[one, Frac::zero()]));
-    let contradicting = program(&rt, alloc, &[1, 1], &[1, 2], &[1])?;
-    let end = end_of(&rt, alloc, &contradicting)?;
-    assert!(rt; is_infeasible(&end));
-    Ok(())
-}
-
-#[test]
-fn no_equation_no_unknown_or_all(rt: HostRuntime) -> Result<(), Fail> {
-    let alloc = rt.alloc();
-    let one = Frac::one();
-    let no_equation = program(&rt, alloc, &[], &[], &[1])?;
-    let end = end_of(&rt, alloc, &no_equation)?;
-    assert!(rt; is_unbounded(&end, &[one]));
-    let no_unknown = program(&rt, alloc, &[], &[1], &[])?;
-    let end = end_of(&rt, alloc, &no_unknown)?;
-    assert!(rt; is_infeasible(&end));
-    let all = program(&rt, alloc, &[1, 0, 0, 1], &[1, 2], &[-1, 1])?;
-    let end = end_of(&rt, alloc, &all)?;
-    assert!(rt; is_optimal(&end, &[one, Frac::new(2, 1)?], &[one.neg(), one], &[1, 2]));
-    Ok(())
-}
+/// Programs that are given up.
+const STEPS: [(Fractions, Place); 5] = [
+    (
+        (&[(1, 2), (100, 1)], &[1], &[0, 0]),
+        (1, 1, 1, Op::Div, (100, 1), (1, 2)),
+    ),
+    // A quotient of the ratio test.
+    (
+        (&[(1, 1), (1, 2)], &[1, 100], &[0]),
+        (2, 1, 1, Op::Div, (100, 1), (1, 2)),
+    ),
+    (
+        (&[(1, 1), (12, 1), (12, 1), (1, 1)], &[1, 100], &[0, 0]),
+        (1, 1, 2, Op::Mul, (12, 1), (12, 1)),
+    ),
+    (
+        (&[(1, 1), (10, 1), (10, 1), (-100, 1)], &[1, 50], &[0, 0]),
+        (1, 1, 3, Op::Sub, (-100, 1), (100, 1)),
+    ),
+    // The first cost row is -116/15 at the artificial column of the last equation.
+    (
+        (
+            &[
+                (12, 1),
+                (8, 5),
+                (-4, 1),
+                (2, 1),
+                (-9, 1),
+                (5, 1),
+                (5, 1),
+                (-5, 1),
+                (-3, 1),
+                (1, 1),
+            ],
+            &[1, 0, 0, 0, 0],
+            &[0, 0],
+        ),
+        (6, 7, 3, Op::Sub, (-116, 15), (1, 1)),
+    ),
+];
 
 /// A program in fractions without a cost.
-fn fractional(
-    rt: &impl Abort,
-    alloc: Global,
-    a: &[(i128, i128)],
-    b: &[i64],
-    cols: u32,
-) -> Result<System<Tiny>, Fail> {
-    let mut system = program(rt, alloc, &[], b, &[])?;
-    for q in a {
-        system.a.push(tiny(rt, q.0, q.1))?;
+fn fractional(rt: &impl Abort, alloc: Global, fractions: &Fractions) -> Result<System<Tiny>, Fail> {
+    let (a, b, cost) = fractions;
+    let mut system = system_of(rt, alloc, &(&[], *b, *cost))?;
+    for (num, den) in *a {
+        system.a.push(Tiny::of(*num, *den).expect(rt, "held"))?;
     }
-    for _j in 0..cols {
-        system.cost.push(Tiny::zero())?;
-    }
-    system.cols = cols;
     Ok(system)
 }
 
-fn tiny(rt: &impl Abort, num: i128, den: i128) -> Tiny {
-    Tiny::of(num, den).expect(rt, "held")
+/// Whether a program was given up at this place.
+fn is_left(end: &Result<LpEnd<Tiny>, LpFault<Tiny>>, place: &Place) -> bool {
+    match end {
+        Err(
+            LpFault::Left {
+                basis: _,
+                row,
+                col,
+                step,
+                left,
+            },
+        ) => {
+            *row == place.0
+                && *col == place.1
+                && *step == place.2
+                && is_operation(left, place.3, place.4, place.5)
+        }
+        _ => false,
+    }
 }
 
 #[test]
 fn each_step_of_a_program_overflows(rt: HostRuntime) -> Result<(), Fail> {
     let alloc = rt.alloc();
-    let hundred = tiny(&rt, 100, 1);
-    let left = Left {
-        op: Op::Div,
-        a: hundred,
-        b: tiny(&rt, 1, 2),
-    };
-    let system = fractional(&rt, alloc, &[(1, 2), (100, 1)], &[1], 2)?;
-    assert!(rt; is_left(&end_of(&rt, alloc, &system), (1, 1, 1), left));
-    // A quotient of the ratio test.
-    let left = Left {
-        op: Op::Div,
-        a: hundred,
-        b: tiny(&rt, 1, 2),
-    };
-    let system = fractional(&rt, alloc, &[(1, 1), (1, 2)], &[1, 100], 1)?;
-    assert!(rt; is_left(&end_of(&rt, alloc, &system), (2, 1, 1), left));
-    let twelve = tiny(&rt, 12, 1);
-    let left = Left {
-        op: Op::Mul,
-        a: twelve,
-        b: twelve,
-    };
-    let system = program(&rt, alloc, &[1, 12, 12, 1], &[1, 100], &[0, 0])?;
-    assert!(rt; is_left(&end_of(&rt, alloc, &system), (1, 1, 2), left));
-    let left = Left {
-        op: Op::Sub,
-        a: hundred.neg(),
-        b: hundred,
-    };
-    let system = program(&rt, alloc, &[1, 10, 10, -100], &[1, 50], &[0, 0])?;
-    assert!(rt; is_left(&end_of(&rt, alloc, &system), (1, 1, 3), left));
+    for (fractions, place) in &STEPS {
+        let system = fractional(&rt, alloc, fractions)?;
+        let end = end_of(&rt, alloc, &system);
+        assert!(rt; is_left(&end, place), "of {fractions:?}");
+    }
     Ok(())
 }
 
 #[test]
-fn multipliers_and_hints_overflow(rt: HostRuntime) -> Result<(), Fail> {
+fn a_hint_overflows_where_the_program_does_not(rt: HostRuntime) -> Result<(), Fail> {
     let alloc = rt.alloc();
-    // The first cost row is -116/15 at the artificial column of the last equation.
-    let a = [
-        (12, 1),
-        (8, 5),
-        (-4, 1),
-        (2, 1),
-        (-9, 1),
-        (5, 1),
-        (5, 1),
-        (-5, 1),
-        (-3, 1),
-        (1, 1),
-    ];
-    let left = Left {
-        op: Op::Sub,
-        a: tiny(&rt, -116, 15),
-        b: Tiny::one(),
-    };
-    let system = fractional(&rt, alloc, &a, &[1, 0, 0, 0, 0], 2)?;
-    assert!(rt; is_left(&end_of(&rt, alloc, &system), (6, 7, 3), left));
-    // A hint overflows where the program does not.
-    let left = Left {
-        op: Op::Div,
-        a: tiny(&rt, 100, 1),
-        b: tiny(&rt, 1, 2),
-    };
-    let system = fractional(&rt, alloc, &[(1, 1), (1, 2), (100, 1)], &[1], 3)?;
+    let fractions: Fractions = (&[(1, 1), (1, 2), (100, 1)], &[1], &[0, 0, 0]);
+    let system = fractional(&rt, alloc, &fractions)?;
     assert!(rt; end_of(&rt, alloc, &system).is_ok());
-    assert!(rt; is_left(&end_from(&rt, alloc, &system, &[2]), (1, 2, 1), left));
+    let end = end_from(&rt, alloc, &system, &[2]);
+    assert!(rt; is_left(&end, &(1, 2, 1, Op::Div, (100, 1), (1, 2))));
     Ok(())
 }

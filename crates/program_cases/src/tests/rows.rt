@@ -3,19 +3,33 @@
 use exact_field::{Field, Left, Op};
 use frac128::{Frac, Tiny};
 use lin_rows::{Indep, Inverse, RowFault, Rows, combine, dot, independent, invert, scale};
+use std::alloc::Global;
 use std::process::Abort;
 use std::test::Fail;
 
-/// Whether the fault is this step of this pivot.
-fn is_left(fault: &RowFault<Tiny>, row: u32, col: u32, step: u8, left: Left<Tiny>) -> bool {
+/// Where a step is given up: the row, the column and the step of a pivot, and the operation with its operands.
+pub type Place = (u32, u32, u8, Op, (i128, i128), (i128, i128));
+
+/// Whether this is the operation with these operands.
+pub fn is_operation(left: &Left<Tiny>, op: Op, a: (i128, i128), b: (i128, i128)) -> bool {
+    left.op == op && Tiny::of(a.0, a.1) == Some(left.a) && Tiny::of(b.0, b.1) == Some(left.b)
+}
+
+/// Whether the fault is at this place.
+fn is_left(fault: &RowFault<Tiny>, place: &Place) -> bool {
     match fault {
         RowFault::Left {
             basis: _,
-            row: r,
-            col: c,
-            step: s,
-            left: l,
-        } => *r == row && *c == col && *s == step && *l == left,
+            row,
+            col,
+            step,
+            left,
+        } => {
+            *row == place.0
+                && *col == place.1
+                && *step == place.2
+                && is_operation(left, place.3, place.4, place.5)
+        }
         RowFault::NoMemory => false,
     }
 }
@@ -83,46 +97,48 @@ fn sums_and_multiples(rt: HostRuntime) -> Result<(), Fail> {
     Ok(())
 }
 
+/// Rows of two fractions whose elimination is given up, and where.
+const STEPS: [(&[[(i128, i128); 2]], Place); 3] = [
+    (&[[(100, 1), (1, 2)]], (1, 2, 1, Op::Div, (100, 1), (1, 2))),
+    (
+        &[[(12, 1), (1, 1)], [(1, 1), (12, 1)]],
+        (1, 2, 2, Op::Mul, (12, 1), (12, 1)),
+    ),
+    (
+        &[[(10, 1), (1, 1)], [(-100, 1), (10, 1)]],
+        (1, 2, 3, Op::Sub, (-100, 1), (100, 1)),
+    ),
+];
+
+/// Rows of two fractions.
+fn rows_of(
+    rt: &impl Abort,
+    alloc: Global,
+    lines: &[[(i128, i128); 2]],
+) -> Result<Rows<Tiny>, Fail> {
+    let mut rows = Rows::new(alloc, 2);
+    for [(p, q), (r, s)] in lines {
+        rows.push_row(&[
+            Tiny::of(*p, *q).expect(rt, "held"),
+            Tiny::of(*r, *s).expect(rt, "held"),
+        ])?;
+    }
+    Ok(rows)
+}
+
+/// Whether the elimination of these rows is given up at this place.
+fn is_given_up(alloc: Global, rows: &Rows<Tiny>, place: &Place) -> bool {
+    match independent(alloc, rows, rows.width()) {
+        Err(fault) => is_left(&fault, place),
+        Ok(_) => false,
+    }
+}
+
 #[test]
 fn each_step_of_an_elimination_overflows(rt: HostRuntime) -> Result<(), Fail> {
-    let half = Tiny::of(1, 2).expect(&rt, "held");
-    let hundred = tiny(&rt, 100);
-    let mut quotient = Rows::new(rt.alloc(), 2);
-    quotient.push_row(&[hundred, half])?;
-    let left = Left {
-        op: Op::Div,
-        a: hundred,
-        b: half,
-    };
-    match independent(rt.alloc(), &quotient, 2) {
-        Err(fault) => assert!(rt; is_left(&fault, 1, 2, 1, left)),
-        Ok(_) => assert!(rt; false),
-    }
-    let twelve = tiny(&rt, 12);
-    let mut product = Rows::new(rt.alloc(), 2);
-    product.push_row(&[twelve, Tiny::one()])?;
-    product.push_row(&[Tiny::one(), twelve])?;
-    let left = Left {
-        op: Op::Mul,
-        a: twelve,
-        b: twelve,
-    };
-    match independent(rt.alloc(), &product, 2) {
-        Err(fault) => assert!(rt; is_left(&fault, 1, 2, 2, left)),
-        Ok(_) => assert!(rt; false),
-    }
-    let ten = tiny(&rt, 10);
-    let mut difference = Rows::new(rt.alloc(), 2);
-    difference.push_row(&[ten, Tiny::one()])?;
-    difference.push_row(&[hundred.neg(), ten])?;
-    let left = Left {
-        op: Op::Sub,
-        a: hundred.neg(),
-        b: hundred,
-    };
-    match independent(rt.alloc(), &difference, 2) {
-        Err(fault) => assert!(rt; is_left(&fault, 1, 2, 3, left)),
-        Ok(_) => assert!(rt; false),
+    for (lines, place) in &STEPS {
+        let rows = rows_of(&rt, rt.alloc(), lines)?;
+        assert!(rt; is_given_up(rt.alloc(), &rows, place), "of {lines:?}");
     }
     Ok(())
 }
@@ -133,25 +149,11 @@ fn sums_overflow_at_their_place(rt: HostRuntime) -> Result<(), Fail> {
     let hundred = tiny(&rt, 100);
     let one = Tiny::one();
     match combine(rt.alloc(), &[one, hundred], twelve, &[one, tiny(&rt, 3)]) {
-        Err(fault) => {
-            let left = Left {
-                op: Op::Add,
-                a: hundred,
-                b: tiny(&rt, 36),
-            };
-            assert!(rt; is_left(&fault, 0, 2, 3, left))
-        }
+        Err(fault) => assert!(rt; is_left(&fault, &(0, 2, 3, Op::Add, (100, 1), (36, 1)))),
         Ok(_) => assert!(rt; false),
     }
     match scale(rt.alloc(), &[one, twelve], twelve) {
-        Err(fault) => {
-            let left = Left {
-                op: Op::Mul,
-                a: twelve,
-                b: twelve,
-            };
-            assert!(rt; is_left(&fault, 0, 2, 2, left))
-        }
+        Err(fault) => assert!(rt; is_left(&fault, &(0, 2, 2, Op::Mul, (12, 1), (12, 1)))),
         Ok(_) => assert!(rt; false),
     }
     let total = dot(
