@@ -9,7 +9,7 @@ use Rattle.polyhedra.proofs.Members.{Contains-filter_source, all_of_members, mem
 use Rattle.lin_rows.specs.Eliminate.{IsElimFault}
 use Rattle.lin_rows.specs.declared.fault.RowFault.{RowFault}
 use Rattle.vlp_reader.specs.declared.problem.Problem.{Problem}
-use Rattle.vlp_printer.specs.Printing.{cone_vectors}
+use Rattle.vlp_reader.specs.Values.{cone_vectors}
 use Rattle.deriv_log.specs.declared.entry.Entry.{Entry}
 use Rattle.deriv_log.specs.declared.licence.Family.TheVariants.{ConeRows}
 use Rattle.lp_form.specs.Programs.{nonzero_vectors}
