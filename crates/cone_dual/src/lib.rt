@@ -1,15 +1,19 @@
-//! The ordering cone and its duality vector: the first fault of them, or the vector with what shows that it fits.
+//! The ordering cone and its duality vector: the first fault of them, or the vector with what shows that it fits; and
+//! the generators of a cone that is given by rows.
 #![tactic(auto)]
 
 mod asking;
 mod combining;
 mod dual_form;
+mod dual_gens;
 mod duality;
 mod facts;
 mod generators;
 mod given;
 mod lists;
 mod orthant;
+mod picked;
 
+pub use dual_gens::dual_gens;
 pub use duality::{ConeEnd, Duality};
 pub use facts::cone_facts;
