@@ -1,14 +1,15 @@
+pub mod AsCut
+pub mod AsPreimage
+pub mod AsWhole
 pub mod Blocks
 pub mod Bound
 pub mod Bounded
 pub mod Counted
-pub mod Cut
 pub mod Divided
 pub mod Excluded
 pub mod Feasible
 pub mod Made
 pub mod Opposite
-pub mod Preimage
 pub mod Priced
 pub mod Read
 pub mod Said
@@ -19,4 +20,3 @@ pub mod Spots
 pub mod Spread
 pub mod Vectors
 pub mod Weighed
-pub mod Whole

@@ -4,8 +4,8 @@
 
 mod asking;
 mod combining;
+mod dual;
 mod dual_form;
-mod dual_gens;
 mod duality;
 mod facts;
 mod generators;
@@ -14,6 +14,6 @@ mod lists;
 mod orthant;
 mod picked;
 
-pub use dual_gens::dual_gens;
+pub use dual::dual_gens;
 pub use duality::{ConeEnd, Duality};
 pub use facts::cone_facts;

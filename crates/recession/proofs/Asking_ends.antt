@@ -28,10 +28,10 @@ use Rattle.lp_form.specs.Programs.{benson_system, choice_of, generators, value_o
 use Rattle.licence.specs.Trails.{divided_by}
 use Rattle.licence.specs.Turns.{said_row}
 use Rattle.benson_program.specs.Laws.{IsCutNormal}
-use Rattle.benson_program.proofs.Cut.{benson_cut}
+use Rattle.benson_program.proofs.AsCut.{benson_cut}
 use Rattle.benson_program.proofs.Excluded.{answers_exclude}
-use Rattle.benson_program.proofs.Preimage.{multipliers_long}
-use Rattle.benson_program.proofs.Whole.{benson_whole}
+use Rattle.benson_program.proofs.AsPreimage.{multipliers_long}
+use Rattle.benson_program.proofs.AsWhole.{benson_whole}
 use Rattle.benson_program.specs.Cuts.{IsCutOf}
 use Rattle.benson_program.specs.Ends.{CanStart, IsBensonEnd, IsEmptyAt, IsOptimumAt}
 use Rattle.benson_program.specs.Preimages.{AreLowMultipliers}

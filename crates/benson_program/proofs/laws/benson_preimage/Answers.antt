@@ -1,4 +1,4 @@
-use Rattle.benson_program.proofs.Preimage.{benson_preimage}
+use Rattle.benson_program.proofs.AsPreimage.{benson_preimage}
 use Rattle.benson_program.proofs.laws.benson_preimage.Goals as goal
 
 pub returns : goal.returns

@@ -3,7 +3,7 @@ use Rattle.double_descr.specs.State.{State}
 use Rattle.deriv_log.specs.declared.licence.Family.TheVariants.{ConeRows}
 use Rattle.licence.specs.Operands.{IsAddition}
 use Rattle.cone_dual.proofs.Licences.{cone_addition, overflow_licensed, setting}
-use Rattle.cone_dual.proofs.dual_gens.add_row.Goals as goal
+use Rattle.cone_dual.proofs.dual.add_row.Goals as goal
 
 pub returns-clause-left : goal.returns-clause-left
 returns-clause-left g c =

@@ -11,7 +11,7 @@ use Rattle.licence.specs.Operands.{IsMadeOver}
 use Rattle.cone_dual.specs.Generators.{AreConeRows, AreGenerators, begun_with, others}
 use Rattle.cone_dual.proofs.Licences.{cone_rows-front}
 use Rattle.cone_dual.proofs.Reordered.{IsPlace, begun_cone, begun_listed, generators_are, other_places, picked_places, rows_begun}
-use Rattle.cone_dual.proofs.dual_gens.dual_gens.Goals as goal
+use Rattle.cone_dual.proofs.dual.dual_gens.Goals as goal
 
 pub returns-in_err-picks-clause-left : goal.returns-in_err-picks-clause-left
 returns-in_err-picks-clause-left g c = λ file cone.

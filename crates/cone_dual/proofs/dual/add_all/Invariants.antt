@@ -1,7 +1,7 @@
 use Rattle.std.proofs.Common.{◌≡◌, ◌++◌, take}
 use Rattle.lin_rows.specs.Read.{numbers}
 use Rattle.licence.specs.Operands.{IsMadeOver}
-use Rattle.cone_dual.proofs.dual_gens.add_all.Given as goal
+use Rattle.cone_dual.proofs.dual.add_all.Given as goal
 
 abbrev pub invariant-loop-k : goal.invariant-loop-k
 invariant-loop-k g l =

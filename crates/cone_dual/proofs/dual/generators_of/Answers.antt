@@ -3,7 +3,7 @@ use Rattle.std.proofs.lemmas.List.{length-map, map_push}
 use Rattle.polyhedra.specs.LiveList.{Numbered, vectors}
 use Rattle.lin_rows.specs.Read.{numbers}
 use Rattle.cone_dual.proofs.Reading.{one_more, vector_at, wide_at}
-use Rattle.cone_dual.proofs.dual_gens.generators_of.Goals as goal
+use Rattle.cone_dual.proofs.dual.generators_of.Goals as goal
 
 pub push_row-requires : goal.push_row-requires
 push_row-requires g c =

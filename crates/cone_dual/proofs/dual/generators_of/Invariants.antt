@@ -1,7 +1,7 @@
 use Rattle.std.proofs.Common.{◌≡◌, take}
 use Rattle.polyhedra.specs.LiveList.{vectors}
 use Rattle.lin_rows.specs.Read.{numbers}
-use Rattle.cone_dual.proofs.dual_gens.generators_of.Given as goal
+use Rattle.cone_dual.proofs.dual.generators_of.Given as goal
 
 abbrev pub invariant-loop-i : goal.invariant-loop-i
 invariant-loop-i g l =

@@ -5,7 +5,7 @@ use Rattle.lin_rows.specs.Answers.{IsIndep}
 use Rattle.lin_rows.specs.Eliminate.{IsElimFault}
 use Rattle.lin_rows.specs.Read.{numbers}
 use Rattle.cone_dual.proofs.Licences.{elimination_licensed}
-use Rattle.cone_dual.proofs.dual_gens.basis_of.Goals as goal
+use Rattle.cone_dual.proofs.dual.basis_of.Goals as goal
 
 pub unreachable-requires : goal.unreachable-requires
 unreachable-requires g c =

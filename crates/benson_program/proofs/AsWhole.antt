@@ -37,7 +37,7 @@ use Rattle.licence.proofs.Cuts.{benson_unknowns, length-benson_cost}
 use Rattle.licence.proofs.CutTurns.{last_value}
 use Rattle.benson_program.specs.Laws.{BensonWhole}
 use Rattle.benson_program.proofs.Blocks.{asked, benson_equations}
-use Rattle.benson_program.proofs.Preimage.{shares, multipliers_long, sides_rise}
+use Rattle.benson_program.proofs.AsPreimage.{shares, multipliers_long, sides_rise}
 use Rattle.benson_program.proofs.Priced.{pulled, pulled-value, pushed, x_long, p_long, normals_at_least, shares_positive, rest_value}
 use Rattle.benson_program.proofs.Shown.{IsMade, AreMade, made_member, shows_made}
 

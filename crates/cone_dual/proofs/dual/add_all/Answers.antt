@@ -8,7 +8,7 @@ use Rattle.licence.specs.Operands.{IsMadeOver}
 use Rattle.licence.proofs.Making.{generator_laws}
 use Rattle.cone_dual.specs.Generators.{AreConeRows}
 use Rattle.cone_dual.proofs.Reading.{front_cone, front_is, read_row}
-use Rattle.cone_dual.proofs.dual_gens.add_all.Goals as goal
+use Rattle.cone_dual.proofs.dual.add_all.Goals as goal
 
 pub returns-in_err-add_row-clause-left : goal.returns-in_err-add_row-clause-left
 returns-in_err-add_row-clause-left g c =

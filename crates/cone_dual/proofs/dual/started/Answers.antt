@@ -2,7 +2,7 @@ use Rattle.std.proofs.Common.{[], refl}
 use Rattle.lin_rows.specs.Read.{numbers}
 use Rattle.overflows.proofs.Starts.{made_of_start}
 use Rattle.cone_dual.proofs.Licences.{elim_rows, overflow_licensed, setting}
-use Rattle.cone_dual.proofs.dual_gens.started.Goals as goal
+use Rattle.cone_dual.proofs.dual.started.Goals as goal
 
 pub returns-in-Ok-clause-made : goal.returns-in-Ok-clause-made
 returns-in-Ok-clause-made g c =
