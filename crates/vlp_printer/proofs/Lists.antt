@@ -1,14 +1,7 @@
 -- Lists by the numbers of their elements.
-use Rattle.std.proofs.Common.{◌≡◌, refl, ℕ, zero, suc, ◌+◌, ◌-◌, ◌<◌, arith, ap, ◌∙◌, sym, Bool, true, false, List, [], ◌∷◌, ◌++◌, length, take, get_or, map, Option, None, Some}
+use Rattle.std.proofs.Common.{◌≡◌, refl, ℕ, zero, suc, ◌+◌, ◌-◌, ◌<◌, arith, ap, ◌∙◌, sym, Bool, List, [], ◌∷◌, ◌++◌, length, get_or, Option, None}
 use Rattle.std.specs.List.{flat_map, find}
-use Rattle.std.specs.Option.{option_or}
-use Rattle.std.proofs.lemmas.Bool.{cond-true, cond-false}
-use Rattle.std.proofs.lemmas.Grind.{flat_map-append}
-use Rattle.std.proofs.lemmas.List.{take_more, take-append-drop, append-nil, append_assoc, map-id}
-use Rattle.std.proofs.lemmas.List.Concat.{flat_map-cons, flat_map_single}
-use Rattle.std.proofs.lemmas.List.Folds.{find-append}
-use Rattle.std.proofs.Math.Seq.{drop-cons}
-use Rattle.std.proofs.Math.ListN.{drop}
+use Rattle.std.proofs.lemmas.List.{append_assoc}
 use Rattle.vlp_reader.specs.Sides.{numbers_from}
 use Rattle.vlp_reader.proofs.Pieces.{flat_map-one, behind_none}
 

@@ -1,5 +1,5 @@
 -- The text of a problem.
-use Rattle.std.specs.Prelude.{◌≡◌, ℕ, ◌-◌, true, false, not, if◌then◌else◌, List, [], ◌∷◌, ◌++◌, length, map, sum_by, count_by, slice_index_or, codes, decimal, Option, None, Some, Ok, All}
+use Rattle.std.specs.Prelude.{◌≡◌, ℕ, ◌-◌, true, false, not, if◌then◌else◌, List, [], ◌∷◌, ◌++◌, length, sum_by, count_by, slice_index_or, codes, decimal, Option, None, Some, Ok, All}
 use Rattle.std.specs.List.{flat_map}
 use Rattle.exact_field.specs.Rational.{ℚ}
 use Rattle.exact_field.specs.Vector.{entry}
