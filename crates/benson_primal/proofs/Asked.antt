@@ -14,11 +14,11 @@ use Rattle.licence.proofs.CutTurns.{optimum_turns, read_at_origin}
 use Rattle.benson_program.specs.Preimages.{IsPreimageOf}
 use Rattle.benson_program.specs.declared.cut.Cut.{Cut}
 use Rattle.benson_program.specs.declared.preimage.Preimage.{Preimage}
-use Rattle.outer_log.specs.Cuts.{said_by}
-use Rattle.outer_log.specs.Preimages.{IsReached}
-use Rattle.outer_log.specs.Standing.{IsOuter}
-use Rattle.outer_log.specs.Task.{Task, IsFitting}
-use Rattle.outer_log.proofs.Growing.{live_generator}
+use Rattle.outer_approx.specs.Cuts.{said_by}
+use Rattle.outer_approx.specs.Preimages.{IsReached}
+use Rattle.outer_approx.specs.Standing.{IsOuter}
+use Rattle.outer_approx.specs.Task.{Task, IsFitting}
+use Rattle.outer_approx.proofs.Growing.{live_generator}
 use Rattle.recession.specs.Asking.{IsAskedCut}
 use Rattle.lp_form.specs.declared.data.Data.{Data}
 use Rattle.benson_primal.specs.Search.{IsKnown, IsNextCut}

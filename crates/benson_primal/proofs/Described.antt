@@ -15,7 +15,7 @@ use Rattle.benson_program.specs.Ends.{IsContradiction}
 use Rattle.benson_program.specs.Sparse.{IsSparseOf}
 use Rattle.benson_program.specs.Wholes.{IsWholeOf}
 use Rattle.benson_program.specs.declared.whole.WholeParts.{WholeParts}
-use Rattle.own_check.specs.Logs.{IsReadWhole, ShowsWhole}
+use Rattle.outer_approx.specs.Unstarted.{IsReadWhole, ShowsWhole}
 use Rattle.exact_field.specs.Rational.{ℚ}
 use Rattle.vlp_reader.specs.declared.problem.Problem.{Problem}
 use Rattle.deriv_log.specs.declared.entry.Entry.{Entry}
@@ -27,8 +27,8 @@ use Rattle.overflows.specs.declared.fault.SolveFault.{SolveFault}
 use Rattle.overflows.specs.declared.fault.SolveFault.TheVariants.{Left, NoMemory}
 use Rattle.cone_dual.specs.Fitting.{IsDualityOf}
 use Rattle.cone_dual.specs.declared.duality.Duality.{Duality}
-use Rattle.outer_log.specs.Standing.{IsEnded, IsOpenTrail}
-use Rattle.outer_log.specs.Task.{Task, IsFitting, behind}
+use Rattle.outer_approx.specs.Standing.{IsEnded, IsOpenTrail}
+use Rattle.outer_approx.specs.Task.{Task, IsFitting, behind}
 use Rattle.lp_form.specs.Data.{IsDataOf}
 use Rattle.lp_form.specs.declared.data.Data.{Data}
 use Rattle.recession.specs.First.{AreFirstCuts}

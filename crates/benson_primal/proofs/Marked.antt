@@ -9,7 +9,7 @@ use Rattle.std.proofs.lemmas.Bool.Decides.{eqb_tells}
 use Rattle.incid_sets.specs.Marks.{has}
 use Rattle.deriv_log.specs.declared.entry.Entry.{Entry}
 use Rattle.log_rules.specs.Live.{preimages}
-use Rattle.outer_log.specs.Preimages.{AreMarks}
+use Rattle.outer_approx.specs.Preimages.{AreMarks}
 use Rattle.benson_primal.specs.Search.{AreAllReached, AreReached, IsDone, IsInScope}
 use Rattle.benson_primal.specs.declared.search.Scope.{Scope}
 use Rattle.benson_primal.specs.declared.search.Scope.TheVariants.{Both}

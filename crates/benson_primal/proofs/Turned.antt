@@ -6,8 +6,8 @@ use Rattle.double_descr.specs.State.{State as Description}
 use Rattle.licence.specs.Turns.{said_row}
 use Rattle.licence.proofs.CutTurns.{cut_turns_end}
 use Rattle.benson_program.specs.declared.cut.Cut.{Cut}
-use Rattle.outer_log.specs.Cuts.{said_by}
-use Rattle.outer_log.specs.Task.{Task}
+use Rattle.outer_approx.specs.Cuts.{said_by}
+use Rattle.outer_approx.specs.Task.{Task}
 use Rattle.benson_primal.specs.Search.{IsNextCut}
 
 pub turn_falls : {F : Type 0} (value : F → ℚ) (task : Task) (old new : Description) (cut : Cut F) → IsNextCut value task old cut →

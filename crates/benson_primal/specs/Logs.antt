@@ -8,7 +8,7 @@ use Rattle.log_rules.specs.Proves.{AllMeet}
 use Rattle.licence.specs.Licence.{IsPossible}
 use Rattle.licence.specs.Trails.{IsBaseTrail}
 use Rattle.deriv_log.specs.declared.entry.Entry.TheVariants.{Duality}
-use Rattle.outer_log.specs.Task.{Task}
+use Rattle.outer_approx.specs.Task.{Task}
 
 -- the entries are a log of which each meets its rules, and a base trail for a duality vector that is possible
 pub record IsOwnLog (holds : ℚ → Bool) (file : Problem) (entries : List Entry) : Type 0 where

@@ -10,8 +10,8 @@ use Rattle.lp_form.specs.Data.{IsDataOf}
 use Rattle.lp_form.specs.declared.data.Data.{Data}
 use Rattle.licence.specs.Turns.{IsCutTurn, said_row}
 use Rattle.benson_program.specs.declared.cut.Cut.{Cut}
-use Rattle.outer_log.specs.Cuts.{IsCutFor, said_by}
-use Rattle.outer_log.specs.Task.{Task, IsFitting}
+use Rattle.outer_approx.specs.Cuts.{IsCutFor, said_by}
+use Rattle.outer_approx.specs.Task.{Task, IsFitting}
 use Rattle.recession.specs.Asking.{IsProper}
 use Rattle.benson_primal.specs.declared.search.Scope.{Scope}
 use Rattle.benson_primal.specs.declared.search.Scope.TheVariants.{Both, Directions}

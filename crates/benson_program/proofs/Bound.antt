@@ -6,7 +6,7 @@ use Rattle.tableaux.specs.Simplex.{IsUnbounded}
 use Rattle.lp_form.specs.declared.data.Data.{Data}
 use Rattle.lp_form.specs.Programs.{benson_system}
 use Rattle.lp_form.proofs.Figures.{objective_number}
-use Rattle.program_ends.proofs.Bounded.{benson_bounded}
+use Rattle.benson_program.proofs.Bounded.{benson_bounded}
 use Rattle.benson_program.specs.Ends.{CanStart}
 
 pub bounded : {F : Type 0} (value : F → ℚ) (form : Data F) (c : List ℚ) (v : List F) (t : Bool) (start : CanStart value form c t) →

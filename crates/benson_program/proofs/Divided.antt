@@ -18,8 +18,8 @@ use Rattle.lp_form.specs.Programs.{benson_system, dual_equations, generators, ch
 use Rattle.licence.specs.Base.{AreFirstMultipliersOff, IsBaseStart}
 use Rattle.licence.specs.Operands.{Setting, Knows, IsDivisor, IsScaled, vector_of}
 use Rattle.licence.specs.Trails.{divided_by}
-use Rattle.program_ends.proofs.Preimage.{multipliers_long}
-use Rattle.program_ends.proofs.Whole.{benson_whole}
+use Rattle.benson_program.proofs.AsPreimage.{multipliers_long}
+use Rattle.benson_program.proofs.AsWhole.{benson_whole}
 use Rattle.benson_program.proofs.Counted.{generators_few, magnitude_below}
 use Rattle.benson_program.specs.Sparse.{IsSparseOf}
 use Rattle.benson_program.specs.Wholes.{AreEmptyAtOrigin, IsWholeOf}

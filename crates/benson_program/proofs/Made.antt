@@ -12,8 +12,8 @@ use Rattle.upper_image.proofs.Widths.{product_is}
 use Rattle.lp_form.specs.Programs.{side_total, benson_system, u_of, w_of, v_of}
 use Rattle.lp_form.proofs.Systems.{length-side_bounds}
 use Rattle.licence.specs.Base.{AreCutParts, IsBaseCut}
-use Rattle.program_ends.proofs.Cut.{benson_cut}
-use Rattle.program_ends.proofs.Solved.{u_long}
+use Rattle.benson_program.proofs.AsCut.{benson_cut}
+use Rattle.benson_program.proofs.Solved.{u_long}
 use Rattle.benson_program.proofs.Read.{z_long, base}
 use Rattle.benson_program.specs.Cuts.{IsCutOf}
 use Rattle.benson_program.specs.Ends.{IsOptimumAt}

@@ -18,7 +18,7 @@ use Rattle.upper_image.proofs.Widths.{length-numbers}
 use Rattle.lp_form.specs.Programs.{side_total, on_parts, balances, dual_members, dual_unknowns}
 use Rattle.lp_form.proofs.Systems.{IsWideCone, cone_wide, length-unit, length-negated, length-zeros, length-side_column}
 use Rattle.cone_rules.proofs.Parts.{slice-negated}
-use Rattle.program_ends.proofs.Blocks.{benson_equations}
+use Rattle.benson_program.proofs.Blocks.{benson_equations}
 
 -- the entries at two places, counted from 0, are opposite
 abbrev IsOpposite : ℕ → ℕ → List ℚ → Type 0

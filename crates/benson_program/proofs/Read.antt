@@ -21,7 +21,7 @@ use Rattle.licence.specs.Operands.{Setting, Knows, IsBaseU}
 use Rattle.licence.proofs.Cuts.{benson_unknowns, length-benson_cost}
 use Rattle.licence.proofs.CutTurns.{cuts_are_base}
 use Rattle.cone_rules.proofs.Opposite.{opposite_columns}
-use Rattle.program_ends.proofs.Solved.{u_long}
+use Rattle.benson_program.proofs.Solved.{u_long}
 use Rattle.benson_program.proofs.Opposite.{opposite_entries}
 use Rattle.benson_program.proofs.Spread.{spots, spots-dense}
 use Rattle.benson_program.specs.Ends.{IsOptimumAt}

@@ -12,7 +12,7 @@ use Rattle.vlp_reader.specs.declared.problem.Problem.{Problem}
 use Rattle.lp_form.specs.Programs.{feasible_system, choice_of}
 use Rattle.lp_form.proofs.Systems.{length-side_bounds}
 use Rattle.licence.specs.Base.{IsRayOff, IsBaseChoice}
-use Rattle.program_ends.proofs.Feasible.{feasible_ends}
+use Rattle.benson_program.proofs.Feasible.{feasible_ends}
 use Rattle.benson_program.specs.Ends.{IsContradiction, IsOptimumAt, IsEmptyAt}
 
 -- ---- ends

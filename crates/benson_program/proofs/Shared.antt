@@ -15,7 +15,7 @@ use Rattle.upper_image.specs.Spots.{dense, IsVector}
 use Rattle.lp_form.specs.Programs.{benson_system, choice_of, dual_equations, full_share_of, generators, share_of, value_of}
 use Rattle.licence.specs.Base.{AreMultipliersOff, IsBaseStart}
 use Rattle.licence.specs.Operands.{AreBensonMultipliers, Knows, Setting}
-use Rattle.program_ends.proofs.Preimage.{benson_preimage, multipliers_long}
+use Rattle.benson_program.proofs.AsPreimage.{benson_preimage, multipliers_long}
 use Rattle.benson_program.proofs.Counted.{generators_few}
 use Rattle.benson_program.proofs.Divided.{length-share}
 use Rattle.benson_program.specs.Preimages.{AreLowMultipliers, IsPreimageOf, ShowsChosen}

@@ -7,7 +7,7 @@ use Rattle.lin_rows.specs.declared.fault.RowFault.{RowFault}
 use Rattle.exact_simplex.specs.Ends.{IsLpFault}
 use Rattle.exact_simplex.specs.declared.answer.LpFault.{LpFault}
 use Rattle.vlp_reader.specs.declared.problem.Problem.{Problem}
-use Rattle.vlp_printer.specs.Printing.{cone_vectors}
+use Rattle.vlp_reader.specs.Values.{cone_vectors}
 use Rattle.deriv_log.specs.declared.licence.Program.{Program}
 use Rattle.lp_form.specs.declared.data.Data.{Data}
 use Rattle.lp_form.specs.Data.{IsDataOf, cone_of, duality_of}

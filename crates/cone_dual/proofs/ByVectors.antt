@@ -9,7 +9,7 @@ use Rattle.tableaux.proofs.Places.{length-list_from}
 use Rattle.lin_rows.specs.Read.{numbers}
 use Rattle.vlp_reader.specs.declared.problem.Problem.{Problem}
 use Rattle.vlp_reader.specs.declared.problem.Cone.TheVariants as cone
-use Rattle.vlp_printer.specs.Printing.{cone_vectors}
+use Rattle.vlp_reader.specs.Values.{cone_vectors}
 use Rattle.lp_form.specs.declared.data.ConeOf.{ConeOf}
 use Rattle.lp_form.specs.declared.data.ConeOf.TheVariants.{Gens, Dual}
 use Rattle.lp_form.specs.declared.data.Data.{Data}

@@ -7,8 +7,11 @@ pub mod Fits
 pub mod GeneratorsFit
 pub mod GivenInside
 pub mod Leading
+pub mod Licences
 pub mod Opposite
 pub mod Picks
+pub mod Reading
+pub mod Reordered
 pub mod Signs
 pub mod Spreading
 pub mod Standing

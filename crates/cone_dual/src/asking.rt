@@ -11,7 +11,7 @@ ghost use Rattle.overflows.specs.Faults.{OnLicence};
 ghost use Rattle.polyhedra.specs.Vectors.{AreWide};
 ghost use Rattle.tableaux.specs.Elimination.{AreIndependent, AreInverse, columns_of};
 ghost use Rattle.tableaux.specs.Table.{Table, row_of};
-ghost use Rattle.vlp_printer.specs.Printing.{cone_vectors};
+ghost use Rattle.vlp_reader.specs.Values.{cone_vectors};
 ghost use Rattle.vlp_reader.specs.declared.problem.Problem.{Problem as File};
 
 use crate::lists::{picked_rows, rows_of};

@@ -17,7 +17,7 @@ ghost use Rattle.lp_form.specs.Programs.{interior_of_dual, nonzero_vectors};
 ghost use Rattle.lp_form.specs.declared.data.ConeOf.TheVariants as cone;
 ghost use Rattle.overflows.specs.Faults.{OnLicence};
 ghost use Rattle.tableaux.specs.Simplex.{IsInfeasible};
-ghost use Rattle.vlp_printer.specs.Printing.{cone_vectors};
+ghost use Rattle.vlp_reader.specs.Values.{cone_vectors};
 ghost use Rattle.vlp_reader.specs.declared.problem.Cone.TheVariants as form_of;
 ghost use Rattle.vlp_reader.specs.declared.problem.Problem.{Problem as File};
 

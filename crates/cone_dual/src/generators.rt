@@ -14,7 +14,7 @@ ghost use Rattle.lp_form.specs.declared.data.ConeOf.TheVariants as cone;
 ghost use Rattle.overflows.specs.Faults.{Overflows};
 ghost use Rattle.polyhedra.specs.Vectors.{AreWide, combination};
 ghost use Rattle.tableaux.specs.Elimination.{AreIndependent};
-ghost use Rattle.vlp_printer.specs.Printing.{cone_vectors};
+ghost use Rattle.vlp_reader.specs.Values.{cone_vectors};
 ghost use Rattle.vlp_reader.specs.declared.problem.Problem.{Problem as File};
 
 use crate::asking::{independent_vectors, interior_end, inverse_columns};

@@ -1,4 +1,6 @@
 //! Files whose logs over `Tiny` prove the answers of `solve`, and files whose logs are given up.
+mod own_logs;
+
 use cert_check::check;
 use deriv_log::{Family, Place, Program};
 use exact_field::{Field, Left, Op};

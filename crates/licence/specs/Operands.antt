@@ -20,7 +20,7 @@ use Rattle.lin_rows.specs.Pivot.{IsPivotStep}
 use Rattle.exact_simplex.specs.Ends.{IsSystemStep}
 use Rattle.vlp_reader.specs.Sides.{side_bounds, IsFeasible, IsRecession}
 use Rattle.vlp_reader.specs.declared.problem.Problem.{Problem}
-use Rattle.vlp_printer.specs.Printing.{cone_vectors}
+use Rattle.vlp_reader.specs.Values.{cone_vectors}
 use Rattle.upper_image.specs.Spots.{dense, column}
 use Rattle.upper_image.specs.UpperImage.{normals, objectives, front}
 use Rattle.deriv_log.specs.declared.entry.Entry.{Entry}

@@ -3,6 +3,7 @@
 #![tactic(auto)]
 
 ghost use Rattle.log_rules.specs.Examples.{WorkedLogs};
+ghost use Rattle.log_rules.specs.Never.{NeverWrong};
 ghost use Rattle.log_rules.specs.ReportExamples.{WorkedReports};
 ghost use Rattle.log_rules.specs.Laws.{EventsGiveMeets, MeetsGiveEvents, RulesKeepDescription, NumbersStay, SolvedIsReached, SolvedIsSolved, ProvedIsRight, RightSolutionsAgree, FacetsDescribeLowerImage, OneAnswer};
 
@@ -22,6 +23,11 @@ pub fn events_give_meets()
 /// A log that meets its rules has no failure where all numbers are held.
 pub fn meets_give_events()
     ensures { MeetsGiveEvents }
+{}
+
+/// A log that meets its rules is never found wrong, whatever numbers are held: the first event that fails is a step.
+pub fn never_wrong()
+    ensures { NeverWrong }
 {}
 
 /// The live generators describe the cone of the rows in use.

@@ -23,7 +23,7 @@ use Rattle.vlp_reader.specs.declared.problem.Bound.TheVariants.{Unsaid, Free, Lo
 use Rattle.vlp_reader.specs.declared.problem.Cell.{Cell as FileCell}
 use Rattle.vlp_reader.specs.declared.problem.Dir.{Dir}
 use Rattle.vlp_reader.specs.declared.problem.Dir.TheVariants.{Min, Max}
-use Rattle.vlp_printer.specs.Printing.{bound_numbers, printed_numbers, cone_vectors, duality_entries}
+use Rattle.vlp_reader.specs.Values.{bound_numbers, printed_numbers, cone_vectors, duality_entries}
 use Rattle.lp_form.specs.Data.{IsFirstUnheld}
 
 -- ---- lists in pieces

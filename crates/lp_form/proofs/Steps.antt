@@ -10,7 +10,7 @@ use Rattle.lin_rows.specs.Read.{numbers}
 use Rattle.lin_rows.proofs.Building.{number_row}
 use Rattle.polyhedra.proofs.Tests.{both_true}
 use Rattle.std.proofs.lemmas.List.{map_push, take_more, append_assoc}
-use Rattle.vlp_printer.proofs.Lists.{flat_map_take}
+use Rattle.vlp_reader.proofs.Pieces.{flat_map_take}
 
 pub take_next : {X : Type 0} (xs : List X) (i : ℕ) (x : X) → i < length xs → x ≡ slice_index_or xs i x → take (i + 1) xs ≡ take i xs ++ x ∷ []
 take_next xs i x h e = take_more xs i x h ∙ ap (λ y. take i xs ++ y ∷ []) (sym e)

@@ -12,7 +12,7 @@ use Rattle.vlp_reader.specs.Sides.{sides, side_column, side_bounds}
 use Rattle.vlp_reader.specs.declared.problem.Problem.{Problem}
 use Rattle.vlp_reader.specs.declared.problem.Cone.{Cone}
 use Rattle.vlp_reader.specs.declared.problem.Cone.TheVariants.{Orthant, Gens, Dual}
-use Rattle.vlp_printer.specs.Printing.{cone_vectors}
+use Rattle.vlp_reader.specs.Values.{cone_vectors}
 use Rattle.upper_image.specs.UpperImage.{objective_column}
 use Rattle.deriv_log.specs.declared.licence.Program.{Program}
 use Rattle.deriv_log.specs.declared.licence.Program.TheVariants.{Feasible, Benson, Weight, Interior, Pointed}

@@ -78,7 +78,7 @@ impl From<NoMemory> for DataFault {
 
 impl<F: Field> Data<F> {
     ghost use Rattle.std.specs.Prelude.{All, IfOk, IfErr};
-    ghost use Rattle.vlp_printer.specs.Printing.{printed_numbers};
+    ghost use Rattle.vlp_reader.specs.Values.{printed_numbers};
     ghost use Rattle.lp_form.specs.Data.{IsDataOf, RefusesNumber};
 
     /// The data of a problem. The cost is that of its entries that are not 0, its rows and its columns.

@@ -4,7 +4,7 @@ ghost use Rattle.frac128.specs.declared.vectors.Spot.{Spot};
 ghost use Rattle.lin_rows.specs.Lines.{entries};
 ghost use Rattle.lin_rows.specs.Read.{numbers};
 ghost use Rattle.upper_image.specs.Spots.{entry_of};
-ghost use Rattle.vlp_printer.specs.Printing.{cone_vectors, duality_entries};
+ghost use Rattle.vlp_reader.specs.Values.{cone_vectors, duality_entries};
 ghost use Rattle.lp_form.specs.Data.{cone_of, duality_of};
 
 use crate::data::{At, ConeOf, SideOf};

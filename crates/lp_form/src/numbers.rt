@@ -3,7 +3,7 @@ ghost use Rattle.std.specs.Prelude.{◌≡◌, ◌++◌, map, not, find, All, If
 ghost use Rattle.std.specs.List.{flat_map};
 ghost use Rattle.exact_field.specs.Field.{AnswersHeld};
 ghost use Rattle.exact_field.specs.Rational.{ℚ};
-ghost use Rattle.vlp_printer.specs.Printing.{bound_numbers, printed_numbers, cone_vectors};
+ghost use Rattle.vlp_reader.specs.Values.{bound_numbers, printed_numbers, cone_vectors};
 ghost use Rattle.lp_form.specs.Data.{RefusesNumber};
 
 use crate::data::DataFault;

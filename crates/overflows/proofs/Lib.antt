@@ -1,4 +1,7 @@
+pub mod Additions
 pub mod Dividing
+pub mod Events
 pub mod Formed
 pub mod Licensed
 pub mod Sparse
+pub mod Starts

@@ -1,6 +1,7 @@
 //! Licences from what calls tell of their overflows, in any exact field.
 #![tactic(auto)]
 
+mod dd_licences;
 mod fault;
 mod licences;
 mod numbers;
@@ -9,6 +10,7 @@ mod spots;
 mod sums;
 mod written;
 
+pub use dd_licences::{add_fault, start_fault};
 pub use fault::{SolveFault, SumFault};
 pub use licences::{elimination_fault, program_fault, scale_fault, term_fault};
 pub use numbers::{fractions, operation};

@@ -7,7 +7,7 @@ ghost use Rattle.deriv_log.specs.declared.entry.Entry.TheVariants as entry_of;
 ghost use Rattle.exact_field.specs.Rational.{ℚ};
 ghost use Rattle.licence.specs.Trails.{IsBaseDuality};
 ghost use Rattle.lp_form.specs.Data.{IsDataOf};
-ghost use Rattle.outer_log.specs.Task.{Task};
+ghost use Rattle.outer_approx.specs.Task.{Task};
 ghost use Rattle.recession.specs.First.{AreFirstCuts};
 ghost use Rattle.upper_image.specs.Shows.{ShowsFitting};
 
@@ -21,8 +21,7 @@ use exact_simplex::Kept;
 use frac128::Frac;
 use incid_sets::Marks;
 use lp_form::Data;
-use outer_log::begun;
-use outer_start::started;
+use outer_approx::{begun, started};
 use recession::{First, first_cuts};
 use sol_writer::report;
 use src_sink::{Bytes, Items};

@@ -27,11 +27,11 @@ use Rattle.lp_form.proofs.Figures.{objective_number}
 use Rattle.lp_form.specs.Programs.{benson_system, choice_of, generators, value_of, u_of, w_of, v_of}
 use Rattle.licence.specs.Trails.{divided_by}
 use Rattle.licence.specs.Turns.{said_row}
-use Rattle.program_ends.specs.Ends.{IsCutNormal}
-use Rattle.program_ends.proofs.Cut.{benson_cut}
-use Rattle.program_ends.proofs.Excluded.{answers_exclude}
-use Rattle.program_ends.proofs.Preimage.{multipliers_long}
-use Rattle.program_ends.proofs.Whole.{benson_whole}
+use Rattle.benson_program.specs.Laws.{IsCutNormal}
+use Rattle.benson_program.proofs.AsCut.{benson_cut}
+use Rattle.benson_program.proofs.Excluded.{answers_exclude}
+use Rattle.benson_program.proofs.AsPreimage.{multipliers_long}
+use Rattle.benson_program.proofs.AsWhole.{benson_whole}
 use Rattle.benson_program.specs.Cuts.{IsCutOf}
 use Rattle.benson_program.specs.Ends.{CanStart, IsBensonEnd, IsEmptyAt, IsOptimumAt}
 use Rattle.benson_program.specs.Preimages.{AreLowMultipliers}
@@ -43,8 +43,8 @@ use Rattle.benson_program.specs.Sparse.{IsSparseOf}
 use Rattle.benson_program.specs.declared.cut.Cut.{Cut}
 use Rattle.benson_program.proofs.Read.{parts_there}
 use Rattle.benson_program.proofs.Spread.{spots}
-use Rattle.outer_log.specs.Cuts.{IsCutFor, said_by}
-use Rattle.outer_log.specs.Task.{Task, IsFitting}
+use Rattle.outer_approx.specs.Cuts.{IsCutFor, said_by}
+use Rattle.outer_approx.specs.Task.{Task, IsFitting}
 use Rattle.recession.specs.Asking.{IsProper, IsAskedCut}
 use Rattle.recession.proofs.Agreeing.{same_benson}
 use Rattle.recession.proofs.Written.{written}

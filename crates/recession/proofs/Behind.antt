@@ -12,8 +12,8 @@ use Rattle.tableaux.specs.Elimination.{IsSpanning}
 use Rattle.benson_program.specs.Preimages.{IsPreimageOf}
 use Rattle.benson_program.specs.declared.cut.Cut.{Cut as CutOf}
 use Rattle.benson_program.specs.declared.preimage.Preimage.{Preimage}
-use Rattle.outer_log.specs.Cuts.{IsCutFor}
-use Rattle.outer_log.specs.Task.{Task, IsFitting}
+use Rattle.outer_approx.specs.Cuts.{IsCutFor}
+use Rattle.outer_approx.specs.Task.{Task, IsFitting}
 use Rattle.recession.specs.Asking.{IsAsked, IsAskedCut}
 use Rattle.recession.specs.Further.{IsNext, normals_of}
 use Rattle.recession.specs.declared.asking.Asked.{Asked}

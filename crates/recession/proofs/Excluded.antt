@@ -16,18 +16,18 @@ use Rattle.upper_image.specs.UpperImage.{IsWorkingDirection}
 use Rattle.upper_image.proofs.WorkingImage.{ray_shown}
 use Rattle.licence.specs.Base.{IsBaseChoice}
 use Rattle.lp_form.specs.Programs.{side_total}
-use Rattle.program_ends.specs.Ends.{IsCutNormal}
-use Rattle.program_ends.proofs.Excluded.{answers_exclude}
+use Rattle.benson_program.specs.Laws.{IsCutNormal}
+use Rattle.benson_program.proofs.Excluded.{answers_exclude}
 use Rattle.benson_program.specs.Ends.{IsContradiction}
 use Rattle.benson_program.specs.Preimages.{IsPreimageOf}
 use Rattle.benson_program.specs.Wholes.{IsWholeOf}
 use Rattle.benson_program.specs.declared.cut.Cut.{Cut}
 use Rattle.benson_program.specs.declared.preimage.Preimage.{Preimage}
 use Rattle.benson_program.specs.declared.whole.WholeParts.{WholeParts}
-use Rattle.outer_log.specs.Cuts.{IsCutFor}
-use Rattle.outer_log.specs.Lines.{IsLineFor}
-use Rattle.outer_log.specs.Task.{Task, IsFitting}
-use Rattle.outer_log.specs.declared.line.Line.{Line as LineOf}
+use Rattle.outer_approx.specs.Cuts.{IsCutFor}
+use Rattle.outer_approx.specs.Lines.{IsLineFor}
+use Rattle.outer_approx.specs.Task.{Task, IsFitting}
+use Rattle.outer_approx.specs.declared.log.Line.{Line as LineOf}
 use Rattle.recession.specs.First.{AreAlike, AreFirstCuts, IsFirst}
 use Rattle.recession.specs.Further.{normals_of}
 use Rattle.recession.specs.declared.first.First.{First}

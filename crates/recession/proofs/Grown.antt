@@ -9,10 +9,10 @@ use Rattle.polyhedra.proofs.Members.{all_of_members, member_of}
 use Rattle.vlp_reader.specs.Sides.{IsFeasible}
 use Rattle.licence.specs.Base.{IsBaseChoice, IsBaseNormal}
 use Rattle.benson_program.specs.declared.cut.Cut.{Cut}
-use Rattle.outer_log.specs.Cuts.{IsCutFor}
-use Rattle.outer_log.specs.Lines.{IsLineFor}
-use Rattle.outer_log.specs.Task.{Task}
-use Rattle.outer_log.specs.declared.line.Line.{Line}
+use Rattle.outer_approx.specs.Cuts.{IsCutFor}
+use Rattle.outer_approx.specs.Lines.{IsLineFor}
+use Rattle.outer_approx.specs.Task.{Task}
+use Rattle.outer_approx.specs.declared.log.Line.{Line}
 use Rattle.recession.specs.First.{AreFirstCuts}
 use Rattle.recession.specs.Asking.{IsProper}
 use Rattle.recession.specs.Further.{IsLineAcross, IsNext, IsOffAcross, normals_of}

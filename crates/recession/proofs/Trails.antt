@@ -17,8 +17,8 @@ use Rattle.overflows.specs.Faults.{OnLicence, Overflows}
 use Rattle.overflows.specs.declared.fault.SolveFault.{SolveFault}
 use Rattle.overflows.specs.declared.fault.SolveFault.TheVariants.{Left, NoMemory}
 use Rattle.benson_program.specs.declared.cut.Cut.{Cut}
-use Rattle.outer_log.specs.Cuts.{IsCutFor, SaysCut}
-use Rattle.outer_log.specs.Task.{Task, IsFitting, behind}
+use Rattle.outer_approx.specs.Cuts.{IsCutFor, SaysCut}
+use Rattle.outer_approx.specs.Task.{Task, IsFitting, behind}
 use Rattle.recession.specs.Further.{SayCuts, normals_of}
 
 -- one more cut has its normal behind the others

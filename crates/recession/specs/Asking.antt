@@ -5,12 +5,12 @@ use Rattle.polyhedra.specs.Exactness.{row_of}
 use Rattle.vlp_reader.specs.Sides.{IsFeasible}
 use Rattle.lp_form.specs.Programs.{benson_system, value_of}
 use Rattle.licence.specs.Turns.{said_row}
-use Rattle.program_ends.specs.Ends.{IsCutNormal}
+use Rattle.benson_program.specs.Laws.{IsCutNormal}
 use Rattle.benson_program.specs.Ends.{IsOptimumAt}
 use Rattle.benson_program.specs.Preimages.{IsPreimageOf}
 use Rattle.benson_program.specs.declared.cut.Cut.{Cut as CutOf}
-use Rattle.outer_log.specs.Cuts.{IsCutFor, said_by}
-use Rattle.outer_log.specs.Task.{Task}
+use Rattle.outer_approx.specs.Cuts.{IsCutFor, said_by}
+use Rattle.outer_approx.specs.Task.{Task}
 use Rattle.recession.specs.declared.asking.Asked.{Asked}
 use Rattle.recession.specs.declared.asking.Asked.TheVariants.{Cut, Reached}
 

@@ -7,9 +7,9 @@ use Rattle.licence.specs.Base.{IsBaseChoice}
 use Rattle.benson_program.specs.Ends.{IsContradiction}
 use Rattle.benson_program.specs.Wholes.{IsWholeOf}
 use Rattle.benson_program.specs.declared.cut.Cut.{Cut}
-use Rattle.outer_log.specs.Cuts.{IsCutFor}
-use Rattle.outer_log.specs.Lines.{IsLineFor}
-use Rattle.outer_log.specs.Task.{Task, IsFitting}
+use Rattle.outer_approx.specs.Cuts.{IsCutFor}
+use Rattle.outer_approx.specs.Lines.{IsLineFor}
+use Rattle.outer_approx.specs.Task.{Task, IsFitting}
 use Rattle.recession.specs.Further.{normals_of}
 use Rattle.recession.specs.declared.first.First.{First}
 use Rattle.recession.specs.declared.first.First.TheVariants.{Infeasible, Whole, Line, Cuts}

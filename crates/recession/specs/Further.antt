@@ -8,8 +8,8 @@ use Rattle.licence.specs.Base.{IsSide}
 use Rattle.benson_program.specs.Preimages.{IsPreimageOf}
 use Rattle.benson_program.specs.declared.cut.Cut.{Cut as CutOf}
 use Rattle.benson_program.specs.declared.preimage.Preimage.{Preimage}
-use Rattle.outer_log.specs.Cuts.{IsCutFor, SaysCut}
-use Rattle.outer_log.specs.Task.{Task}
+use Rattle.outer_approx.specs.Cuts.{IsCutFor, SaysCut}
+use Rattle.outer_approx.specs.Task.{Task}
 use Rattle.recession.specs.declared.further.Next.{Next}
 use Rattle.recession.specs.declared.further.Next.TheVariants.{Cut, Line}
 

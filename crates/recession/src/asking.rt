@@ -6,7 +6,7 @@ ghost use Rattle.exact_field.specs.Rational.{ℚ};
 ghost use Rattle.licence.specs.Base.{IsBaseStart};
 ghost use Rattle.lp_form.specs.Data.{IsDataOf};
 ghost use Rattle.lp_form.specs.Programs.{benson_system};
-ghost use Rattle.outer_log.specs.Task.{IsFitting, Task, behind};
+ghost use Rattle.outer_approx.specs.Task.{IsFitting, Task, behind};
 ghost use Rattle.overflows.specs.Faults.{Overflows};
 ghost use Rattle.recession.specs.Asking.{IsAsked, IsProper};
 

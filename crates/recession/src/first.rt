@@ -3,9 +3,9 @@ ghost use Rattle.std.specs.Prelude.{◌≡◌, ◌≤◌, [], map, length, All, 
 ghost use Rattle.licence.specs.Base.{IsBaseChoice};
 ghost use Rattle.licence.specs.Licence.{Licensed};
 ghost use Rattle.lp_form.specs.Data.{IsDataOf};
-ghost use Rattle.outer_log.specs.Cuts.{IsCutFor};
-ghost use Rattle.outer_log.specs.Lines.{IsLineFor};
-ghost use Rattle.outer_log.specs.Task.{IsFitting, Task};
+ghost use Rattle.outer_approx.specs.Cuts.{IsCutFor};
+ghost use Rattle.outer_approx.specs.Lines.{IsLineFor};
+ghost use Rattle.outer_approx.specs.Task.{IsFitting, Task};
 ghost use Rattle.overflows.specs.Faults.{OnLicence};
 ghost use Rattle.recession.specs.First.{IsFirst};
 ghost use Rattle.recession.specs.Further.{IsLineAcross, normals_of};
@@ -17,7 +17,7 @@ use benson_program::{
 use exact_field::Field;
 use exact_simplex::Kept;
 use lp_form::{Data, zeros};
-use outer_log::Line;
+use outer_approx::Line;
 use overflows::SolveFault;
 use src_sink::Items;
 use std::alloc::Global;

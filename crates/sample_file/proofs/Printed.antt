@@ -13,7 +13,8 @@ use Rattle.vlp_reader.specs.declared.problem.Bound.{Bound}
 use Rattle.vlp_reader.specs.declared.problem.Bound.TheVariants.{Double}
 use Rattle.vlp_reader.specs.declared.problem.Cone.{Cone}
 use Rattle.vlp_printer.specs.Decimal.{is_decimal, number_text}
-use Rattle.vlp_printer.specs.Printing.{HasWord, IsWithinLimits, IsFirstWithoutWord, printed_numbers, printed_cone, bound_numbers, cone_vectors, duality_entries, problem_text}
+use Rattle.vlp_reader.specs.Values.{printed_numbers, bound_numbers, cone_vectors, duality_entries}
+use Rattle.vlp_printer.specs.Printing.{HasWord, IsWithinLimits, IsFirstWithoutWord, printed_cone, problem_text}
 use Rattle.vlp_printer.proofs.ReadNumbers.{number_back}
 use Rattle.vlp_printer.proofs.RoundTrip.{reads_back}
 use Rattle.sample_file.specs.Draws.{state_after, draw}

@@ -7,13 +7,13 @@ ghost use Rattle.benson_primal.specs.Logs.{IsOwnLog};
 ghost use Rattle.solver.specs.Solving.{IsSolutionOf, EndsIn, EndsSolving};
 
 use crate::end::{Solution, SolveEnd};
+use crate::own::check_own;
 use benson_primal::primal;
 use cone_dual::cone_facts;
 use deriv_log::Entries;
 use exact_field::Field;
 use frac128::Frac;
 use lp_form::{Data, DataFault};
-use own_check::{Checked, check_own};
 use src_sink::NoMemory;
 use std::alloc::Global;
 use vlp_reader::Problem;
@@ -48,17 +48,6 @@ fn data_of(alloc: Global, problem: &Problem) -> Result<Data<Frac>, NoMemory>
     }
 }
 
-/// The answer of a log that meets its rules.
-fn checked(alloc: Global, problem: &Problem, entries: Entries) -> Result<Solution, SolveEnd>
-    requires sound { IsSound problem.now }
-    requires own { IsOwnLog is_held problem.now entries }
-    ensures ok { IfOk result (IsSolutionOf problem.now) }
-    ensures end { IfErr result (EndsSolving problem.now) }
-{
-    let Checked { entries, answer } = check_own(alloc, problem, entries)?;
-    Ok(Solution { entries, answer })
-}
-
 /// The log of a problem, by its data in some field: a duality vector, and then Benson's outer approximation with it. In place of a
 /// log comes the first fault of the ordering cone, or the licence of the first overflow.
 pub fn log_of<F: Field>(
@@ -87,5 +76,5 @@ pub fn solve(alloc: Global, problem: &Problem) -> Result<Solution, SolveEnd>
 {
     let form = data_of(alloc, problem)?;
     let entries = log_of(alloc, problem, &form)?;
-    checked(alloc, problem, entries)
+    Ok(check_own(alloc, problem, entries)?)
 }

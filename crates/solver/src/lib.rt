@@ -3,6 +3,8 @@
 
 mod answering;
 mod end;
+mod own;
 
 pub use answering::{log_of, solve};
 pub use end::{Solution, SolveEnd};
+pub use own::check_own;

@@ -33,7 +33,8 @@ use Rattle.vlp_reader.specs.declared.statement.Axis.{Axis}
 use Rattle.vlp_reader.specs.declared.statement.Axis.TheVariants.{Row, Column}
 use Rattle.vlp_reader.proofs.Digits.{digit_range}
 use Rattle.vlp_printer.specs.Decimal.{mantissa, is_short, decimal_text, number_text, is_decimal}
-use Rattle.vlp_printer.specs.Printing.{bound_words, bound_numbers, cone_words, cone_vectors, entry_count, printed_cone, printed_sizes, heading_words, direction_word}
+use Rattle.vlp_reader.specs.Values.{bound_numbers, cone_vectors}
+use Rattle.vlp_printer.specs.Printing.{bound_words, cone_words, entry_count, printed_cone, printed_sizes, heading_words, direction_word}
 use Rattle.vlp_printer.proofs.ReadDigits.{all_digits, some_digit, natural_back}
 use Rattle.vlp_printer.proofs.ReadNumbers.{has_decimal, first_power, below_37, number_back}
 

@@ -22,7 +22,8 @@ use Rattle.vlp_reader.specs.declared.statement.Matrix.TheVariants.{Constraints, 
 use Rattle.vlp_reader.specs.declared.statement.Statement.{Statement}
 use Rattle.vlp_reader.specs.declared.statement.Statement.TheVariants.{Silent, Heading, Entry, Limit, End}
 use Rattle.vlp_reader.proofs.Drafts.{matrix_from}
-use Rattle.vlp_printer.specs.Printing.{printed_sizes, duality_entries, cone_vectors}
+use Rattle.vlp_reader.specs.Values.{duality_entries, cone_vectors}
+use Rattle.vlp_printer.specs.Printing.{printed_sizes}
 use Rattle.vlp_printer.proofs.Apart.{clashes, apart, Keys, Numbered, has_key, apart_alone}
 
 -- ---- the statements

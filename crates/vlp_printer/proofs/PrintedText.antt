@@ -26,7 +26,8 @@ use Rattle.vlp_reader.specs.declared.statement.Matrix.TheVariants.{Constraints, 
 use Rattle.vlp_reader.specs.declared.statement.Statement.{Statement}
 use Rattle.vlp_reader.specs.declared.statement.Statement.TheVariants.{Silent, Heading, Entry, Limit, End}
 use Rattle.vlp_printer.specs.Decimal.{is_decimal, number_text}
-use Rattle.vlp_printer.specs.Printing.{bound_numbers, bound_words, bound_line, bounds_text, cells_text, cone_vectors, duality_entries, duality_text, entry_line, printed_cone, printed_numbers, printed_sizes, vector_entry, vector_text, vectors_text}
+use Rattle.vlp_reader.specs.Values.{bound_numbers, cone_vectors, duality_entries, printed_numbers}
+use Rattle.vlp_printer.specs.Printing.{bound_words, bound_line, bounds_text, cells_text, duality_text, entry_line, printed_cone, printed_sizes, vector_entry, vector_text, vectors_text}
 use Rattle.vlp_printer.proofs.PrintedLines.{Line, constraint_line, objective_line, duality_line, vector_line, limit_line, end_line, axis_letter}
 use Rattle.vlp_printer.proofs.PrintedStatements.{cells_say, duality_says, entry_says, vector_says, vectors_say, bound_says, bounds_say, part}
 use Rattle.vlp_printer.proofs.PrintedValues.{vector_sizes}

@@ -28,7 +28,8 @@ use Rattle.vlp_reader.specs.declared.statement.Statement.TheVariants.{Silent, He
 use Rattle.vlp_reader.proofs.Drafts.{matrix_from, same_matrix_itself}
 use Rattle.vlp_reader.proofs.Numbers.{length-numbers, number_at}
 use Rattle.vlp_reader.proofs.Tables.{zero_is}
-use Rattle.vlp_printer.specs.Printing.{entry_count, printed_cone, printed_sizes, duality_entries, cone_vectors}
+use Rattle.vlp_reader.specs.Values.{duality_entries, cone_vectors}
+use Rattle.vlp_printer.specs.Printing.{entry_count, printed_cone, printed_sizes}
 use Rattle.vlp_printer.proofs.Apart.{given_numbers, count_numbers, count-append, count-cons}
 use Rattle.vlp_printer.proofs.PrintedStatements.{cells_say, duality_says, entry_says, vector_says, vectors_say, bound_says, bounds_say, part, statements, kind, matrix_kind, axis_kind, place_row, place_col, axis_from, part_key, duality_numbered, vectors_numbered, vector_numbered, bounds_numbered}
 

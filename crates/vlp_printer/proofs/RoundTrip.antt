@@ -23,7 +23,8 @@ use Rattle.vlp_reader.proofs.CellPlaces.{rises_from_cells}
 use Rattle.vlp_reader.proofs.MoreStatements.{first_given-kept}
 use Rattle.vlp_reader.proofs.Readings.{passes-push, map-push}
 use Rattle.vlp_printer.specs.Decimal.{is_decimal}
-use Rattle.vlp_printer.specs.Printing.{cone_vectors, entry_count, HasWord, heading_words, printed_cone, printed_numbers, printed_sizes, problem_text, Prints}
+use Rattle.vlp_reader.specs.Values.{cone_vectors, printed_numbers}
+use Rattle.vlp_printer.specs.Printing.{entry_count, HasWord, heading_words, printed_cone, printed_sizes, problem_text, Prints}
 use Rattle.vlp_printer.proofs.Apart.{clashes, apart, has_key, entry_fresh, bound_fresh}
 use Rattle.vlp_printer.proofs.PlainWords.{is_plain, words_back, lines_back}
 use Rattle.vlp_printer.proofs.PrintedLines.{is_printed, AreSmall, heading_line}

@@ -5,7 +5,8 @@ use Rattle.vlp_reader.specs.FirstFault.{Reads}
 use Rattle.vlp_reader.specs.Number.{number_of}
 use Rattle.vlp_reader.specs.declared.problem.Problem.{Problem}
 use Rattle.vlp_printer.specs.Decimal.{is_decimal, number_text}
-use Rattle.vlp_printer.specs.Printing.{HasWord, IsWithinLimits, printed_numbers, problem_text}
+use Rattle.vlp_reader.specs.Values.{printed_numbers}
+use Rattle.vlp_printer.specs.Printing.{HasWord, IsWithinLimits, problem_text}
 
 pub record PrintingLaws : Type 0 where
   -- a number with a decimal form is the value of its word, and one without is the value of none

@@ -1,5 +1,5 @@
 -- The text of a problem.
-use Rattle.std.specs.Prelude.{◌≡◌, ℕ, ◌-◌, true, false, not, if◌then◌else◌, List, [], ◌∷◌, ◌++◌, length, map, sum_by, count_by, slice_index_or, codes, decimal, Option, None, Some, Ok, All}
+use Rattle.std.specs.Prelude.{◌≡◌, ℕ, ◌-◌, true, false, not, if◌then◌else◌, List, [], ◌∷◌, ◌++◌, length, sum_by, count_by, slice_index_or, codes, decimal, Option, None, Some, Ok, All}
 use Rattle.std.specs.List.{flat_map}
 use Rattle.exact_field.specs.Rational.{ℚ}
 use Rattle.exact_field.specs.Vector.{entry}
@@ -9,6 +9,7 @@ use Rattle.vlp_reader.specs.FirstFault.{Reads}
 use Rattle.vlp_reader.specs.Grammar.{are_within_limits}
 use Rattle.vlp_reader.specs.Number.{number_of}
 use Rattle.vlp_reader.specs.Sides.{numbers_from, is_unsaid}
+use Rattle.vlp_reader.specs.Values.{cone_vectors, duality_entries, printed_numbers}
 use Rattle.vlp_reader.specs.declared.sizes.ConeSizes.{ConeSizes}
 use Rattle.vlp_reader.specs.declared.sizes.Sizes.{Sizes}
 use Rattle.vlp_reader.specs.declared.problem.Bound.{Bound}
@@ -22,30 +23,6 @@ use Rattle.vlp_reader.specs.declared.problem.Problem.{Problem}
 use Rattle.vlp_printer.specs.Decimal.{number_text}
 use Rattle.vlp_printer.specs.declared.fault.PrintFault.{PrintFault}
 use Rattle.vlp_printer.specs.declared.fault.PrintFault.TheVariants.{NotDecimal, NoMemory}
-
--- ---- the numbers of a problem, in the order of printing; of the cone vectors with the zeros, which have no line
-abbrev pub bound_numbers : Bound → List ℚ
-bound_numbers Unsaid = []
-bound_numbers Free = []
-bound_numbers (Lower low) = low ∷ []
-bound_numbers (Upper high) = high ∷ []
-bound_numbers (Double low high) = low ∷ high ∷ []
-bound_numbers (Fixed value) = value ∷ []
-
-abbrev pub cone_vectors : Cone → List (List ℚ)
-cone_vectors Orthant = []
-cone_vectors (Gens vectors) = vectors
-cone_vectors (Dual vectors) = vectors
-
-abbrev pub duality_entries : Option (List ℚ) → List ℚ
-duality_entries None = []
-duality_entries (Some f) = f
-
-abbrev pub printed_numbers : Problem → List ℚ
-printed_numbers problem =
-    map (λ c. c.value) problem.a ++ (map (λ c. c.value) problem.o
-    ++ (duality_entries problem.duality ++ (flat_map (λ v. v) (cone_vectors problem.cone)
-    ++ (flat_map bound_numbers problem.row_bounds ++ flat_map bound_numbers problem.col_bounds))))
 
 -- ---- the lines
 abbrev pub direction_word : Dir → List ℕ

@@ -4,7 +4,8 @@ ghost use Rattle.frac128.specs.Sparse.{is_zero};
 ghost use Rattle.src_sink.specs.Texts.{line_text};
 ghost use Rattle.vlp_reader.specs.Sides.{is_unsaid};
 ghost use Rattle.vlp_printer.specs.Decimal.{number_text};
-ghost use Rattle.vlp_printer.specs.Printing.{behind, bound_line, bound_words, bounds_text, cells_text, cone_vectors, cone_words, direction_word, duality_entries, duality_text, entry_count, entry_line, heading_words, vector_entry, vector_text, vectors_text, Prints, RefusesText};
+ghost use Rattle.vlp_reader.specs.Values.{cone_vectors, duality_entries};
+ghost use Rattle.vlp_printer.specs.Printing.{behind, bound_line, bound_words, bounds_text, cells_text, cone_words, direction_word, duality_text, entry_count, entry_line, heading_words, vector_entry, vector_text, vectors_text, Prints, RefusesText};
 
 use crate::decimal::Decimal;
 use crate::fault::PrintFault;

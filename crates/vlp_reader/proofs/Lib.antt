@@ -5,6 +5,7 @@ pub mod Exponents
 pub mod LineTests
 pub mod MoreStatements
 pub mod Numbers
+pub mod Pieces
 pub mod Powers
 pub mod Readings
 pub mod SideCount

@@ -1,4 +1,4 @@
--- The subject: Cells, Cones, Sides (a problem); Lines, Number, Statements, Grammar, FirstFault (the grammar of files), with Laws and Examples; Faults.
+-- The subject: Cells, Cones, Values, Sides (a problem); Lines, Number, Statements, Grammar, FirstFault (the grammar of files), with Laws and Examples; Faults.
 -- What only serves proofs: Ends, Tables, Drafts, Places, Reading.
 pub mod Cells
 pub mod Cones
@@ -15,4 +15,5 @@ pub mod Reading
 pub mod Sides
 pub mod Statements
 pub mod Tables
+pub mod Values
 pub mod Laws

@@ -1,7 +1,7 @@
 //! Generators of cones, and what is told where they are given up.
 
 use crate::tests::double::rows_of;
-use cone_gens::dual_gens;
+use cone_dual::dual_gens;
 use deriv_log::{Family, Place};
 use exact_field::{Field, Left, Op};
 use frac128::{Frac, Tiny, Vectors};

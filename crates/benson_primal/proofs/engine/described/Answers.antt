@@ -1,7 +1,7 @@
 use Rattle.std.proofs.Common.{sym, subst}
 use Rattle.overflows.specs.Faults.{OnLicence}
-use Rattle.outer_log.specs.Standing.{IsOpenTrail}
-use Rattle.outer_log.specs.Task.{behind}
+use Rattle.outer_approx.specs.Standing.{IsOpenTrail}
+use Rattle.outer_approx.specs.Task.{behind}
 use Rattle.benson_primal.proofs.Described.{carried, licensed}
 use Rattle.benson_primal.proofs.engine.described.Goals as goal
 

@@ -1,5 +1,5 @@
 use Rattle.std.proofs.Common.{refl}
-use Rattle.outer_log.proofs.Pushed.{sparse_of}
+use Rattle.outer_approx.proofs.Pushed.{sparse_of}
 use Rattle.benson_primal.proofs.Described.{read_whole, shows_whole}
 use Rattle.benson_primal.proofs.engine.everything_log.Goals as goal
 

@@ -1,5 +1,5 @@
 use Rattle.std.proofs.Common.{rules, sym, subst}
-use Rattle.outer_log.specs.Standing.{IsEnded}
+use Rattle.outer_approx.specs.Standing.{IsEnded}
 use Rattle.recession.specs.First.{AreFirstCuts, IsFirst}
 use Rattle.benson_primal.proofs.Described.{base, fits, fitting, known, opens, own_log, own_ok, task, task_is}
 use Rattle.benson_primal.proofs.engine.primal_with.Goals as goal

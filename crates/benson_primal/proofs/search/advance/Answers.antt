@@ -3,9 +3,9 @@ use Rattle.std.specs.Prelude.{IfSome}
 use Rattle.polyhedra.specs.Exactness.{row_of}
 use Rattle.deriv_log.specs.declared.entry.Entry.{Entry}
 use Rattle.double_descr.specs.State.{State as Description}
-use Rattle.outer_log.specs.Cuts.{said_by}
-use Rattle.outer_log.specs.Preimages.{AreMarks}
-use Rattle.outer_log.specs.Standing.{IsOuter}
+use Rattle.outer_approx.specs.Cuts.{said_by}
+use Rattle.outer_approx.specs.Preimages.{AreMarks}
+use Rattle.outer_approx.specs.Standing.{IsOuter}
 use Rattle.benson_primal.specs.Search.{IsNextCut}
 use Rattle.benson_primal.proofs.Marked.{marks_stay}
 use Rattle.benson_primal.proofs.search.advance.Goals as goal

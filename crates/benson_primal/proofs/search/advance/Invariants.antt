@@ -1,6 +1,6 @@
 use Rattle.std.proofs.Common.{◌≡◌, ◌<◌}
-use Rattle.outer_log.specs.Preimages.{AreMarks}
-use Rattle.outer_log.specs.Standing.{IsOuter}
+use Rattle.outer_approx.specs.Preimages.{AreMarks}
+use Rattle.outer_approx.specs.Standing.{IsOuter}
 use Rattle.benson_primal.proofs.search.advance.Given as goal
 
 abbrev pub ghost-reach : goal.ghost-reach

@@ -2,7 +2,7 @@ use Rattle.std.proofs.Common.{rules, ◌≡◌, ◌≢◌, ◌↔◌, ◌≤◌,
 use Rattle.std.proofs.lemmas.List.{length-map, length-take-le}
 use Rattle.lin_rows.proofs.Errors.{err_holds}
 use Rattle.overflows.specs.Faults.{Overflows}
-use Rattle.outer_log.specs.Task.{behind}
+use Rattle.outer_approx.specs.Task.{behind}
 use Rattle.recession.specs.Asking.{IsAsked}
 use Rattle.benson_primal.proofs.Asked.{long, width_known, start_long, base_start, is_reached, next_cut_is}
 use Rattle.benson_primal.proofs.search.asked.Goals as goal

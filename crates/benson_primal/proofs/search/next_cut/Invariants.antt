@@ -1,6 +1,6 @@
 use Rattle.std.proofs.Common.{◌≤◌, ◌<◌, ◌-◌, ℕ, length, slice_index_or}
-use Rattle.outer_log.specs.Preimages.{AreMarks}
-use Rattle.outer_log.specs.Standing.{IsOuter}
+use Rattle.outer_approx.specs.Preimages.{AreMarks}
+use Rattle.outer_approx.specs.Standing.{IsOuter}
 use Rattle.benson_primal.specs.Search.{IsDone}
 use Rattle.benson_primal.proofs.search.next_cut.Given as goal
 

@@ -2,7 +2,7 @@ use Rattle.std.proofs.Common.{◌≡◌, ◌∙◌, List, [], ◌∷◌, ◌++�
 use Rattle.std.specs.Prelude.{IfNone, IfSome}
 use Rattle.polyhedra.specs.Exactness.{row_of}
 use Rattle.double_descr.specs.State.{State as Description}
-use Rattle.outer_log.specs.Cuts.{said_by}
+use Rattle.outer_approx.specs.Cuts.{said_by}
 use Rattle.benson_primal.specs.Search.{AreReached, IsNextCut}
 use Rattle.benson_primal.proofs.Marked.{marks_stay}
 use Rattle.benson_primal.proofs.search.take_first.Goals as goal

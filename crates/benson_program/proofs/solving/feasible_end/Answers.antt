@@ -1,6 +1,6 @@
 use Rattle.std.proofs.Common.{map, refl}
 use Rattle.lp_form.specs.Programs.{feasible_system}
-use Rattle.program_ends.proofs.Feasible.{feasible_ends}
+use Rattle.benson_program.proofs.Feasible.{feasible_ends}
 use Rattle.benson_program.proofs.Said.{optimum, empty, unbounded, ray_off, contradiction, chosen}
 use Rattle.benson_program.proofs.solving.feasible_end.Goals as goal
 

@@ -5,7 +5,7 @@ use Rattle.licence.specs.Operands.{IsElimTable}
 use Rattle.lin_rows.specs.Read.{numbers}
 use Rattle.lp_form.proofs.Figures.{objective_number}
 use Rattle.overflows.specs.Faults.{Overflows}
-use Rattle.vlp_printer.specs.Printing.{cone_vectors}
+use Rattle.vlp_reader.specs.Values.{cone_vectors}
 use Rattle.cone_dual.proofs.Asked.{rows_licensed}
 use Rattle.cone_dual.proofs.Picks.{all_among}
 use Rattle.cone_dual.proofs.asking.independent_vectors.Goals as goal

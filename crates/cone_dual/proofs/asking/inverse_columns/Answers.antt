@@ -7,7 +7,7 @@ use Rattle.lin_rows.specs.Read.{numbers}
 use Rattle.lp_form.proofs.Figures.{objective_number}
 use Rattle.overflows.specs.Faults.{Overflows}
 use Rattle.tableaux.specs.Table.{beside_unit, row_of}
-use Rattle.vlp_printer.specs.Printing.{cone_vectors}
+use Rattle.vlp_reader.specs.Values.{cone_vectors}
 use Rattle.cone_dual.proofs.Asked.{rows_licensed}
 use Rattle.cone_dual.proofs.Picks.{picks_among}
 use Rattle.cone_dual.proofs.asking.inverse_columns.Goals as goal

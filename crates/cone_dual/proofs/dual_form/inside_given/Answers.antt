@@ -8,7 +8,7 @@ use Rattle.frac128.specs.declared.vectors.Spot.{Spot}
 use Rattle.polyhedra.proofs.Members.{member_of}
 use Rattle.lin_rows.specs.Read.{numbers}
 use Rattle.tableaux.specs.Table.{row_of}
-use Rattle.vlp_printer.specs.Printing.{cone_vectors}
+use Rattle.vlp_reader.specs.Values.{cone_vectors}
 use Rattle.vlp_reader.specs.declared.problem.Cone.{Cone}
 use Rattle.vlp_reader.specs.declared.problem.Cone.TheVariants as form_of
 use Rattle.lp_form.specs.Data.{cone_of}

@@ -1,7 +1,7 @@
 use Rattle.std.proofs.Common.{map, refl, sym, ap, ◌∙◌, subst, ◌≡◌, List, []}
 use Rattle.std.proofs.lemmas.List.{length-map}
 use Rattle.lin_rows.proofs.Errors.{err_holds}
-use Rattle.outer_log.specs.Task.{behind}
+use Rattle.outer_approx.specs.Task.{behind}
 use Rattle.overflows.specs.Faults.{Overflows}
 use Rattle.recession.proofs.Asking_ends.{c_wide_in, can_start, empty_seen, never_empty, optimum_seen, wide_in}
 use Rattle.recession.proofs.asking.ask.Goals as goal

@@ -4,7 +4,7 @@ use Rattle.exact_field.specs.Rational.{ℚ, zero_ℚ, ◌<ℚ◌, ◌≤ℚ◌}
 use Rattle.exact_field.proofs.Inequalities.{le_or_lt}
 use Rattle.lin_rows.proofs.Errors.{err_holds}
 use Rattle.upper_image.specs.Shows.{ShowsFitting}
-use Rattle.outer_log.specs.Task.{behind}
+use Rattle.outer_approx.specs.Task.{behind}
 use Rattle.overflows.specs.Faults.{Overflows}
 use Rattle.benson_program.specs.Cuts.{IsCutOf}
 use Rattle.benson_program.specs.Preimages.{IsPreimageOf}

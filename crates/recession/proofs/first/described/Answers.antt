@@ -5,7 +5,7 @@ use Rattle.licence.specs.Base.{IsBaseChoice}
 use Rattle.licence.specs.Licence.{Licensed}
 use Rattle.lp_form.proofs.Figures.{objective_number}
 use Rattle.benson_program.specs.declared.cut.Cut.{Cut}
-use Rattle.outer_log.specs.Cuts.{IsCutFor}
+use Rattle.outer_approx.specs.Cuts.{IsCutFor}
 use Rattle.overflows.specs.Faults.{OnLicence}
 use Rattle.recession.specs.declared.further.Next.TheVariants as next
 use Rattle.recession.proofs.Asking_ends.{c_long}

@@ -1,7 +1,7 @@
 use Rattle.lin_rows.proofs.Errors.{err_holds}
 use Rattle.licence.specs.Licence.{Licensed}
 use Rattle.overflows.specs.Faults.{OnLicence}
-use Rattle.outer_log.specs.Task.{behind}
+use Rattle.outer_approx.specs.Task.{behind}
 use Rattle.benson_program.specs.Ends.{IsFeasibleEnd}
 use Rattle.std.proofs.Common.{subst, []}
 use Rattle.recession.proofs.Trails.{licensed, opens, trail_of}

@@ -11,7 +11,7 @@ use Rattle.lp_form.specs.Programs.{benson_system}
 use Rattle.benson_program.specs.Cuts.{IsCutOf}
 use Rattle.benson_program.specs.Ends.{IsOptimumAt}
 use Rattle.overflows.specs.Faults.{OnLicence}
-use Rattle.outer_log.specs.Task.{behind}
+use Rattle.outer_approx.specs.Task.{behind}
 use Rattle.recession.proofs.Asking_ends.{c_wide_in, can_start, cut_for, empty_at_origin, optimum_in, optimum_seen}
 use Rattle.recession.proofs.Trails.{licensed, opens, trail_of}
 use Rattle.recession.proofs.first.solvable.Goals as goal

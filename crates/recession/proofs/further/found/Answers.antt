@@ -4,7 +4,7 @@ use Rattle.exact_field.specs.Rational.{ℚ}
 use Rattle.lin_rows.proofs.Errors.{err_holds}
 use Rattle.licence.specs.Base.{IsSide}
 use Rattle.lp_form.proofs.Figures.{objective_number}
-use Rattle.outer_log.specs.Task.{behind}
+use Rattle.outer_approx.specs.Task.{behind}
 use Rattle.overflows.specs.Faults.{Overflows}
 use Rattle.recession.specs.Further.{normals_of}
 use Rattle.recession.proofs.Behind.{asked_is, cut_at, found_side, reached_is, side_start, wide_cuts}

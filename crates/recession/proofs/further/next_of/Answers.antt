@@ -1,4 +1,4 @@
-use Rattle.outer_log.specs.Task.{behind}
+use Rattle.outer_approx.specs.Task.{behind}
 use Rattle.recession.proofs.Trails.{licensed, trail_base, trail_has, trail_of}
 use Rattle.recession.proofs.further.next_of.Goals as goal
 

@@ -3,7 +3,7 @@ use Rattle.std.proofs.lemmas.List.{length-map}
 use Rattle.exact_field.specs.Rational.{neg_ℚ}
 use Rattle.lin_rows.proofs.Errors.{err_holds}
 use Rattle.polyhedra.specs.Negatives.{negated}
-use Rattle.outer_log.specs.Task.{behind}
+use Rattle.outer_approx.specs.Task.{behind}
 use Rattle.overflows.specs.Faults.{Overflows}
 use Rattle.recession.proofs.Behind.{asked_is, cut_opposite, opposite_start, reached_is}
 use Rattle.recession.proofs.further.opposite.Goals as goal

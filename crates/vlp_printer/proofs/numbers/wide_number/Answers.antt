@@ -4,8 +4,9 @@ use Rattle.exact_field.specs.Rational.{ℚ}
 use Rattle.vlp_reader.specs.declared.problem.Bound.{Bound}
 use Rattle.vlp_reader.specs.declared.problem.Cell.{Cell}
 use Rattle.vlp_printer.specs.Decimal.{is_decimal}
-use Rattle.vlp_printer.specs.Printing.{bound_numbers, cone_vectors, duality_entries}
-use Rattle.vlp_printer.proofs.Lists.{found_first, found_behind}
+use Rattle.vlp_reader.specs.Values.{bound_numbers, cone_vectors, duality_entries}
+use Rattle.vlp_reader.proofs.Pieces.{found_first}
+use Rattle.vlp_printer.proofs.Lists.{found_behind}
 use Rattle.vlp_printer.proofs.numbers.wide_number.Goals as goal
 
 pub returns-in-Some : goal.returns-in-Some

@@ -1,0 +1,61 @@
+-- Licences before a duality vector is known, from what eliminations, starts and additions tell.
+use Rattle.std.proofs.Common.{◌≡◌, ℕ, List, [], ◌∷◌, ◌++◌, Bool, refl, sym, ◌∙◌, subst, None}
+use Rattle.std.specs.Prelude.{Contains}
+use Rattle.std.proofs.lemmas.List.Elements.{All-weaker, Contains-append_left, Contains-append_right}
+use Rattle.exact_field.specs.Rational.{ℚ}
+use Rattle.polyhedra.specs.LiveList.{LiveList}
+use Rattle.polyhedra.proofs.Lists.{Contains-here}
+use Rattle.polyhedra.proofs.Members.{Contains-filter_source, all_of_members, member_of}
+use Rattle.lin_rows.specs.Eliminate.{IsElimFault}
+use Rattle.lin_rows.specs.declared.fault.RowFault.{RowFault}
+use Rattle.vlp_reader.specs.declared.problem.Problem.{Problem}
+use Rattle.vlp_reader.specs.Values.{cone_vectors}
+use Rattle.deriv_log.specs.declared.entry.Entry.{Entry}
+use Rattle.deriv_log.specs.declared.licence.Family.TheVariants.{ConeRows}
+use Rattle.lp_form.specs.Programs.{nonzero_vectors}
+use Rattle.licence.specs.Licence.{LicensedWithout}
+use Rattle.licence.specs.Operands.{Setting, AreElimRows, IsElimTable, IsMadeOver, IsAddition}
+use Rattle.overflows.specs.Faults.{OnLicence, Overflows}
+use Rattle.overflows.specs.declared.fault.SolveFault.{SolveFault}
+use Rattle.overflows.specs.declared.fault.SolveFault.TheVariants.{Left as Stuck, NoMemory}
+use Rattle.overflows.proofs.Starts.{AlwaysOverflows}
+use Rattle.cone_dual.specs.Generators.{AreConeRows}
+
+-- some of such rows are such rows
+pub cone_rows-front : (file : Problem) (n : ℕ) (rows more : List (List ℚ)) → AreConeRows file n (rows ++ more) → AreConeRows file n rows
+cone_rows-front file n rows more c = record {
+  width = c.width;
+  listed = all_of_members (Contains (nonzero_vectors file.cone)) rows
+      (λ r k. member_of (Contains (nonzero_vectors file.cone)) (rows ++ more) r c.listed (Contains-append_left rows more r k));
+}
+
+-- before a duality vector is known
+abbrev pub setting : Problem → Setting
+setting file = record { file = file; c = None; weights = []; trail = [] }
+
+-- such rows may be eliminated, and added
+pub elim_rows : (file : Problem) (n : ℕ) (rows : List (List ℚ)) → AreConeRows file n rows → AreElimRows (setting file) rows n
+elim_rows file n rows c = subst (λ (m : ℕ). AreElimRows (setting file) rows m) c.width
+    (AreElimRows.of_cone (All-weaker (Contains (nonzero_vectors file.cone)) (Contains (cone_vectors file.cone))
+    (λ r k. (Contains-filter_source _ (cone_vectors file.cone) r k).0) rows c.listed))
+
+pub cone_addition : (file : Problem) (n : ℕ) (before : List (List ℚ)) (last : List ℚ) (list : LiveList) → AreConeRows file n (before ++ last ∷ []) →
+    IsMadeOver n before list → IsAddition (setting file) before last list ConeRows
+cone_addition file n before last list c made =
+    IsAddition.of_cone (cone_rows-front file n before (last ∷ []) c).listed
+    (member_of (Contains (nonzero_vectors file.cone)) (before ++ last ∷ []) last c.listed
+    (Contains-append_right before (last ∷ []) last (Contains-here last [] last refl)))
+    (subst (λ (m : ℕ). IsMadeOver m before list) (sym c.width) made)
+
+module _ (holds : ℚ → Bool) (file : Problem) where
+  -- an overflow there, with no entries, is licensed
+  pub overflow_licensed : (trail : List Entry) (told : SolveFault) → trail ≡ [] → Overflows holds (setting file) trail told → OnLicence told (LicensedWithout holds file)
+  overflow_licensed trail (Stuck licence) none h = record { trail = h.0 ∙ none; overflow = h.1 }
+  overflow_licensed trail NoMemory none h = tt
+
+  -- of an elimination of the rows
+  pub elimination_licensed : {F : Type 0} (value : F → ℚ) (n : ℕ) (rows : List (List ℚ)) (trail : List Entry) (fault : RowFault F) (told : SolveFault) → trail ≡ [] →
+      AreConeRows file n rows → IsElimFault value holds n rows fault → AlwaysOverflows value holds rows trail fault told →
+      OnLicence told (LicensedWithout holds file)
+  elimination_licensed value n rows trail fault told none c h over =
+      overflow_licensed trail told none (over (setting file) n n rows (elim_rows file n rows c) (IsElimTable.alone refl refl) h)

@@ -1,0 +1,44 @@
+use Rattle.std.proofs.Common.{ℕ, List, [], ◌∷◌, ◌++◌, ap, ap₂, sym, ◌∙◌, arith, length, map, subst, ◌<◌}
+use Rattle.exact_field.specs.Rational.{ℚ}
+use Rattle.double_descr.specs.State.{State}
+use Rattle.lin_rows.specs.Read.{numbers}
+use Rattle.lin_rows.proofs.Building.{numbers_long}
+use Rattle.lin_rows.proofs.Errors.{err_holds}
+use Rattle.licence.specs.Operands.{IsMadeOver}
+use Rattle.licence.proofs.Making.{generator_laws}
+use Rattle.cone_dual.specs.Generators.{AreConeRows}
+use Rattle.cone_dual.proofs.Reading.{front_cone, front_is, read_row}
+use Rattle.cone_dual.proofs.dual.add_all.Goals as goal
+
+pub returns-in_err-add_row-clause-left : goal.returns-in_err-add_row-clause-left
+returns-in_err-add_row-clause-left g c =
+    let value = g.F.Field.value in
+    let list = c.args.rows.now.list in
+    let dd = c.args.dd.now in
+    let k : ℕ = c.loop-k.k in
+    let inside : k < length list = omega (arith, c.loop-k-test.true, c.count-k-end.ensures) in
+    let within : k < length (numbers value list) = omega (arith, inside, numbers_long value list) in
+    let so_far = ap₂ (λ (rs : List (List ℚ)) (r : List ℚ). rs ++ r ∷ []) c.loop-k.invariant.rows (read_row value list k c.row.result.now c.row.ensures.row inside) in
+    λ file cone.
+    err_holds c.from_residual.result c.in_err-add_row.field-0.0 _ c.from_residual.ensures.1
+    (c.in_err-add_row.ensures.left file
+    (subst (λ (n : ℕ). AreConeRows file n (c.loop-k.dd.rows ++ map value c.row.result.now ∷ [])) (sym c.loop-k.invariant.width)
+    (subst (AreConeRows file dd.width) (sym so_far) (front_cone file dd.width dd.rows (numbers value list) k within cone))))
+
+pub loop-k-preserved : goal.loop-k-preserved
+loop-k-preserved g c =
+    let value = g.F.Field.value in
+    let list = c.args.rows.now.list in
+    let dd = c.args.dd.now in
+    let k : ℕ = c.loop-k.k in
+    let inside : k < length list = omega (arith, c.loop-k-test.true, c.count-k-end.ensures) in
+    let within : k < length (numbers value list) = omega (arith, inside, numbers_long value list) in
+    let added = c.in_ok-add_row.ensures.ok in
+    record {
+      width = ap (λ (s : State). s.width) added ∙ c.loop-k.invariant.width;
+      rows = ap (λ (s : State). s.rows) added
+          ∙ ap₂ (λ (rs : List (List ℚ)) (r : List ℚ). rs ++ r ∷ []) c.loop-k.invariant.rows (read_row value list k c.row.result.now c.row.ensures.row inside)
+          ∙ front_is dd.rows (numbers value list) k within;
+      made = subst (λ (s : State). IsMadeOver dd.width s.rows s.list) (sym added)
+          (generator_laws.grows dd.width c.loop-k.dd.rows c.loop-k.dd.list (map value c.row.result.now) c.loop-k.invariant.made);
+    }

@@ -1,0 +1,26 @@
+use Rattle.std.proofs.Common.{ℕ, map, sym, subst}
+use Rattle.polyhedra.specs.Cone.{HasFullRank}
+use Rattle.tableaux.proofs.Orthogonal.{not_full}
+use Rattle.lin_rows.specs.Answers.{IsIndep}
+use Rattle.lin_rows.specs.Eliminate.{IsElimFault}
+use Rattle.lin_rows.specs.Read.{numbers}
+use Rattle.cone_dual.proofs.Licences.{elimination_licensed}
+use Rattle.cone_dual.proofs.dual.basis_of.Goals as goal
+
+pub unreachable-requires : goal.unreachable-requires
+unreachable-requires g c =
+    let value = g.F.Field.value in
+    let t = numbers value c.args.rows.now.list in
+    let here = c.in-Ok-Orthogonal in
+    not_full c.width.result t (map value here.field-0-0) (subst (IsIndep value c.width.result t) here.field-0-is here.ensures.ok).orthogonal
+    (subst (λ (n : ℕ). HasFullRank n t) (sym c.width.ensures) c.requires)
+
+pub returns-in-Err-clause-left : goal.returns-in-Err-clause-left
+returns-in-Err-clause-left g c =
+    let value = g.F.Field.value in
+    let holds = g.F.Field.holds in
+    let rows = c.args.rows.now in
+    let t = numbers value rows.list in
+    λ file cone.
+    elimination_licensed holds file value rows.width t c.new.result c.in-Err.fault c.elimination_fault.result c.new.ensures cone
+    (subst (λ (n : ℕ). IsElimFault value holds n t c.in-Err.fault) c.width.ensures c.in-Err.ensures.left) c.elimination_fault.ensures.licensed

@@ -1,0 +1,20 @@
+use Rattle.std.proofs.Common.{[], refl}
+use Rattle.lin_rows.specs.Read.{numbers}
+use Rattle.overflows.proofs.Starts.{made_of_start}
+use Rattle.cone_dual.proofs.Licences.{elim_rows, overflow_licensed, setting}
+use Rattle.cone_dual.proofs.dual.started.Goals as goal
+
+pub returns-in-Ok-clause-made : goal.returns-in-Ok-clause-made
+returns-in-Ok-clause-made g c =
+    let value = g.F.Field.value in
+    let rows = c.args.rows.now in
+    made_of_start rows.width (numbers value rows.list) c.in-Ok.dd c.in-Ok.ensures.ok
+
+pub returns-in-Err-clause-left : goal.returns-in-Err-clause-left
+returns-in-Err-clause-left g c =
+    let value = g.F.Field.value in
+    let holds = g.F.Field.holds in
+    let rows = c.args.rows.now in
+    λ file cone.
+    overflow_licensed holds file [] c.start_fault.result refl
+    (c.start_fault.ensures.licensed (setting file) (elim_rows file rows.width (numbers value rows.list) cone))

@@ -1,3 +1,0 @@
-pub mod Licences
-pub mod Reading
-pub mod Reordered

@@ -1,0 +1,15 @@
+pub mod Added
+pub mod AfterStart
+pub mod Beginning
+pub mod Built
+pub mod Corner
+pub mod Fronts
+pub mod Growing
+pub mod LineEntries
+pub mod NamedFacets
+pub mod Numbers
+pub mod Outer
+pub mod Pieces
+pub mod Pushed
+pub mod Turned
+pub mod Used

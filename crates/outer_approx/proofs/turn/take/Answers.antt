@@ -1,0 +1,78 @@
+use Rattle.std.proofs.Common.{◌≡◌, List, map, ap, sym, subst, ◌∙◌}
+use Rattle.polyhedra.specs.Exactness.{row_of}
+use Rattle.deriv_log.specs.declared.entry.Entry.{Entry}
+use Rattle.deriv_log.specs.declared.licence.Family.TheVariants.{Image}
+use Rattle.double_descr.specs.Adding.{IsAddFault, add_blocks}
+use Rattle.double_descr.specs.State.{State as Description}
+use Rattle.log_rules.specs.Live.{preimages}
+use Rattle.licence.specs.Operands.{IsAddition}
+use Rattle.outer_approx.specs.Cuts.{said_by}
+use Rattle.outer_approx.specs.Standing.{IsOuter, StandForSame}
+use Rattle.outer_approx.specs.Task.{behind}
+use Rattle.outer_approx.specs.Pairs.{named}
+use Rattle.outer_approx.proofs.Added.{named_required}
+use Rattle.outer_approx.proofs.Outer.{is_addition, on_any, stand_still, turned, turned_preimages}
+use Rattle.outer_approx.proofs.turn.take.Goals as goal
+
+pub returns-in-Ok-clause-ok : goal.returns-in-Ok-clause-ok
+returns-in-Ok-clause-ok g c =
+    let value = g.F.Field.value in
+    let dd = c.args.dd.now in
+    let e = said_by value c.args.cut.now in
+    let row = map value c.as_slice.result.now in
+    let row_is : row ≡ row_of e = ap (map value) c.as_slice.ensures.items ∙ c.in_ok-row.ensures in
+    let pairs = map named c.as_slice-in-Ok.result.now in
+    subst (λ (es : List Entry). IsOuter g.task es c.add.new.self) (sym c.in_ok-push_add-in-Ok.ensures.ok)
+    (turned g.task c.args.trail.now c.push_cut.new.trail e dd c.requires.1.0 c.in_ok-push_cut.ensures.trail c.in_ok-push_cut.ensures.more c.row_count-number.result
+    c.row_count-number.ensures pairs
+    (named_required dd.rows dd.list row (row_of e) c.in-Ok.change c.as_slice-in-Ok.result.now c.as_slice-in-Ok.ensures.items c.in-Ok.ensures.change row_is)
+    c.in_ok-push_add-in-Ok.ensures.written row row_is c.add.new.self c.in-Ok.ensures.ok)
+
+pub returns-in-Ok-clause-preimages : goal.returns-in-Ok-clause-preimages
+returns-in-Ok-clause-preimages g c = λ k.
+    let value = g.F.Field.value in
+    let dd = c.args.dd.now in
+    let e = said_by value c.args.cut.now in
+    let row = map value c.as_slice.result.now in
+    let row_is : row ≡ row_of e = ap (map value) c.as_slice.ensures.items ∙ c.in_ok-row.ensures in
+    let pairs = map named c.as_slice-in-Ok.result.now in
+    ap (λ (es : List Entry). preimages es k) c.in_ok-push_add-in-Ok.ensures.ok
+    ∙ turned_preimages g.task c.args.trail.now c.push_cut.new.trail e dd c.requires.1.0 c.in_ok-push_cut.ensures.trail c.in_ok-push_cut.ensures.more
+    c.row_count-number.result c.row_count-number.ensures pairs
+    (named_required dd.rows dd.list row (row_of e) c.in-Ok.change c.as_slice-in-Ok.result.now c.as_slice-in-Ok.ensures.items c.in-Ok.ensures.change row_is)
+    c.in_ok-push_add-in-Ok.ensures.written k
+
+pub returns-in-Ok-clause-trail : goal.returns-in-Ok-clause-trail
+returns-in-Ok-clause-trail g c = (returns-in-Ok-clause-ok g c).open_trail
+
+pub add_fault-requires : goal.add_fault-requires
+add_fault-requires g c =
+    let F = g.row.F.Denot in
+    let value = g.F.Field.value in
+    let holds = g.F.Field.holds in
+    let dd = c.args.dd.now in
+    let fault = c.in-Err.fault in
+    record {
+      fault = subst (λ (d : Description). IsAddFault value holds (add_blocks d.rows d.list.live (map value c.as_slice-in-Err.result.now)) fault) (sym c.in-Err.ensures.err)
+          (subst (λ (xs : List F). IsAddFault value holds (add_blocks dd.rows dd.list.live (map value xs)) fault)
+          (c.as_slice.ensures.items ∙ sym c.as_slice-in-Err.ensures.items) c.in-Err.ensures.left);
+    }
+
+pub returns-clause-left : goal.returns-clause-left
+returns-clause-left g c =
+    let value = g.F.Field.value in
+    let e = said_by value c.args.cut.now in
+    let row = map value c.as_slice-in-Err.result.now in
+    let row_is : row ≡ row_of e = ap (map value) c.as_slice-in-Err.ensures.items ∙ c.in_ok-row.ensures in
+    let s = behind g.task c.push_cut.new.trail in
+    c.add_fault.ensures.licensed s
+    (subst (λ (d : Description). IsAddition s d.rows row d.list Image) (sym c.in-Err.ensures.err)
+    (is_addition g.task c.args.trail.now c.push_cut.new.trail e c.args.dd.now c.requires.1.0 c.in_ok-push_cut.ensures.trail c.in_ok-push_cut.ensures.more
+    c.row_count-number.result c.row_count-number.ensures row row_is))
+
+pub returns-clause-same : goal.returns-clause-same
+returns-clause-same g c =
+    let e = said_by g.F.Field.value c.args.cut.now in
+    on_any (StandForSame g.task c.push_cut.new.trail c.add.new.self) c.add_fault.result
+    (stand_still g.task c.args.trail.now c.push_cut.new.trail e c.args.dd.now c.requires.1.0 c.in_ok-push_cut.ensures.trail c.in_ok-push_cut.ensures.more
+    c.row_count-number.result c.row_count-number.ensures c.add.new.self c.in-Err.ensures.err)

@@ -1,0 +1,4 @@
+use Rattle.outer_approx.proofs.turn.take.Given as goal
+
+abbrev pub ghost-push_cut : goal.ghost-push_cut
+ghost-push_cut g a = g.task

@@ -1,0 +1,11 @@
+-- The subject: Task, Standing, Cuts, Preimages, Lines (the log as it grows), Unstarted (the logs that need no start).
+-- What only serves proofs: First, Pairs, Lined.
+pub mod Cuts
+pub mod First
+pub mod Lined
+pub mod Lines
+pub mod Pairs
+pub mod Preimages
+pub mod Standing
+pub mod Task
+pub mod Unstarted

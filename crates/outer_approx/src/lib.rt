@@ -1,0 +1,15 @@
+//! Benson's outer approximation as a log: how the log begins and grows by cuts and pre-images beside its double description, the start,
+//! the turns, the ends, and the logs that need no start.
+#![tactic(auto)]
+
+mod ends;
+mod log;
+mod start;
+mod turn;
+mod unstarted;
+
+pub use ends::{line_log, solved};
+pub use log::{Line, begun, cut_row, push_cut, push_cut_entry, push_preimage};
+pub use start::started;
+pub use turn::{take, try_take};
+pub use unstarted::{infeasible_log, whole_log};

@@ -1,2 +1,0 @@
-pub mod LineEntries
-pub mod NamedFacets

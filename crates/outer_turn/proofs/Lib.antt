@@ -1,4 +1,0 @@
-pub mod Added
-pub mod Outer
-pub mod Turned
-pub mod Used

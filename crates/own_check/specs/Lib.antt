@@ -1,3 +1,0 @@
-pub mod Never
-pub mod Own
-pub mod Logs
