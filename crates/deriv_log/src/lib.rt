@@ -21,6 +21,3 @@ pub use licence::{Family, Licence, Place, Program};
 pub use line::read_line;
 pub use log::{one_reading, read_log};
 pub use text::print_log;
-
-#[cfg(test)]
-mod tests;

@@ -9,6 +9,3 @@ mod words;
 pub use cone::cone_fault_line;
 pub use licence::licence_line;
 pub use lines::{file_fault_line, log_fault_line, too_long_line, wrong_line};
-
-#[cfg(test)]
-mod tests;

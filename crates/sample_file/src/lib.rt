@@ -5,8 +5,6 @@ mod draws;
 mod file;
 pub mod laws;
 mod lines;
-#[cfg(test)]
-mod tests;
 mod words;
 
 pub use file::{sample_file, sample_text};

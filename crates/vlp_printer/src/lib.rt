@@ -6,8 +6,6 @@ mod fault;
 pub mod laws;
 mod numbers;
 mod print;
-#[cfg(test)]
-mod tests;
 
 pub use fault::PrintFault;
 pub use print::print_vlp;

@@ -11,8 +11,6 @@ mod read;
 mod sizes;
 mod statement;
 mod table;
-#[cfg(test)]
-mod tests;
 mod text;
 
 pub use fault::{FileFault, FileKind, VlpEnd};

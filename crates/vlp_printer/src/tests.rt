@@ -1,2 +1,0 @@
-//! Texts of problems.
-mod prints;

@@ -1,3 +1,0 @@
-//! Files that are read, and files that are refused.
-mod faults;
-mod reads;
