@@ -74,7 +74,7 @@ log_fault_text f = line_text (codes "fault" ∷ codes "9" ∷ codes "line" ∷ d
 abbrev pub wrong_text : ℕ → Rule → List ℕ
 wrong_text entry rule = line_text (codes "fault" ∷ codes "9" ∷ codes "entry" ∷ decimal entry ∷ codes "rule" ∷ decimal (rule_number rule) ∷ rule_name rule ∷ [])
 
--- ---- limits, and what is not built
+-- ---- limits
 -- the fault line of a source (that of the log, or of the problem) with more bytes than the limit, and how many were taken
 abbrev pub too_long_text : Bool → ℕ → List ℕ
 too_long_text log read = line_text (codes "fault" ∷ codes "10" ∷ source_name log ∷ decimal read ∷ [])

@@ -1,4 +1,4 @@
-//! The fault lines of texts and of their limits, and of what is not built.
+//! The fault lines of texts and of their limits.
 ghost use Rattle.std.specs.Prelude.{◌≡◌, IfOk};
 ghost use Rattle.fault_lines.specs.Text.{file_fault_text, log_fault_text, wrong_text, too_long_text};
 

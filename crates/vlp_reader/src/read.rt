@@ -112,7 +112,7 @@ fn ended(line: u32, closed: Result<Problem, LineEnd>) -> Result<Problem, VlpEnd>
     }
 }
 
-/// The problem of a vlp file of Bensolve, or the first fault of the file.
+/// The problem of a vlp file, or the first fault of the file.
 pub fn read_vlp(alloc: Global, bytes: &[u8]) -> Result<Problem, VlpEnd>
     requires { length bytes.now ≤ MOST_ITEMS }
     ensures { MatchResult result (Reads bytes.now) (EndsReading bytes.now) }
