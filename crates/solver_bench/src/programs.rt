@@ -6,10 +6,9 @@ ghost use Rattle.solver_bench.specs.Programs.{HasOptimum, HasNoBound, HasNoSolut
 
 use crate::lines::line_of;
 use exact_field::Field;
-use exact_simplex::{LpEnd, LpFault};
+use exact_simplex::{LpEnd, LpFault, solve_lp};
 use frac128::Frac;
 use lin_rows::{System, dot};
-use quick_simplex::solve_lp;
 use std::alloc::Global;
 
 /// The greatest cost by its parts, or 0 and 0 where one has more than 63 bits.
