@@ -17,8 +17,8 @@ extern "C" {
 struct value {
     int64_t num, den;
 };
-uint32_t solver_bench_program(uint32_t rows, uint32_t cols, const int64_t *a, size_t a_length, const int64_t *b, size_t b_length,
-                              const int64_t *cost, size_t cost_length, value *value);
+uint32_t bench_program(uint32_t rows, uint32_t cols, const int64_t *a, size_t a_length, const int64_t *b, size_t b_length,
+                       const int64_t *cost, size_t cost_length, value *value);
 }
 
 namespace ppl = Parma_Polyhedra_Library;
@@ -116,8 +116,8 @@ struct Answer {
 static void run_ours(const Program &p, Answer &out) {
     value found = {0, 0};
     double start = now();
-    out.end = solver_bench_program(static_cast<uint32_t>(p.rows), static_cast<uint32_t>(p.cols), p.a.data(), p.a.size(), p.b.data(),
-                                   p.b.size(), p.cost.data(), p.cost.size(), &found);
+    out.end = bench_program(static_cast<uint32_t>(p.rows), static_cast<uint32_t>(p.cols), p.a.data(), p.a.size(), p.b.data(),
+                            p.b.size(), p.cost.data(), p.cost.size(), &found);
     out.time = std::min(out.time, now() - start);
     if (found.den != 0) out.value = mpq_class(mpz_class(static_cast<long>(found.num)), mpz_class(static_cast<long>(found.den)));
     out.bits = found.den != 0;

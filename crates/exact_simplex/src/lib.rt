@@ -15,5 +15,4 @@ mod solve;
 
 pub use answer::{LpEnd, LpFault};
 pub use kept::Kept;
-pub use opening::{artificial, coefficients};
 pub use solve::{solve_lp, solve_lp_from, solve_lp_next};

@@ -17,7 +17,7 @@ use src_sink::{MOST_ITEMS, NoMemory};
 use std::alloc::Global;
 
 /// What an artificial column holds in its equation: 1, or -1 where the right side is negative.
-pub fn artificial<F: Field>(right: F) -> F
+fn artificial<F: Field>(right: F) -> F
     ensures { F.value result ≡ artificial_sign (F.value right) }
 {
     if is_negative(right) {
@@ -28,7 +28,7 @@ pub fn artificial<F: Field>(right: F) -> F
 }
 
 /// The coefficients of equation `i`, counted from 0.
-pub fn coefficients<F: Field>(system: &System<F>, i: u32) -> &[F]
+fn coefficients<F: Field>(system: &System<F>, i: u32) -> &[F]
     requires lengths { HasLengths system.now }
     requires inside { i < system.now.rows }
     ensures { result.now ≡ coefficients_of system.now (i + 1) }

@@ -1,4 +1,6 @@
+pub mod AddedRow
 pub mod Back
+pub mod Choosing
 pub mod Computed
 pub mod Decided
 pub mod Definition
@@ -11,6 +13,7 @@ pub mod FullRank
 pub mod Inverse
 pub mod Lexicographic
 pub mod Matrix
+pub mod Optima
 pub mod Orthogonal
 pub mod Own
 pub mod Phases

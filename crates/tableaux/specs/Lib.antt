@@ -1,9 +1,11 @@
+pub mod Chosen
 pub mod Dictionary
 pub mod Elimination
 pub mod Examples
 pub mod Exchange
 pub mod Laws
 pub mod Lex
+pub mod Optimum
 pub mod Phases
 pub mod Simplex
 pub mod Table

@@ -1,0 +1,2 @@
+pub mod Negatives
+pub mod RowsOf

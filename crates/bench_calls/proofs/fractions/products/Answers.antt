@@ -1,0 +1,13 @@
+use Rattle.std.proofs.Common.{sym, ◌∙◌}
+use Rattle.bench_calls.proofs.Negatives.{product_alike, ok_is_held, counted_then, counted_else}
+use Rattle.bench_calls.proofs.fractions.products.Goals as goal
+use Rattle.bench_calls.proofs.fractions.products.Goals.{then-is_ok, else-is_ok}
+
+pub loop-round-preserved : goal.loop-round-preserved
+loop-round-preserved c =
+    let alike = product_alike c.loop-round.a c.loop-round.b c.neg-a.result c.neg-b.result c.neg-a.ensures c.neg-b.ensures in
+    let test = sym c.loop-round.invariant.1 ∙ sym (ok_is_held _ _ _ _ c.mul.result c.mul.ensures) ∙ sym c.is_ok.ensures.value in
+    elim c.if-is_ok.branch [
+      | then-is_ok w ↦ (counted_then _ _ _ _ (test ∙ w.if-is_ok.true) c.loop-round.invariant.0 w.counted-is, alike ∙ c.loop-round.invariant.1)
+      | else-is_ok w ↦ (counted_else _ _ _ _ (test ∙ w.if-is_ok.false) c.loop-round.invariant.0 w.counted-is, alike ∙ c.loop-round.invariant.1)
+    ]

@@ -1,0 +1,4 @@
+pub mod Cones
+pub mod Operands
+pub mod Programs
+pub mod Steps

@@ -1,6 +1,0 @@
-use Rattle.std.proofs.Common.{◌≡◌, drop}
-use Rattle.frac_bench.specs.Program.{run_of}
-use Rattle.frac_bench.proofs.program.run.Given as goal
-
-abbrev pub invariant-loop-step : goal.invariant-loop-step
-invariant-loop-step l = run_of (drop l.step-index l.steps) l.numbers ≡ run_of l.steps l.fn.numbers

@@ -1,6 +1,0 @@
-use Rattle.std.proofs.Common.{◌≡◌, cond}
-use Rattle.frac_bench.specs.Program.{run_of, ends_in_zero}
-use Rattle.frac_bench.proofs.program.runs.Given as goal
-
-abbrev pub invariant-loop-round : goal.invariant-loop-round
-invariant-loop-round l = l.counted ≡ cond (ends_in_zero (run_of l.steps l.numbers)) l.round 0

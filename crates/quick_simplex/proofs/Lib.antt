@@ -1,7 +1,0 @@
-pub mod AddedRow
-pub mod Choosing
-pub mod Entered
-pub mod Gathering
-pub mod Optima
-pub mod Tests
-pub mod Totals

@@ -1,3 +1,0 @@
-pub mod Chosen
-pub mod Optimum
-pub mod Tested

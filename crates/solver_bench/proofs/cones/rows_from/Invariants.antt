@@ -1,9 +1,0 @@
-use Rattle.std.proofs.Common.{◌≡◌, ◌-◌, ◌++◌}
-use Rattle.solver_bench.specs.Cones.{rows_of}
-use Rattle.solver_bench.proofs.cones.rows_from.Given as goal
-
-abbrev pub invariant-loop-place : goal.invariant-loop-place
-invariant-loop-place l = record {
-  wide : l.rows.width ≡ l.width;
-  read : l.rows.list ++ rows_of (l.count - l.place) l.width l.rest ≡ rows_of l.count l.width l.entries;
-}
