@@ -1,25 +1,35 @@
 -- Licences before a duality vector is known, from what eliminations, starts and additions tell.
 use Rattle.std.proofs.Common.{◌≡◌, ℕ, List, [], ◌∷◌, ◌++◌, Bool, refl, sym, ◌∙◌, subst, None}
 use Rattle.std.specs.Prelude.{Contains}
-use Rattle.std.proofs.lemmas.List.Elements.{All-weaker, Contains-append_left, Contains-append_right}
+use Rattle.std.specs.Prelude.{All}
+use Rattle.std.proofs.lemmas.List.Elements.{All-contains_itself, All-weaker, Contains-append_left, Contains-append_right}
 use Rattle.exact_field.specs.Rational.{ℚ}
 use Rattle.polyhedra.specs.LiveList.{LiveList}
 use Rattle.polyhedra.proofs.Lists.{Contains-here}
 use Rattle.polyhedra.proofs.Members.{Contains-filter_source, all_of_members, member_of}
 use Rattle.lin_rows.specs.Eliminate.{IsElimFault}
 use Rattle.lin_rows.specs.declared.fault.RowFault.{RowFault}
+use Rattle.lin_rows.specs.declared.fault.RowFault.TheVariants as elimination
+use Rattle.double_descr.specs.Adding.{Block, IsAddFault}
+use Rattle.double_descr.specs.Starting.{IsStartFault}
+use Rattle.double_descr.specs.declared.fault.DdFault.{DdFault}
+use Rattle.double_descr.specs.declared.fault.DdFault.TheVariants as description
 use Rattle.vlp_reader.specs.declared.problem.Problem.{Problem}
 use Rattle.vlp_reader.specs.Values.{cone_vectors}
 use Rattle.deriv_log.specs.declared.entry.Entry.{Entry}
 use Rattle.deriv_log.specs.declared.licence.Family.TheVariants.{ConeRows}
+use Rattle.deriv_log.specs.declared.licence.Licence.{Licence}
+use Rattle.deriv_log.specs.declared.licence.Place.{Place}
+use Rattle.deriv_log.specs.declared.licence.Place.TheVariants.{Elim, Pair}
 use Rattle.lp_form.specs.Programs.{nonzero_vectors}
 use Rattle.licence.specs.Licence.{LicensedWithout}
 use Rattle.licence.specs.Operands.{Setting, AreElimRows, IsElimTable, IsMadeOver, IsAddition}
-use Rattle.overflows.specs.Faults.{OnLicence, Overflows}
+use Rattle.overflows.specs.Faults.{IsEliminationLeft, OnLicence, Overflows}
 use Rattle.overflows.specs.declared.fault.SolveFault.{SolveFault}
 use Rattle.overflows.specs.declared.fault.SolveFault.TheVariants.{Left as Stuck, NoMemory}
 use Rattle.overflows.proofs.Starts.{AlwaysOverflows}
-use Rattle.cone_dual.specs.Generators.{AreConeRows}
+use Rattle.overflows.specs.Told.{IsAdditionLeft, IsStartLeft}
+use Rattle.cone_dual.specs.Generators.{AreConeRows, IsOver}
 
 -- some of such rows are such rows
 pub cone_rows-front : (file : Problem) (n : ℕ) (rows more : List (List ℚ)) → AreConeRows file n (rows ++ more) → AreConeRows file n rows
@@ -59,3 +69,44 @@ module _ (holds : ℚ → Bool) (file : Problem) where
       OnLicence told (LicensedWithout holds file)
   elimination_licensed value n rows trail fault told none c h over =
       overflow_licensed trail told none (over (setting file) n n rows (elim_rows file n rows c) (IsElimTable.alone refl refl) h)
+
+-- ---- places
+-- of the elimination of rows, of a start, and of an addition
+pub elimination_over : {F : Type 0} (value : F → ℚ) (rows : List (List ℚ)) (trail : List Entry) (fault : RowFault F) (told : SolveFault) →
+    IsEliminationLeft value rows trail fault told → OnLicence told (λ licence. IsOver rows licence.place)
+elimination_over value rows trail (elimination.Left basis row col step left) (Stuck licence) h =
+    subst (λ (l : Licence). IsOver rows l.place) (sym h) (All-contains_itself rows)
+elimination_over value rows trail (elimination.Left basis row col step left) NoMemory h = tt
+elimination_over value rows trail elimination.NoMemory told h =
+    subst (λ (f : SolveFault). OnLicence f (λ licence. IsOver rows licence.place)) (sym h) tt
+
+pub start_over : {F : Type 0} (value : F → ℚ) (holds : ℚ → Bool) (n : ℕ) (rows : List (List ℚ)) (fault : DdFault F) (told : SolveFault) →
+    IsStartFault value holds n rows fault → IsStartLeft value rows fault told → OnLicence told (λ licence. IsOver rows licence.place)
+start_over value holds n rows (description.Elim fault) told s h = elimination_over value rows [] fault told h
+start_over value holds n rows (description.Left first second step left) told s h = absurd s
+start_over value holds n rows description.NoMemory told s h = subst (λ (f : SolveFault). OnLicence f (λ licence. IsOver rows licence.place)) (sym h) tt
+
+pub addition_over : {F : Type 0} (value : F → ℚ) (holds : ℚ → Bool) (blocks : List Block) (before : List (List ℚ)) (last : List ℚ) (fault : DdFault F)
+    (told : SolveFault) → IsAddFault value holds blocks fault → IsAdditionLeft value ConeRows before last fault told →
+    OnLicence told (λ licence. IsOver (before ++ last ∷ []) licence.place)
+addition_over value holds blocks before last (description.Left first second step left) (Stuck licence) s h =
+    subst (λ (l : Licence). IsOver (before ++ last ∷ []) l.place) (sym h) (All-contains_itself (before ++ last ∷ []))
+addition_over value holds blocks before last (description.Left first second step left) NoMemory s h = tt
+addition_over value holds blocks before last (description.Elim fault) told s h = absurd s
+addition_over value holds blocks before last description.NoMemory told s h =
+    subst (λ (f : SolveFault). OnLicence f (λ licence. IsOver (before ++ last ∷ []) licence.place)) (sym h) tt
+
+-- a place over some rows is one over more
+over_more : (some all : List (List ℚ)) → All (Contains all) some → (p : Place) → IsOver some p → IsOver all p
+over_more some all h (Elim rows basis row col step) k = All-weaker (Contains some) (Contains all) (λ r c. member_of (Contains all) some r h c) rows k
+over_more some all h (Pair ConeRows rows first second step) k = All-weaker (Contains some) (Contains all) (λ r c. member_of (Contains all) some r h c) rows k
+over_more some all h p k = absurd k
+
+pub told_more : (some all : List (List ℚ)) → All (Contains all) some → (told : SolveFault) → OnLicence told (λ licence. IsOver some licence.place) →
+    OnLicence told (λ licence. IsOver all licence.place)
+told_more some all h (Stuck licence) k = over_more some all h licence.place k
+told_more some all h NoMemory k = tt
+
+-- the front of a list has its rows
+pub front_listed : (rows more : List (List ℚ)) → All (Contains (rows ++ more)) rows
+front_listed rows more = all_of_members (Contains (rows ++ more)) rows (λ r c. Contains-append_left rows more r c)

@@ -6,6 +6,9 @@ use Rattle.polyhedra.specs.LiveList.{LiveList, vectors}
 use Rattle.tableaux.specs.Table.{Table, row_of}
 use Rattle.tableaux.specs.Elimination.{AreIndependent}
 use Rattle.vlp_reader.specs.declared.problem.Problem.{Problem}
+use Rattle.deriv_log.specs.declared.licence.Family.TheVariants.{ConeRows}
+use Rattle.deriv_log.specs.declared.licence.Place.{Place}
+use Rattle.deriv_log.specs.declared.licence.Place.TheVariants.{Elim, Pair}
 use Rattle.lp_form.specs.Programs.{nonzero_vectors}
 use Rattle.log_rules.specs.Live.{contains}
 use Rattle.licence.specs.Base.{IsGeneratorOf}
@@ -31,6 +34,12 @@ pub record AreMadeInOrder (n : ℕ) (rows gens : List (List ℚ)) : Type 0 where
   pub list : LiveList
   pub made : IsMadeOver n (begun_with picks rows) list
   pub same : gens ≡ vectors list.live
+
+-- the place is a step of an elimination of some of these rows, or of the addition of one of them to others as a vector of the ordering cone
+abbrev pub IsOver : List (List ℚ) → Place → Type 0
+IsOver all (Elim rows basis row col step) = All (Contains all) rows
+IsOver all (Pair ConeRows rows first second step) = All (Contains all) rows
+IsOver all _ = ⊥
 
 -- the rows are vectors of the file's ordering cone that are not 0, and have as many entries as there are objectives
 pub record AreConeRows (file : Problem) (n : ℕ) (rows : List (List ℚ)) : Type 0 where

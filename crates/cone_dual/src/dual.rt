@@ -10,7 +10,7 @@ ghost use Rattle.vlp_reader.specs.declared.problem.Problem.{Problem};
 ghost use Rattle.licence.specs.Licence.{LicensedWithout};
 ghost use Rattle.licence.specs.Operands.{IsMadeOver};
 ghost use Rattle.overflows.specs.Faults.{OnLicence};
-ghost use Rattle.cone_dual.specs.Generators.{AreConeRows, AreGenerators, AreMadeInOrder};
+ghost use Rattle.cone_dual.specs.Generators.{AreConeRows, AreGenerators, AreMadeInOrder, IsOver};
 
 use crate::picked::{other_numbers, rows_at};
 use deriv_log::Family;
@@ -25,6 +25,7 @@ use std::alloc::Global;
 fn basis_of<F: Field>(alloc: Global, rows: &Rows<F>) -> Result<Items<u32>, SolveFault>
     requires { HasFullRank rows.now.width (numbers F.value rows.now.list) }
     ensures ok { IfOk result (λ picks. AreIndependent rows.now.width (numbers F.value rows.now.list) picks) }
+    ensures place { IfErr result (λ fault. OnLicence fault (λ licence. IsOver (numbers F.value rows.now.list) licence.place)) }
     ensures left { (file : Problem) → AreConeRows file rows.now.width (numbers F.value rows.now.list) → IfErr result (λ fault. OnLicence fault (LicensedWithout F.holds file)) }
 {
     match independent(alloc, rows, rows.width()) {
@@ -41,6 +42,7 @@ fn started<F: Field>(alloc: Global, rows: &Rows<F>) -> Result<Dd<F>, SolveFault>
     ensures width { IfOk result (λ dd. dd.width ≡ rows.now.width) }
     ensures rows { IfOk result (λ dd. dd.rows ≡ numbers F.value rows.now.list) }
     ensures made { IfOk result (λ dd. IsMadeOver rows.now.width dd.rows dd.list) }
+    ensures place { IfErr result (λ fault. OnLicence fault (λ licence. IsOver (numbers F.value rows.now.list) licence.place)) }
     ensures left { (file : Problem) → AreConeRows file rows.now.width (numbers F.value rows.now.list) → IfErr result (λ fault. OnLicence fault (LicensedWithout F.holds file)) }
 {
     match Dd::start(alloc, rows) {
@@ -54,6 +56,7 @@ fn add_row<F: Field>(alloc: Global, dd: &mut Dd<F>, row: &[F]) -> Result<(), Sol
     requires wide { length row.now ≡ dd.old.width }
     requires made { IsMadeOver dd.old.width dd.old.rows dd.old.list }
     ensures ok { OnOk result (dd.new ≡ record { width = dd.old.width; rows = dd.old.rows ++ map F.value row.now ∷ []; list = step dd.old.rows dd.old.list (map F.value row.now) }) }
+    ensures place { IfErr result (λ fault. OnLicence fault (λ licence. IsOver (dd.old.rows ++ map F.value row.now ∷ []) licence.place)) }
     ensures left { (file : Problem) → AreConeRows file dd.old.width (dd.old.rows ++ map F.value row.now ∷ []) → IfErr result (λ fault. OnLicence fault (LicensedWithout F.holds file)) }
 {
     match dd.add(row) {
@@ -69,6 +72,7 @@ fn add_all<F: Field>(alloc: Global, dd: &mut Dd<F>, rows: &Rows<F>) -> Result<()
     ensures width { OnOk result (dd.new.width ≡ dd.old.width) }
     ensures rows { OnOk result (dd.new.rows ≡ dd.old.rows ++ numbers F.value rows.now.list) }
     ensures made { OnOk result (IsMadeOver dd.old.width dd.new.rows dd.new.list) }
+    ensures place { IfErr result (λ fault. OnLicence fault (λ licence. IsOver (dd.old.rows ++ numbers F.value rows.now.list) licence.place)) }
     ensures left { (file : Problem) → AreConeRows file dd.old.width (dd.old.rows ++ numbers F.value rows.now.list) → IfErr result (λ fault. OnLicence fault (LicensedWithout F.holds file)) }
 {
     for k in 0..rows.count() {
@@ -94,13 +98,13 @@ fn generators_of<F: Field>(alloc: Global, dd: &Dd<F>, width: u32) -> Result<Rows
 
 /// The generators of the pointed cone where all rows are at least 0: its normed extreme directions, in the order in which double
 /// description numbers them, which begins with as many independent rows as they have entries and adds the others in their order.
-/// After an overflow the licence has no trail, and its place is a step of the elimination of these rows, of the start, or of the
-/// addition of a row.
+/// After an overflow the licence has no trail.
 pub fn dual_gens<F: Field>(alloc: Global, rows: &Rows<F>) -> Result<Rows<F>, SolveFault>
     requires { HasFullRank rows.now.width (numbers F.value rows.now.list) }
     ensures width { IfOk result (λ out. out.width ≡ rows.now.width) }
     ensures generators { IfOk result (λ out. AreGenerators rows.now.width (numbers F.value rows.now.list) (numbers F.value out.list)) }
     ensures order { IfOk result (λ out. AreMadeInOrder rows.now.width (numbers F.value rows.now.list) (numbers F.value out.list)) }
+    ensures place { IfErr result (λ fault. OnLicence fault (λ licence. IsOver (numbers F.value rows.now.list) licence.place)) }
     ensures left { (file : Problem) → AreConeRows file rows.now.width (numbers F.value rows.now.list) → IfErr result (λ fault. OnLicence fault (LicensedWithout F.holds file)) }
 {
     let picks = basis_of(alloc, rows)?;

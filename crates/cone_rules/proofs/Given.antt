@@ -25,6 +25,7 @@ use Rattle.cone_rules.proofs.Parts.{ones, append_parts, zeros-append, all_entrie
 use Rattle.cone_rules.proofs.Gaps.{gap, gap_long, gap_value, gap_product, gaps_values, gap_none, gap_first, gap_second, gap_third, no_number, front_long, middle_long, three_parts}
 use Rattle.cone_rules.proofs.Lineality.{whole_or_zero}
 use Rattle.cone_rules.proofs.Ranks.{unit_nonneg}
+use Rattle.cone_rules.proofs.Rows.{no_spot}
 
 pub nonneg_zeros : (n : ℕ) → AtLeastZero (zeros n)
 nonneg_zeros n = All-replicate Nonneg n zero_ℚ (le_refl zero_ℚ)
@@ -175,6 +176,7 @@ module _ (q : ℕ) (vectors : List (List ℚ)) (f : List ℚ) (w : AreWide q vec
   optimal_outside x dual h e =
       record {
         lengths = behind_long dual h.one_each;
+        vector = no_spot 0;
         not_zero = not_all_zero n vectors (take n dual) (drop n dual) one_ℚ refl (λ a b r i j k l m. optimal_low x dual a b r h i j k l m) q refl;
         cone = record {
           lengths = refl;
@@ -188,6 +190,7 @@ module _ (q : ℕ) (vectors : List (List ℚ)) (f : List ℚ) (w : AreWide q vec
       let below : dot (drop n y) f <ℚ zero_ℚ = subst (λ (r : ℚ). r <ℚ zero_ℚ) (right_is y) h.below in
       record {
         lengths = behind_long y h.one_each;
+        vector = no_spot 0;
         not_zero = λ z. lt_irrefl zero_ℚ (subst (λ (r : ℚ). r <ℚ zero_ℚ) (ap (λ v. dot v f) z ∙ dot-zeros_left q f) below);
         cone = record {
           lengths = refl;

@@ -26,6 +26,7 @@ use Rattle.lp_form.proofs.Systems.{length-unit}
 use Rattle.cone_rules.specs.Faults.{HasNoLine, ShowsOutside}
 use Rattle.cone_rules.specs.Laws.{OrthantLaws, RankLaws}
 use Rattle.cone_rules.proofs.Parts.{ones, all_entries, all_at, zero_of_both, entry-negated}
+use Rattle.cone_rules.proofs.Rows.{no_spot}
 
 -- ---- unit vectors
 pub unit_not_zero : (n k : ℕ) → 1 ≤ k → k ≤ n → unit n k ≢ zeros n
@@ -60,6 +61,7 @@ orthant_outside : (q : ℕ) (f : List ℚ) (k : ℕ) → 1 ≤ k → k ≤ q →
 orthant_outside q f k l u h =
     record {
       lengths = length-unit q k;
+      vector = no_spot 0;
       not_zero = unit_not_zero q k l u;
       cone = record { lengths = refl; cone = unit_nonneg q k };
       sign = subst (λ (x : ℚ). x ≤ℚ zero_ℚ) (sym (dot-unit q k f l u)) h;

@@ -2,7 +2,7 @@
 use Rattle.std.proofs.Common.{◌≡◌, ◌≢◌, ℕ, zero, suc, List, [], ◌∷◌, length, map, All, refl, sym, ap, ap₂, ◌∙◌, subst, arith, ◌<◌, ◌≤◌, ◌-◌, ◌+◌, ◌⊎◌, inl, inr, Bool, true, false, not, cond, nat_eq, nat_lt, slice_index_or}
 use Rattle.std.specs.Prelude.{◌&&◌, unsigned_abs, ℤ, pos, negsuc}
 use Rattle.std.specs.List.{filter, list_all}
-use Rattle.std.proofs.lemmas.Bool.{eqb-true, ltb-true}
+use Rattle.std.proofs.lemmas.Bool.{eqb-true, ltb-true, lt-ltb}
 use Rattle.std.proofs.lemmas.Bool.Decides.{eqb_tells}
 use Rattle.std.proofs.lemmas.List.Elements.{All-nil, All-cons, All-head, All-tail, All-weaker, All-filter}
 use Rattle.exact_field.specs.Rational.{ℚ, zero_ℚ, one_ℚ, whole, ◌+ℚ◌, ◌*ℚ◌, ◌≤ℚ◌, ◌<ℚ◌}
@@ -18,12 +18,12 @@ use Rattle.polyhedra.proofs.Laws.{add_zero, le_refl, zero_lt_one}
 use Rattle.polyhedra.proofs.Linear.{dot_comm, dot-nil, dot-combination, dot-combination_left, length-combination, same_wide}
 use Rattle.polyhedra.proofs.Lists.{HasWidth, wide-head, wide-tail, nonneg-nil, nonneg-cons, nonneg-head, nonneg-tail}
 use Rattle.polyhedra.proofs.Order.{zero_or_positive}
-use Rattle.polyhedra.proofs.Tests.{both_true}
+use Rattle.polyhedra.proofs.Tests.{both_hold, both_true}
 use Rattle.tableaux.specs.Table.{row_of, list_from, unit}
 use Rattle.tableaux.proofs.Definition.{unit_value, delta_sym}
 use Rattle.tableaux.proofs.Places.{row-wide, delta}
 use Rattle.vlp_reader.specs.declared.problem.Cone.TheVariants.{Dual}
-use Rattle.upper_image.specs.Spots.{entry_of, dense}
+use Rattle.upper_image.specs.Spots.{entry_of, dense, IsVector}
 use Rattle.cone_rules.specs.Faults.{ShowsOutside}
 use Rattle.cone_rules.specs.Laws.{RowTests, spread, IsSpread}
 
@@ -220,11 +220,23 @@ row_alone q vectors k w l u =
     (λ r. dot_comm r (combination q (unit (length vectors) k) vectors) ∙ dot-combination_left q (unit (length vectors) k) vectors r ∙ unit_value vectors r k l u
     ∙ dot_comm (row_of vectors k) r)
 
+-- the spot of this number alone, and none, are sparse vectors
+one_spot : (n k : ℕ) → 1 ≤ k → k ≤ n → IsVector n (record { at = k; value = one_ℚ } ∷ [])
+unfolding whole
+one_spot n k l u = record {
+  sparse = both_hold (nat_lt 0 k) _ (lt-ltb 0 k (omega (arith, l))) refl;
+  places = All-cons (λ s. s.at ≤ n) (record { at = k; value = one_ℚ }) [] u (All-nil (λ s. s.at ≤ n));
+}
+
+pub no_spot : (n : ℕ) → IsVector n []
+no_spot n = record { sparse = refl; places = All-nil (λ s. s.at ≤ n) }
+
 row_outside : (q : ℕ) (vectors : List (List ℚ)) (f : List ℚ) (k : ℕ) → AreWide q vectors → 1 ≤ k → k ≤ length vectors → row_of vectors k ≢ zeros q →
     dot (row_of vectors k) f ≤ℚ zero_ℚ → ShowsOutside q (Dual vectors) f (row_of vectors k) (record { at = k; value = one_ℚ } ∷ [])
 row_outside q vectors f k w l u other h =
     record {
       lengths = row-wide q vectors k w l u;
+      vector = one_spot (length vectors) k l u;
       not_zero = other;
       cone = record {
         index = All-cons (λ s. s.at ≤ length vectors) spot [] u (All-nil (λ s. s.at ≤ length vectors));

@@ -14,6 +14,7 @@ use Rattle.vlp_reader.specs.declared.problem.Cone.TheVariants.{Orthant, Gens, Du
 use Rattle.upper_image.specs.OrderingCone.{IsIn, dual_of, Fits}
 use Rattle.upper_image.specs.Shows.{ShowsIn}
 use Rattle.upper_image.specs.Spots.{dense, IsVector}
+use Rattle.lp_form.specs.Programs.{generators}
 use Rattle.cone_rules.specs.declared.fault.ConeFault.{ConeFault}
 use Rattle.cone_rules.specs.declared.fault.ConeFault.TheVariants.{NotSolid, HasLine, NotInterior, LastNotPositive}
 
@@ -72,9 +73,11 @@ ShowsLine q Orthant d m = ⊥
 ShowsLine q (Gens vectors) d m = IsZeroCombination q vectors m d
 ShowsLine q (Dual vectors) d m = IsAcross q vectors d m
 
--- f is not interior to the cone: w is in the dual cone, as v shows, is not 0, and has a product of at most 0 with f
+-- f is not interior to the cone: w is in the dual cone, as v shows, is not 0, and has a product of at most 0 with f; v is a sparse
+-- vector with places among the vectors of the dual form, and empty for the other forms
 pub record ShowsOutside (q : ℕ) (ordering : Cone) (f w : List ℚ) (v : List Spot) : Type 0 where
   pub lengths : length w ≡ q
+  pub vector : IsVector (length (generators (dual_of ordering))) v
   pub not_zero : w ≢ zeros q
   pub cone : ShowsIn (dual_of ordering) w v
   pub sign : dot w f ≤ℚ zero_ℚ

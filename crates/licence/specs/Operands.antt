@@ -18,21 +18,23 @@ use Rattle.tableaux.specs.Dictionary.{IsDictionary, IsDictionaryOf, basic_column
 use Rattle.tableaux.specs.Elimination.{AreInverse, IsClearAt, ray_of}
 use Rattle.lin_rows.specs.Pivot.{IsPivotStep}
 use Rattle.exact_simplex.specs.Ends.{IsSystemStep}
-use Rattle.vlp_reader.specs.Sides.{side_bounds, IsFeasible, IsRecession}
+use Rattle.vlp_reader.specs.Sides.{side_bounds}
 use Rattle.vlp_reader.specs.declared.problem.Problem.{Problem}
 use Rattle.vlp_reader.specs.Values.{cone_vectors}
 use Rattle.upper_image.specs.Spots.{dense, column}
+use Rattle.upper_image.specs.OrderingCone.{dual_of}
 use Rattle.upper_image.specs.UpperImage.{normals, objectives, front}
 use Rattle.deriv_log.specs.declared.entry.Entry.{Entry}
+use Rattle.deriv_log.specs.declared.entry.Entry.TheVariants.{Point, Ray, Whole, Line}
 use Rattle.deriv_log.specs.declared.licence.Program.{Program}
 use Rattle.deriv_log.specs.declared.licence.Program.TheVariants.{Feasible, Benson, Weight, Interior, Pointed}
 use Rattle.deriv_log.specs.declared.licence.Family.{Family}
 use Rattle.deriv_log.specs.declared.licence.Family.TheVariants.{Image, Exchanged, ConeRows}
 use Rattle.log_rules.specs.Live.{State, state, rows_in_use, cut_row}
-use Rattle.lp_form.specs.Programs.{side_total, nonzero_vectors, generators, named_system, feasible_system, benson_system, choice_of, value_of, share_of, full_share_of}
+use Rattle.lp_form.specs.Programs.{side_total, nonzero_vectors, generators, named_system, feasible_system, benson_system, choice_of, value_of, share_of}
 use Rattle.licence.specs.Steps.{operation, IsNumbered, IsProductStep, value_steps, pair_steps, exchange_row, exchange_steps}
 use Rattle.licence.specs.Base.{IsSolutionOff, AreMultipliersOff, AreFirstMultipliersOff, IsRayOff, IsBaseChoice, IsBaseRay, IsBaseRow, IsBaseWeight, IsBaseCut, IsBaseNormal, IsBaseStart, IsConeDirection, IsGeneratorOf, IsLiveAfter, trail_normals, image_of}
-use Rattle.licence.specs.Trails.{IsMuOff, IsBaseWhole}
+use Rattle.licence.specs.Trails.{IsMuOff, IsBaseTrail}
 
 -- the file, the duality vector where it is known, the weights that combine the generators to it, and the whole trail
 pub record Setting : Type 0 where
@@ -194,21 +196,38 @@ pub record AreBensonMultipliers (s : Setting) (y : List ℚ) : Type 0 where
   pub base : IsBaseStart s.file.objs s.trail v t
   pub read : AreMultipliersOff (benson_system s.file c v t) y
 
--- a choice or a ray: a base one, a feasible point or a direction of the feasible set that is read off Benson's program at a base start
--- vector, or that of `whole`
+-- an entry that stands in the trail, or that the trail may take next
+pub data IsTrailEntry (s : Setting) (e : Entry) : Type 0 where
+  there : Contains s.trail e → IsTrailEntry s e
+  next : (c : List ℚ) → Knows s c → IsBaseTrail s.file c s.weights (s.trail ++ e ∷ []) → IsTrailEntry s e
+
+-- x is the choice of an entry, or one of its rays
+abbrev pub IsChoiceOf : Problem → Entry → List ℚ → Type 0
+IsChoiceOf file (Point k x m) y = y ≡ dense file.cols x
+IsChoiceOf file (Ray k x m) y = y ≡ dense file.cols x
+IsChoiceOf file (Whole x ray m) y = (y ≡ dense file.cols x) ⊎ (y ≡ dense file.cols ray)
+IsChoiceOf file (Line d x ray m back n) y = (y ≡ dense file.cols x) ⊎ ((y ≡ dense file.cols ray) ⊎ (y ≡ dense file.cols back))
+IsChoiceOf file _ y = ⊥
+
+-- m are multipliers of the generators that an entry has beside its choice, or beside one of its rays
+abbrev pub AreSharesOf : Problem → Entry → List ℚ → Type 0
+AreSharesOf file (Point k x m) y = y ≡ dense (length (generators file.cone)) m
+AreSharesOf file (Ray k x m) y = y ≡ dense (length (generators file.cone)) m
+AreSharesOf file (Whole x ray m) y = y ≡ dense (length (generators file.cone)) m
+AreSharesOf file (Line d x ray m back n) y = (y ≡ dense (length (generators file.cone)) m) ⊎ (y ≡ dense (length (generators file.cone)) n)
+AreSharesOf file _ y = ⊥
+
+-- a choice or a ray: a base one, or that of an entry that the trail has or may take next
 pub data IsBaseX (s : Setting) (x : List ℚ) : Type 0 where
   choice : IsBaseChoice s.file x → IsBaseX s x
   ray : IsBaseRay s.file x → IsBaseX s x
-  read : (y : List ℚ) → AreBensonMultipliers s y → x ≡ choice_of s.file y → IsFeasible s.file x ⊎ IsRecession s.file x → IsBaseX s x
-  whole : (c : List ℚ) (ray m : List Spot) → Knows s c → IsBaseWhole s.file c ray m → x ≡ dense s.file.cols ray → IsRecession s.file x → IsBaseX s x
+  of_entry : (e : Entry) → IsTrailEntry s e → IsChoiceOf s.file e x → IsBaseX s x
 
--- multipliers of at least 0 of the vectors of the ordering cone: the m beside a choice or of `whole`, the v of a base cut, or the mu of an
--- interior vector
+-- multipliers of the vectors of the ordering cone: the m of an entry that the trail has or may take next, the v of a base cut, which is
+-- one of the dual form's vectors alone, or the mu of an interior vector, which are at least 0
 pub data AreBaseShares (s : Setting) (m : List ℚ) : Type 0 where
-  share : (y : List ℚ) → AreBensonMultipliers s y → m ≡ full_share_of s.file s.file.cone s.weights y → AtLeastZero m → AreBaseShares s m
-  whole : (c : List ℚ) (ray m' : List Spot) → Knows s c → IsBaseWhole s.file c ray m' → m ≡ dense (length (generators s.file.cone)) m' →
-      AtLeastZero m → AreBaseShares s m
-  of_cut : (c w : List ℚ) (u v : List Spot) → Knows s c → IsBaseCut s.file c w u v → m ≡ dense (length (cone_vectors s.file.cone)) v →
+  of_entry : (e : Entry) → IsTrailEntry s e → AreSharesOf s.file e m → AreBaseShares s m
+  of_cut : (c w : List ℚ) (u v : List Spot) → Knows s c → IsBaseCut s.file c w u v → m ≡ dense (length (generators (dual_of s.file.cone))) v →
       AreBaseShares s m
   mu : IsMuOff s.file (length (generators s.file.cone)) m → AtLeastZero m → AreBaseShares s m
 
@@ -281,8 +300,8 @@ pub record IsReadVector (s : Setting) (v : List ℚ) : Type 0 where
       ⊎ (AreFirstMultipliersOff (system_in s program) whole ⊎ IsRayOff (system_in s program) whole))
   pub same : (v ≡ whole) ⊎ ((v ≡ choice_of s.file whole) ⊎ (v ≡ share_of s.file s.file.cone whole))
 
--- a vector that is read off a dictionary of an elimination at a column that no row has, and that is 0 in each row without a column:
--- it has the product 0 with each of the rows
+-- a vector that is read off a dictionary of an elimination at a column that no row has, and that is 0 in each row without a column,
+-- where only columns of the rows are named and none of a unit matrix beside them: it has the product 0 with each of the rows
 pub record IsOrthogonalOff (s : Setting) (v : List ℚ) : Type 0 where
   pub rows : List (List ℚ)
   pub width : ℕ
@@ -293,6 +312,7 @@ pub record IsOrthogonalOff (s : Setting) (v : List ℚ) : Type 0 where
   pub col : ℕ
   pub from_one : 1 ≤ col
   pub to_end : col ≤ width
+  pub within : (i : ℕ) → basic_column basis i ≤ width
   pub free : (i : ℕ) → basic_column basis i ≢ col
   pub clear : IsClearAt basis dictionary col
   pub same : v ≡ ray_of width basis dictionary col

@@ -40,7 +40,7 @@ use Rattle.log_answer.specs.Places.{IsFacetPlace, AreFacetPlaces}
 use Rattle.log_answer.specs.Supplies.{Supplies}
 use Rattle.log_answer.specs.declared.members.Member.{Member}
 use Rattle.log_answer.proofs.FoundMembers.{points_found, directions_found, shown_sorting, shown-ys}
-use Rattle.log_answer.proofs.NamedOnce.{named_once}
+use Rattle.log_rules.proofs.NamedOnce.{named_once}
 use Rattle.log_answer.proofs.Supplied.{holds, front_wide, point_whole, direction_whole}
 use Rattle.log_answer.proofs.TightRows.{point_tight, direction_tight, signed-same}
 

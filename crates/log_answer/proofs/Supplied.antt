@@ -30,7 +30,7 @@ use Rattle.log_live.specs.Live.{numbered_of, HasPreimage, listed}
 use Rattle.log_live.specs.declared.generator.Generator.{Generator}
 use Rattle.log_answer.specs.Members.{last, is_point, IsReached, member, shown_of}
 use Rattle.log_answer.specs.Supplies.{Supplies}
-use Rattle.log_answer.proofs.NamedOnce.{named_once}
+use Rattle.log_rules.proofs.NamedOnce.{named_once}
 
 -- the one pre-image of a list of one or none
 first_listed : (o : Option (List Spot)) → slice_index_or (listed o) 0 [] ≡ unwrap_or o []

@@ -19,6 +19,7 @@ use Rattle.log_rules.specs.declared.answer.Answer.{Answer}
 use Rattle.log_rules.specs.declared.answer.Answer.TheVariants.{Solved}
 use Rattle.log_rules.specs.declared.answer.Gen.{Gen}
 use Rattle.log_rules.specs.declared.answer.Facet.{Facet}
+use Rattle.deriv_log.specs.Formed.{IsLog}
 use Rattle.deriv_log.specs.declared.entry.Entry.{Entry}
 use Rattle.log_rules.specs.Order as order
 
@@ -86,6 +87,10 @@ ProvedIsRight = (file : Problem) (entries : List Entry) (answer : Answer) → Pr
 abbrev pub OneAnswer : Type 0
 OneAnswer = (file : Problem) (entries : List Entry) (answer answer' : Answer) →
     Proves file entries answer → Proves file entries answer' → answer ≡ answer'
+
+-- and a log whose entries meet their rules proves some answer
+abbrev pub SomeAnswer : Type 0
+SomeAnswer = (file : Problem) (entries : List Entry) → IsLog entries → AllMeet file entries → (answer : Answer) × Proves file entries answer
 
 -- two right solutions for one file and one c agree in all but pre-images and dual vectors: in the points, the directions and the
 -- facets, in their order, and in the numbers of tight points and directions

@@ -5,7 +5,7 @@
 ghost use Rattle.log_rules.specs.Examples.{WorkedLogs};
 ghost use Rattle.log_rules.specs.Never.{NeverWrong};
 ghost use Rattle.log_rules.specs.ReportExamples.{WorkedReports};
-ghost use Rattle.log_rules.specs.Laws.{EventsGiveMeets, MeetsGiveEvents, RulesKeepDescription, NumbersStay, SolvedIsReached, SolvedIsSolved, ProvedIsRight, RightSolutionsAgree, FacetsDescribeLowerImage, OneAnswer};
+ghost use Rattle.log_rules.specs.Laws.{EventsGiveMeets, MeetsGiveEvents, RulesKeepDescription, NumbersStay, SolvedIsReached, SolvedIsSolved, ProvedIsRight, RightSolutionsAgree, FacetsDescribeLowerImage, OneAnswer, SomeAnswer};
 
 mod answer;
 mod rule;
@@ -58,6 +58,11 @@ pub fn proved_is_right()
 /// Entries prove one answer only.
 pub fn one_answer()
     ensures { OneAnswer }
+{}
+
+/// A log whose entries meet their rules proves some answer.
+pub fn some_answer()
+    ensures { SomeAnswer }
 {}
 
 /// Two right solutions agree in all but pre-images and dual vectors.

@@ -1,4 +1,5 @@
-use Rattle.std.proofs.Common.{ℕ, List, [], ◌∷◌, ◌++◌, ap, ap₂, sym, ◌∙◌, arith, length, map, subst, ◌<◌}
+use Rattle.std.proofs.Common.{ℕ, ◌+◌, List, [], ◌∷◌, ◌++◌, ap, ap₂, sym, ◌∙◌, arith, append_assoc, length, map, take, drop, subst, ◌<◌, All, Contains}
+use Rattle.std.proofs.lemmas.List.{take-append-drop}
 use Rattle.exact_field.specs.Rational.{ℚ}
 use Rattle.double_descr.specs.State.{State}
 use Rattle.lin_rows.specs.Read.{numbers}
@@ -7,6 +8,7 @@ use Rattle.lin_rows.proofs.Errors.{err_holds}
 use Rattle.licence.specs.Operands.{IsMadeOver}
 use Rattle.licence.proofs.Making.{generator_laws}
 use Rattle.cone_dual.specs.Generators.{AreConeRows}
+use Rattle.cone_dual.proofs.Licences.{front_listed, told_more}
 use Rattle.cone_dual.proofs.Reading.{front_cone, front_is, read_row}
 use Rattle.cone_dual.proofs.dual.add_all.Goals as goal
 
@@ -24,6 +26,25 @@ returns-in_err-add_row-clause-left g c =
     (c.in_err-add_row.ensures.left file
     (subst (λ (n : ℕ). AreConeRows file n (c.loop-k.dd.rows ++ map value c.row.result.now ∷ [])) (sym c.loop-k.invariant.width)
     (subst (AreConeRows file dd.width) (sym so_far) (front_cone file dd.width dd.rows (numbers value list) k within cone))))
+
+pub returns-in_err-add_row-clause-place : goal.returns-in_err-add_row-clause-place
+returns-in_err-add_row-clause-place g c =
+    let value = g.F.Field.value in
+    let list = c.args.rows.now.list in
+    let dd = c.args.dd.now in
+    let k : ℕ = c.loop-k.k in
+    let t = numbers value list in
+    let inside : k < length list = omega (arith, c.loop-k-test.true, c.count-k-end.ensures) in
+    let within : k < length t = omega (arith, inside, numbers_long value list) in
+    let so_far = ap₂ (λ (rs : List (List ℚ)) (r : List ℚ). rs ++ r ∷ []) c.loop-k.invariant.rows (read_row value list k c.row.result.now c.row.ensures.row inside) in
+    let front = so_far ∙ front_is dd.rows t k within in
+    let whole = append_assoc dd.rows (take (k + 1) t) (drop (k + 1) t) ∙ ap (λ (xs : List (List ℚ)). dd.rows ++ xs) (take-append-drop (k + 1) t) in
+    let fault = c.in_err-add_row.field-0.0 in
+    err_holds c.from_residual.result fault _ c.from_residual.ensures.1
+    (told_more (c.loop-k.dd.rows ++ map value c.row.result.now ∷ []) (dd.rows ++ t)
+    (subst (λ (xs : List (List ℚ)). All (Contains (dd.rows ++ t)) xs) (sym front)
+    (subst (λ (xs : List (List ℚ)). All (Contains xs) (dd.rows ++ take (k + 1) t)) whole (front_listed (dd.rows ++ take (k + 1) t) (drop (k + 1) t)))) fault
+    c.in_err-add_row.ensures.place)
 
 pub loop-k-preserved : goal.loop-k-preserved
 loop-k-preserved g c =

@@ -4,7 +4,7 @@ use Rattle.tableaux.proofs.Orthogonal.{not_full}
 use Rattle.lin_rows.specs.Answers.{IsIndep}
 use Rattle.lin_rows.specs.Eliminate.{IsElimFault}
 use Rattle.lin_rows.specs.Read.{numbers}
-use Rattle.cone_dual.proofs.Licences.{elimination_licensed}
+use Rattle.cone_dual.proofs.Licences.{elimination_licensed, elimination_over}
 use Rattle.cone_dual.proofs.dual.basis_of.Goals as goal
 
 pub unreachable-requires : goal.unreachable-requires
@@ -24,3 +24,8 @@ returns-in-Err-clause-left g c =
     λ file cone.
     elimination_licensed holds file value rows.width t c.new.result c.in-Err.fault c.elimination_fault.result c.new.ensures cone
     (subst (λ (n : ℕ). IsElimFault value holds n t c.in-Err.fault) c.width.ensures c.in-Err.ensures.left) c.elimination_fault.ensures.licensed
+
+pub returns-in-Err-clause-place : goal.returns-in-Err-clause-place
+returns-in-Err-clause-place g c =
+    let value = g.F.Field.value in
+    elimination_over value (numbers value c.args.rows.now.list) c.new.result c.in-Err.fault c.elimination_fault.result c.elimination_fault.ensures.told

@@ -1,17 +1,21 @@
-use Rattle.std.proofs.Common.{ℕ, List, ◌++◌, ap, ap₂, sym, ◌∙◌, length, map, subst, ◌≡◌, ◌≤◌, All}
+use Rattle.std.proofs.Common.{ℕ, List, ◌++◌, ap, ap₂, sym, ◌∙◌, length, map, subst, ◌≡◌, ◌≤◌, All, Contains}
 use Rattle.std.proofs.lemmas.List.{length-map}
-use Rattle.std.proofs.lemmas.List.Elements.{All-weaker}
+use Rattle.std.proofs.lemmas.List.Elements.{All-weaker, Contains-append_left}
 use Rattle.exact_field.specs.Rational.{ℚ}
 use Rattle.polyhedra.specs.LiveSteps.{IsLive}
+use Rattle.polyhedra.proofs.Members.{all_of_members}
 use Rattle.tableaux.specs.Table.{row_of}
 use Rattle.lin_rows.specs.Read.{numbers}
 use Rattle.lin_rows.proofs.Building.{numbers_long}
 use Rattle.lin_rows.proofs.Errors.{err_holds}
 use Rattle.licence.specs.Operands.{IsMadeOver}
 use Rattle.cone_dual.specs.Generators.{AreConeRows, AreGenerators, begun_with, others}
-use Rattle.cone_dual.proofs.Licences.{cone_rows-front}
+use Rattle.cone_dual.proofs.Licences.{cone_rows-front, told_more}
 use Rattle.cone_dual.proofs.Reordered.{IsPlace, begun_cone, begun_listed, generators_are, other_places, picked_places, rows_begun}
 use Rattle.cone_dual.proofs.dual.dual_gens.Goals as goal
+
+pub returns-in_err-picks-clause-place : goal.returns-in_err-picks-clause-place
+returns-in_err-picks-clause-place g c = err_holds c.from_residual.result c.in_err-picks.field-0.0 _ c.from_residual.ensures.1 c.in_err-picks.ensures.place
 
 pub returns-in_err-picks-clause-left : goal.returns-in_err-picks-clause-left
 returns-in_err-picks-clause-left g c = λ file cone.
@@ -68,6 +72,39 @@ returns-in_err-add_all-clause-left g c =
     (c.in_err-add_all.ensures.left file
     (subst (λ (n : ℕ). AreConeRows file n (c.in_ok-dd.dd.rows ++ numbers value c.in_ok-more.more.list)) (sym (c.in_ok-dd.ensures.width ∙ c.in_ok-first.ensures.width))
     (subst (AreConeRows file rows.width) (sym all_is) begun)))
+
+pub returns-in_err-dd-clause-place : goal.returns-in_err-dd-clause-place
+returns-in_err-dd-clause-place g c =
+    let value = g.F.Field.value in
+    let rows = c.args.rows.now in
+    let t = numbers value rows.list in
+    let picks : List ℕ = c.in_ok-picks.picks in
+    let first_is = c.in_ok-first.ensures.rows ∙ ap (map (row_of t)) c.as_slice-2.ensures.items in
+    let front = map (row_of t) picks in
+    let more = map (row_of t) (others (length t) picks) in
+    let places = picked_places rows.width t picks c.in_ok-picks.ensures.ok in
+    let all = all_of_members (Contains t) front (λ r k. begun_listed t picks places r (Contains-append_left front more r k)) in
+    let fault = c.in_err-dd.field-0.0 in
+    err_holds c.from_residual-in_err-dd.result fault _ c.from_residual-in_err-dd.ensures.1
+    (told_more (numbers value c.in_ok-first.first.list) t (subst (λ (rs : List (List ℚ)). All (Contains t) rs) (sym first_is) all) fault
+    c.in_err-dd.ensures.place)
+
+pub returns-in_err-add_all-clause-place : goal.returns-in_err-add_all-clause-place
+returns-in_err-add_all-clause-place g c =
+    let value = g.F.Field.value in
+    let rows = c.args.rows.now in
+    let t = numbers value rows.list in
+    let picks : List ℕ = c.in_ok-picks.picks in
+    let first_is = c.in_ok-first.ensures.rows ∙ ap (map (row_of t)) c.as_slice-2.ensures.items in
+    let more_is = c.in_ok-more.ensures.rows ∙ ap (map (row_of t)) (c.as_slice-3.ensures.items ∙ c.in_ok-others.ensures
+    ∙ ap₂ others (c.count.ensures ∙ sym (numbers_long value rows.list)) c.as_slice.ensures.items) in
+    let all_is = ap₂ (λ (a b : List (List ℚ)). a ++ b) (c.in_ok-dd.ensures.rows ∙ first_is) more_is in
+    let places = picked_places rows.width t picks c.in_ok-picks.ensures.ok in
+    let all = all_of_members (Contains t) (begun_with picks t) (begun_listed t picks places) in
+    let fault = c.in_err-add_all.field-0.0 in
+    err_holds c.from_residual-in_err-add_all.result fault _ c.from_residual-in_err-add_all.ensures.1
+    (told_more (c.in_ok-dd.dd.rows ++ numbers value c.in_ok-more.more.list) t (subst (λ (rs : List (List ℚ)). All (Contains t) rs) (sym all_is) all) fault
+    c.in_err-add_all.ensures.place)
 
 pub returns-clause-generators : goal.returns-clause-generators
 returns-clause-generators g c =

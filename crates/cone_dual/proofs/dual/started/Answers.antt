@@ -1,7 +1,7 @@
 use Rattle.std.proofs.Common.{[], refl}
 use Rattle.lin_rows.specs.Read.{numbers}
 use Rattle.overflows.proofs.Starts.{made_of_start}
-use Rattle.cone_dual.proofs.Licences.{elim_rows, overflow_licensed, setting}
+use Rattle.cone_dual.proofs.Licences.{elim_rows, overflow_licensed, setting, start_over}
 use Rattle.cone_dual.proofs.dual.started.Goals as goal
 
 pub returns-in-Ok-clause-made : goal.returns-in-Ok-clause-made
@@ -18,3 +18,9 @@ returns-in-Err-clause-left g c =
     λ file cone.
     overflow_licensed holds file [] c.start_fault.result refl
     (c.start_fault.ensures.licensed (setting file) (elim_rows file rows.width (numbers value rows.list) cone))
+
+pub returns-in-Err-clause-place : goal.returns-in-Err-clause-place
+returns-in-Err-clause-place g c =
+    let value = g.F.Field.value in
+    let rows = c.args.rows.now in
+    start_over value g.F.Field.holds rows.width (numbers value rows.list) c.in-Err.fault c.start_fault.result c.in-Err.ensures.left c.start_fault.ensures.told
