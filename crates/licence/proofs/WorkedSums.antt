@@ -17,7 +17,7 @@ use Rattle.frac128.specs.declared.vectors.Spot.{Spot}
 use Rattle.vlp_reader.specs.Sides.{side_bounds}
 use Rattle.upper_image.specs.UpperImage.{normals, objectives, front}
 use Rattle.upper_image.specs.Spots.{column, dense}
-use Rattle.vlp_printer.specs.Printing.{cone_vectors}
+use Rattle.vlp_reader.specs.Values.{cone_vectors}
 use Rattle.deriv_log.specs.declared.entry.Entry.{Entry}
 use Rattle.deriv_log.specs.declared.entry.Entry.TheVariants.{Point, Ray, Whole, Line}
 use Rattle.deriv_log.specs.declared.licence.Place.TheVariants.{Elim}
