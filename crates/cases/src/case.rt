@@ -1,15 +1,23 @@
 //! The lines of a list.
 use crate::Fault;
-use crate::running::Object;
 use crate::texts::{number, part_fault, text_of};
 use std::alloc::Global;
 use std::rt::Files;
 
 /// One of the two texts that a run is given.
-#[derive(Clone, Copy, Debug, PartialEq, Eq)]
+#[derive(Clone, Copy, Debug)]
 pub(crate) enum Text {
     File,
     Log,
+}
+
+/// One of the four objects that a run is given.
+#[derive(Clone, Copy, Debug, PartialEq, Eq)]
+pub(crate) enum Object {
+    Problem,
+    Log,
+    Out,
+    LogOut,
 }
 
 /// How many cases a line stands for.
@@ -35,10 +43,11 @@ pub(crate) struct Case {
     pub(crate) statuses: Vec<u64>,
     /// The forms of what is written to the output, of which one must fit; none where all do.
     pub(crate) outs: Vec<String>,
-    pub(crate) log_out: Option<String>,
+    /// The same for the log's output.
+    pub(crate) log_outs: Vec<String>,
     pub(crate) mosts: Vec<u64>,
     pub(crate) fails: Vec<(Object, u64)>,
-    pub(crate) sent: Option<u64>,
+    pub(crate) sents: Vec<u64>,
     pub(crate) each: Each,
 }
 
@@ -51,28 +60,24 @@ pub(crate) fn case_of<R: Files + AllocGlobal>(
     let alloc = rt.alloc();
     let mut parts = line.split(" | ");
     let name = parts.next().unwrap_or("");
-    let words = parts.next().unwrap_or("");
     let mut case = Case {
         name: format!(in alloc; "{list}/{name}")?,
-        words: words_of(alloc, words)?,
+        words: words_of(alloc, parts.next().unwrap_or(""))?,
         file: String::new(alloc),
         log: String::new(alloc),
         statuses: Vec::new(alloc),
         outs: Vec::new(alloc),
-        log_out: None,
-        mosts: Vec::new(alloc),
+        log_outs: Vec::new(alloc),
+        mosts: vec![in alloc; 4096]?,
         fails: Vec::new(alloc),
-        sent: None,
+        sents: Vec::new(alloc),
         each: Each::Once,
     };
     for part in parts {
-        let Some((key, value)) = part.split_once('=') else {
-            return Err(part_fault(alloc, part));
-        };
-        put(rt, &mut case, key, value)?;
-    }
-    if case.mosts.is_empty() {
-        case.mosts.push(4096)?;
+        match part.split_once('=') {
+            Some((key, value)) => put(rt, &mut case, key, value)?,
+            None => return Err(part_fault(alloc, part)),
+        }
     }
     Ok(case)
 }
@@ -90,10 +95,10 @@ fn put<R: Files + AllocGlobal>(
         "log" => case.log = text_of(rt, value)?,
         "status" => case.statuses = numbers(alloc, value)?,
         "out" => case.outs.push(text_of(rt, value)?)?,
-        "log_out" => case.log_out = Some(text_of(rt, value)?),
+        "log_out" => case.log_outs.push(text_of(rt, value)?)?,
         "most" => case.mosts = numbers(alloc, value)?,
         "fails" => case.fails = fails_of(alloc, value)?,
-        "sent" => case.sent = Some(number(alloc, value)?),
+        "sent" => case.sents = numbers(alloc, value)?,
         "each" => case.each = each_of(alloc, value)?,
         _ => return Err(part_fault(alloc, key)),
     }
@@ -121,14 +126,14 @@ fn numbers(alloc: Global, value: &str) -> Result<Vec<u64>, Fault> {
 fn fails_of(alloc: Global, value: &str) -> Result<Vec<(Object, u64)>, Fault> {
     let mut list = Vec::new(alloc);
     for part in value.split(',') {
-        let object = match part.split_once(' ') {
-            Some(("problem", call)) => (Object::Problem, number(alloc, call)?),
-            Some(("log", call)) => (Object::Log, number(alloc, call)?),
-            Some(("out", call)) => (Object::Out, number(alloc, call)?),
-            Some(("log_out", call)) => (Object::LogOut, number(alloc, call)?),
+        let (object, call) = match part.split_once(' ') {
+            Some(("problem", call)) => (Object::Problem, call),
+            Some(("log", call)) => (Object::Log, call),
+            Some(("out", call)) => (Object::Out, call),
+            Some(("log_out", call)) => (Object::LogOut, call),
             _ => return Err(part_fault(alloc, part)),
         };
-        list.push(object)?;
+        list.push((object, number(alloc, call)?))?;
     }
     Ok(list)
 }

@@ -1,168 +1,150 @@
 //! What of a run its case does not want.
 use crate::Fault;
 use crate::case::{Case, words_of};
-use crate::running::{Outside, Seen, Texts, printed_log, printed_problem, printed_sample, run_on};
+use crate::running::{Seen, Trial, printed_problem};
 use bensolve_main::Status;
 use src_sink::{Bytes, MemSink};
 use std::alloc::Global;
 
-/// What of a case comes out otherwise on these texts, told in words; none where all is as it wants.
+/// What of a run its case does not want, told in words; none where it wants all of it. Where calls fail, `whole` is the
+/// run in which none does.
 pub(crate) fn finding(
     alloc: Global,
     case: &Case,
-    texts: Texts<'_>,
-    outside: Outside<'_>,
+    trial: Trial<'_>,
+    whole: Option<&Seen>,
 ) -> Result<Option<String>, Fault> {
-    if case
+    if trial
         .words
         .first()
         .is_some_and(|word| word.as_str() == "print")
     {
-        return print_finding(alloc, case, texts);
+        return print_finding(alloc, case, trial);
     }
-    let seen = run_on(alloc, case.words.as_slice(), texts, outside)?;
-    match difference(alloc, case, texts, outside, &seen)? {
-        None => Ok(None),
-        Some(what) => Ok(Some(told(alloc, what, &seen)?)),
+    let seen = trial.seen(alloc)?;
+    let mut found = difference(case, &seen);
+    if let (None, Some(whole)) = (found, whole) {
+        found = front_difference(&seen, whole);
     }
-}
-
-/// The same where `whole` is what the run does without a fault of the outside.
-pub(crate) fn fault_finding(
-    alloc: Global,
-    case: &Case,
-    texts: Texts<'_>,
-    outside: Outside<'_>,
-    whole: &Seen,
-) -> Result<Option<String>, Fault> {
-    let seen = run_on(alloc, case.words.as_slice(), texts, outside)?;
-    let found = match difference(alloc, case, texts, outside, &seen)? {
-        None => front_difference(&seen, whole),
-        found => found,
-    };
+    if let (None, [command, _, _], Status::Done) = (found, trial.words, &seen.status)
+        && command.as_str() == "solve"
+    {
+        found = solved_difference(alloc, trial, &seen)?;
+    }
     match found {
         None => Ok(None),
-        Some(what) => Ok(Some(told(alloc, what, &seen)?)),
+        Some(what) => {
+            let (code, text) = (seen.status.code(), text_in(&seen.out));
+            Ok(Some(format!(in alloc; "{what}: status {code}, {text:?}")?))
+        }
     }
 }
 
-/// What differs, with the status and the output of the run.
-fn told(alloc: Global, what: &str, seen: &Seen) -> Result<String, Fault> {
-    let code = seen.status.code();
-    let text = text_in(&seen.out);
-    Ok(format!(in alloc; "{what}: status {code}, {text:?}")?)
+/// The name of the first claim that does not hold.
+fn first_wrong(claims: &[(bool, &'static str)]) -> Option<&'static str> {
+    claims.iter().find(|claim| !claim.0).map(|claim| claim.1)
 }
 
-/// What a sink holds, as text.
-fn text_in(sink: &MemSink) -> &str {
-    core::str::from_utf8(sink.contents()).unwrap_or("no text")
-}
-
-/// What of a run is not as its case wants.
-fn difference(
-    alloc: Global,
-    case: &Case,
-    texts: Texts<'_>,
-    outside: Outside<'_>,
-    seen: &Seen,
-) -> Result<Option<&'static str>, Fault> {
+/// What of a run is not as its line says, or not of the form that its status has.
+fn difference(case: &Case, seen: &Seen) -> Option<&'static str> {
     let code = u64::from(seen.status.code());
-    if !case.statuses.contains(&code) {
-        return Ok(Some("the status"));
-    }
-    if !has_its_form(alloc, seen)? {
-        return Ok(Some("what comes with the status"));
-    }
-    if case.statuses.first() == Some(&code) {
-        if !fits_one(case.outs.as_slice(), text_in(&seen.out)) {
-            return Ok(Some("the output"));
-        }
-        if let Some(form) = &case.log_out
-            && !fits(form.as_str(), text_in(&seen.log_out))
-        {
-            return Ok(Some("the log"));
-        }
-    }
-    if let Some(wanted) = case.sent
-        && let Status::WriteFault { sent, .. } = &seen.status
-        && wanted != *sent
-    {
-        return Ok(Some("the bytes that were sent"));
-    }
-    match (case.words.as_slice(), &seen.status) {
-        ([command, _, _], Status::Done) if command.as_str() == "solve" => {
-            solved_difference(alloc, texts, outside, seen)
-        }
-        _ => Ok(None),
-    }
+    let (out, log_out) = (text_in(&seen.out), text_in(&seen.log_out));
+    let is_first = case.statuses.first() == Some(&code);
+    let is_sent = match &seen.status {
+        Status::WriteFault { sent, .. } => case.sents.is_empty() || case.sents.contains(sent),
+        _ => true,
+    };
+    first_wrong(&[
+        (case.statuses.contains(&code), "the status"),
+        (has_its_form(seen), "what comes with the status"),
+        (
+            !is_first || fits_one(case.outs.as_slice(), out),
+            "the output",
+        ),
+        (
+            !is_first || fits_one(case.log_outs.as_slice(), log_out),
+            "the log",
+        ),
+        (is_sent, "the bytes that were sent"),
+    ])
 }
 
-/// Whether what was written has the form that its status says.
-fn has_its_form(alloc: Global, seen: &Seen) -> Result<bool, Fault> {
-    let (out, log_out) = (seen.out.contents(), seen.log_out.contents());
+/// Whether what was written has the form that the status says.
+fn has_its_form(seen: &Seen) -> bool {
+    let (out, log_out) = (text_in(&seen.out), text_in(&seen.log_out));
     match &seen.status {
-        Status::Done => Ok(true),
+        Status::Done => true,
         Status::Words | Status::NoMemory | Status::ReadFault { .. } => {
-            Ok(out.is_empty() && log_out.is_empty())
+            out.is_empty() && log_out.is_empty()
         }
         Status::WriteFault { log: false, sent } => {
-            Ok(log_out.is_empty() && usize::try_from(*sent) == Ok(out.len()))
+            log_out.is_empty() && usize::try_from(*sent) == Ok(out.len())
         }
-        Status::WriteFault { log: true, sent } => Ok(usize::try_from(*sent) == Ok(log_out.len())),
+        Status::WriteFault { log: true, sent } => usize::try_from(*sent) == Ok(log_out.len()),
         _ => {
-            let code = seen.status.code();
-            let front = format!(in alloc; "fault {code} ")?;
-            Ok(log_out.is_empty() && out.starts_with(front.as_bytes()) && out.ends_with(b"\n"))
+            let code = out
+                .strip_prefix("fault ")
+                .and_then(|rest| rest.split_once(' '));
+            let told = code.and_then(|(word, _)| word.parse().ok());
+            log_out.is_empty() && told == Some(seen.status.code()) && out.ends_with('\n')
         }
     }
+}
+
+/// What differs where what was written is no front of what is written without a fault, or not the whole though no call
+/// failed before its end.
+fn front_difference(seen: &Seen, whole: &Seen) -> Option<&'static str> {
+    let (out, log_out) = (seen.out.contents(), seen.log_out.contents());
+    let (all, all_log) = (whole.out.contents(), whole.log_out.contents());
+    let (may_lack, may_lack_log) = match &seen.status {
+        Status::ReadFault { .. } | Status::WriteFault { log: false, .. } => (true, true),
+        Status::WriteFault { log: true, .. } => (false, true),
+        _ => (false, false),
+    };
+    first_wrong(&[
+        (
+            all.starts_with(out) && all_log.starts_with(log_out),
+            "a front of the text",
+        ),
+        (may_lack || out == all, "the whole output"),
+        (may_lack_log || log_out == all_log, "the whole log"),
+    ])
 }
 
 /// What differs where `check` reads the log that was written, or where no log is named.
 fn solved_difference(
     alloc: Global,
-    texts: Texts<'_>,
-    outside: Outside<'_>,
+    trial: Trial<'_>,
     seen: &Seen,
 ) -> Result<Option<&'static str>, Fault> {
-    let calm = Outside {
-        most: outside.most,
-        fails: &[],
-    };
-    let log = seen.log_out.contents();
-    let again = Texts {
-        file: texts.file,
-        log,
-    };
     let words = words_of(alloc, "check file log")?;
-    let checked = run_on(alloc, words.as_slice(), again, calm)?;
-    if checked.status.code() != 0 || checked.out.contents() != seen.out.contents() {
-        return Ok(Some("what the log proves"));
+    let checked = Trial {
+        words: words.as_slice(),
+        log: seen.log_out.contents(),
+        fails: &[],
+        ..trial
     }
+    .seen(alloc)?;
     let words = words_of(alloc, "solve file")?;
-    let unlogged = run_on(alloc, words.as_slice(), texts, calm)?;
-    if unlogged.status.code() != 0 || unlogged.out.contents() != seen.out.contents() {
-        return Ok(Some("the output without a log"));
+    let unlogged = Trial {
+        words: words.as_slice(),
+        fails: &[],
+        ..trial
     }
-    Ok(None)
+    .seen(alloc)?;
+    Ok(first_wrong(&[
+        (is_same_report(&checked, seen), "what the log proves"),
+        (is_same_report(&unlogged, seen), "the output without a log"),
+    ]))
 }
 
-/// What differs where what was written is no front of what is written without a fault.
-fn front_difference(seen: &Seen, whole: &Seen) -> Option<&'static str> {
-    let (out, log_out) = (seen.out.contents(), seen.log_out.contents());
-    let is_out_whole = out == whole.out.contents();
-    let is_log_whole = log_out == whole.log_out.contents();
-    let is_well = match &seen.status {
-        Status::ReadFault { .. } | Status::WriteFault { log: false, .. } => true,
-        Status::WriteFault { log: true, .. } => is_out_whole,
-        _ => is_out_whole && is_log_whole,
-    };
-    let are_fronts = whole.out.contents().starts_with(out)
-        && whole.log_out.contents().starts_with(log_out);
-    if is_well && are_fronts {
-        None
-    } else {
-        Some("a front of the text")
-    }
+fn is_same_report(seen: &Seen, other: &Seen) -> bool {
+    matches!(&seen.status, Status::Done) && seen.out.contents() == other.out.contents()
+}
+
+/// What a sink holds, as text.
+fn text_in(sink: &MemSink) -> &str {
+    core::str::from_utf8(sink.contents()).unwrap_or("no text")
 }
 
 /// Whether a text has one of these forms, or none is given.
@@ -189,24 +171,25 @@ fn fits(form: &str, text: &str) -> bool {
 }
 
 /// What of a printed text is not as its case wants.
-fn print_finding(alloc: Global, case: &Case, texts: Texts<'_>) -> Result<Option<String>, Fault> {
-    let printed = match case.words.as_slice() {
-        [_, what] if what.as_str() == "problem" => printed_problem(alloc, texts.file),
-        [_, what] if what.as_str() == "log" => printed_log(alloc, texts.log),
-        [_, _, number] => printed_sample(alloc, number.as_str()),
-        _ => None,
-    };
-    let Some(printed) = printed else {
+fn print_finding(alloc: Global, case: &Case, trial: Trial<'_>) -> Result<Option<String>, Fault> {
+    let Some(printed) = trial.printed(alloc) else {
         return Ok(Some(String::from_str(alloc, "it is refused")?));
     };
     let text = core::str::from_utf8(printed.as_slice()).unwrap_or("no text");
-    if !fits_one(case.outs.as_slice(), text) {
-        return Ok(Some(format!(in alloc; "the text: {text:?}")?));
-    }
-    let is_problem = case.words.get(1).is_some_and(|word| word.as_str() != "log");
     let again = printed_problem(alloc, printed.as_slice());
-    if is_problem && again.as_ref().map(Bytes::as_slice) != Some(printed.as_slice()) {
-        return Ok(Some(String::from_str(alloc, "what is printed of it again")?));
+    let is_log = trial
+        .words
+        .get(1)
+        .is_some_and(|word| word.as_str() == "log");
+    let found = first_wrong(&[
+        (fits_one(case.outs.as_slice(), text), "the text"),
+        (
+            is_log || again.as_ref().map(Bytes::as_slice) == Some(printed.as_slice()),
+            "what is printed of it again",
+        ),
+    ]);
+    match found {
+        None => Ok(None),
+        Some(what) => Ok(Some(format!(in alloc; "{what}: {text:?}")?)),
     }
-    Ok(None)
 }

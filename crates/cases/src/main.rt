@@ -17,13 +17,13 @@
 //!
 //! A TEXT of these is `@PATH`, a file below `data`; or `@PATH:NUMBER LINES`, the same with other lines in place of one, or without
 //! it; or it stands there itself, with ` / ` for each end of a line but the last, which ends too, unless the text ends
-//! with `\`. In it `\r` and `\t` are a carriage return and a tab, and `\NxTEXT` is TEXT N times, to the end of the line.
+//! with `\`. In it `\r` and `\t` are a carriage return and a tab, and `\NxB` is N times the byte B, before the end of a line or a `\`.
 //!
 //! | `each` | The cases |
 //! |---|---|
 //! | `fronts of file`, `fronts of log` | with each front of that text in its place |
 //! | `nines of file`, `nines of log` | with each of its bytes changed to `9`, one at a time |
-//! | `calls` | with the call 1 to 20 failing of each object; status 7 where a source failed and 8 where a sink did, or all as without a fault |
+//! | `calls` | with each of the calls 1 to 20 of each object failing, where what is written is a front of what is written without a fault |
 //!
 //! An object that the words do not name fails at its first call. Of every case the program tries that fault lines begin with their
 //! status, that nothing is written with the statuses 2, 6 and 7, and to the log's output only behind a report, and that `sent` is
@@ -36,9 +36,9 @@ mod judging;
 mod running;
 mod texts;
 
-use case::{Case, Each, Text, case_of};
-use judging::{fault_finding, finding};
-use running::{Object, Outside, Texts, is_named, run_on};
+use case::{Case, Each, Object, case_of};
+use judging::finding;
+use running::{Seen, Trial};
 use src_sink::NoMemory;
 use std::alloc::{AllocError, AllocFailed};
 use std::rt::Files;
@@ -86,108 +86,73 @@ struct Tally {
 }
 
 impl Tally {
-    /// Counts one more, at this place of its line, and prints what of it comes out otherwise.
-    fn count(
+    /// Runs one more case, of this number in its line, and prints what of it comes out otherwise.
+    fn run(
         &mut self,
-        rt: &impl Print,
+        rt: &(impl Print + AllocGlobal),
         case: &Case,
-        place: usize,
-        found: Option<String>,
+        trial: Trial<'_>,
+        number: usize,
+        whole: Option<&Seen>,
     ) -> Result<(), Fault> {
         self.cases = self.cases.saturating_add(1);
-        if let Some(what) = found {
+        if let Some(what) = finding(rt.alloc(), case, trial, whole)? {
             let name = &case.name;
-            println!(rt; "{name}, {place}: {what}")?;
+            println!(rt; "{name}, {number}: {what}")?;
         }
         Ok(())
     }
 }
 
-/// Runs a case with each front of a text in its place.
-fn run_fronts(
+/// Runs the cases of a line in which the outside moves so many bytes a call.
+fn run_each(
     rt: &(impl Print + AllocGlobal),
     case: &Case,
-    texts: Texts<'_>,
-    outside: Outside<'_>,
-    which: Text,
+    trial: Trial<'_>,
     tally: &mut Tally,
 ) -> Result<(), Fault> {
-    let text = texts.text(which);
-    for end in 0..text.len() {
-        let changed = texts.with(which, &text[..end]);
-        let found = finding(rt.alloc(), case, changed, outside)?;
-        tally.count(rt, case, end, found)?;
-    }
-    Ok(())
-}
-
-/// Runs a case with each byte of a text changed to `9`, one at a time.
-fn run_nines(
-    rt: &(impl Print + AllocGlobal),
-    case: &Case,
-    texts: Texts<'_>,
-    outside: Outside<'_>,
-    which: Text,
-    tally: &mut Tally,
-) -> Result<(), Fault> {
-    let text = texts.text(which);
-    for at in 0..text.len() {
-        let mut bytes = text.to_vec(rt.alloc())?;
-        if let Some(byte) = bytes.get_mut(at) {
-            *byte = b'9';
+    match case.each {
+        Each::Once => tally.run(rt, case, trial, 0, None),
+        Each::Fronts(which) => {
+            let text = trial.text(which);
+            for end in 0..text.len() {
+                tally.run(rt, case, trial.with(which, &text[..end]), end, None)?;
+            }
+            Ok(())
         }
-        let changed = texts.with(which, bytes.as_slice());
-        let found = finding(rt.alloc(), case, changed, outside)?;
-        tally.count(rt, case, at, found)?;
+        Each::Nines(which) => {
+            let text = trial.text(which);
+            for at in 0..text.len() {
+                let mut bytes = text.to_vec(rt.alloc())?;
+                if let Some(byte) = bytes.get_mut(at) {
+                    *byte = b'9';
+                }
+                tally.run(rt, case, trial.with(which, bytes.as_slice()), at, None)?;
+            }
+            Ok(())
+        }
+        Each::Calls => run_calls(rt, case, trial, tally),
     }
-    Ok(())
 }
 
 /// Runs a case with each of the first 20 calls of each object that its words name failing.
 fn run_calls(
     rt: &(impl Print + AllocGlobal),
     case: &Case,
-    texts: Texts<'_>,
-    outside: Outside<'_>,
+    trial: Trial<'_>,
     tally: &mut Tally,
 ) -> Result<(), Fault> {
-    let words = case.words.as_slice();
-    let whole = run_on(rt.alloc(), words, texts, outside)?;
+    let whole = trial.seen(rt.alloc())?;
     for object in [Object::Problem, Object::Log, Object::Out, Object::LogOut] {
-        if is_named(words, object) {
-            for call in 1..21 {
-                let fails = [(object, call)];
-                let failing = Outside {
-                    most: outside.most,
+        if trial.names(object) {
+            for call in 1..21u8 {
+                let fails = [(object, u64::from(call))];
+                let failing = Trial {
                     fails: &fails,
+                    ..trial
                 };
-                let found = fault_finding(rt.alloc(), case, texts, failing, &whole)?;
-                tally.count(rt, case, 0, found)?;
+                tally.run(rt, case, failing, usize::from(call), Some(&whole))?;
             }
-        }
-    }
-    Ok(())
-}
-
-/// Runs all cases of a line.
-fn run_case(rt: &(impl Print + AllocGlobal), case: &Case, tally: &mut Tally) -> Result<(), Fault> {
-    let texts = Texts {
-        file: case.file.as_bytes(),
-        log: case.log.as_bytes(),
-    };
-    for most in case.mosts.as_slice() {
-        let outside = Outside {
-            most: *most,
-            fails: case.fails.as_slice(),
-        };
-        match case.each {
-            Each::Once => {
-                let found = finding(rt.alloc(), case, texts, outside)?;
-                tally.count(rt, case, 0, found)?;
-            }
-            Each::Fronts(which) => run_fronts(rt, case, texts, outside, which, tally)?,
-            Each::Nines(which) => run_nines(rt, case, texts, outside, which, tally)?,
-            Each::Calls => run_calls(rt, case, texts, outside, tally)?,
         }
     }
     Ok(())
@@ -203,7 +168,17 @@ fn run_list<R: Files + Print + AllocGlobal>(
     let lines = fs::read_to_string(rt, path.as_str())?;
     for line in lines.lines() {
         if !line.is_empty() && !line.starts_with('#') {
-            run_case(rt, &case_of(rt, list, line)?, tally)?;
+            let case = case_of(rt, list, line)?;
+            for most in case.mosts.as_slice() {
+                let trial = Trial {
+                    words: case.words.as_slice(),
+                    file: case.file.as_bytes(),
+                    log: case.log.as_bytes(),
+                    most: *most,
+                    fails: case.fails.as_slice(),
+                };
+                run_each(rt, &case, trial, tally)?;
+            }
         }
     }
     Ok(())

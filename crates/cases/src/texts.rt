@@ -73,10 +73,12 @@ fn push_line(alloc: Global, out: &mut String, line: &str) -> Result<(), Fault> {
         } else if let Some(rest) = piece.strip_prefix('t') {
             out.push('\t')?;
             out.push_str(rest)?;
-        } else if let Some((count, rest)) = piece.split_once('x') {
-            for _ in 0..number(alloc, count)? {
-                out.push_str(rest)?;
-            }
+        } else if let Some((count, rest)) = piece.split_once('x')
+            && let [byte] = rest.as_bytes()
+        {
+            let count = usize::try_from(number(alloc, count)?).unwrap_or(0);
+            let bytes = vec![in alloc; *byte; count]?;
+            out.push_str(core::str::from_utf8(bytes.as_slice()).unwrap_or(""))?;
         } else {
             return Err(part_fault(alloc, line));
         }
