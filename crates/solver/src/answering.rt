@@ -3,7 +3,7 @@ ghost use Rattle.std.specs.Prelude.{◌≡◌, IfOk, IfErr, OnOk, IsTrue};
 ghost use Rattle.frac128.specs.Held.{is_held};
 ghost use Rattle.cone_rules.specs.Faults.{IsSound};
 ghost use Rattle.lp_form.specs.Data.{IsDataOf, RefusesNumber};
-ghost use Rattle.benson_primal.specs.Logs.{IsOwnLog};
+ghost use Rattle.benson_primal.specs.Logs.{IsOwnLogAnyhow};
 ghost use Rattle.solver.specs.Solving.{IsSolutionOf, EndsIn, EndsSolving};
 
 use crate::end::{Solution, SolveEnd};
@@ -51,7 +51,7 @@ fn data_of(alloc: Global, problem: &Problem) -> Result<Data<Frac>, NoMemory>
 /// The answer of a log that meets its rules.
 fn checked(alloc: Global, problem: &Problem, entries: Entries) -> Result<Solution, SolveEnd>
     requires sound { IsSound problem.now }
-    requires own { IsOwnLog is_held problem.now entries }
+    requires own { IsOwnLogAnyhow is_held problem.now entries }
     ensures ok { IfOk result (IsSolutionOf problem.now) }
     ensures end { IfErr result (EndsSolving problem.now) }
 {
@@ -70,7 +70,7 @@ pub fn log_of<F: Field>(
     requires same { file ≡ problem.now }
     requires stands { IsDataOf F.value file form.now }
     ensures sound { OnOk result (IsSound file) }
-    ensures own { IfOk result (IsOwnLog F.holds file) }
+    ensures own { IfOk result (IsOwnLogAnyhow F.holds file) }
     ensures end { IfErr result (EndsIn F.holds file) }
 {
     let duality = cone_facts(alloc, form)?;
