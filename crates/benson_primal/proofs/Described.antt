@@ -1,5 +1,5 @@
 -- Logs and licences of the task of a file.
-use Rattle.std.proofs.Common.{◌≡◌, ◌≤◌, ◌<◌, ℕ, suc, List, [], map, length, refl, sym, ap, ◌∙◌, subst, arith, inl, Bool, Result, Ok, Err}
+use Rattle.std.proofs.Common.{◌≡◌, ℕ, List, map, length, refl, sym, ap, ◌∙◌, subst, arith, Bool, Result, Ok, Err}
 use Rattle.std.specs.Prelude.{IfOk}
 use Rattle.std.proofs.lemmas.List.{length-map}
 use Rattle.frac128.specs.declared.vectors.Spot.{Spot}
@@ -8,6 +8,7 @@ use Rattle.upper_image.specs.Shows.{ShowsFitting}
 use Rattle.upper_image.specs.Spots.{dense, IsVector}
 use Rattle.deriv_log.specs.declared.entry.Entry.TheVariants.{Duality as Line}
 use Rattle.log_rules.specs.Meets.{MeetsFarkas}
+use Rattle.log_rules.proofs.SomeAnswer.{some_answer}
 use Rattle.lp_form.specs.Programs.{side_total, feasible_system}
 use Rattle.licence.specs.Base.{IsBaseChoice, IsRayOff}
 use Rattle.licence.specs.Trails.{IsBaseDuality}
@@ -19,7 +20,7 @@ use Rattle.outer_approx.specs.Unstarted.{IsReadWhole, ShowsWhole}
 use Rattle.exact_field.specs.Rational.{ℚ}
 use Rattle.vlp_reader.specs.declared.problem.Problem.{Problem}
 use Rattle.deriv_log.specs.declared.entry.Entry.{Entry}
-use Rattle.licence.specs.Licence.{Completes, IsHeldDuality, IsPossible, Licensed, LicensedAnyhow, StandsFor}
+use Rattle.licence.specs.Licence.{Completes, IsHeldDuality, IsPossible, Licensed, StandsFor}
 use Rattle.licence.proofs.Growing.{trail_laws}
 use Rattle.licence.proofs.Without.{licence_laws}
 use Rattle.overflows.specs.Faults.{OnLicence, Overflows, with_trail}
@@ -45,6 +46,10 @@ module _ {F : Type 0} (value : F → ℚ) (holds : ℚ → Bool) (file : Problem
 
   at : (P : List ℚ → List ℚ → Type 0) → P (map value d.c) (map value d.weights) → P (map value c) (map value weights)
   at P k = subst (λ (l : List F). P (map value l) (map value weights)) (sym c_is) (subst (λ (l : List F). P (map value d.c) (map value l)) (sym weights_is) k)
+
+  -- and what holds with these lists holds with those that were handed
+  pub handed : (P : List ℚ → List ℚ → Type 0) → P task.c task.weights → P (map value d.c) (map value d.weights)
+  handed P k = subst (λ (l : List F). P (map value d.c) (map value l)) weights_is (subst (λ (l : List F). P (map value l) (map value weights)) c_is k)
 
   pub opens : d.entry ≡ Line (map value c) (map value weights) h.picks h.inverse
   opens = at (λ c' weights'. d.entry ≡ Line c' weights' h.picks h.inverse) h.entry_is
@@ -81,9 +86,11 @@ pub possible : (holds : ℚ → Bool) (task : Task) → IsFitting holds task →
 possible holds task h =
     record { picks = h.picks; inverse = h.inverse; held = h.held; trail = trail_laws.opened task.file task.c task.weights h.picks h.inverse h.fits h.base }
 
-pub own_log : (holds : ℚ → Bool) (task : Task) → IsFitting holds task → (log : List Entry) → IsEnded task log → IsOwnLog holds task.file log
+pub own_log : (holds : ℚ → Bool) (task : Task) → IsFitting holds task → (log : List Entry) → IsEnded task log →
+    IsOwnLog holds task.file task.c task.weights log
 own_log holds task h log e =
-    record { log = e.log; meet = e.base.meet; c = task.c; weights = task.weights; possible = possible holds task h; base = e.base }
+    let proved = some_answer task.file log e.log e.base.meet in
+    record { log = e.log; meet = e.base.meet; answer = proved.0; gives = proved.1.gives; possible = possible holds task h; base = e.base }
 
 -- an overflow behind an open trail, which is that of its licence
 pub licensed : (holds : ℚ → Bool) (task : Task) → IsFitting holds task → (trail : List Entry) (fault : SolveFault) → OnLicence fault (λ licence. IsOpenTrail task trail) →
@@ -95,11 +102,8 @@ licensed holds task h trail (Left licence) open_trail (own, overflow) =
     overflow
 licensed holds task h trail NoMemory open_trail o = tt
 
-pub anyhow : (holds : ℚ → Bool) (file : Problem) (c : List ℚ) (fault : SolveFault) → OnLicence fault (Licensed holds file c) → OnLicence fault (LicensedAnyhow holds file)
-anyhow holds file c (Left licence) h = inl (c, h)
-anyhow holds file c NoMemory h = tt
-
-pub own_ok : (holds : ℚ → Bool) (task : Task) → IsFitting holds task → (r : Result (List Entry) SolveFault) → IfOk r (IsEnded task) → IfOk r (IsOwnLog holds task.file)
+pub own_ok : (holds : ℚ → Bool) (task : Task) → IsFitting holds task → (r : Result (List Entry) SolveFault) → IfOk r (IsEnded task) →
+    IfOk r (IsOwnLog holds task.file task.c task.weights)
 own_ok holds task h (Ok log) e = own_log holds task h log e
 own_ok holds task h (Err fault) e = tt
 

@@ -4,20 +4,26 @@ use Rattle.exact_field.specs.Rational.{ℚ}
 use Rattle.vlp_reader.specs.declared.problem.Problem.{Problem}
 use Rattle.deriv_log.specs.Formed.{IsLog}
 use Rattle.deriv_log.specs.declared.entry.Entry.{Entry}
-use Rattle.log_rules.specs.Proves.{AllMeet}
+use Rattle.log_rules.specs.Proves.{AllMeet, Gives}
+use Rattle.log_rules.specs.declared.answer.Answer.{Answer}
 use Rattle.licence.specs.Licence.{IsPossible}
 use Rattle.licence.specs.Trails.{IsBaseTrail}
 use Rattle.deriv_log.specs.declared.entry.Entry.TheVariants.{Duality}
 use Rattle.outer_approx.specs.Task.{Task}
 
--- the entries are a log of which each meets its rules, and a base trail for a duality vector that is possible
-pub record IsOwnLog (holds : ℚ → Bool) (file : Problem) (entries : List Entry) : Type 0 where
+-- the entries are a log of which each meets its rules, so that they prove an answer; and a base trail for this duality vector and these
+-- weights, which are possible
+pub record IsOwnLog (holds : ℚ → Bool) (file : Problem) (c weights : List ℚ) (entries : List Entry) : Type 0 where
   pub log : IsLog entries
   pub meet : AllMeet file entries
-  pub c : List ℚ
-  pub weights : List ℚ
+  pub answer : Answer
+  pub gives : Gives file entries answer
   pub possible : IsPossible holds file c weights
   pub base : IsBaseTrail file c weights entries
+
+-- .. for some duality vector and weights
+abbrev pub IsOwnLogAnyhow : (ℚ → Bool) → Problem → List Entry → Type 0
+IsOwnLogAnyhow holds file entries = (c weights : List ℚ) × IsOwnLog holds file c weights entries
 
 -- the task of a file with the duality vector of this entry
 abbrev pub task_of : Problem → Entry → Task

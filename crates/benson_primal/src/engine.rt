@@ -6,7 +6,7 @@ ghost use Rattle.benson_program.specs.Wholes.{IsWholeOf};
 ghost use Rattle.cone_dual.specs.Fitting.{IsDualityOf};
 ghost use Rattle.deriv_log.specs.declared.entry.Entry.TheVariants as entry_of;
 ghost use Rattle.licence.specs.Base.{IsBaseChoice};
-ghost use Rattle.licence.specs.Licence.{Licensed, LicensedAnyhow};
+ghost use Rattle.licence.specs.Licence.{Licensed};
 ghost use Rattle.licence.specs.Trails.{IsBaseDuality};
 ghost use Rattle.lp_form.specs.Data.{IsDataOf};
 ghost use Rattle.overflows.specs.Faults.{OnLicence, Overflows};
@@ -139,8 +139,8 @@ fn primal_with<F: Field>(
     ghost file: { File }
     requires stands { IsDataOf F.value file form.now }
     requires duality { IsDualityOf F.value F.holds file duality }
-    ensures ok { IfOk result (IsOwnLog F.holds file) }
-    ensures left { IfErr result (λ fault. OnLicence fault (LicensedAnyhow F.holds file)) }
+    ensures ok { IfOk result (IsOwnLog F.holds file (map F.value duality.c) (map F.value duality.weights)) }
+    ensures left { IfErr result (λ fault. OnLicence fault (Licensed F.holds file (map F.value duality.c))) }
 {
     let Duality { c, weights, entry } = duality;
     let c = c.as_slice();
@@ -164,8 +164,8 @@ pub fn primal<F: Field>(
     ghost file: { File }
     requires stands { IsDataOf F.value file form.now }
     requires duality { IsDualityOf F.value F.holds file duality }
-    ensures ok { IfOk result (IsOwnLog F.holds file) }
-    ensures left { IfErr result (λ fault. OnLicence fault (LicensedAnyhow F.holds file)) }
+    ensures ok { IfOk result (IsOwnLog F.holds file (map F.value duality.c) (map F.value duality.weights)) }
+    ensures left { IfErr result (λ fault. OnLicence fault (Licensed F.holds file (map F.value duality.c))) }
 {
     let mut kept = Kept::new();
     primal_with(alloc, form, duality, &mut kept)

@@ -6,4 +6,3 @@ mod nearby;
 mod search;
 
 pub use engine::primal;
-pub use search::directions;

@@ -310,7 +310,7 @@ pub(crate) fn approximate<F: Field>(
 /// Asks at the live directions, and brings the cuts that they violate into use, until each has a pre-image in the log, so that they
 /// are the extreme directions of the image's recession cone. `reached` is the set of the generators with a pre-image, and `kept` what
 /// is kept of the last program. After want of memory the trail is of no use.
-pub fn directions<F: Field>(
+pub(crate) fn directions<F: Field>(
     alloc: Global,
     form: &Data<F>,
     c: &[F],

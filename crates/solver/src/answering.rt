@@ -3,7 +3,7 @@ ghost use Rattle.std.specs.Prelude.{◌≡◌, IfOk, IfErr, OnOk, IsTrue};
 ghost use Rattle.frac128.specs.Held.{is_held};
 ghost use Rattle.cone_rules.specs.Faults.{IsSound};
 ghost use Rattle.lp_form.specs.Data.{IsDataOf, RefusesNumber};
-ghost use Rattle.benson_primal.specs.Logs.{IsOwnLog};
+ghost use Rattle.benson_primal.specs.Logs.{IsOwnLogAnyhow};
 ghost use Rattle.solver.specs.Solving.{IsSolutionOf, EndsIn, EndsSolving};
 
 use crate::end::{Solution, SolveEnd};
@@ -59,7 +59,7 @@ pub fn log_of<F: Field>(
     requires same { file ≡ problem.now }
     requires stands { IsDataOf F.value file form.now }
     ensures sound { OnOk result (IsSound file) }
-    ensures own { IfOk result (IsOwnLog F.holds file) }
+    ensures own { IfOk result (IsOwnLogAnyhow F.holds file) }
     ensures end { IfErr result (EndsIn F.holds file) }
 {
     let duality = cone_facts(alloc, form)?;

@@ -1,7 +1,9 @@
 use Rattle.std.proofs.Common.{rules, sym, subst}
+use Rattle.std.specs.Prelude.{IfOk}
 use Rattle.outer_approx.specs.Standing.{IsEnded}
 use Rattle.recession.specs.First.{AreFirstCuts, IsFirst}
-use Rattle.benson_primal.proofs.Described.{base, fits, fitting, known, opens, own_log, own_ok, task, task_is}
+use Rattle.benson_primal.specs.Logs.{IsOwnLog}
+use Rattle.benson_primal.proofs.Described.{base, fits, fitting, handed, known, opens, own_log, own_ok, task, task_is}
 use Rattle.benson_primal.proofs.engine.primal_with.Goals as goal
 
 pub returns-in-Infeasible-clause-ok : goal.returns-in-Infeasible-clause-ok
@@ -13,8 +15,10 @@ returns-in-Infeasible-clause-ok g c =
     let cs = c.as_slice-c.result.now in
     let ws = c.as_slice-weights.result.now in
     let t = task value holds g.file d h cs ws c.as_slice-c.ensures.items c.as_slice-weights.ensures.items in
-    own_log holds t (fitting value holds g.file d h cs ws c.as_slice-c.ensures.items c.as_slice-weights.ensures.items)
-    c.in_ok-contradiction_log-in-Infeasible.field-0 (c.in_ok-contradiction_log-in-Infeasible.ensures t.c t.weights)
+    let log = c.in_ok-contradiction_log-in-Infeasible.field-0 in
+    handed value holds g.file d h cs ws c.as_slice-c.ensures.items c.as_slice-weights.ensures.items (λ c' weights'. IsOwnLog holds g.file c' weights' log)
+    (own_log holds t (fitting value holds g.file d h cs ws c.as_slice-c.ensures.items c.as_slice-weights.ensures.items) log
+    (c.in_ok-contradiction_log-in-Infeasible.ensures t.c t.weights))
 
 pub returns-in-Whole-clause-ok : goal.returns-in-Whole-clause-ok
 returns-in-Whole-clause-ok g c =
@@ -25,10 +29,11 @@ returns-in-Whole-clause-ok g c =
     let cs = c.as_slice-c.result.now in
     let ws = c.as_slice-weights.result.now in
     let log = c.in_ok-everything_log-in-Whole.field-0 in
-    own_log holds (task value holds g.file d h cs ws c.as_slice-c.ensures.items c.as_slice-weights.ensures.items)
+    handed value holds g.file d h cs ws c.as_slice-c.ensures.items c.as_slice-weights.ensures.items (λ c' weights'. IsOwnLog holds g.file c' weights' log)
+    (own_log holds (task value holds g.file d h cs ws c.as_slice-c.ensures.items c.as_slice-weights.ensures.items)
     (fitting value holds g.file d h cs ws c.as_slice-c.ensures.items c.as_slice-weights.ensures.items) log
     (subst (λ t. IsEnded t log) (task_is value holds g.file d h cs ws c.as_slice-c.ensures.items c.as_slice-weights.ensures.items)
-    c.in_ok-everything_log-in-Whole.ensures)
+    c.in_ok-everything_log-in-Whole.ensures))
 
 pub returns-in-Line-clause-ok : goal.returns-in-Line-clause-ok
 returns-in-Line-clause-ok g c =
@@ -39,10 +44,11 @@ returns-in-Line-clause-ok g c =
     let cs = c.as_slice-c.result.now in
     let ws = c.as_slice-weights.result.now in
     let log = c.in_ok-line_log-in-Line.field-0 in
-    own_log holds (task value holds g.file d h cs ws c.as_slice-c.ensures.items c.as_slice-weights.ensures.items)
+    handed value holds g.file d h cs ws c.as_slice-c.ensures.items c.as_slice-weights.ensures.items (λ c' weights'. IsOwnLog holds g.file c' weights' log)
+    (own_log holds (task value holds g.file d h cs ws c.as_slice-c.ensures.items c.as_slice-weights.ensures.items)
     (fitting value holds g.file d h cs ws c.as_slice-c.ensures.items c.as_slice-weights.ensures.items) log
     (subst (λ t. IsEnded t log) (task_is value holds g.file d h cs ws c.as_slice-c.ensures.items c.as_slice-weights.ensures.items)
-    c.in_ok-line_log-in-Line.ensures)
+    c.in_ok-line_log-in-Line.ensures))
 
 pub described-requires : goal.described-requires
 described-requires g c κs within =
@@ -79,5 +85,7 @@ returns-clause-ok g c =
     let h = c.requires.1.1 in
     let cs = c.as_slice-c.result.now in
     let ws = c.as_slice-weights.result.now in
-    own_ok holds (task value holds g.file d h cs ws c.as_slice-c.ensures.items c.as_slice-weights.ensures.items)
-    (fitting value holds g.file d h cs ws c.as_slice-c.ensures.items c.as_slice-weights.ensures.items) c.described.result c.described.ensures.ok
+    handed value holds g.file d h cs ws c.as_slice-c.ensures.items c.as_slice-weights.ensures.items
+    (λ c' weights'. IfOk c.described.result (IsOwnLog holds g.file c' weights'))
+    (own_ok holds (task value holds g.file d h cs ws c.as_slice-c.ensures.items c.as_slice-weights.ensures.items)
+    (fitting value holds g.file d h cs ws c.as_slice-c.ensures.items c.as_slice-weights.ensures.items) c.described.result c.described.ensures.ok)

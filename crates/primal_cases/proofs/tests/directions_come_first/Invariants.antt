@@ -1,4 +1,4 @@
-use Rattle.primal_cases.proofs.tests.directions_are_reached.Given as goal
+use Rattle.primal_cases.proofs.tests.directions_come_first.Given as goal
 
-abbrev pub ghost-directions_of : goal.ghost-directions_of
-ghost-directions_of t a = a.problem.now
+abbrev pub ghost-log_of : goal.ghost-log_of
+ghost-log_of t a = a.problem.now
