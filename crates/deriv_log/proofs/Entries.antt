@@ -25,12 +25,12 @@ use Rattle.deriv_log.proofs.Forms.{Words, parts_pass}
 
 -- no word of an entry is empty, and none has a blank or a line feed
 
-record IsPrinted (w : List ℕ) : Type 0 where
+pub record IsPrinted (w : List ℕ) : Type 0 where
   pub some : 0 < length w
   pub no_blank : Lacks 32 w
   pub no_feed : Lacks 10 w
 
-printed_natural : (n : ℕ) → n < 10 ^ 64 → IsPrinted (decimal n)
+pub printed_natural : (n : ℕ) → n < 10 ^ 64 → IsPrinted (decimal n)
 printed_natural n h =
     let digits = (decimal_is_IsNumeral_wide n h).0.1 in
     record { some = (decimal_leads n h).0; no_blank = digits_lack 32 (decimal n) (omega arith) digits; no_feed = digits_lack 10 (decimal n) (omega arith) digits }
@@ -51,37 +51,37 @@ some_sign (pos n) rest h = by (decimal n) (decimal_leads n (omega arith)).0
     by (x ∷ w) k = omega arith
 some_sign (negsuc n) rest h = omega arith
 
-printed_number : (q : ℚ) → is_held q ≡ true → IsPrinted (frac_text q)
+pub printed_number : (q : ℚ) → is_held q ≡ true → IsPrinted (frac_text q)
 printed_number q h =
     let small = held_small q h in
     let lacks : (c : ℕ) → c < 45 → Lacks c (frac_text q) =
     λ c low. All-append (λ b. eqb b c ≡ false) (signed_decimal q.num) _ (lacks_sign c q.num low small.num_small) (lacks_den c q.den (eqb q.den 1) low small.den_small) in
     record { some = some_sign q.num _ small.num_small; no_blank = lacks 32 (omega arith); no_feed = lacks 10 (omega arith) }
 
-printed_letters : (w : List ℕ) → 0 < length w → IsTrue (list_all (nat_lt 44) w) → IsPrinted w
+pub printed_letters : (w : List ℕ) → 0 < length w → IsTrue (list_all (nat_lt 44) w) → IsPrinted w
 printed_letters w some h = record { some = some; no_blank = letters_lack 32 w (omega arith) h; no_feed = letters_lack 10 w (omega arith) h }
 
-abbrev Printed : Words → Type 0
+abbrev pub Printed : Words → Type 0
 Printed ws = AllByRecursion IsPrinted ws
 
-printed_append : (v w : Words) → Printed v → Printed w → Printed (v ++ w)
+pub printed_append : (v w : Words) → Printed v → Printed w → Printed (v ++ w)
 printed_append [] w h k = k
 printed_append (x ∷ v) w h k = (h.0, printed_append v w h.1 k)
 
-printed_short : (n : ℕ) → is_short n ≡ true → IsPrinted (decimal n)
+pub printed_short : (n : ℕ) → is_short n ≡ true → IsPrinted (decimal n)
 printed_short n h = let low = ltb-true n (2 ^ 32) h in printed_natural n (omega arith)
 
-printed_each : {X : Type 0} (f : X → Words) (good : X → Bool) → ((x : X) → good x ≡ true → Printed (f x)) → (xs : List X) → list_all good xs ≡ true → Printed (flat_map f xs)
+pub printed_each : {X : Type 0} (f : X → Words) (good : X → Bool) → ((x : X) → good x ≡ true → Printed (f x)) → (xs : List X) → list_all good xs ≡ true → Printed (flat_map f xs)
 printed_each f good g [] h = tt
 printed_each f good g (x ∷ xs) h =
     let p = and_parts (good x) (list_all good xs) h in
     printed_append (f x) (flat_map f xs) (g x p.0) (printed_each f good g xs p.1)
 
-printed_map : {X : Type 0} (f : X → List ℕ) (good : X → Bool) → ((x : X) → good x ≡ true → IsPrinted (f x)) → (xs : List X) → list_all good xs ≡ true → Printed (map f xs)
+pub printed_map : {X : Type 0} (f : X → List ℕ) (good : X → Bool) → ((x : X) → good x ≡ true → IsPrinted (f x)) → (xs : List X) → list_all good xs ≡ true → Printed (map f xs)
 printed_map f good g [] h = tt
 printed_map f good g (x ∷ xs) h = let p = and_parts (good x) (list_all good xs) h in (g x p.0, printed_map f good g xs p.1)
 
-printed_spot : (s : Spot) → is_formed_spot s ≡ true → Printed (spot_words s)
+pub printed_spot : (s : Spot) → is_formed_spot s ≡ true → Printed (spot_words s)
 printed_spot s h = let p = and_parts (is_short s.at) (is_held s.value) h in (printed_short s.at p.0, (printed_number s.value p.1, tt))
 
 printed_pair : (p : LogPair) → is_formed_pair p ≡ true → Printed (pair_words p)
@@ -122,11 +122,11 @@ printed_name (End k) = printed_letters (codes "end") (omega arith) refl
 printed_entry : (e : Entry) → is_formed e ≡ true → Printed (entry_words e)
 printed_entry e h = (printed_name e, printed_each part_words is_formed_part printed_part (entry_parts e) h)
 
-no_blanks : (ws : Words) → Printed ws → AllByRecursion (Lacks 32) ws
+pub no_blanks : (ws : Words) → Printed ws → AllByRecursion (Lacks 32) ws
 no_blanks [] h = tt
 no_blanks (w ∷ ws) h = (h.0.no_blank, no_blanks ws h.1)
 
-no_feeds : (ws : Words) → Printed ws → AllByRecursion (Lacks 10) ws
+pub no_feeds : (ws : Words) → Printed ws → AllByRecursion (Lacks 10) ws
 no_feeds [] h = tt
 no_feeds (w ∷ ws) h = (h.0.no_feed, no_feeds ws h.1)
 

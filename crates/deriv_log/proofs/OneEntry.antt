@@ -17,14 +17,14 @@ use Rattle.deriv_log.specs.declared.entry.Entry.TheVariants.{Version, Duality, C
 use Rattle.deriv_log.proofs.Forms.{Words, one_each}
 use Rattle.deriv_log.proofs.Entries.{cut_entry, forms_known}
 
-same_short : (m n : ℕ) → is_short m ≡ true → is_short n ≡ true → decimal m ≡ decimal n → m ≡ n
+pub same_short : (m n : ℕ) → is_short m ≡ true → is_short n ≡ true → decimal m ≡ decimal n → m ≡ n
 same_short m n h k e =
     let low = ltb-true m (2 ^ 32) h in
     let low_other = ltb-true n (2 ^ 32) k in
     decimal_injective m n (omega arith) (omega arith) e
 
 -- items of which the words tell which they are, whatever stands behind
-abbrev Told : {X : Type 0} → (X → Words) → (X → Bool) → Type 0
+abbrev pub Told : {X : Type 0} → (X → Words) → (X → Bool) → Type 0
 Told {X} words_of good = (x y : X) (r s : Words) → good x ≡ true → good y ≡ true → words_of x ++ r ≡ words_of y ++ s → (x ≡ y) × (r ≡ s)
 
 -- lists of them of one length
@@ -46,7 +46,7 @@ told_natural m n r s h k e = (same_short m n h k cc, cc)
 told_number : Told (λ q. frac_text q ∷ []) is_held
 told_number p q r s h k e = (one_number_per_text p q h k cc, cc)
 
-told_spot : Told spot_words is_formed_spot
+pub told_spot : Told spot_words is_formed_spot
 told_spot x y r s h k e =
     let p = and_parts (is_short x.at) (is_held x.value) h in
     let q = and_parts (is_short y.at) (is_held y.value) k in
@@ -73,7 +73,7 @@ same_kind Solved Solved e = refl
 same_kind Solved _ e = cc
 
 -- lists behind their counts
-told_list : {X : Type 0} (words_of : X → Words) (good : X → Bool) → Told words_of good → (xs ys : List X) (r s : Words) → is_short (length xs) ≡ true → is_short (length ys) ≡ true → list_all good xs ≡ true → list_all good ys ≡ true → decimal (length xs) ∷ (flat_map words_of xs ++ r) ≡ decimal (length ys) ∷ (flat_map words_of ys ++ s) → (xs ≡ ys) × (r ≡ s)
+pub told_list : {X : Type 0} (words_of : X → Words) (good : X → Bool) → Told words_of good → (xs ys : List X) (r s : Words) → is_short (length xs) ≡ true → is_short (length ys) ≡ true → list_all good xs ≡ true → list_all good ys ≡ true → decimal (length xs) ∷ (flat_map words_of xs ++ r) ≡ decimal (length ys) ∷ (flat_map words_of ys ++ s) → (xs ≡ ys) × (r ≡ s)
 told_list words_of good told xs ys r s n m h k e = told_each words_of good told xs ys r s (same_short (length xs) (length ys) n m cc) h k cc
 
 -- parts of one form, of which the words tell which they are

@@ -1,14 +1,18 @@
 -- Bytes read as one problem.
-use Rattle.std.proofs.Common.{◌≡◌, refl, ℕ, inl, inr, Bool, true, false, not, ◌&&◌, ◌==◌, IsTrue, List, [], ◌∷◌, map, arith, ap, sym, ◌∙◌, subst}
+use Rattle.std.proofs.Common.{◌≡◌, refl, ℕ, ◌≤◌, ◌<◌, inl, inr, Bool, true, false, not, ◌&&◌, ◌==◌, IsTrue, List, [], ◌∷◌, length, map, arith, ap, sym, ◌∙◌, subst}
 use Rattle.std.proofs.lemmas.Bool.{and_parts, and_from, cond-true, cond-false, cases_Bool, false≢true}
 use Rattle.std.proofs.lemmas.Bool.Decides.{nat_tests}
 use Rattle.std.proofs.lemmas.Option.{same_Some}
+use Rattle.std.specs.Coded.{le_prop}
+use Rattle.std.proofs.Math.Bool.{Bool-set}
+use Rattle.std.proofs.Math.Nat.{ℕ_set}
+use mathlib.Core.HLevel.{is_prop→PathP}
 use Rattle.exact_field.specs.Rational.{ℚ, whole, zero_ℚ}
 use Rattle.frac128.specs.Sparse.{is_zero}
-use Rattle.vlp_reader.specs.Cells.{place_before, is_within, cells_behind, coefficient}
+use Rattle.vlp_reader.specs.Cells.{place_before, is_within, cells_behind, are_cells, coefficient}
+use Rattle.vlp_reader.specs.Cones.{cone_fits, duality_fits}
 use Rattle.vlp_reader.specs.FirstFault.{file_lines, Reads}
 use Rattle.vlp_reader.specs.Grammar.{Gives}
-use Rattle.vlp_reader.specs.Laws.{SameParts}
 use Rattle.vlp_reader.specs.Statements.{statement_on}
 use Rattle.vlp_reader.specs.declared.sizes.Sizes.{Sizes}
 use Rattle.vlp_reader.specs.declared.statement.Statement.{Statement}
@@ -88,26 +92,46 @@ same_cells rows cols i j (c ∷ cs) (d ∷ ds) h k e =
     past : (c d : Cell) (ds : List Cell) → place_before c.row c.col d.row d.col ≡ true → IsTrue (cells_behind rows cols d.row d.col ds) → coefficient (d ∷ ds) c.row c.col ≡ zero_ℚ
     past c d ds before behind = coefficient_behind c.row c.col c.row c.col (d ∷ ds) (and_from _ _ before (rises_from_cells rows cols d.row d.col ds behind)) (not_before_itself c.row c.col c.row c.col (same_at_itself c.row c.col))
 
-same_problem : (statements : List Statement) (s : Sizes) (f g : Problem) → Gives statements s f → Gives statements s g → SameParts f g
-same_problem statements s f g h k =
+-- problems with the same parts are one: what a problem says of its parts is said in one way only
+same_parts : (f g : Problem) → f.dir ≡ g.dir → f.rows ≡ g.rows → f.cols ≡ g.cols → f.objs ≡ g.objs → f.a ≡ g.a → f.o ≡ g.o → f.row_bounds ≡ g.row_bounds
+    → f.col_bounds ≡ g.col_bounds → f.cone ≡ g.cone → f.duality ≡ g.duality → f ≡ g
+same_parts f g dir rows cols objs a o row_bounds col_bounds cone duality = λ i.
     record {
-      dir = h.dir ∙ sym k.dir;
-      rows = h.rows ∙ sym k.rows;
-      cols = h.cols ∙ sym k.cols;
-      objs = h.objs ∙ sym k.objs;
-      a = same_cells f.rows f.cols 0 0 f.a g.a f.a_cells
-          (subst (λ (n : ℕ). IsTrue (cells_behind n f.cols 0 0 g.a)) (k.rows ∙ sym h.rows) (subst (λ (n : ℕ). IsTrue (cells_behind g.rows n 0 0 g.a)) (k.cols ∙ sym h.cols) g.a_cells))
-          (λ row col. h.a row col ∙ sym (k.a row col));
-      o = same_cells f.objs f.cols 0 0 f.o g.o f.o_cells
-          (subst (λ (n : ℕ). IsTrue (cells_behind n f.cols 0 0 g.o)) (k.objs ∙ sym h.objs) (subst (λ (n : ℕ). IsTrue (cells_behind g.objs n 0 0 g.o)) (k.cols ∙ sym h.cols) g.o_cells))
-          (λ row col. h.o row col ∙ sym (k.o row col));
-      row_bounds = h.row_bounds ∙ sym k.row_bounds;
-      col_bounds = h.col_bounds ∙ sym k.col_bounds;
-      cone = h.cone ∙ sym k.cone;
-      duality = h.duality ∙ sym k.duality;
+      dir = dir i;
+      rows = rows i;
+      cols = cols i;
+      objs = objs i;
+      a = a i;
+      o = o i;
+      row_bounds = row_bounds i;
+      col_bounds = col_bounds i;
+      cone = cone i;
+      duality = duality i;
+      rows_bounded = is_prop→PathP (λ j. rows j ≤ 100000) (λ j. le_prop) f.rows_bounded g.rows_bounded i;
+      some_column = is_prop→PathP (λ j. 0 < cols j) (λ j. le_prop) f.some_column g.some_column i;
+      cols_bounded = is_prop→PathP (λ j. cols j ≤ 100000) (λ j. le_prop) f.cols_bounded g.cols_bounded i;
+      some_objective = is_prop→PathP (λ j. 0 < objs j) (λ j. le_prop) f.some_objective g.some_objective i;
+      objs_bounded = is_prop→PathP (λ j. objs j ≤ 100000) (λ j. le_prop) f.objs_bounded g.objs_bounded i;
+      a_cells = is_prop→PathP (λ j. IsTrue (are_cells (rows j) (cols j) (a j))) (λ j. hlevel (Bool-set)) f.a_cells g.a_cells i;
+      o_cells = is_prop→PathP (λ j. IsTrue (are_cells (objs j) (cols j) (o j))) (λ j. hlevel (Bool-set)) f.o_cells g.o_cells i;
+      row_count = is_prop→PathP (λ j. length (row_bounds j) ≡ rows j) (λ j. hlevel (ℕ_set)) f.row_count g.row_count i;
+      col_count = is_prop→PathP (λ j. length (col_bounds j) ≡ cols j) (λ j. hlevel (ℕ_set)) f.col_count g.col_count i;
+      cone_vectors = is_prop→PathP (λ j. IsTrue (cone_fits (objs j) (cone j))) (λ j. hlevel (Bool-set)) f.cone_vectors g.cone_vectors i;
+      duality_entries = is_prop→PathP (λ j. IsTrue (duality_fits (objs j) (duality j))) (λ j. hlevel (Bool-set)) f.duality_entries g.duality_entries i;
     }
 
-pub one_problem : (bytes : List ℕ) (f g : Problem) → Reads bytes f → Reads bytes g → SameParts f g
+same_problem : (statements : List Statement) (s : Sizes) (f g : Problem) → Gives statements s f → Gives statements s g → f ≡ g
+same_problem statements s f g h k =
+    same_parts f g (h.dir ∙ sym k.dir) (h.rows ∙ sym k.rows) (h.cols ∙ sym k.cols) (h.objs ∙ sym k.objs)
+    (same_cells f.rows f.cols 0 0 f.a g.a f.a_cells
+    (subst (λ (n : ℕ). IsTrue (cells_behind n f.cols 0 0 g.a)) (k.rows ∙ sym h.rows) (subst (λ (n : ℕ). IsTrue (cells_behind g.rows n 0 0 g.a)) (k.cols ∙ sym h.cols) g.a_cells))
+    (λ row col. h.a row col ∙ sym (k.a row col)))
+    (same_cells f.objs f.cols 0 0 f.o g.o f.o_cells
+    (subst (λ (n : ℕ). IsTrue (cells_behind n f.cols 0 0 g.o)) (k.objs ∙ sym h.objs) (subst (λ (n : ℕ). IsTrue (cells_behind g.objs n 0 0 g.o)) (k.cols ∙ sym h.cols) g.o_cells))
+    (λ row col. h.o row col ∙ sym (k.o row col)))
+    (h.row_bounds ∙ sym k.row_bounds) (h.col_bounds ∙ sym k.col_bounds) (h.cone ∙ sym k.cone) (h.duality ∙ sym k.duality)
+
+pub one_problem : (bytes : List ℕ) (f g : Problem) → Reads bytes f → Reads bytes g → f ≡ g
 one_problem bytes f g h k =
     same_problem (map statement_on (file_lines bytes)) h.sizes f g h.gives
     (subst (λ (s : Sizes). Gives (map statement_on (file_lines bytes)) s g) (same_Some _ _ (sym k.given ∙ h.given)) k.gives)

@@ -4,22 +4,9 @@ use Rattle.vlp_reader.specs.FirstFault.{FirstFault, Reads}
 use Rattle.vlp_reader.specs.declared.fault.FileKind.{FileKind}
 use Rattle.vlp_reader.specs.declared.problem.Problem.{Problem}
 
--- all parts of two problems are the same
-pub record SameParts (f g : Problem) : Type 0 where
-  pub dir : f.dir ≡ g.dir
-  pub rows : f.rows ≡ g.rows
-  pub cols : f.cols ≡ g.cols
-  pub objs : f.objs ≡ g.objs
-  pub a : f.a ≡ g.a
-  pub o : f.o ≡ g.o
-  pub row_bounds : f.row_bounds ≡ g.row_bounds
-  pub col_bounds : f.col_bounds ≡ g.col_bounds
-  pub cone : f.cone ≡ g.cone
-  pub duality : f.duality ≡ g.duality
-
 -- bytes read as a problem, or have a first fault; not both; and one problem, or one line and one kind
 pub record GrammarLaws : Type 0 where
   pub read_or_fault : (bytes : List ℕ) → ((problem : Problem) × Reads bytes problem) ⊎ ((line : ℕ) × (kind : FileKind) × FirstFault bytes line kind)
   pub never_both : (bytes : List ℕ) (problem : Problem) (line : ℕ) (kind : FileKind) → Reads bytes problem → FirstFault bytes line kind → ⊥
-  pub one_problem : (bytes : List ℕ) (f g : Problem) → Reads bytes f → Reads bytes g → SameParts f g
+  pub one_problem : (bytes : List ℕ) (f g : Problem) → Reads bytes f → Reads bytes g → f ≡ g
   pub one_fault : (bytes : List ℕ) (m n : ℕ) (k l : FileKind) → FirstFault bytes m k → FirstFault bytes n l → (m ≡ n) × (k ≡ l)
