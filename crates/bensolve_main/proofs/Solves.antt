@@ -6,8 +6,8 @@ use Rattle.vlp_reader.specs.FirstFault.{Reads}
 use Rattle.vlp_reader.specs.declared.problem.Problem.{Problem}
 use Rattle.vlp_reader.proofs.Faults.{never_both}
 use Rattle.deriv_log.specs.declared.licence.Licence.{Licence}
-use Rattle.cone_rules.specs.Faults.{IsSound}
-use Rattle.cone_rules.proofs.Excluding.{faults_exclude}
+use Rattle.cone_rules.specs.Faults.{HasFault}
+use Rattle.cone_rules.specs.declared.fault.ConeFault.{ConeFault as AConeFault}
 use Rattle.licence.specs.Licence.{LicensedAnyhow}
 use Rattle.solver.specs.Solving.{EndsSolving}
 use Rattle.solver.specs.declared.end.SolveEnd.{SolveEnd}
@@ -138,19 +138,19 @@ not_refused logs (Refused why) text v w honest told = told
 not_refused logs (TooLong false read) text v w honest told = not_long _ _ _ _ _ honest.problem honest.problem_within told.past
 not_refused logs (TooLong true read) text v w honest told = told
 
--- of a sound file without overflows an answer is told
-solved_told : (logs : Bool) (file : Problem) (status : Status) (text : List ℕ) (log : Option (List ℕ)) → IsSound file → ((l : Licence) → LicensedAnyhow is_held file l → ⊥) →
+-- of a file without faults of its cone and without overflows an answer is told
+solved_told : (logs : Bool) (file : Problem) (status : Status) (text : List ℕ) (log : Option (List ℕ)) → ((f : AConeFault) → HasFault file f → ⊥) → ((l : Licence) → LicensedAnyhow is_held file l → ⊥) →
     SolveVerdict logs file status text log → status ≡ Done
-solved_told logs file Done text log sound held verdict = refl
-solved_told logs file Words text log sound held verdict = absurd verdict
-solved_told logs file (FileFault f) text log sound held verdict = absurd verdict
-solved_told logs file (ConeFault f) text log sound held verdict = absurd (faults_exclude.sound file f verdict.fault sound)
-solved_told logs file (Left l) text log sound held verdict = absurd (held l verdict.licensed)
-solved_told logs file NoMemory text log sound held verdict = absurd verdict
-solved_told logs file (ReadFault in_log) text log sound held verdict = absurd verdict
-solved_told logs file (WriteFault in_log sent) text log sound held verdict = absurd verdict
-solved_told logs file (Refused why) text log sound held verdict = absurd verdict
-solved_told logs file (TooLong in_log read) text log sound held verdict = absurd verdict
+solved_told logs file Done text log faultless held verdict = refl
+solved_told logs file Words text log faultless held verdict = absurd verdict
+solved_told logs file (FileFault f) text log faultless held verdict = absurd verdict
+solved_told logs file (ConeFault f) text log faultless held verdict = absurd (faultless f verdict.fault)
+solved_told logs file (Left l) text log faultless held verdict = absurd (held l verdict.licensed)
+solved_told logs file NoMemory text log faultless held verdict = absurd verdict
+solved_told logs file (ReadFault in_log) text log faultless held verdict = absurd verdict
+solved_told logs file (WriteFault in_log sent) text log faultless held verdict = absurd verdict
+solved_told logs file (Refused why) text log faultless held verdict = absurd verdict
+solved_told logs file (TooLong in_log read) text log faultless held verdict = absurd verdict
 
 replied_end : (logs : Bool) (r : Reply) (v w : World) → HonestSolve logs v w → SolveReplies logs r (sources_of v) (sources_of w) → r.status ≡ Done
 replied_end logs r v w honest replies =
@@ -158,7 +158,7 @@ replied_end logs r v w honest replies =
       | inl no_file ↦ absurd (not_refused logs r.status r.text v w honest no_file.told)
       | inr solves ↦
           (let reads : Reads honest.bytes solves.file = subst (λ (l : List ℕ). Reads l solves.file) (same_bytes _ _ _ _ _ honest.problem solves.good.read) solves.good.reads in
-          solved_told logs solves.file r.status r.text r.log (honest.sound solves.file reads) (honest.held solves.file reads) solves.verdict)
+          solved_told logs solves.file r.status r.text r.log (honest.faultless solves.file reads) (honest.held solves.file reads) solves.verdict)
     ]
 
 -- without a file for it no log is made

@@ -8,7 +8,7 @@ use Rattle.deriv_log.specs.LogText.{log_text}
 use Rattle.deriv_log.specs.declared.entry.Entry.{Entry}
 use Rattle.deriv_log.specs.declared.licence.Licence.{Licence}
 use Rattle.log_rules.specs.Report.{report_text}
-use Rattle.cone_rules.specs.Faults.{IsSound, HasFault}
+use Rattle.cone_rules.specs.Faults.{HasFault}
 use Rattle.cone_rules.specs.declared.fault.ConeFault.{ConeFault as AConeFault}
 use Rattle.licence.specs.Licence.{LicensedAnyhow}
 use Rattle.solver.specs.Solving.{IsSolutionOf}
@@ -68,7 +68,7 @@ abbrev pub SolveReplies : Bool → Reply → Sources → Sources → Type 0
 SolveReplies logs r old new = TellsNoFile r old new ⊎ Solves logs r old new
 
 -- the outside did not fail in this call of `solve`, the problem was told, lies within its limit and reads as some file; and of each file
--- as which it reads the cone is sound and no overflow is licensed
+-- as which it reads the cone has no fault and no overflow is licensed
 pub record HonestSolve (logs : Bool) (old new : World) : Type 0 where
   pub bytes : List ℕ
   pub problem : old.problem.bytes ≡ Some bytes
@@ -76,7 +76,7 @@ pub record HonestSolve (logs : Bool) (old new : World) : Type 0 where
   pub problem_within : length bytes ≤ problem_limit
   pub file : Problem
   pub reads : Reads bytes file
-  pub sound : (file : Problem) → Reads bytes file → IsSound file
+  pub faultless : (file : Problem) → Reads bytes file → (f : AConeFault) → HasFault file f → ⊥
   pub held : (file : Problem) → Reads bytes file → (l : Licence) → LicensedAnyhow is_held file l → ⊥
   pub out_steady : ¬ (Rose old.out.faults new.out.faults)
   pub log_steady : IsTrue logs → ¬ (Rose old.log_out.faults new.log_out.faults)

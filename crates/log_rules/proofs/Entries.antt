@@ -40,7 +40,6 @@ pub record IsInOrder (before : List Entry) (k : Kind) : Type 0 where
   pub once : IsTrue (implies (stands_once k) (not (has k before)))
   pub duality : IsTrue (implies (needs_duality k) (has Kind.duality before))
   pub start : IsTrue (implies (needs_start k) (has Kind.start before))
-  pub cut : IsTrue (implies (needs_cut k) (has Kind.cut before))
   pub facet : IsTrue (implies (ends_at_facet k) (not (has Kind.facet before)))
 
 pub order_of : (before : List Entry) (k : Kind) → IsTrue (in_order before k) → IsInOrder before k
@@ -50,7 +49,7 @@ order_of before k h =
     let c = both_true _ (implies (needs_start k) (has Kind.start before)) b.0 in
     let d = both_true _ (implies (needs_duality k) (has Kind.duality before)) c.0 in
     let e = both_true (begins_well before k) (implies (stands_once k) (not (has k before))) d.0 in
-    record { once = e.1; duality = d.1; start = c.1; cut = b.1; facet = a.1 }
+    record { once = e.1; duality = d.1; start = c.1; facet = a.1 }
 
 -- ---- inductions
 module _ (file : Problem) (P : List Entry → Type 0) (step : (before : List Entry) (e : Entry) → Meets file before e → P before → P (before ++ e ∷ [])) where

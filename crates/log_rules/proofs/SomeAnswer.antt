@@ -25,7 +25,7 @@ use Rattle.deriv_log.specs.declared.entry.Entry.TheVariants.{Cut, Start, Add, Fa
 use Rattle.log_rules.specs.Laws.{Stands, SomeAnswer}
 use Rattle.log_rules.specs.Live.{State, Stated, state, after, nothing, y_of, t_of, cut_at, inequality, duality_vector, named}
 use Rattle.log_rules.specs.Meets.{Meets, MeetsEnd}
-use Rattle.log_rules.specs.Order.{has}
+use Rattle.log_rules.specs.Order.{has, implies, needs_cut, ends_at_facet, in_order}
 use Rattle.log_rules.specs.Proves.{AllMeet, Proves, Gives, IsSorting, shown, live_at, facet_of, named_facets, forth}
 use Rattle.log_rules.specs.Right.{Rise, is_before, key, stated}
 use Rattle.log_rules.specs.declared.answer.Answer.{Answer}
@@ -33,7 +33,7 @@ use Rattle.log_rules.specs.declared.answer.Answer.TheVariants as answer
 use Rattle.log_rules.specs.declared.answer.Facet.{Facet}
 use Rattle.log_rules.specs.declared.answer.Gen.{Gen}
 use Rattle.log_rules.proofs.AnswerMembers.{stated-cut}
-use Rattle.log_rules.proofs.Entries.{StandsAt, stands_at, order_of, has_more}
+use Rattle.log_rules.proofs.Entries.{StandsAt, stands_at, has_more}
 use Rattle.log_rules.proofs.KeepsDescription.{rules_keep_description}
 use Rattle.log_rules.proofs.LiveNumbers.{same_number}
 use Rattle.log_rules.proofs.NamedOnce.{named_once}
@@ -213,6 +213,12 @@ first_cut q (Start cuts point directions ∷ entries) s h k = first_cut q entrie
 first_cut q (Add cut pairs ∷ entries) s h k = first_cut q entries (after q s (Add cut pairs)) h k
 first_cut q (e ∷ entries) s h k = first_cut q entries s h k
 
+-- a `line` has a `cut` before it
+cut_before : (before : List Entry) → IsTrue (in_order before order.line) → IsTrue (has order.cut before)
+cut_before before h =
+    let a = both_true _ (implies (ends_at_facet order.line) (not (has order.facet before))) h in
+    (both_true _ (implies (needs_cut order.line) (has order.cut before)) a.0).1
+
 forth_twice : (dir : Dir) (ray back : List Spot) → forth dir (forth dir ray back) (forth dir back ray) ≡ ray
 forth_twice Min ray back = refl
 forth_twice Max ray back = refl
@@ -288,7 +294,7 @@ module _ (file : Problem) (entries : List Entry) (log : IsLog entries) (meet : A
       let e : Entry = Line l.d l.x l.ray l.m l.back l.n in
       let at : StandsAt entries e = stands_at entries e l.stands in
       let m : Meets file at.before e = meet at.before e at.rest at.same in
-      subst (λ (es : List Entry). IsTrue (has order.cut es)) (sym at.same) (has_more order.cut at.before (e ∷ at.rest) (order_of at.before order.line m.order).cut)
+      subst (λ (es : List Entry). IsTrue (has order.cut es)) (sym at.same) (has_more order.cut at.before (e ∷ at.rest) (cut_before at.before m.order))
 
   gives : (k : EndKind) → Contains entries (End k) → MeetsEnd file before k → (a : Answer) × Gives file entries a
   gives ending.Infeasible c m = let f = farkas_in before m in (answer.Infeasible f.0, (c, stands_before (Farkas f.0) f.1))
