@@ -19,6 +19,3 @@ pub use frac::{Frac, frac_of};
 pub use text::put_frac;
 pub use tiny::Tiny;
 pub use vectors::{Sparse, Spot, Vector, Vectors, is_zero};
-
-#[cfg(test)]
-mod tests;

@@ -15,4 +15,3 @@ pub mod FirstGenerators
 pub mod Between
 pub mod Standing
 pub mod Added
-pub mod Staying

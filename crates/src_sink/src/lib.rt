@@ -19,6 +19,3 @@ pub use memory::{MemSink, MemSource};
 pub use outside::{Failed, Sink, Source};
 pub use pieces::first_piece;
 pub use whole::{ReadEnd, WriteFault, read_all, write_all};
-
-#[cfg(test)]
-mod tests;

@@ -1,4 +1,0 @@
-//! One table a subject.
-mod double;
-mod duality;
-mod generators;

@@ -1,4 +1,0 @@
-use Rattle.engine_cases.proofs.tests.met.Given as goal
-
-abbrev pub ghost-log_of : goal.ghost-log_of
-ghost-log_of g a = a.problem.now

@@ -1,0 +1,4 @@
+use Rattle.engine_cases.proofs.tests.tiny.met.Given as goal
+
+abbrev pub ghost-log_of : goal.ghost-log_of
+ghost-log_of g a = a.problem.now

@@ -1,5 +1,0 @@
-use Rattle.frac128.proofs.Compared.{other_than_zero}
-use Rattle.frac128.proofs.tests.table.exact.Goals as goal
-
-pub div-requires : goal.div-requires
-div-requires c = other_than_zero c.args.b c.zero.result _ c.zero.ensures c.eq.ensures c.if-eq.false

@@ -1,0 +1,8 @@
+//! Fractions against another implementation, and whole in a small type; products of vectors; calls that take memory; the
+//! outside as std gives it.
+mod fractions;
+mod lists;
+mod outside;
+mod pairs;
+mod products;
+mod rows;

@@ -1,0 +1,55 @@
+//! The data of problems in a field: the first number that it does not hold.
+
+use exact_field::Field;
+use frac128::{Frac, Tiny};
+use lp_form::{Data, DataFault};
+use std::alloc::Global;
+use vlp_reader::read_vlp;
+
+/// Files, and the number of each that `Tiny` does not hold first, or 0.
+const FILES: [(&str, i64); 5] = [
+    (
+        "p vlp min 1 1 1 1 1\na 1 1 1\no 1 1 1\ni 1 u 0\nj 1 l 1\ne\n",
+        0,
+    ),
+    (
+        "p vlp min 1 1 1 1 1\na 1 1 1\no 1 1 1\ni 1 u 200\nj 1 l 300\n",
+        200,
+    ),
+    ("p vlp max 1 1 1 1 1\na 1 1 1\no 1 1 300\ni 1 u 200\n", 300),
+    (
+        "p vlp min 0 1 0 1 1 cone 1 1\no 1 1 1\nk 1 1 200\nk 1 0 -128\nj 1 l 300\n",
+        -128,
+    ),
+    (
+        "p vlp min 0 1 0 1 1 dualcone 1 1\no 1 1 127\nk 1 1 200\nj 1 d 300 400\n",
+        200,
+    ),
+];
+
+/// The first number of a file that a field does not hold, or 0.
+fn first_left<F: Field>(alloc: Global, text: &str) -> Option<Frac> {
+    if text.len() > 1000 {
+        return None;
+    }
+    let problem = read_vlp(alloc, text.as_bytes()).ok()?;
+    match Data::<F>::of(alloc, &problem) {
+        Ok(_) => Some(Frac::from(0)),
+        Err(DataFault::NotHeld(number)) => Some(number),
+        Err(DataFault::NoMemory) => None,
+    }
+}
+
+#[test]
+fn the_first_number_that_is_not_held_is_told(rt: HostRuntime) {
+    for (text, number) in &FILES {
+        assert!(rt;
+            first_left::<Tiny>(rt.alloc(), text) == Some(Frac::from(*number)),
+            "{text}"
+        );
+        assert!(rt;
+            first_left::<Frac>(rt.alloc(), text) == Some(Frac::from(0)),
+            "{text}"
+        );
+    }
+}
