@@ -1,3 +1,4 @@
 pub mod Ends
 pub mod Own
 pub mod Solving
+pub mod Accepted

@@ -5,6 +5,7 @@ ghost use Rattle.cone_rules.specs.Faults.{IsSound};
 ghost use Rattle.lp_form.specs.Data.{IsDataOf, RefusesNumber};
 ghost use Rattle.benson_primal.specs.Logs.{IsOwnLogAnyhow};
 ghost use Rattle.solver.specs.Solving.{IsSolutionOf, EndsIn, EndsSolving};
+ghost use Rattle.solver.specs.Accepted.{IsAccepted};
 
 use crate::end::{Solution, SolveEnd};
 use crate::own::check_own;
@@ -72,6 +73,7 @@ pub fn log_of<F: Field>(
 /// double description, and the check of the log.
 pub fn solve(alloc: Global, problem: &Problem) -> Result<Solution, SolveEnd>
     ensures ok { IfOk result (IsSolutionOf problem.now) }
+    ensures accepted { IfOk result (IsAccepted problem.now) }
     ensures end { IfErr result (EndsSolving problem.now) }
 {
     let form = data_of(alloc, problem)?;
