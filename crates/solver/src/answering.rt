@@ -49,6 +49,16 @@ fn data_of(alloc: Global, problem: &Problem) -> Result<Data<Frac>, NoMemory>
     }
 }
 
+/// The answer of a log that meets its rules.
+fn checked(alloc: Global, problem: &Problem, entries: Entries) -> Result<Solution, SolveEnd>
+    requires sound { IsSound problem.now }
+    requires own { IsOwnLogAnyhow is_held problem.now entries }
+    ensures ok { IfOk result (IsSolutionOf problem.now) }
+    ensures end { IfErr result (EndsSolving problem.now) }
+{
+    Ok(check_own(alloc, problem, entries)?)
+}
+
 /// The log of a problem, by its data in some field: a duality vector, and then Benson's outer approximation with it. In place of a
 /// log comes the first fault of the ordering cone, or the licence of the first overflow.
 pub fn log_of<F: Field>(
@@ -78,5 +88,5 @@ pub fn solve(alloc: Global, problem: &Problem) -> Result<Solution, SolveEnd>
 {
     let form = data_of(alloc, problem)?;
     let entries = log_of(alloc, problem, &form)?;
-    Ok(check_own(alloc, problem, entries)?)
+    checked(alloc, problem, entries)
 }
