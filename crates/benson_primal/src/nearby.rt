@@ -54,7 +54,7 @@ fn rounded<F: Field>(x: F) -> Option<F> {
     F::of(num.checked_div(den)?, PARTS)
 }
 
-/// A vector with short entries near `v`, if an entry of `v` is long and such a vector is found.
+/// Another vector near `v`, mostly with shorter entries, if an entry of `v` is long and such a vector is found.
 fn vector_nearby<F: Field>(alloc: Global, v: &[F]) -> Result<Option<Items<F>>, NoMemory>
     ensures { IfOk result (λ r. IfSome r (λ near. length near ≡ length v.now)) }
 {
@@ -67,6 +67,9 @@ fn vector_nearby<F: Field>(alloc: Global, v: &[F]) -> Result<Option<Items<F>>, N
             return Ok(None);
         };
         near.push(short)?;
+    }
+    if near.as_slice() == v {
+        return Ok(None);
     }
     Ok(Some(near))
 }
