@@ -112,10 +112,10 @@ fn front_difference(seen: &Seen, whole: &Seen) -> Option<&'static str> {
 }
 
 /// What differs where `check` reads the log that was written, or where no log is named.
-fn solved_difference(
+fn solved_difference<'a>(
     alloc: Global,
-    trial: Trial<'_>,
-    seen: &Seen,
+    trial: Trial<'a>,
+    seen: &'a Seen,
 ) -> Result<Option<&'static str>, Fault> {
     let words = words_of(alloc, "check file log")?;
     let checked = Trial {
