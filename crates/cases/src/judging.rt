@@ -111,27 +111,34 @@ fn front_difference(seen: &Seen, whole: &Seen) -> Option<&'static str> {
     ])
 }
 
+/// A run of these words without a fault of the outside.
+fn calm_run<'a>(
+    alloc: Global,
+    words: &str,
+    file: &'a [u8],
+    log: &'a [u8],
+    most: u64,
+) -> Result<Seen, Fault> {
+    let words = words_of(alloc, words)?;
+    let trial = Trial {
+        words: words.as_slice(),
+        file,
+        log,
+        most,
+        fails: &[],
+    };
+    Ok(trial.seen(alloc)?)
+}
+
 /// What differs where `check` reads the log that was written, or where no log is named.
 fn solved_difference(
     alloc: Global,
     trial: Trial<'_>,
     seen: &Seen,
 ) -> Result<Option<&'static str>, Fault> {
-    let words = words_of(alloc, "check file log")?;
-    let checked = Trial {
-        words: words.as_slice(),
-        log: seen.log_out.contents(),
-        fails: &[],
-        ..trial
-    }
-    .seen(alloc)?;
-    let words = words_of(alloc, "solve file")?;
-    let unlogged = Trial {
-        words: words.as_slice(),
-        fails: &[],
-        ..trial
-    }
-    .seen(alloc)?;
+    let (file, log, most) = (trial.file, seen.log_out.contents(), trial.most);
+    let checked = calm_run(alloc, "check file log", file, log, most)?;
+    let unlogged = calm_run(alloc, "solve file", file, &[], most)?;
     Ok(first_wrong(&[
         (is_same_report(&checked, seen), "what the log proves"),
         (is_same_report(&unlogged, seen), "the output without a log"),
