@@ -147,7 +147,6 @@ gen_parts g h = and_parts (list_all is_held g.y) (is_held_sparse g.pre) h
 cut_sparse : (f : Facet) → is_held_cut f ≡ true → is_held_sparse f.u ≡ true
 cut_sparse f h = (and_parts (is_held f.gamma) (is_held_sparse f.u) (and_parts (list_all is_held f.w) (is_held f.gamma && is_held_sparse f.u) h).1).1
 
-
 name_is_word : (a : Answer) → IsPrinted (answer_name a)
 name_is_word (Infeasible u) = printed_letters (codes "infeasible") (omega arith) refl
 name_is_word (Whole c x ray) = printed_letters (codes "whole") (omega arith) refl
