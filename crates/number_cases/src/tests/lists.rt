@@ -7,7 +7,7 @@ use std::alloc::Global;
 use std::process::Abort;
 use std::test::Fail;
 
-/// Numbers with their texts, each behind a blank.
+/// Numbers with their texts, each after a blank.
 fn text_of(alloc: Global, numbers: &[Frac]) -> Result<Bytes, NoMemory> {
     let mut text = Bytes::with_room(alloc, 2)?;
     for x in numbers {

@@ -27,29 +27,27 @@ const FILES: [(&str, i64); 5] = [
     ),
 ];
 
-/// The first number of a file that a field does not hold, or 0.
-fn first_left<F: Field>(alloc: Global, text: &str) -> Option<Frac> {
+/// Why a file has no data in a field, where it has none.
+fn fault<F: Field>(alloc: Global, text: &str) -> Option<Option<DataFault>> {
     if text.len() > 1000 {
         return None;
     }
     let problem = read_vlp(alloc, text.as_bytes()).ok()?;
-    match Data::<F>::of(alloc, &problem) {
-        Ok(_) => Some(Frac::from(0)),
-        Err(DataFault::NotHeld(number)) => Some(number),
-        Err(DataFault::NoMemory) => None,
+    Some(Data::<F>::of(alloc, &problem).err())
+}
+
+/// The fault that names a number.
+fn named(number: i64) -> Option<DataFault> {
+    if number == 0 {
+        return None;
     }
+    Some(DataFault::NotHeld(Frac::from(number)))
 }
 
 #[test]
 fn the_first_number_that_is_not_held_is_told(rt: HostRuntime) {
     for (text, number) in &FILES {
-        assert!(rt;
-            first_left::<Tiny>(rt.alloc(), text) == Some(Frac::from(*number)),
-            "{text}"
-        );
-        assert!(rt;
-            first_left::<Frac>(rt.alloc(), text) == Some(Frac::from(0)),
-            "{text}"
-        );
+        assert_eq!(rt; fault::<Tiny>(rt.alloc(), text), Some(named(*number)));
+        assert_eq!(rt; fault::<Frac>(rt.alloc(), text), Some(None));
     }
 }

@@ -57,11 +57,16 @@ pub fn begins(text: &Bytes, expected: &str) -> bool {
     text.as_slice().starts_with(expected.trim().as_bytes())
 }
 
-/// Appends numbers, each behind a blank.
+/// Appends a blank and a number.
+fn put_number<F: Field>(text: &mut Bytes, x: F) -> Result<(), NoMemory> {
+    text.push(b' ')?;
+    put_frac(frac_of(x), text)
+}
+
+/// Appends numbers, each after a blank.
 pub fn put_numbers<F: Field>(text: &mut Bytes, numbers: &[F]) -> Result<(), NoMemory> {
     for x in numbers {
-        text.push(b' ')?;
-        put_frac(frac_of(*x), text)?;
+        put_number(text, *x)?;
     }
     Ok(())
 }
@@ -75,10 +80,10 @@ pub fn put_rows<F: Field>(text: &mut Bytes, rows: &Rows<F>) -> Result<(), NoMemo
     Ok(())
 }
 
-/// Appends places, each behind a blank.
+/// Appends places, each after a blank.
 pub fn put_places(text: &mut Bytes, places: &[u32]) -> Result<(), NoMemory> {
     for place in places {
-        put_numbers(text, &[Frac::from(i64::from(*place))])?;
+        put_number(text, Frac::from(i64::from(*place)))?;
     }
     Ok(())
 }
@@ -92,7 +97,8 @@ pub fn put_left<F: Field>(text: &mut Bytes, left: &Left<F>) -> Result<(), NoMemo
         Op::Div => " div",
     };
     text.append(name.as_bytes())?;
-    put_numbers(text, &[left.a, left.b])
+    put_number(text, left.a)?;
+    put_number(text, left.b)
 }
 
 /// Appends where an elimination was given up: the row, the column, the step, the operation and the basis.
@@ -121,7 +127,7 @@ pub fn sum_text<F: Field>(alloc: Global, sum: Result<F, Left<F>>) -> Result<Byte
     match sum {
         Ok(sum) => {
             text.append(b"sum")?;
-            put_numbers(&mut text, &[sum])?;
+            put_number(&mut text, sum)?;
         }
         Err(left) => {
             text.append(b"left")?;
