@@ -151,7 +151,7 @@ fn is_same_report(seen: &Seen, other: &Seen) -> bool {
 
 /// What a sink holds, as text.
 fn text_in(sink: &MemSink) -> &str {
-    core::str::from_utf8(sink.contents()).unwrap_or("no text")
+    std::str::from_utf8(sink.contents()).unwrap_or("no text")
 }
 
 /// Whether a text has one of these forms, or none is given.
@@ -182,7 +182,7 @@ fn print_finding(alloc: Global, case: &Case, trial: Trial<'_>) -> Result<Option<
     let Some(printed) = trial.printed(alloc) else {
         return Ok(Some(String::from_str(alloc, "it is refused")?));
     };
-    let text = core::str::from_utf8(printed.as_slice()).unwrap_or("no text");
+    let text = std::str::from_utf8(printed.as_slice()).unwrap_or("no text");
     let again = printed_problem(alloc, printed.as_slice());
     let is_log = trial
         .words

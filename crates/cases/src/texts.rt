@@ -78,7 +78,7 @@ fn push_line(alloc: Global, out: &mut String, line: &str) -> Result<(), Fault> {
         {
             let count = usize::try_from(number(alloc, count)?).unwrap_or(0);
             let bytes = vec![in alloc; *byte; count]?;
-            out.push_str(core::str::from_utf8(bytes.as_slice()).unwrap_or(""))?;
+            out.push_str(std::str::from_utf8(bytes.as_slice()).unwrap_or(""))?;
         } else {
             return Err(part_fault(alloc, line));
         }
