@@ -1,5 +1,5 @@
 -- Fractions compared and tested for equality by their parts.
-use mir.Syntax.{w128}
+use mir.Syntax.{Width, w128}
 use mir.Val.{to_z, of_z}
 use Rattle.std.specs.Prelude.{◌≡◌, ◌≢◌, ℕ, ℤ, pos, negsuc, neg_ℤ, zero, suc, ◌*◌, ◌<◌, ◌^◌, ◌*ℤ◌, unsigned_abs, int_le, int_lt, nat_le, Bool, true, false, cond, not, ◌==◌, IsTrue, refl, [], ◌∷◌}
 use Rattle.std.specs.Ordering.{nat_cmp, int_cmp}
@@ -42,6 +42,14 @@ cmp_same_den p q n m b d sp sq e =
     let left : le_ℚ p q ≡ int_le n m = crossed p q n m b d sp sq ∙ ap (λ (z : ℕ). int_le (n *ℤ pos z) (m *ℤ pos b)) (sym e) ∙ le-mul_positive n m b some in
     let right : le_ℚ q p ≡ int_le m n = crossed q p m n d b sq sp ∙ ap (λ (z : ℕ). int_le (m *ℤ pos b) (n *ℤ pos z)) (sym e) ∙ le-mul_positive m n b some in
     int_cmp_is n m ∙ sym (cmp_by p q (int_le n m) (int_le m n) left right)
+
+-- and else the products across
+pub cmp_across : (p q : ℚ) (n m : ℤ) (b d : ℕ) (x y : ℤ) → IsStored p n b → IsStored q m d → x ≡ n *ℤ pos d → y ≡ m *ℤ pos b → int_cmp x y ≡ cmp_ℚ p q
+cmp_across p q n m b d x y sp sq ex ey =
+    ap (λ (z : ℤ). int_cmp z y) ex
+    ∙ ap (int_cmp (n *ℤ pos d)) ey
+    ∙ int_cmp_is (n *ℤ pos d) (m *ℤ pos b)
+    ∙ sym (cmp_by p q (int_le (n *ℤ pos d) (m *ℤ pos b)) (int_le (m *ℤ pos b) (n *ℤ pos d)) (crossed p q n m b d sp sq) (crossed q p m n d b sq sp))
 
 nonnegative_is : (n : ℤ) → is_below_zero n ≡ false → n ≡ pos (unsigned_abs n)
 nonnegative_is (pos n) h = refl
@@ -118,18 +126,18 @@ is_eqb : (x y : ℕ) → x ≡ y → IsTrue (x == y)
 is_eqb x y h = grind (arith, nat_tests)
 
 -- with one numerator the denominators decide
-pub same_by_den : (p q : ℚ) (n m : ℤ) (b d : ℕ) → IsStored p n b → IsStored q m d → unsigned_abs n < 2 ^ 120 → unsigned_abs m < 2 ^ 120 → of_z w128 n ≡ of_z w128 m → (b == d) ≡ same_ℚ p q
-same_by_den p q n m b d sp sq h k e =
+pub same_by_den : (p q : ℚ) (n m : ℤ) (b d : ℕ) → IsStored p n b → IsStored q m d → n ≡ m → (b == d) ≡ same_ℚ p q
+same_by_den p q n m b d sp sq e =
     same_test (b == d) (same_ℚ p q)
-    (λ t. (same_ℚ-is p q).1 (same_parts p q (sym sp.num ∙ same_bits n m h k e ∙ sq.num) (sym sp.den ∙ eqb_is b d t ∙ sq.den)))
+    (λ t. (same_ℚ-is p q).1 (same_parts p q (sym sp.num ∙ e ∙ sq.num) (sym sp.den ∙ eqb_is b d t ∙ sq.den)))
     (λ t. is_eqb b d (sp.den ∙ ap (λ (x : ℚ). x.den) ((same_ℚ-is p q).0 t) ∙ sym sq.den))
 
 -- and other numerators are of other numbers
-pub other_by_num : (p q : ℚ) (n m : ℤ) (b d : ℕ) → IsStored p n b → IsStored q m d → (of_z w128 n ≡ of_z w128 m → ⊥) → (of_z w128 n == of_z w128 m) ≡ same_ℚ p q
-other_by_num p q n m b d sp sq other =
-    same_test (of_z w128 n == of_z w128 m) (same_ℚ p q)
-    (λ t. absurd (other (eqb_is (of_z w128 n) (of_z w128 m) t)))
-    (λ t. absurd (other (ap (of_z w128) (sp.num ∙ ap (λ (x : ℚ). x.num) ((same_ℚ-is p q).0 t) ∙ sym sq.num))))
+pub other_by_num : (w : Width) (p q : ℚ) (n m : ℤ) (b d : ℕ) → IsStored p n b → IsStored q m d → (of_z w n ≡ of_z w m → ⊥) → (of_z w n == of_z w m) ≡ same_ℚ p q
+other_by_num w p q n m b d sp sq other =
+    same_test (of_z w n == of_z w m) (same_ℚ p q)
+    (λ t. absurd (other (eqb_is (of_z w n) (of_z w m) t)))
+    (λ t. absurd (other (ap (of_z w) (sp.num ∙ ap (λ (x : ℚ). x.num) ((same_ℚ-is p q).0 t) ∙ sym sq.num))))
 
 -- a number that the test for 0 tells from 0 is not 0
 pub other_than_zero : (p z : ℚ) (test : Bool) → z ≡ zero_ℚ → test ≡ same_ℚ p z → test ≡ false → p ≢ zero_ℚ

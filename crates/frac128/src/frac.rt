@@ -14,6 +14,9 @@ ghost use Rattle.frac128.specs.Signed.{signed};
 mod arith;
 mod dot;
 
+pub use arith::wide;
+pub use dot::Sum;
+
 use crate::exact::exact_quotient;
 use crate::fault::FracFault;
 use crate::gcd::gcd;
@@ -77,7 +80,7 @@ impl Frac {
     }
 
     /// The number of this sign, magnitude and denominator in lowest terms.
-    pub(crate) fn signed(negative: bool, num: u128, den: u128) -> Frac
+    pub fn signed(negative: bool, num: u128, den: u128) -> Frac
         requires num_small { num < 2 ^ 120 }
         requires den_small { den < 2 ^ 120 }
         requires positive { 0 < den }

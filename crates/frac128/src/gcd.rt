@@ -40,7 +40,7 @@ fn gcd_odd(a: u64, b: u64) -> u64
 }
 
 /// The greatest common divisor, by differences of odd numbers.
-pub(crate) fn gcd_words(a: u64, b: u64) -> u64
+pub fn gcd_words(a: u64, b: u64) -> u64
     ensures { IsGcd a b result }
 {
     if a == 1 || b == 1 {
@@ -114,7 +114,7 @@ fn gcd_wide(a: u128, b: u128) -> u128
 }
 
 /// The greatest common divisor.
-pub(crate) fn gcd(a: u128, b: u128) -> u128
+pub fn gcd(a: u128, b: u128) -> u128
     ensures gcd { IsGcd a b result }
     ensures positive { 0 < b → 0 < result }
 {
@@ -130,7 +130,7 @@ pub(crate) fn gcd(a: u128, b: u128) -> u128
 }
 
 /// The quotient, without a division by 1.
-pub(crate) fn quotient_words(x: u64, y: u64) -> u64
+pub fn quotient_words(x: u64, y: u64) -> u64
     requires { 0 < y }
     ensures { result ≡ x / y }
 {
@@ -138,7 +138,7 @@ pub(crate) fn quotient_words(x: u64, y: u64) -> u64
 }
 
 /// The quotient, without a wide division where words hold both numbers.
-pub(crate) fn quotient(x: u128, y: u128) -> u128
+pub fn quotient(x: u128, y: u128) -> u128
     requires { 0 < y }
     ensures { result ≡ x / y }
 {

@@ -4,18 +4,18 @@
 mod exact;
 mod fault;
 mod frac;
-mod gcd;
+pub mod gcd;
 mod joint;
 pub mod laws;
 mod order;
-mod sign;
+pub mod sign;
 mod size;
 mod text;
 mod tiny;
 mod vectors;
 
 pub use fault::FracFault;
-pub use frac::{Frac, frac_of};
+pub use frac::{Frac, Sum, frac_of, wide};
 pub use text::put_frac;
 pub use tiny::Tiny;
 pub use vectors::{Sparse, Spot, Vector, Vectors, is_zero};

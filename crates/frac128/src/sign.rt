@@ -3,14 +3,14 @@ ghost use Rattle.std.specs.Prelude.{◌≡◌, ◌<◌, ◌^◌};
 ghost use Rattle.frac128.specs.Signed.{differ, is_below_zero, signed};
 
 /// Whether one of the two numbers is negative and the other is not.
-pub(crate) fn opposite(a: i128, b: i128) -> bool
+pub fn opposite(a: i128, b: i128) -> bool
     ensures { result ≡ differ (is_below_zero a) (is_below_zero b) }
 {
     (a < 0) != (b < 0)
 }
 
 /// The number of this sign and magnitude.
-pub(crate) fn signed_number(negative: bool, size: u128) -> i128
+pub fn signed_number(negative: bool, size: u128) -> i128
     requires { size < 2 ^ 127 }
     ensures { result ≡ signed negative size }
 {

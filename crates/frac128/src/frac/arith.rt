@@ -18,7 +18,7 @@ use exact_field::{Field, Left, Op};
 pub(super) const SHORT: u128 = 1 << 59;
 
 /// The product, of all its bits.
-pub(super) fn wide(x: u64, y: u64) -> u128
+pub fn wide(x: u64, y: u64) -> u128
     ensures { result ≡ x * y }
 {
     u128::from(x) * u128::from(y)
@@ -38,7 +38,7 @@ pub(super) fn sum_of_products(a: i128, x: u64, c: i128, y: u64) -> i128
 
 impl Frac {
     /// The sum where it is held.
-    pub(crate) fn plus(self, other: Frac) -> Option<Frac>
+    pub fn plus(self, other: Frac) -> Option<Frac>
         ensures { AnswersHeld (λ q. q) is_held (self +ℚ other) result }
     {
         if self.is_short() && other.is_short() {
@@ -49,7 +49,7 @@ impl Frac {
     }
 
     /// The product where it is held.
-    pub(crate) fn times(self, other: Frac) -> Option<Frac>
+    pub fn times(self, other: Frac) -> Option<Frac>
         ensures { AnswersHeld (λ q. q) is_held (self *ℚ other) result }
     {
         if self.is_short() && other.is_short() {
@@ -146,7 +146,8 @@ impl Frac {
         Some(Frac::signed(opposite(self.num, other.num), num, den))
     }
 
-    pub(crate) fn reciprocal(self) -> Frac
+    /// The reciprocal.
+    pub fn reciprocal(self) -> Frac
         requires { self ≢ zero_ℚ }
         ensures { result ≡ inverse_ℚ self }
     {

@@ -21,7 +21,7 @@ const NUM_LIMIT: u128 = 1 << 119;
 
 /// A sum of products over one denominator, not always in lowest terms.
 #[derive(Clone, Copy)]
-struct Sum {
+pub struct Sum {
     num: i128,
     den: u64,
     ghost num_small: { unsigned_abs num < 2 ^ 119 },
@@ -50,7 +50,7 @@ fn narrow_product(a: i128, b: i128) -> i128
 
 impl Sum {
     /// 0, the sum of no products.
-    fn zero() -> Sum
+    pub fn zero() -> Sum
         ensures { fraction result.num result.den ≡ zero_ℚ }
     {
         Sum { num: 0, den: 1 }
@@ -114,7 +114,7 @@ impl Sum {
     }
 
     /// The sum and one more product, where its parts and those of the factors are short enough.
-    fn plus_product(self, a: Frac, b: Frac) -> Option<Sum>
+    pub fn plus_product(self, a: Frac, b: Frac) -> Option<Sum>
         ensures value { IfSome result (λ s. fraction s.num s.den ≡ fraction self.num self.den +ℚ a *ℚ b) }
         ensures held { IfSome result (λ s. IsTrue (is_held (a *ℚ b))) }
     {
@@ -128,7 +128,7 @@ impl Sum {
     }
 
     /// The number in lowest terms.
-    fn reduced(self) -> Option<Frac>
+    pub fn reduced(self) -> Option<Frac>
         ensures { IfSome result (λ q. q ≡ fraction self.num self.den) }
     {
         Frac::reduced(self.num < 0, self.num.unsigned_abs(), u128::from(self.den))

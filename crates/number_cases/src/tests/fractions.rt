@@ -4,6 +4,7 @@ use super::rows::{COUNT, ROWS};
 use exact_field::{Field, Left, Op};
 use frac128::{Frac, FracFault};
 use std::cmp::Ordering;
+use tier_frac::Tier;
 
 /// The numbers of a line.
 fn numbers(line: &str) -> Option<[i128; 7]> {
@@ -25,7 +26,7 @@ fn made(num: i128, den: i128) -> (i128, i128) {
 }
 
 /// How two numbers compare.
-fn order(a: Frac, b: Frac) -> (i128, i128) {
+fn order<F: Field>(a: F, b: F) -> (i128, i128) {
     match a.cmp(&b) {
         Ordering::Less => (-1, 1),
         Ordering::Equal => (0, 1),
@@ -55,7 +56,7 @@ fn op(operation: i128) -> Op {
 }
 
 /// The numerator and the denominator of an answer, and 0 over 0 where it is not held and the operands are told.
-fn told(operation: i128, a: Frac, b: Frac) -> Option<(i128, i128)> {
+fn told<F: Field>(operation: i128, a: F, b: F) -> Option<(i128, i128)> {
     match answer(operation, a, b)? {
         Ok(x) => Some((x.num(), x.den())),
         Err(left) => {
@@ -66,24 +67,51 @@ fn told(operation: i128, a: Frac, b: Frac) -> Option<(i128, i128)> {
 }
 
 /// What a line is to have, by its operation and its operands.
-fn outcome(operation: i128, a: i128, b: i128, c: i128, d: i128) -> Option<(i128, i128)> {
+fn outcome<F: Field>(
+    operation: i128,
+    a: i128,
+    b: i128,
+    c: i128,
+    d: i128,
+) -> Option<(i128, i128)> {
     match operation {
         5 => Some(made(a, b)),
-        4 => Some(order(Frac::of(a, b)?, Frac::of(c, d)?)),
-        _ => told(operation, Frac::of(a, b)?, Frac::of(c, d)?),
+        4 => Some(order(F::of(a, b)?, F::of(c, d)?)),
+        _ => told(operation, F::of(a, b)?, F::of(c, d)?),
     }
 }
 
 /// Whether the answer is the line's.
-fn agrees(line: &str) -> Option<bool> {
+fn agrees<F: Field>(line: &str) -> Option<bool> {
     let [operation, a, b, c, d, num, den] = numbers(line)?;
-    Some(outcome(operation, a, b, c, d)? == (num, den))
+    Some(outcome::<F>(operation, a, b, c, d)? == (num, den))
 }
 
 #[test]
 fn answers_are_those_of_another_implementation(rt: HostRuntime) {
     assert_eq!(rt; ROWS.lines().count(), COUNT);
     for line in ROWS.lines() {
-        assert!(rt; agrees(line) == Some(true), "{line}");
+        assert!(rt; agrees::<Frac>(line) == Some(true), "{line}");
+        assert!(rt; agrees::<Tier>(line) == Some(true), "{line}");
     }
+}
+
+/// Whether a number comes back from the size that it has, and is kept in words exactly where both parts fit.
+fn is_kept(num: i128, den: i128, is_small: bool) -> bool {
+    match Frac::of(num, den) {
+        Some(x) => {
+            let tier = Tier::from_frac(x);
+            tier.frac() == x && tier.is_small() == is_small && Some(tier) == Tier::of(num, den)
+        }
+        None => false,
+    }
+}
+
+#[test]
+fn words_hold_what_fits(rt: HostRuntime) {
+    let end = 1 << 63;
+    assert!(rt; is_kept(end - 1, 1, true) && is_kept(1, end - 1, true) && is_kept(-end, end - 1, true));
+    assert!(rt; is_kept(end, 1, false) && is_kept(1, end, false) && is_kept(-end - 1, 1, false));
+    assert!(rt; is_kept(2 * end, 2, false) && is_kept(2 * end - 2, 2, true) && is_kept(0, end, true));
+    assert!(rt; Tier::whole(i64::MIN).is_some_and(|least| least.is_small() && !least.neg().is_small()));
 }

@@ -1,8 +1,10 @@
 //! Products of vectors in the short way.
 
 use exact_field::Field;
-use frac128::{Frac, Tiny, Vector};
+use frac128::{Frac, Tiny};
+use src_sink::Items;
 use std::alloc::Global;
+use tier_frac::Tier;
 
 /// Each line: two vectors and their product by Python's `fractions`, or `none` where the short way gives no answer.
 const ROWS: &str = "\
@@ -30,32 +32,32 @@ const ROWS: &str = "\
 
 const COUNT: usize = 20;
 
-fn number(text: &str) -> Option<Frac> {
+fn number<F: Field>(text: &str) -> Option<F> {
     let (num, den) = text.split_once('/')?;
-    Frac::of(num.parse().ok()?, den.parse().ok()?)
+    F::of(num.parse().ok()?, den.parse().ok()?)
 }
 
-fn vector(alloc: Global, text: &str) -> Option<Vector> {
-    let mut entries = Vector::new(alloc);
+fn vector<F: Field>(alloc: Global, text: &str) -> Option<Items<F>> {
+    let mut entries = Items::new(alloc);
     for word in text.split_ascii_whitespace() {
         entries.push(number(word)?).ok()?;
     }
     Some(entries)
 }
 
-fn product(row: &[Frac], vector: &[Frac]) -> Option<Frac> {
+fn product<F: Field>(row: &[F], vector: &[F]) -> Option<F> {
     if row.len() == vector.len() {
-        Frac::short_dot(row, vector)
+        F::short_dot(row, vector)
     } else {
         None
     }
 }
 
 /// Whether the vectors of the line have one width and its answer.
-fn agrees(alloc: Global, line: &str) -> Option<bool> {
+fn agrees<F: Field>(alloc: Global, line: &str) -> Option<bool> {
     let mut parts = line.split(';');
-    let left = vector(alloc, parts.next()?)?;
-    let right = vector(alloc, parts.next()?)?;
+    let left = vector::<F>(alloc, parts.next()?)?;
+    let right = vector::<F>(alloc, parts.next()?)?;
     let answer = product(left.as_slice(), right.as_slice());
     Some(left.len() == right.len() && answer == number(parts.next()?))
 }
@@ -64,7 +66,8 @@ fn agrees(alloc: Global, line: &str) -> Option<bool> {
 fn short_products_are_exact_or_none(rt: HostRuntime) {
     assert_eq!(rt; ROWS.lines().count(), COUNT);
     for line in ROWS.lines() {
-        assert!(rt; agrees(rt.alloc(), line) == Some(true), "{line}");
+        assert!(rt; agrees::<Frac>(rt.alloc(), line) == Some(true), "{line}");
+        assert!(rt; agrees::<Tier>(rt.alloc(), line) == Some(true), "{line}");
     }
     assert!(rt; Tiny::short_dot(&[Tiny::one()], &[Tiny::one()]).is_none());
 }

@@ -1,0 +1,3 @@
+pub mod Fitting
+pub mod Products
+pub mod Sums

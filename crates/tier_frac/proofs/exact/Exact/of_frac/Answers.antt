@@ -1,0 +1,22 @@
+use mir.Syntax.{w128}
+use mir.Val.{to_z, of_z}
+use Rattle.std.proofs.Common.{◌≡◌, unsigned_abs, ap, ◌∙◌, refl, arith}
+use Rattle.std.proofs.lemmas.Int.{ints, to_z-of_z}
+use Rattle.frac128.specs.Signed.{is_below_zero}
+use Rattle.frac128.proofs.Lowest.{stored_lowest, lowest_coprime, lowest_same}
+use Rattle.frac128.proofs.Signs.{below_zero}
+use Rattle.tier_frac.proofs.exact.Exact.of_frac.Goals as goal
+
+pub of-requires-clause-lowest : goal.of-requires-clause-lowest
+of-requires-clause-lowest c =
+    let size : c.unsigned_abs.result ≡ unsigned_abs c.num-num.result = omega (arith, ints, c.unsigned_abs.ensures.value) in
+    let den : unsigned_abs (to_z w128 (of_z w128 c.den-den.result)) ≡ c.args.value.den = omega (arith, ints, c.den-den.ensures.part) in
+    lowest_coprime _ _ _ _ (stored_lowest c.args.value c.num-num.result _ (is_below_zero c.num-num.result) _ _ (record { num = c.num-num.ensures.part; den = den }) refl size refl)
+
+pub returns : goal.returns
+returns c =
+    let number : to_z w128 (of_z w128 c.num-num.result) ≡ c.num-num.result = to_z-of_z w128 c.num-num.result (record { sfits = c.num-num.type_inv }) in
+    let size : c.unsigned_abs.result ≡ unsigned_abs c.num-num.result = omega (arith, ints, c.unsigned_abs.ensures.value) in
+    let den : unsigned_abs (to_z w128 (of_z w128 c.den-den.result)) ≡ c.args.value.den = omega (arith, ints, c.den-den.ensures.part) in
+    lowest_same _ _ _ _ _ (stored_lowest c.args.value c.num-num.result _ _ _ _ (record { num = c.num-num.ensures.part; den = den }) (below_zero _ ∙ ap is_below_zero number) size refl)
+    c.of.ensures.num c.of.ensures.den
