@@ -1,6 +1,6 @@
 //! Opposite pairs of generators, and the new generators between them.
-ghost use Rattle.std.specs.Prelude.{◌≡◌, ◌<◌, ◌||◌, ℕ, List, All, length, not, nat_eq};
-ghost use Rattle.incid_sets.specs.Marks.{IsMeet};
+ghost use Rattle.std.specs.Prelude.{◌≡◌, ◌<◌, ◌≤◌, ◌+◌, ◌||◌, ℕ, List, All, IsTrue, length, not, nat_eq};
+ghost use Rattle.incid_sets.specs.Marks.{size, IsMeet};
 ghost use Rattle.exact_field.specs.Rational.{ℚ};
 ghost use Rattle.polyhedra.specs.DoubleDescription.{covers};
 ghost use Rattle.polyhedra.specs.LiveList.{is_uncovered_live};
@@ -58,8 +58,16 @@ fn is_uncovered<F: Field>(
     true
 }
 
-/// Whether no third generator covers the pair. One does where fewer rows are tight at both than the width less 2, so most pairs
-/// need no scan.
+/// Whether at most so many rows, and one, are tight at the generator.
+fn has_one_more<F: Field>(generator: &Generator<F>, count: u32) -> bool
+    ensures { IsTrue result → size generator.now.tight ≤ count + 1 }
+{
+    !generator.tight.has_at_least(count.saturating_add(2))
+}
+
+/// Whether no third generator covers the pair. One does where fewer rows are tight at both than the
+/// width less 2, and none does where at most one tight row of either is not tight at the other; so
+/// most pairs need no scan.
 pub fn are_adjacent<F: Field>(
     generators: &[Generator<F>],
     plus: &Generator<F>,
@@ -67,12 +75,18 @@ pub fn are_adjacent<F: Field>(
     common: &Marks,
     last: &mut usize,
 ) -> bool
-    requires narrow { length plus.now.vector.items < 4294967296 }
     ensures { (n : ℕ) (rows : List (List ℚ)) → AreTwoLive F.value n rows generators.now plus.now minus.now → IsMeet common.now plus.now.tight minus.now.tight → result ≡ is_uncovered_live rows (live_of F.value generators.now) (pair_of F.value plus.now minus.now) }
 {
+    let count = common.count();
     let least = plus.vector.len().saturating_sub(2);
-    if !common.has_at_least(least as u32) {
+    if (count as usize) < least {
         return false;
+    }
+    if has_one_more(plus, count) {
+        return true;
+    }
+    if has_one_more(minus, count) {
+        return true;
     }
     is_uncovered(generators, plus, minus, common, last)
 }

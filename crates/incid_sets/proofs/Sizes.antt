@@ -3,8 +3,8 @@ use Rattle.std.proofs.Common.{◌≡◌, ℕ, zero, suc, ◌+◌, ◌-◌, ◌*�
 use Rattle.std.specs.Prelude.{◌==◌}
 use Rattle.std.specs.Int.{bit_at}
 use Rattle.std.proofs.lemmas.List.{take_all}
-use Rattle.std.proofs.lemmas.List.Sums.{sum_by_more}
-use Rattle.std.proofs.lemmas.List.FromFn.{sum_by-map-range_with_len_more}
+use Rattle.std.proofs.lemmas.List.Sums.{count_by-le-length, sum_by_more}
+use Rattle.std.proofs.lemmas.List.FromFn.{length-map-range_with_len, sum_by-map-range_with_len_more}
 use Rattle.std.proofs.lemmas.Nat.{mod-pow-add, ones_cat, ones-le, zero_from_ones, mod_below, pow_pos}
 use Rattle.std.proofs.lemmas.Nat.Bits.{bit_at-lt}
 use Rattle.incid_sets.specs.Words.{is_marked, marks_below, AreBounded}
@@ -87,3 +87,10 @@ size_is words bound low h =
     ∙ sym (whole_words words low (length words) (omega arith))
     ∙ ap (λ k. size (marks_below k words)) (let room : bound ≤ 64 * length words = h.room in let k : 64 * length words ≡ bound + (64 * length words - bound) = omega arith in k)
     ∙ none_more words bound h (64 * length words - bound)
+
+-- a set has no more numbers than its bound
+pub size_bounded : (bound : ℕ) (words : List ℕ) → size (marks_below bound words) ≤ bound
+size_bounded bound words =
+    let many : length (marks_below bound words) ≡ bound = length-map-range_with_len (is_marked words) 0 bound in
+    let least : size (marks_below bound words) ≤ length (marks_below bound words) = count_by-le-length (λ marked. marked) (marks_below bound words) in
+    omega (arith, many, least)

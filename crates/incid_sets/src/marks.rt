@@ -3,8 +3,8 @@ ghost use Rattle.std.specs.Prelude.{◌≡◌, ◌<◌, ◌≤◌, ◌*◌, ◌-
 ghost use Rattle.incid_sets.specs.Marks.{has, no_marks, size, ContainsAll, CoversBoth, IsMeet};
 
 use crate::words::{
-    contains_words, covers_words, grow_words, has_mark, have_at_least, set_mark, words_for,
-    write_meet, zero_words,
+    contains_words, count_marks, covers_words, grow_words, has_mark, have_at_least, set_mark,
+    words_for, write_meet, zero_words,
 };
 use src_sink::NoMemory;
 use std::alloc::Global;
@@ -74,6 +74,14 @@ impl Marks {
         ensures { IsTrue result ↔ (count ≤ size self.now) }
     {
         have_at_least(&self.words, count)
+    }
+
+    /// How many numbers the set has.
+    pub fn count(&self) -> u32
+        ensures { result ≡ size self.now }
+    {
+        let _bound = self.bound;
+        count_marks(&self.words)
     }
 
     /// Whether the set has each number of the other.

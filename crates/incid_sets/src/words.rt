@@ -1,5 +1,5 @@
 //! Bits of words, taken a word at a time. A list of words that is shorter counts as continued with zeros.
-ghost use Rattle.std.specs.Prelude.{◌≡◌, ◌<◌, ◌/◌, ◌*◌, ◌≤◌, ◌↔◌, ℕ, IsTrue, IfOk, OnOk, replicate, ◌&&◌, slice_index, vec_len};
+ghost use Rattle.std.specs.Prelude.{◌≡◌, ◌<◌, ◌/◌, ◌*◌, ◌^◌, ◌≤◌, ◌↔◌, ℕ, IsTrue, IfOk, OnOk, replicate, ◌&&◌, slice_index, vec_len};
 ghost use Rattle.incid_sets.specs.Marks.{size};
 ghost use Rattle.incid_sets.specs.Words.{is_marked, marks_below, AddsMark, AreBounded};
 
@@ -95,6 +95,17 @@ pub fn have_at_least(words: &[u64], count: u32) -> bool
         missing -= ones;
     }
     missing == 0
+}
+
+/// How many numbers the set has, where its bound is below 2^32.
+pub fn count_marks(words: &[u64]) -> u32
+    ensures { (bound : ℕ) → AreBounded words.now bound → bound < 2 ^ 32 → result ≡ size (marks_below bound words.now) }
+{
+    let mut total: u32 = 0;
+    for word in words {
+        total = total.saturating_add(word.count_ones());
+    }
+    total
 }
 
 /// Makes the words have exactly the common numbers of the two others, as far as they have room.

@@ -63,7 +63,7 @@ enough_here w x r h k = go (le_or_lt zero_ℚ (dot r w)) (zero_or_positive (dot 
         )
 
 -- enough for every row
-enough : (w x : List ℚ) (rows : List (List ℚ)) → All (HoldsAt x) rows → LiesIn rows x w → (s : ℚ) × (zero_ℚ ≤ℚ s) × All (HoldsAt (moved w s x)) rows
+pub enough : (w x : List ℚ) (rows : List (List ℚ)) → All (HoldsAt x) rows → LiesIn rows x w → (s : ℚ) × (zero_ℚ ≤ℚ s) × All (HoldsAt (moved w s x)) rows
 enough w x [] h l = (zero_ℚ, le_refl zero_ℚ, All-nil (HoldsAt (moved w zero_ℚ x)))
 enough w x (r ∷ rows) h l =
     go (enough_here w x r (All-head (HoldsAt x) r rows h) (All-head Within r rows l))

@@ -1,5 +1,6 @@
 pub mod AdditionExample
 pub mod Algebra
+pub mod AllButOne
 pub mod CommonRows
 pub mod Cones
 pub mod ConvexSets

@@ -60,7 +60,7 @@ free_is rows pair g h x y z = go (either_true (same_vector g pair.plus_side || s
     go (inl k) = one_of (either_true (same_vector g pair.plus_side) (same_vector g pair.minus_side) k)
     go (inr k) = not_true (covers rows pair.plus_side pair.minus_side g) k (covers_test rows pair.plus_side pair.minus_side g z)
 
-free_holds : (rows : List (List ℚ)) (pair : Pair) (g : List ℚ) → Free rows pair g → free_test rows pair g ≡ true
+pub free_holds : (rows : List (List ℚ)) (pair : Pair) (g : List ℚ) → Free rows pair g → free_test rows pair g ≡ true
 free_holds rows pair g h = go (true_or_not (same_vector g pair.plus_side)) (true_or_not (same_vector g pair.minus_side))
     (true_or_not (covers rows pair.plus_side pair.minus_side g))
   where

@@ -1,5 +1,5 @@
 -- What holds of generators that describe a cone.
-use Rattle.std.specs.Prelude.{ℕ, ◌+◌, ◌<◌, List, ◌≡◌, ◌↔◌, length, filter, All, AllPairs, Contains, ◌&&◌, false}
+use Rattle.std.specs.Prelude.{ℕ, ◌+◌, ◌<◌, ◌≤◌, List, ◌≡◌, ◌↔◌, ◌⊎◌, length, filter, All, AllPairs, Contains, ◌&&◌, true, false}
 use Rattle.exact_field.specs.Rational.{ℚ, zero_ℚ, ◌≤ℚ◌, ◌<ℚ◌}
 use Rattle.exact_field.specs.Vector.{dot}
 use Rattle.polyhedra.specs.Cone.{IsGenerated, IsInCone, IsInDual}
@@ -35,6 +35,19 @@ abbrev pub FewAreCovered : Type 0
 FewAreCovered = (n : ℕ) (rows generators : List (List ℚ)) (pair : Pair) → IsDoubleDescriptionPair n rows generators →
     Contains generators pair.plus_side → Contains generators pair.minus_side → (pair.plus_side ≡ pair.minus_side → ⊥) →
     length (common_rows rows pair.plus_side pair.minus_side) + 2 < n → is_uncovered rows generators pair ≡ false
+
+-- the rows that are tight at a
+abbrev pub tight_rows : List (List ℚ) → List ℚ → List (List ℚ)
+tight_rows rows a = filter (λ row. is_zero (dot row a)) rows
+
+-- where at most one tight row of one of two generators is not tight at the other, no third one covers
+-- them: they are adjacent
+abbrev pub AllButOneAreUncovered : Type 0
+AllButOneAreUncovered = (n : ℕ) (rows generators : List (List ℚ)) (pair : Pair) → IsDoubleDescriptionPair n rows generators →
+    Contains generators pair.plus_side → Contains generators pair.minus_side →
+    let common = length (common_rows rows pair.plus_side pair.minus_side) in
+    (length (tight_rows rows pair.plus_side) ≤ common + 1) ⊎ (length (tight_rows rows pair.minus_side) ≤ common + 1) →
+    is_uncovered rows generators pair ≡ true
 
 -- normed generators that describe a cone are exactly its normed extreme directions
 abbrev pub DescribedAreExtreme : Type 0

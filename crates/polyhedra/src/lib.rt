@@ -11,7 +11,7 @@ ghost use Rattle.polyhedra.specs.Examples.{AdditionExample, FirstExample, Square
 ghost use Rattle.polyhedra.specs.Exactness.{CornerStarts, NormedArePointsOrDirections, LargestAccount, EnclosedAreRepresented, Exactness, RisingListsAreEqual, Uniqueness};
 ghost use Rattle.polyhedra.specs.FirstNamed.{FirstAccount, TightSetsTellApart};
 ghost use Rattle.polyhedra.specs.Farkas.{FarkasLemma, OneAlternative, WeakDuality, NoSolution, DualOfGenerated, CutHolds};
-ghost use Rattle.polyhedra.specs.Generators.{DescribedAreDistinct, DescribedAreExtreme, DualOfDescribed, FewAreCovered, TightAtMeeting};
+ghost use Rattle.polyhedra.specs.Generators.{AllButOneAreUncovered, DescribedAreDistinct, DescribedAreExtreme, DualOfDescribed, FewAreCovered, TightAtMeeting};
 ghost use Rattle.polyhedra.specs.Image.{ImageIsConvex};
 ghost use Rattle.polyhedra.specs.Linear.{ProductIsSymmetric, IsLinear, ProductOfCombination, CombinationOfCombinations, SameProducts};
 ghost use Rattle.polyhedra.specs.LiveSteps.{AreLive, NumbersStay, NumbersTellApart, StepExample, StepIsAddition, ThirdByNumber};
@@ -150,6 +150,11 @@ pub fn tight_at_meeting()
 /// Generators with too few common tight rows are not adjacent.
 pub fn few_are_covered()
     ensures { FewAreCovered }
+{}
+
+/// Generators of which one has at most one tight row that is not tight at the other are adjacent.
+pub fn all_but_one_are_uncovered()
+    ensures { AllButOneAreUncovered }
 {}
 
 /// The generators of a double description pair are the extreme directions of its cone.

@@ -1,15 +1,24 @@
-use Rattle.std.proofs.Common.{◌≡◌, ℕ, ◌-◌, ◌≤◌, length, sym, ◌∙◌, arith, subst, true≢false}
-use Rattle.incid_sets.specs.Marks.{size}
+use Rattle.std.proofs.Common.{◌≡◌, ◌-◌, length, sym, arith, inl, inr}
 use Rattle.polyhedra.proofs.Members.{member_of}
 use Rattle.double_descr.specs.State.{HasTightSet}
 use Rattle.double_descr.proofs.pairs.are_adjacent.Goals as goal
-use Rattle.double_descr.proofs.Covering.{few_are_no_pair}
+use Rattle.double_descr.proofs.Covering.{few_are_no_pair, one_more_is_a_pair}
 
-pub returns-then-not-has_at_least : goal.returns-then-not-has_at_least
-returns-then-not-has_at_least g c = λ n rows two m.
+pub returns-then-count-least : goal.returns-then-count-least
+returns-then-count-least g c = λ n rows two m.
     let least : c.saturating_sub-least.result ≡ length c.args.plus.now.vector.items - 2 = omega (arith, c.saturating_sub-least.ensures, c.len.ensures, c.args.plus.now.vector.ok) in
     sym (few_are_no_pair g.F.Field.value n rows c.args.generators.now c.args.plus.now c.args.minus.now c.args.common.now two m
-    (λ h. true≢false (sym (c.has_at_least.ensures.1 (subst (λ (k : ℕ). k ≤ size c.args.common.now) (sym least) h)) ∙ c.if-not-has_at_least.true)))
+    (omega (arith, least, c.count-count.ensures, c.if-count-least.true)))
+
+pub returns-then-has_one_more : goal.returns-then-has_one_more
+returns-then-has_one_more g c = λ n rows two m.
+    sym (one_more_is_a_pair g.F.Field.value n rows c.args.generators.now c.args.plus.now c.args.minus.now c.args.common.now two m
+    (inl (omega (arith, c.has_one_more.ensures c.if-has_one_more.true, c.count-count.ensures))))
+
+pub returns-then-has_one_more-2 : goal.returns-then-has_one_more-2
+returns-then-has_one_more-2 g c = λ n rows two m.
+    sym (one_more_is_a_pair g.F.Field.value n rows c.args.generators.now c.args.plus.now c.args.minus.now c.args.common.now two m
+    (inr (omega (arith, c.has_one_more-2.ensures c.if-has_one_more-2.true, c.count-count.ensures))))
 
 pub returns : goal.returns
 returns g c = λ n rows two m. c.is_uncovered.ensures rows two.tight
