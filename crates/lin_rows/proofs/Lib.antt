@@ -1,5 +1,7 @@
 pub mod Building
 pub mod CellLists
+pub mod Complement
+mod ComplementExample
 pub mod Eliminating
 pub mod EliminationEnds
 pub mod Errors
@@ -11,4 +13,5 @@ pub mod Pivoted
 pub mod Places
 pub mod Signs
 pub mod Summing
+pub mod Sweeping
 pub mod Wide

@@ -1,5 +1,7 @@
 pub mod Answers
 pub mod Clear
+pub mod Complement
+pub mod ComplementExamples
 pub mod Eliminate
 pub mod Lines
 pub mod Pivot

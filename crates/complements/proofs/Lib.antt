@@ -1,3 +1,0 @@
-pub mod Sweeping
-pub mod Complement
-mod ComplementExample
