@@ -1,7 +1,7 @@
 pub mod Building
 pub mod CellLists
-pub mod Complement
 mod ComplementExample
+pub mod Complements
 pub mod Eliminating
 pub mod EliminationEnds
 pub mod Errors
