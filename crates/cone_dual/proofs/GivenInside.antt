@@ -1,4 +1,5 @@
--- What the ends of the program of an interior vector say of generators and the vector that is given, in a field.
+-- What the ends of the program of an interior vector say of generators and the vector that is
+-- given, in a field.
 use Rattle.std.proofs.Common.{◌≡◌, ℕ, suc, List, [], length, map, take, drop, sym, ap, subst, ◌∙◌, ◌+◌, ◌<◌, ◌≤◌, arith, Bool, Option, Some, slice_index_or}
 use Rattle.std.proofs.lemmas.List.{length-map}
 use Rattle.exact_field.specs.Rational.{ℚ, zero_ℚ, ◌≤ℚ◌, ◌<ℚ◌}

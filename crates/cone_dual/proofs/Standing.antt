@@ -1,4 +1,5 @@
--- What is said of the cone in a field is said of that of the file, and licences before a duality vector is known.
+-- What is said of the cone in a field is said of that of the file, and licences before a duality
+-- vector is known.
 use Rattle.std.proofs.Common.{◌≡◌, ℕ, List, [], length, map, true, sym, ap, ◌∙◌, subst, Bool, Option, None, Some}
 use Rattle.std.proofs.lemmas.Bool.{eqb-true}
 use Rattle.exact_field.specs.Rational.{ℚ}

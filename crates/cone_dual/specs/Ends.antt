@@ -14,7 +14,8 @@ abbrev pub IsSameEnd : SolveFault → ConeEnd → Type 0
 IsSameEnd (fault.Left licence) end = end ≡ Left licence
 IsSameEnd fault.NoMemory end = end ≡ NoMemory
 
--- the file has the fault; or the overflow is licensed without a duality vector; nothing of want of memory
+-- the file has the fault; or the overflow is licensed without a duality vector; nothing of want of
+-- memory
 abbrev pub IsEnd : (ℚ → Bool) → Problem → ConeEnd → Type 0
 IsEnd holds file (Fault fault) = HasFault file fault
 IsEnd holds file (Left licence) = LicensedWithout holds file licence

@@ -32,7 +32,8 @@ pub record CombinesToLastOne (q : ℕ) (vectors : List (List ℚ)) (mu : List �
   pub positive : IsPositiveCombination q vectors mu (combination q mu vectors)
   pub last : entry (combination q mu vectors) q ≡ one_ℚ
 
--- c and weights are those of the entry, which fits the file, is read off, and has held numbers; the cone is solid and pointed
+-- c and weights are those of the entry, which fits the file, is read off, and has held numbers; the
+-- cone is solid and pointed
 pub record IsDualityOf {F : Type 0} (value : F → ℚ) (holds : ℚ → Bool) (file : Problem) (d : Duality F) : Type 0 where
   pub picks : List ℕ
   pub inverse : List ℚ

@@ -1,4 +1,5 @@
--- The generators of the cone of some rows, as a list, and the order of their making; rows of a file's ordering cone.
+-- The generators of the cone of some rows, as a list, and the order of their making; rows of a
+-- file's ordering cone.
 use Rattle.std.specs.Prelude.{ℕ, List, ◌++◌, ◌≡◌, ◌↔◌, map, length, filter, All, AllPairs, Contains, not}
 use Rattle.std.specs.List.{range_with_len}
 use Rattle.exact_field.specs.Rational.{ℚ}
@@ -27,7 +28,8 @@ others count picks = filter (λ k. not (contains picks k)) (range_with_len 1 cou
 abbrev pub begun_with : List ℕ → Table → List (List ℚ)
 begun_with picks rows = map (row_of rows) picks ++ map (row_of rows) (others (length rows) picks)
 
--- the vectors are those of live generators, by their numbers, that begin with n independent rows and take a step for each other row
+-- the vectors are those of live generators, by their numbers, that begin with n independent rows
+-- and take a step for each other row
 pub record AreMadeInOrder (n : ℕ) (rows gens : List (List ℚ)) : Type 0 where
   pub picks : List ℕ
   pub independent : AreIndependent n rows picks
@@ -35,13 +37,15 @@ pub record AreMadeInOrder (n : ℕ) (rows gens : List (List ℚ)) : Type 0 where
   pub made : IsMadeOver n (begun_with picks rows) list
   pub same : gens ≡ vectors list.live
 
--- the place is a step of an elimination of some of these rows, or of the addition of one of them to others as a vector of the ordering cone
+-- the place is a step of an elimination of some of these rows, or of the addition of one of them to
+-- others as a vector of the ordering cone
 abbrev pub IsOver : List (List ℚ) → Place → Type 0
 IsOver all (Elim rows basis row col step) = All (Contains all) rows
 IsOver all (Pair ConeRows rows first second step) = All (Contains all) rows
 IsOver all _ = ⊥
 
--- the rows are vectors of the file's ordering cone that are not 0, and have as many entries as there are objectives
+-- the rows are vectors of the file's ordering cone that are not 0, and have as many entries as
+-- there are objectives
 pub record AreConeRows (file : Problem) (n : ℕ) (rows : List (List ℚ)) : Type 0 where
   pub width : file.objs ≡ n
   pub listed : All (Contains (nonzero_vectors file.cone)) rows

@@ -54,7 +54,8 @@ pub fn interior_end<F: Field>(alloc: Global, form: &Data<F>) -> Result<LpEnd<F>,
     }
 }
 
-/// As many independent vectors of the cone as it has dimensions, or a vector that is orthogonal to all.
+/// As many independent vectors of the cone as it has dimensions, or a vector that is orthogonal to
+/// all.
 pub fn independent_vectors<F: Field>(
     alloc: Global,
     form: &Data<F>,

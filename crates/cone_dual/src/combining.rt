@@ -22,15 +22,16 @@ use overflows::{SolveFault, fractions, spots_of};
 use src_sink::{Items, NoMemory};
 use std::alloc::Global;
 
-/// Positive multipliers that sum to 1 and combine vectors to 0, and the first vector that they name.
+/// Positive multipliers that sum to 1 and combine vectors to 0, and the first vector that they
+/// name.
 #[derive(Debug, Drop)]
 pub struct ZeroCombination {
     pub first: Vector,
     pub m: Sparse,
 }
 
-/// The next of the numbers behind the first `next`, and how many are used then: 0 and no more at a vector that is 0, or behind the
-/// last.
+/// The next of the numbers behind the first `next`, and how many are used then: 0 and no more at a
+/// vector that is 0, or behind the last.
 fn next_number<F: Field>(vector: &[F], list: &[F], next: usize) -> (F, usize)
     requires { next ≤ length list.now }
     ensures inside { result.1 ≤ length list.now }
@@ -45,7 +46,8 @@ fn next_number<F: Field>(vector: &[F], list: &[F], next: usize) -> (F, usize)
     (list[next], next + 1)
 }
 
-/// A number for each vector: those of the list at the vectors that are not 0, in their order, and 0 at the others.
+/// A number for each vector: those of the list at the vectors that are not 0, in their order, and 0
+/// at the others.
 pub fn spread_over<F: Field>(
     alloc: Global,
     vectors: &[Items<F>],

@@ -96,9 +96,10 @@ fn generators_of<F: Field>(alloc: Global, dd: &Dd<F>, width: u32) -> Result<Rows
     Ok(out)
 }
 
-/// The generators of the pointed cone where all rows are at least 0: its normed extreme directions, in the order in which double
-/// description numbers them, which begins with as many independent rows as they have entries and adds the others in their order.
-/// After an overflow the licence has no trail.
+/// The generators of the pointed cone where all rows are at least 0: its normed extreme directions,
+/// in the order in which double description numbers them, which begins with as many independent
+/// rows as they have entries and adds the others in their order. After an overflow the licence has
+/// no trail.
 pub fn dual_gens<F: Field>(alloc: Global, rows: &Rows<F>) -> Result<Rows<F>, SolveFault>
     requires { HasFullRank rows.now.width (numbers F.value rows.now.list) }
     ensures width { IfOk result (λ out. out.width ≡ rows.now.width) }

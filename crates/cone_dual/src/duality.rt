@@ -9,7 +9,8 @@ use src_sink::{Items, NoMemory};
 pub struct Duality<F: Drop> {
     /// An interior vector of the ordering cone with last entry 1.
     pub c: Items<F>,
-    /// The multipliers that combine the generators to c; none where the cone is not given by generators.
+    /// The multipliers that combine the generators to c; none where the cone is not given by
+    /// generators.
     pub weights: Items<F>,
     /// The `duality` entry of a log.
     pub entry: Entry,

@@ -81,7 +81,8 @@ fn behind<F: Field>(list: &[F], n: usize) -> &[F]
     &list[n..]
 }
 
-/// The fault that multipliers of the program of an interior vector show: those of the last equations, behind one for each generator.
+/// The fault that multipliers of the program of an interior vector show: those of the last
+/// equations, behind one for each generator.
 fn outside<F: Field>(
     alloc: Global,
     form: &Data<F>,
@@ -131,7 +132,8 @@ fn inside_given<F: Field>(
     }
 }
 
-/// The multipliers of a solution that combines the generators to an interior vector with last entry 1.
+/// The multipliers of a solution that combines the generators to an interior vector with last entry
+/// 1.
 fn inside_found<F: Field>(
     alloc: Global,
     form: &Data<F>,

@@ -1,5 +1,5 @@
-//! The ordering cone and its duality vector: the first fault of them, or the vector with what shows that it fits; and
-//! the generators of a cone that is given by rows.
+//! The ordering cone and its duality vector: the first fault of them, or the vector with what shows
+//! that it fits; and the generators of a cone that is given by rows.
 #![tactic(auto)]
 
 mod asking;

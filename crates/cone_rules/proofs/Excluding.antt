@@ -1,4 +1,5 @@
--- Each fault excludes what a file without it has: so no sound file has a fault, and two faults of a file are of one kind.
+-- Each fault excludes what a file without it has: so no sound file has a fault, and two faults of a
+-- file are of one kind.
 use Rattle.std.proofs.Common.{◌≡◌, ◌≢◌, ℕ, List, [], ◌∷◌, length, map, All, refl, sym, ap, ap₂, ◌∙◌, subst, arith, ◌<◌, ◌≤◌, ◌-◌, Option, None, Some}
 use Rattle.std.specs.Prelude.{IsTrue, slice_index_or}
 use Rattle.std.proofs.lemmas.List.Elements.{All-head}

@@ -1,4 +1,5 @@
--- The program of an interior vector of generators where no vector is given: one with the last entry 1 is looked for.
+-- The program of an interior vector of generators where no vector is given: one with the last entry
+-- 1 is looked for.
 use Rattle.std.proofs.Common.{◌≡◌, ℕ, suc, List, [], ◌∷◌, ◌++◌, length, take, drop, All, refl, sym, ap, ap₂, ◌∙◌, subst, arith, ◌≤◌, ◌+◌, ◌-◌, ◌⊎◌, inl, inr, None, append_assoc, slice_index_or}
 use Rattle.std.proofs.Math.ListN.{length-append}
 use Rattle.std.proofs.lemmas.List.Elements.{All-take, All-drop}
@@ -63,7 +64,8 @@ module _ (n : ℕ) (p col : List ℚ) (t k bound : ℚ)
       ∙ zero_add k)
       (low (zeros n) (zeros n) zero_ℚ one_ℚ (length-zeros n) (length-zeros n) (nonneg_zeros n) (nonneg_zeros n) (le_refl zero_ℚ) (le_of_lt zero_ℚ one_ℚ zero_lt_one)))
 
-  -- with a vector whose product with the last entries is 1, the multipliers of an optimum of 0 contradict each other
+  -- with a vector whose product with the last entries is 1, the multipliers of an optimum of 0
+  -- contradict each other
   pub positive_sum : (a : List ℚ) → length a ≡ n → AtLeastZero a → dot a col ≡ one_ℚ → bound ≡ one_ℚ → t +ℚ k ≡ zero_ℚ → ⊥
   positive_sum a long h one bounded none =
       let t_low : zero_ℚ ≤ℚ t =

@@ -43,7 +43,8 @@ use Rattle.cone_rules.proofs.Ranks.{unit_nonneg}
 use Rattle.cone_rules.proofs.Rows.{kept, kept_wide, kept_nonzero, spread_combination, spread_well}
 
 -- ---- what the multipliers say: p on the gaps, t on the last entry, k on the equation that bounds e
--- the value of the equations at unknowns whose vectors have the values l and m, with the product b of the surpluses
+-- the value of the equations at unknowns whose vectors have the values l and m, with the product b
+-- of the surpluses
 abbrev rows_value : (bar k l m b e r : ℚ) → ℚ
 rows_value bar k l m b e r = (((l +ℚ neg_ℚ m) +ℚ neg_ℚ b) +ℚ neg_ℚ e *ℚ bar) +ℚ k *ℚ (e +ℚ r)
 
@@ -150,8 +151,8 @@ module _ (q n : ℕ) (vectors : Table) (p : List ℚ) (t k bound : ℚ) (wide : 
       (ap (λ v. dot v y) combines_to ∙ dot-scaled_left (neg_ℚ t) (unit q q) y ∙ ap (λ x. neg_ℚ t *ℚ x) (dot-unit q q y some (omega arith)) ∙ neg_mul t (entry y q))
       ∙ add_comm (neg_ℚ (t *ℚ entry y q)) (t *ℚ entry y q) ∙ add_neg (t *ℚ entry y q)
 
-  -- with a vector whose last entry is 1 and at which no row is negative, and one at which each row is positive, the multipliers of an
-  -- optimum of 0 contradict each other
+  -- with a vector whose last entry is 1 and at which no row is negative, and one at which each row
+  -- is positive, the multipliers of an optimum of 0 contradict each other
   pub none_with : (x y : List ℚ) → length p ≡ n → length vectors ≡ n → entry x q ≡ one_ℚ → AtLeastZero (values vectors x) → All (λ v. zero_ℚ <ℚ dot v y) vectors →
       bound ≡ one_ℚ → t +ℚ k ≡ zero_ℚ → ⊥
   none_with x y p_long many one there positive is_one none =

@@ -1,4 +1,5 @@
--- The equations that each multiplier, less its surplus, is one number, and what their multipliers say.
+-- The equations that each multiplier, less its surplus, is one number, and what their multipliers
+-- say.
 use Rattle.std.proofs.Common.{◌≡◌, ℕ, suc, List, [], ◌∷◌, ◌++◌, length, take, drop, sym, ap, ap₂, ◌∙◌, arith, ◌≤◌, ◌+◌, ◌-◌, slice_index_or}
 use Rattle.std.proofs.Math.ListN.{length-replicate}
 use Rattle.std.proofs.lemmas.List.{length-map, take-append-drop, length-take-le, length-drop}

@@ -1,4 +1,5 @@
--- Vectors whose negatives are in a cone too: those with a positive multiplier in a combination that is 0.
+-- Vectors whose negatives are in a cone too: those with a positive multiplier in a combination that
+-- is 0.
 use Rattle.std.proofs.Common.{◌≡◌, ℕ, zero, suc, List, [], ◌∷◌, length, All, Contains, refl, sym, ap, ◌∙◌, subst, arith, ◌<◌, ◌≤◌, ◌⊎◌, inl, inr, slice_index_or}
 use Rattle.std.proofs.lemmas.List.{length-map}
 use Rattle.std.proofs.lemmas.List.Elements.{All-weaker, All-head, All-tail}
@@ -26,7 +27,8 @@ use Rattle.cone_rules.specs.Laws.{IsPositiveCombination}
 use Rattle.cone_rules.proofs.Parts.{dot-zeros_left}
 use Rattle.cone_rules.proofs.Ranks.{unit_not_zero}
 
--- a member whose multiplier is positive in a combination that is 0: its negative is a combination of the others
+-- a member whose multiplier is positive in a combination that is 0: its negative is a combination
+-- of the others
 pub negative_in : (q : ℕ) (vectors : List (List ℚ)) (v : List ℚ) → AreWide q vectors → (g : IsGenerated q vectors (zeros q)) → InSupport g.multipliers vectors v → length v ≡ q →
     IsGenerated q vectors (negated v)
 negative_in q vectors v w g m long =
@@ -77,7 +79,8 @@ all_supported (m ∷ ms) (u ∷ vs) v h p c =
     go (inl e) again = inl (All-head (λ x. zero_ℚ <ℚ x) m ms p, e)
     go (inr d) again = inr (again d)
 
--- positive multipliers of all generators do not combine them to 0 where the cone is solid and pointed
+-- positive multipliers of all generators do not combine them to 0 where the cone is solid and
+-- pointed
 pub whole_or_zero : (q : ℕ) (vectors : List (List ℚ)) (mu : List ℚ) → AreWide q vectors → IsPositiveCombination q vectors mu (zeros q) → 1 ≤ q →
     HasInterior q (Gens vectors) → HasNoLine q (Gens vectors) → ⊥
 whole_or_zero q vectors mu w h some solid pointed = go (support_positive member.multipliers vectors (unit q 1) member.at_least_zero value_positive)

@@ -1,4 +1,5 @@
--- Products with vectors in parts, values of tables, and what multipliers of a system say at each vector of at least 0.
+-- Products with vectors in parts, values of tables, and what multipliers of a system say at each
+-- vector of at least 0.
 use Rattle.std.proofs.Common.{◌≡◌, ℕ, zero, suc, List, [], ◌∷◌, ◌++◌, length, take, drop, replicate, All, refl, sym, ap, ap₂, ◌∙◌, subst, arith, ◌<◌, ◌≤◌, ◌+◌, ◌-◌, slice_index_or, append_assoc}
 use Rattle.std.proofs.Math.ListN.{length-replicate}
 use Rattle.std.proofs.lemmas.List.Elements.{All-replicate}

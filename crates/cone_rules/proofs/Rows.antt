@@ -1,4 +1,5 @@
--- The vectors of a cone that are not 0: numbers spread over all vectors, and tests of a vector by them.
+-- The vectors of a cone that are not 0: numbers spread over all vectors, and tests of a vector by
+-- them.
 use Rattle.std.proofs.Common.{◌≡◌, ◌≢◌, ℕ, zero, suc, List, [], ◌∷◌, length, map, All, refl, sym, ap, ap₂, ◌∙◌, subst, arith, ◌<◌, ◌≤◌, ◌-◌, ◌+◌, ◌⊎◌, inl, inr, Bool, true, false, not, cond, nat_eq, nat_lt, slice_index_or}
 use Rattle.std.specs.Prelude.{◌&&◌, unsigned_abs, ℤ, pos, negsuc}
 use Rattle.std.specs.List.{filter, list_all}

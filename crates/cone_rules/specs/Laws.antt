@@ -1,4 +1,5 @@
--- What is proved of the faults of an ordering cone, and how ranks and the ends of its linear programs tell them.
+-- What is proved of the faults of an ordering cone, and how ranks and the ends of its linear
+-- programs tell them.
 use Rattle.std.specs.Prelude.{◌≡◌, ◌≢◌, ◌⊎◌, ℕ, suc, ◌+◌, ◌≤◌, List, [], ◌∷◌, map, length, replicate, take, drop, All, None, Some, if◌then◌else◌}
 use Rattle.std.specs.List.{list_all}
 use Rattle.exact_field.specs.Rational.{ℚ, zero_ℚ, one_ℚ, inverse_ℚ, ◌≤ℚ◌, ◌<ℚ◌}
@@ -23,8 +24,8 @@ use Rattle.cone_rules.specs.Faults.{HasInterior, HasNoLine, IsSolid, IsPointed, 
 use Rattle.cone_rules.specs.declared.fault.ConeFault.{ConeFault}
 
 -- ---- faults
--- what shows a fault excludes what a file without it has; so no sound file has a fault, and two faults of a file are of one kind: each comes
--- exactly where it is said
+-- what shows a fault excludes what a file without it has; so no sound file has a fault, and two
+-- faults of a file are of one kind: each comes exactly where it is said
 pub record FaultsExclude : Type 0 where
   pub flat : (file : Problem) (w : List ℚ) (m : List Spot) → ShowsFlat file.objs file.cone w m → IsSolid file → ⊥
   pub line : (file : Problem) (d : List ℚ) (m : List Spot) → ShowsLine file.objs file.cone d m → IsPointed file → ⊥
@@ -34,8 +35,8 @@ pub record FaultsExclude : Type 0 where
   pub one_kind : (file : Problem) (a b : ConeFault) → HasFault file a → HasFault file b → place_of a ≡ place_of b
 
 -- ---- the orthant
--- the orthant is solid and pointed; a vector is interior where all its entries are positive, and the unit vector of another entry shows that
--- it is not
+-- the orthant is solid and pointed; a vector is interior where all its entries are positive, and
+-- the unit vector of another entry shows that it is not
 pub record OrthantLaws : Type 0 where
   pub solid : (q : ℕ) → HasInterior q Orthant
   pub pointed : (q : ℕ) → HasNoLine q Orthant
@@ -49,7 +50,8 @@ pub record IsPositiveCombination (q : ℕ) (vectors : List (List ℚ)) (mu f : L
   pub sign : All (λ x. zero_ℚ <ℚ x) mu
   pub combined : combination q mu vectors ≡ f
 
--- generators of full rank have a solid cone, and their combinations with positive multipliers are interior; rows of full rank have a pointed one
+-- generators of full rank have a solid cone, and their combinations with positive multipliers are
+-- interior; rows of full rank have a pointed one
 pub record RankLaws : Type 0 where
   pub solid : (q : ℕ) (vectors : List (List ℚ)) → AreWide q vectors → HasFullRank q vectors → HasInterior q (Gens vectors)
   pub inside : (q : ℕ) (vectors : List (List ℚ)) (mu f : List ℚ) → AreWide q vectors → HasFullRank q vectors → IsPositiveCombination q vectors mu f →
@@ -57,7 +59,8 @@ pub record RankLaws : Type 0 where
   pub pointed : (q : ℕ) (vectors : List (List ℚ)) → HasFullRank q vectors → HasNoLine q (Dual vectors)
 
 -- ---- the program of vectors that combine to 0
--- the vector of a number for each of the vectors: those of the list at the vectors that are not 0, in their order, and 0 at the others
+-- the vector of a number for each of the vectors: those of the list at the vectors that are not 0,
+-- in their order, and 0 at the others
 abbrev pub spread : List (List ℚ) → List ℚ → List ℚ
 spread [] xs = []
 spread (v ∷ vectors) [] = zero_ℚ ∷ spread vectors []
@@ -68,7 +71,8 @@ pub record IsSpread (vectors : List (List ℚ)) (xs : List ℚ) (m : List Spot) 
   pub vector : IsVector (length vectors) m
   pub numbers : dense (length vectors) m ≡ spread vectors xs
 
--- multipliers that combine the vectors that are not 0 to 0 and sum to 1, or those that show that there are none
+-- multipliers that combine the vectors that are not 0 to 0 and sum to 1, or those that show that
+-- there are none
 pub record PointedProgram : Type 0 where
   -- without a solution the cone that the vectors generate contains no line ..
   pub generated : (q : ℕ) (vectors : List (List ℚ)) (y : List ℚ) → AreWide q vectors → IsInfeasible (zero_combination q (nonzero_vectors (Gens vectors))) y →
@@ -76,13 +80,15 @@ pub record PointedProgram : Type 0 where
   -- .. and the cone of the vectors as rows has an interior vector
   pub rows : (q : ℕ) (vectors : List (List ℚ)) (y : List ℚ) → AreWide q vectors → IsInfeasible (zero_combination q (nonzero_vectors (Dual vectors))) y →
       IsInterior q (IsIn q (Dual vectors)) (take q y)
-  -- a solution, spread over all vectors, is a combination to 0 of some of them, beginning with the first that is named
+  -- a solution, spread over all vectors, is a combination to 0 of some of them, beginning with the
+  -- first that is named
   pub optimal : (q : ℕ) (vectors : List (List ℚ)) (x dual : List ℚ) (m : List Spot) → AreWide q vectors →
       IsOptimal (zero_combination q (nonzero_vectors (Gens vectors))) x dual → IsSpread vectors x m →
       (m ≢ []) × ((s : Spot) (more : List Spot) → m ≡ s ∷ more → IsZeroCombination q vectors m (row_of vectors s.at))
   pub bounded : (q : ℕ) (vectors : List (List ℚ)) (x ray : List ℚ) → IsUnbounded (zero_combination q vectors) x ray → ⊥
 
--- the tests of a vector by the rows that are not 0: it is interior where each is positive at it, and a row that is not shows that it is not
+-- the tests of a vector by the rows that are not 0: it is interior where each is positive at it,
+-- and a row that is not shows that it is not
 pub record RowTests : Type 0 where
   pub inside : (q : ℕ) (vectors : List (List ℚ)) (f : List ℚ) → AreWide q vectors → length f ≡ q → All (λ v. zero_ℚ <ℚ dot v f) (nonzero_vectors (Dual vectors)) →
       IsInterior q (IsIn q (Dual vectors)) f
@@ -96,7 +102,8 @@ pub record GivenProgram : Type 0 where
   pub inside : (q : ℕ) (vectors : List (List ℚ)) (f x dual : List ℚ) → AreWide q vectors → length f ≡ q →
       IsOptimal (interior_of_generators q vectors (Some f)) x dual → zero_ℚ <ℚ entry x (suc (length vectors + length vectors)) →
       IsPositiveCombination q vectors (take (length vectors) x) f
-  -- another optimum, or multipliers that show that there is no solution, show that f is not interior
+  -- another optimum, or multipliers that show that there is no solution, show that f is not
+  -- interior
   pub optimal : (q : ℕ) (vectors : List (List ℚ)) (f x dual : List ℚ) → AreWide q vectors → length f ≡ q →
       IsOptimal (interior_of_generators q vectors (Some f)) x dual → entry x (suc (length vectors + length vectors)) ≤ℚ zero_ℚ →
       ShowsOutside q (Gens vectors) f (drop (length vectors) dual) []
@@ -122,14 +129,16 @@ abbrev pub interior_said : ℕ → List ℚ → List ℚ
 interior_said q x = minus (take q x) (take q (drop q x))
 
 pub record RowsProgram : Type 0 where
-  -- where the cone is solid an optimum gives a vector with the last entry 1 at which each row that is not 0 is positive
+  -- where the cone is solid an optimum gives a vector with the last entry 1 at which each row that
+  -- is not 0 is positive
   pub optimal : (q : ℕ) (vectors : List (List ℚ)) (x dual : List ℚ) → AreWide q vectors → 1 ≤ q → HasInterior q (Dual vectors) →
       IsOptimal (interior_of_dual q (nonzero_vectors (Dual vectors))) x dual →
       (length (interior_said q x) ≡ q) × (entry (interior_said q x) q ≡ one_ℚ) × All (λ v. zero_ℚ <ℚ dot v (interior_said q x)) (nonzero_vectors (Dual vectors))
   -- without a solution the multiplier of the equation on the last entry is negative ..
   pub divisor : (q : ℕ) (vectors : List (List ℚ)) (y : List ℚ) → AreWide q vectors → 1 ≤ q → IsInfeasible (interior_of_dual q vectors) y →
       entry y (suc (length vectors)) <ℚ zero_ℚ
-  -- .. and those of the vectors' equations, divided by it, combine the vectors to minus the last unit vector
+  -- .. and those of the vectors' equations, divided by it, combine the vectors to minus the last
+  -- unit vector
   pub infeasible : (q : ℕ) (vectors : List (List ℚ)) (y : List ℚ) (m : List Spot) → AreWide q vectors → 1 ≤ q →
       IsInfeasible (interior_of_dual q (nonzero_vectors (Dual vectors))) y →
       IsSpread vectors
@@ -142,7 +151,8 @@ pub record RowsProgram : Type 0 where
 abbrev pub at_last_one : ℕ → List ℚ → List ℚ
 at_last_one q f = scaled (inverse_ℚ (entry f q)) f
 
--- f divided by its last entry fits, or what was found; with weights and an inverse where the cone is given by generators
+-- f divided by its last entry fits, or what was found; with weights and an inverse where the cone
+-- is given by generators
 pub record FittingLaws : Type 0 where
   -- the orthant, with f and without
   pub orthant_given : (file : Problem) (f : List ℚ) → file.cone ≡ Orthant → file.duality ≡ Some f → All (λ x. zero_ℚ <ℚ x) f →
@@ -163,7 +173,8 @@ pub record FittingLaws : Type 0 where
       entry c file.objs ≡ one_ℚ → All (λ v. zero_ℚ <ℚ dot v c) (nonzero_vectors (Dual vectors)) → ShowsFitting file c [] [] []
 
 -- ---- opposite unknowns
--- of two unknowns whose columns are negatives of each other at most one is not 0 in a solution that is read off
+-- of two unknowns whose columns are negatives of each other at most one is not 0 in a solution that
+-- is read off
 abbrev pub OppositeColumns : Type 0
 OppositeColumns = (s : System) (basis : List ℕ) (d : Table) (j k : ℕ) → IsSystem s → IsFullDictionaryOf s basis d → 1 ≤ j → j ≤ unknown_count s →
     1 ≤ k → k ≤ unknown_count s → j ≢ k → column_of s.equations j ≡ negated (column_of s.equations k) →

@@ -8,15 +8,16 @@ pub enum ConeFault {
     NotSolid {
         /// A vector of the dual cone whose negative is in it too.
         w: Vector,
-        /// In the dual form the multipliers that combine the cone's vectors to 0; w is the first of these
-        /// vectors that it names.
+        /// In the dual form the multipliers that combine the cone's vectors to 0; w is the first of
+        /// these vectors that it names.
         m: Sparse,
     },
     /// The cone contains a line.
     HasLine {
         /// A vector of the cone whose negative is in it too.
         d: Vector,
-        /// For generators the multipliers that combine them to 0; d is the first generator that it names.
+        /// For generators the multipliers that combine them to 0; d is the first generator that it
+        /// names.
         m: Sparse,
     },
     /// The duality vector that is given is not interior to the cone.
@@ -28,8 +29,8 @@ pub enum ConeFault {
     },
     /// No duality vector that is allowed has a positive last entry.
     LastNotPositive {
-        /// In the dual form, where no vector is given, the multipliers that combine the cone's vectors to
-        /// minus the last unit vector.
+        /// In the dual form, where no vector is given, the multipliers that combine the cone's
+        /// vectors to minus the last unit vector.
         m: Sparse,
     },
 }

@@ -1,5 +1,5 @@
-//! What is wrong with an ordering cone or its duality vector, what shows it, and how ends of linear programs tell. Each function is
-//! a law: it does nothing, and its contract is the statement.
+//! What is wrong with an ordering cone or its duality vector, what shows it, and how ends of linear
+//! programs tell. Each function is a law: it does nothing, and its contract is the statement.
 #![tactic(auto)]
 
 ghost use Rattle.cone_rules.specs.Laws.{FittingLaws, FaultsExclude, FoundProgram, GivenProgram, OppositeColumns, OrthantLaws, PointedProgram, RankLaws, RowTests, RowsProgram};

@@ -4,6 +4,7 @@ use Rattle.std.specs.Prelude.{◌==◌, if◌then◌else◌}
 use Rattle.std.proofs.Math.Dec.{lit≤, lit<}
 use Rattle.exact_field.specs.Gcd.{gcd}
 use Rattle.exact_field.specs.Rational.{ℚ, zero_ℚ, one_ℚ, whole, fraction, ◌+ℚ◌, ◌*ℚ◌, neg_ℚ, inverse_ℚ, le_ℚ}
+use Rattle.exact_field.specs.Order.{same_ℚ}
 use Rattle.exact_field.specs.Vector.{entry, dot}
 use Rattle.exact_field.specs.declared.op.Op.TheVariants.{Div}
 use Rattle.polyhedra.specs.Vectors.{AreWide}
@@ -85,24 +86,25 @@ not_both : All (λ (row : List ℚ). dot row across ≡ zero_ℚ) both → ⊥
 unfolding whole fraction gcd ◌+ℚ◌ ◌*ℚ◌ neg_ℚ inverse_ℚ le_ℚ
 not_both h = apart (minus 1) zero_ℚ refl (equal (minus 1) (dot (n 1 ∷ n 0 ∷ []) across) refl ∙ h 1 [] (lit< tt))
 
--- over no rows it is a unit vector
-no_unit : (width : ℕ) (basis : List ℕ) (col : ℕ) (d : Table) → length d ≡ 0 → across ≡ ray_of width basis d col → ⊥
-unfolding whole le_ℚ neg_ℚ
-no_unit zero basis col d none e = let many : 2 ≡ 0 = ap (λ (v : List ℚ). length v) e in omega (arith, many)
-no_unit (suc width) basis col (r ∷ d) none e = omega (arith, none)
-no_unit (suc width) basis col [] none e = go (1 == col) basis (ap (λ (v : List ℚ). entry v 1) e)
+-- over no rows it is a unit vector, whose first entry is 1 or 0
+pub no_unit : (x : ℚ) (v : List ℚ) → same_ℚ x one_ℚ ≡ false → same_ℚ x (neg_ℚ zero_ℚ) ≡ false → (width : ℕ) (basis : List ℕ) (col : ℕ) (d : Table) →
+    length d ≡ 0 → x ∷ v ≡ ray_of width basis d col → ⊥
+no_unit x v one none zero basis col d empty e =
+    let many : length (x ∷ v) ≡ 0 = ap (λ (y : List ℚ). length y) e in omega (arith, many)
+no_unit x v one none (suc width) basis col (r ∷ d) empty e = omega (arith, empty)
+no_unit x v one none (suc width) basis col [] empty e = go (1 == col) basis (ap (λ (y : List ℚ). entry y 1) e)
   where
-    go : (b : Bool) (basis : List ℕ) → minus 1 ≡ (if b then one_ℚ else neg_ℚ (value_of_column basis [] 1)) → ⊥
-    go true basis e = apart (minus 1) one_ℚ refl e
-    go false [] e = apart (minus 1) (neg_ℚ zero_ℚ) refl e
-    go false (k ∷ basis) e = apart (minus 1) (neg_ℚ zero_ℚ) refl e
+    go : (b : Bool) (basis : List ℕ) → x ≡ (if b then one_ℚ else neg_ℚ (value_of_column basis [] 1)) → ⊥
+    go true basis e = apart x one_ℚ one e
+    go false [] e = apart x (neg_ℚ zero_ℚ) none e
+    go false (k ∷ basis) e = apart x (neg_ℚ zero_ℚ) none e
 
-no_rows : (rows : Table) → All (Contains []) rows → length rows ≡ 0
+pub no_rows : (rows : Table) → All (Contains []) rows → length rows ≡ 0
 no_rows [] h = refl
 no_rows (r ∷ rows) h = absurd (Contains-nil r (h 0 r (omega arith)))
 
 no_orthogonal : IsOrthogonalOff two_cuts across → ⊥
-unfolding whole
+unfolding whole le_ℚ neg_ℚ
 no_orthogonal o = go o.rows o.width o.is.allowed (orthogonal_vectors two_cuts across o) long (λ h. unit h o.is.of_rows)
   where
     long : 2 ≡ o.width
@@ -110,7 +112,7 @@ no_orthogonal o = go o.rows o.width o.is.allowed (orthogonal_vectors two_cuts ac
 
     unit : length o.rows ≡ 0 → IsElimTable o.rows o.width o.is.table o.columns → ⊥
     unit none (IsElimTable.alone same many) =
-        no_unit o.width o.basis o.col o.dictionary (o.is.is.one_each ∙ ap (λ (t : Table). length t) same ∙ none) o.same
+        no_unit (minus 1) (n 1 ∷ []) refl refl o.width o.basis o.col o.dictionary (o.is.is.one_each ∙ ap (λ (t : Table). length t) same ∙ none) o.same
     unit none (IsElimTable.beside square same many) = omega (arith, none, square, long)
 
     go : (rows : Table) (width : ℕ) → AreElimRows two_cuts rows width → (AreWide width rows → All (λ (row : List ℚ). dot row across ≡ zero_ℚ) rows) → 2 ≡ width →

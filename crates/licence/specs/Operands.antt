@@ -1,5 +1,5 @@
--- The operands of an overflow, by the place where the operation stood: they stand in dictionaries, generators, rows and sums that the
--- file and the duality vector fix.
+-- The operands of an overflow, by the place where the operation stood: they stand in dictionaries,
+-- generators, rows and sums that the file and the duality vector fix.
 use Rattle.std.specs.Prelude.{ℕ, suc, ◌+◌, ◌-◌, ◌≤◌, ⊤, Bool, List, [], ◌∷◌, ◌++◌, ◌≡◌, ◌≢◌, ◌⊎◌, map, length, take, All, Contains, Option, None, Some}
 use Rattle.exact_field.specs.Rational.{ℚ, zero_ℚ, one_ℚ, ◌*ℚ◌, ◌<ℚ◌}
 use Rattle.exact_field.specs.Vector.{entry, dot}
@@ -36,7 +36,8 @@ use Rattle.licence.specs.Steps.{operation, IsNumbered, IsProductStep, value_step
 use Rattle.licence.specs.Base.{IsSolutionOff, AreMultipliersOff, AreFirstMultipliersOff, IsRayOff, IsBaseChoice, IsBaseRay, IsBaseRow, IsBaseWeight, IsBaseCut, IsBaseNormal, IsBaseStart, IsConeDirection, IsGeneratorOf, IsLiveAfter, trail_normals, image_of}
 use Rattle.licence.specs.Trails.{IsMuOff, IsBaseTrail}
 
--- the file, the duality vector where it is known, the weights that combine the generators to it, and the whole trail
+-- the file, the duality vector where it is known, the weights that combine the generators to it,
+-- and the whole trail
 pub record Setting : Type 0 where
   pub file : Problem
   pub c : Option (List ℚ)
@@ -64,7 +65,8 @@ IsTrailNormal s w = Contains (trail_normals s.file.objs s.trail) w
 abbrev pub system_in : Setting → Program → System
 system_in s program = named_system s.file (vector_of s.c) program
 
--- Benson's program has a base start vector, and that of a weight a base weight or the normal of a trail's cut
+-- Benson's program has a base start vector, and that of a weight a base weight or the normal of a
+-- trail's cut
 abbrev pub IsAllowed : Setting → Program → Type 0
 IsAllowed s Feasible = ⊤
 IsAllowed s (Benson v t) = (c : List ℚ) × Knows s c × IsBaseStart s.file.objs s.trail v t
@@ -72,8 +74,8 @@ IsAllowed s (Weight w) = ((c : List ℚ) × Knows s c × IsBaseWeight s.file c w
 IsAllowed s Interior = ⊤
 IsAllowed s Pointed = ⊤
 
--- a step of a pivot at an entry that is not 0, in the dictionary of an allowed program at the basis; or, in the row of the first
--- cost, the difference of an artificial entry and 1
+-- a step of a pivot at an entry that is not 0, in the dictionary of an allowed program at the
+-- basis; or, in the row of the first cost, the difference of an artificial entry and 1
 pub record IsProgramStep (holds : ℚ → Bool) (s : Setting) (program : Program) (basis : List ℕ) (row col number : ℕ) (left : Left ℚ) : Type 0 where
   pub allowed : IsAllowed s program
   pub dictionary : Table
@@ -82,8 +84,9 @@ pub record IsProgramStep (holds : ℚ → Bool) (s : Setting) (program : Program
   pub pivot : row ≤ equation_count (system_in s program) → at dictionary row col ≢ zero_ℚ
 
 -- ---- eliminations
--- rows of this width that may be eliminated: the normals of all cuts of the trail; row 0 and as many cuts of the trail as there are
--- objectives, with independent normals; some vectors of the ordering cone; base rows
+-- rows of this width that may be eliminated: the normals of all cuts of the trail; row 0 and as
+-- many cuts of the trail as there are objectives, with independent normals; some vectors of the
+-- ordering cone; base rows
 pub data AreElimRows (s : Setting) (rows : List (List ℚ)) : ℕ → Type 0 where
   of_normals : rows ≡ trail_normals s.file.objs s.trail → AreElimRows s rows s.file.objs
   of_image : (cuts : List ℕ) → All (λ k. (1 ≤ k) × (k ≤ length (standing s).cuts)) cuts → length cuts ≡ s.file.objs →
@@ -92,8 +95,8 @@ pub data AreElimRows (s : Setting) (rows : List (List ℚ)) : ℕ → Type 0 whe
   of_cone : All (Contains (cone_vectors s.file.cone)) rows → AreElimRows s rows s.file.objs
   of_base : (c : List ℚ) → Knows s c → All (IsBaseRow s.file c) rows → AreElimRows s rows (suc s.file.objs)
 
--- the table of an elimination with its width: that of the rows, or, of as many rows as they are wide, that of the rows with the
--- unit matrix beside them
+-- the table of an elimination with its width: that of the rows, or, of as many rows as they are
+-- wide, that of the rows with the unit matrix beside them
 pub data IsElimTable (rows : List (List ℚ)) (width : ℕ) (t : Table) (columns : ℕ) : Type 0 where
   alone : t ≡ rows → columns ≡ width → IsElimTable rows width t columns
   beside : length rows ≡ width → t ≡ beside_unit rows → columns ≡ length rows + length rows → IsElimTable rows width t columns
@@ -116,7 +119,8 @@ pub record IsElimStep (holds : ℚ → Bool) (s : Setting) (rows : List (List �
   pub operands : IsPivotStep (λ q. q) holds columns dictionary row col number left
   pub pivot : at dictionary row col ≢ zero_ℚ
 
--- a quotient of the norming of a first generator: an entry of a column of the inverse of these rows by the magnitude that norms it
+-- a quotient of the norming of a first generator: an entry of a column of the inverse of these rows
+-- by the magnitude that norms it
 pub record IsNormingStep (s : Setting) (rows : List (List ℚ)) (col number : ℕ) (left : Left ℚ) : Type 0 where
   pub allowed : AreElimRows s rows (length rows)
   pub inverse : Table
@@ -130,8 +134,8 @@ pub record IsNormingStep (s : Setting) (rows : List (List ℚ)) (col number : �
   pub same : left ≡ operation Div (entry (column_of inverse corner) col) (magnitude (norming (column_of inverse corner)))
 
 -- ---- double description
--- the live generators over rows, by their making: the normed corners of the first n rows are numbered from 1, and each further row
--- takes one step
+-- the live generators over rows, by their making: the normed corners of the first n rows are
+-- numbered from 1, and each further row takes one step
 pub record IsMadeOver (n : ℕ) (rows : List (List ℚ)) (list : LiveList) : Type 0 where
   pub first : List (List ℚ)
   pub more : List (List ℚ)
@@ -141,8 +145,8 @@ pub record IsMadeOver (n : ℕ) (rows : List (List ℚ)) (list : LiveList) : Typ
   pub normed : All IsNormed vectors
   pub same : list ≡ steps first (starting 1 vectors) more
 
--- the rows before one that is added, with the live generators over them: row 0 and the trail's cuts in use, and a cut of the trail;
--- base rows; or vectors of the ordering cone that are not 0
+-- the rows before one that is added, with the live generators over them: row 0 and the trail's cuts
+-- in use, and a cut of the trail; base rows; or vectors of the ordering cone that are not 0
 pub data IsAddition (s : Setting) (before : List (List ℚ)) (last : List ℚ) (list : LiveList) : Family → Type 0 where
   of_image : (cut : ℕ) → 1 ≤ cut → cut ≤ length (standing s).cuts → before ≡ rows_in_use s.file.objs (standing s) →
       last ≡ cut_row (standing s) cut → list ≡ (standing s).list → IsAddition s before last list Image
@@ -151,8 +155,9 @@ pub data IsAddition (s : Setting) (before : List (List ℚ)) (last : List ℚ) (
   of_cone : All (Contains (nonzero_vectors s.file.cone)) before → Contains (nonzero_vectors s.file.cone) last → IsMadeOver s.file.objs before list →
       IsAddition s before last list ConeRows
 
--- a step of the value of the live generator `first`, where `second` is 0; or of the meeting point of the live generators of these
--- numbers, at which the row is positive and negative, and which no third one covers
+-- a step of the value of the live generator `first`, where `second` is 0; or of the meeting point
+-- of the live generators of these numbers, at which the row is positive and negative, and which no
+-- third one covers
 pub data IsPairStep (before : List (List ℚ)) (last : List ℚ) (list : LiveList) (first second number : ℕ) (left : Left ℚ) : Type 0 where
   value : (g : Numbered) → Contains list.live g → first ≡ g.number → second ≡ 0 → IsNumbered (value_steps last g.vector) number left →
       IsPairStep before last list first second number left
@@ -177,7 +182,8 @@ pub record IsExchangeStep (s : Setting) (y : List ℚ) (t : Bool) (number : ℕ)
   pub operands : IsNumbered (exchange_steps c y) number left
 
 -- ---- sums of products
--- the u of a base cut, or one that is read off as a ray and shows that the sides contradict each other
+-- the u of a base cut, or one that is read off as a ray and shows that the sides contradict each
+-- other
 abbrev pub IsBaseU : Setting → List ℚ → Type 0
 IsBaseU s u =
     ((c w : List ℚ) × (u' v : List Spot) × Knows s c × IsBaseCut s.file c w u' v × (u ≡ dense (side_total s.file) u'))
@@ -209,7 +215,8 @@ IsChoiceOf file (Whole x ray m) y = (y ≡ dense file.cols x) ⊎ (y ≡ dense f
 IsChoiceOf file (Line d x ray m back n) y = (y ≡ dense file.cols x) ⊎ ((y ≡ dense file.cols ray) ⊎ (y ≡ dense file.cols back))
 IsChoiceOf file _ y = ⊥
 
--- m are multipliers of the generators that an entry has beside its choice, or beside one of its rays
+-- m are multipliers of the generators that an entry has beside its choice, or beside one of its
+-- rays
 abbrev pub AreSharesOf : Problem → Entry → List ℚ → Type 0
 AreSharesOf file (Point k x m) y = y ≡ dense (length (generators file.cone)) m
 AreSharesOf file (Ray k x m) y = y ≡ dense (length (generators file.cone)) m
@@ -223,15 +230,17 @@ pub data IsBaseX (s : Setting) (x : List ℚ) : Type 0 where
   ray : IsBaseRay s.file x → IsBaseX s x
   of_entry : (e : Entry) → IsTrailEntry s e → IsChoiceOf s.file e x → IsBaseX s x
 
--- multipliers of the vectors of the ordering cone: the m of an entry that the trail has or may take next, the v of a base cut, which is
--- one of the dual form's vectors alone, or the mu of an interior vector, which are at least 0
+-- multipliers of the vectors of the ordering cone: the m of an entry that the trail has or may take
+-- next, the v of a base cut, which is one of the dual form's vectors alone, or the mu of an
+-- interior vector, which are at least 0
 pub data AreBaseShares (s : Setting) (m : List ℚ) : Type 0 where
   of_entry : (e : Entry) → IsTrailEntry s e → AreSharesOf s.file e m → AreBaseShares s m
   of_cut : (c w : List ℚ) (u v : List Spot) → Knows s c → IsBaseCut s.file c w u v → m ≡ dense (length (generators (dual_of s.file.cone))) v →
       AreBaseShares s m
   mu : IsMuOff s.file (length (generators s.file.cone)) m → AtLeastZero m → AreBaseShares s m
 
--- a generator: live after the trail, or live over rows that an addition has, without the last or with it
+-- a generator: live after the trail, or live over rows that an addition has, without the last or
+-- with it
 abbrev pub IsGenerator : Setting → List ℚ → Type 0
 IsGenerator s v =
     ((g : Numbered) × IsLiveAfter s.file.objs s.trail g × (v ≡ g.vector))
@@ -268,8 +277,9 @@ pub data AreMultiplied (s : Setting) (xs ys : List ℚ) : Type 0 where
   shares : (i : ℕ) → 1 ≤ i → i ≤ s.file.objs → xs ≡ column (cone_vectors s.file.cone) i → AreBaseShares s ys → AreMultiplied s xs ys
   across : IsRowOrWeight s xs → IsStartOrGenerator s ys → AreMultiplied s xs ys
 
--- the share of a generator in the m of a pre-image where the multiplier of Benson's last equation is negative: the product of its
--- magnitude and a weight of c is step 2, and the sum of what is read off with this product is step 3
+-- the share of a generator in the m of a pre-image where the multiplier of Benson's last equation
+-- is negative: the product of its magnitude and a weight of c is step 2, and the sum of what is
+-- read off with this product is step 3
 pub record IsShareStep (s : Setting) (col number : ℕ) (left : Left ℚ) : Type 0 where
   pub multipliers : List ℚ
   pub read : AreBensonMultipliers s multipliers
@@ -281,7 +291,8 @@ pub record IsShareStep (s : Setting) (col number : ℕ) (left : Left ℚ) : Type
       ((number ≡ 2) × (left ≡ operation Mul factor (entry s.weights col)))
       ⊎ ((number ≡ 3) × (left ≡ operation Add (entry (share_of s.file s.file.cone multipliers) col) (factor *ℚ entry s.weights col)))
 
--- an operation outside an elimination: of the norming of a first generator, of a sum of products, with either list first, or of a share
+-- an operation outside an elimination: of the norming of a first generator, of a sum of products,
+-- with either list first, or of a share
 pub data IsListStep (s : Setting) (rows : List (List ℚ)) (col number : ℕ) (left : Left ℚ) : Type 0 where
   normed : IsNormingStep s rows col number left → IsListStep s rows col number left
   forward : (xs ys : List ℚ) → AreMultiplied s xs ys → IsProductStep col number xs ys left → IsListStep s rows col number left
@@ -300,8 +311,9 @@ pub record IsReadVector (s : Setting) (v : List ℚ) : Type 0 where
       ⊎ (AreFirstMultipliersOff (system_in s program) whole ⊎ IsRayOff (system_in s program) whole))
   pub same : (v ≡ whole) ⊎ ((v ≡ choice_of s.file whole) ⊎ (v ≡ share_of s.file s.file.cone whole))
 
--- a vector that is read off a dictionary of an elimination at a column that no row has, and that is 0 in each row without a column,
--- where only columns of the rows are named and none of a unit matrix beside them: it has the product 0 with each of the rows
+-- a vector that is read off a dictionary of an elimination at a column that no row has, and that is
+-- 0 in each row without a column, where only columns of the rows are named and none of a unit
+-- matrix beside them: it has the product 0 with each of the rows
 pub record IsOrthogonalOff (s : Setting) (v : List ℚ) : Type 0 where
   pub rows : List (List ℚ)
   pub width : ℕ
@@ -325,8 +337,8 @@ pub data IsScaled (s : Setting) (v : List ℚ) : Type 0 where
   read : IsReadVector s v → IsScaled s v
   orthogonal : IsOrthogonalOff s v → IsScaled s v
 
--- what it is divided by: the magnitude of one of its entries, the last entry of f, or, for a base ray, the magnitude of the first
--- entry of its image that is not 0
+-- what it is divided by: the magnitude of one of its entries, the last entry of f, or, for a base
+-- ray, the magnitude of the first entry of its image that is not 0
 pub data IsDivisor (s : Setting) (v : List ℚ) (by : ℚ) : Type 0 where
   own : (k : ℕ) → 1 ≤ k → k ≤ length v → by ≡ magnitude (entry v k) → IsDivisor s v by
   given : (f : List ℚ) → s.file.duality ≡ Some f → by ≡ entry f (length f) → IsDivisor s v by

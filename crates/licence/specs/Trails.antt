@@ -1,5 +1,5 @@
--- Base trails: entries of a log that meet their rules as far as they go, and whose numbers are read off dictionaries that the file
--- and the duality vector fix.
+-- Base trails: entries of a log that meet their rules as far as they go, and whose numbers are read
+-- off dictionaries that the file and the duality vector fix.
 use Rattle.std.specs.Prelude.{ℕ, ◌≤◌, true, false, Bool, ⊤, List, [], ◌∷◌, ◌++◌, ◌≡◌, length, replicate, take, drop, All, Option, None, Some}
 use Rattle.exact_field.specs.Rational.{ℚ, one_ℚ, inverse_ℚ}
 use Rattle.exact_field.specs.Vector.{entry}
@@ -29,14 +29,16 @@ at_last_one f = scaled (inverse_ℚ (entry f (length f))) f
 abbrev pub IsMuOff : Problem → ℕ → List ℚ → Type 0
 IsMuOff file n mu = (z : List ℚ) × IsSolutionOff (interior_system file.objs file.cone file.duality) z × (mu ≡ take n z)
 
--- in the dual form, the interior vector as it is read off: the difference of its two lists of unknowns
+-- in the dual form, the interior vector as it is read off: the difference of its two lists of
+-- unknowns
 abbrev pub IsInteriorOff : Problem → List ℚ → Type 0
 IsInteriorOff file c =
     (z : List ℚ) × IsSolutionOff (interior_system file.objs file.cone file.duality) z
     × (c ≡ minus (take file.objs z) (take file.objs (drop file.objs z)))
 
--- c and the weights that combine the generators to it, by the cone and the vector f that the file gives, if it gives one: c is f divided
--- by its last entry, all ones for the orthant, or read off; weights are a mu, divided by the last entry of f too
+-- c and the weights that combine the generators to it, by the cone and the vector f that the file
+-- gives, if it gives one: c is f divided by its last entry, all ones for the orthant, or read off;
+-- weights are a mu, divided by the last entry of f too
 abbrev pub IsBaseDuality : Problem → Cone → Option (List ℚ) → List ℚ → List ℚ → Type 0
 IsBaseDuality file Orthant None c weights = (c ≡ replicate file.objs one_ℚ) × (weights ≡ [])
 IsBaseDuality file Orthant (Some f) c weights = (c ≡ at_last_one f) × (weights ≡ [])
@@ -64,22 +66,25 @@ pub data IsBasePoint (file : Problem) (c weights y : List ℚ) (x m : List Spot)
   read : AreReadAt file c weights y true x m → IsBasePoint file c weights y x m
   chosen : IsBaseChoice file (dense file.cols x) → m ≡ [] → IsBasePoint file c weights y x m
 
--- a pre-image of a direction d: read off, a base ray that is normed by the first entry of its image that is not 0, or, where d is
--- a normed direction of the ordering cone, none and at most one generator
+-- a pre-image of a direction d: read off, a base ray that is normed by the first entry of its image
+-- that is not 0, or, where d is a normed direction of the ordering cone, none and at most one
+-- generator
 pub data IsBaseDirection (file : Problem) (c weights d : List ℚ) (x m : List Spot) : Type 0 where
   read : AreReadAt file c weights d false x m → IsBaseDirection file c weights d x m
   chosen : (r : List ℚ) → IsBaseRay file r → dense file.cols x ≡ divided_by (leading (image_of file r)) r → m ≡ [] →
       IsBaseDirection file c weights d x m
   of_cone : (e : List ℚ) → IsConeDirection file e → d ≡ divided_by (leading e) e → x ≡ [] → length m ≤ 1 → IsBaseDirection file c weights d x m
 
--- the ray and m of `whole`: those of first multipliers of Benson's program at the origin, divided by the magnitude of the last
+-- the ray and m of `whole`: those of first multipliers of Benson's program at the origin, divided
+-- by the magnitude of the last
 pub record IsBaseWhole (file : Problem) (c : List ℚ) (ray m : List Spot) : Type 0 where
   pub multipliers : List ℚ
   pub read : AreFirstMultipliersOff (benson_system file c (zeros file.objs) true) multipliers
   pub choice : dense file.cols ray ≡ divided_by (value_of multipliers) (choice_of file multipliers)
   pub share : dense (length (generators file.cone)) m ≡ divided_by (value_of multipliers) (share_of file file.cone multipliers)
 
--- the parts of `line`: d is a side of some base cuts, x is a base choice, and the others are pre-images of d and of its negative
+-- the parts of `line`: d is a side of some base cuts, x is a base choice, and the others are
+-- pre-images of d and of its negative
 pub record IsBaseLine (file : Problem) (c weights d : List ℚ) (x ray m back n : List Spot) : Type 0 where
   pub normals : List (List ℚ)
   pub base : All (IsBaseNormal file c) normals
@@ -93,8 +98,8 @@ abbrev pub IsLiveAt : ℕ → List Entry → ℕ → List ℚ → Type 0
 IsLiveAt q before k y = (g : Numbered) × IsLiveAfter q before g × (g.number ≡ k) × (y ≡ y_of q g)
 
 -- ---- trails
--- an entry behind others is a base trail's, where c and the weights are those of the duality entry. What is not said here the rules
--- of the log fix
+-- an entry behind others is a base trail's, where c and the weights are those of the duality entry.
+-- What is not said here the rules of the log fix
 abbrev pub IsBaseEntry : Problem → (c weights : List ℚ) → List Entry → Entry → Type 0
 IsBaseEntry file c weights before (Duality c' weights' picks inverse) =
     (c' ≡ c) × (weights' ≡ weights) × IsBaseDuality file file.cone file.duality c weights
@@ -114,7 +119,8 @@ IsBaseEntry file c weights before (End kind) = ⊤
 abbrev pub AllBase : Problem → (c weights : List ℚ) → List Entry → Type 0
 AllBase file c weights trail = (before : List Entry) (e : Entry) (after : List Entry) → trail ≡ before ++ e ∷ after → IsBaseEntry file c weights before e
 
--- the entries meet the rules of the log as far as they go, and are those of a base trail with this duality vector
+-- the entries meet the rules of the log as far as they go, and are those of a base trail with this
+-- duality vector
 pub record IsBaseTrail (file : Problem) (c weights : List ℚ) (trail : List Entry) : Type 0 where
   pub meet : AllMeet file trail
   pub base : AllBase file c weights trail

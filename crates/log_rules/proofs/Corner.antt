@@ -1,4 +1,5 @@
--- A start entry, passed, meets its rules: its cuts are tight at its point, and each grows alone in its own direction.
+-- A start entry, passed, meets its rules: its cuts are tight at its point, and each grows alone in
+-- its own direction.
 use Rattle.std.proofs.Common.{◌≡◌, ℕ, zero, suc, ◌+◌, ◌-◌, ◌*◌, ◌<◌, ◌≤◌, List, [], ◌∷◌, ◌++◌, refl, sym, ap, ◌∙◌, subst, arith, Bool, true, map, length, take, drop, slice_index_or, All, ◌&&◌, ◌==◌, if◌then◌else◌}
 use Rattle.std.specs.List.{flat_map, list_all, enumerate_from}
 use Rattle.std.proofs.Math.Nat.{suc-mul}

@@ -1,4 +1,5 @@
--- Each cut of a log meets the rules of its entry at the log's duality vector, so it is valid for the image.
+-- Each cut of a log meets the rules of its entry at the log's duality vector, so it is valid for
+-- the image.
 use Rattle.std.proofs.Common.{ℕ, List, [], ◌∷◌, ◌++◌, sym, subst, IsTrue, All}
 use Rattle.std.proofs.lemmas.List.Elements.{All-nil, All-head, All-push, All-weaker, All-map, Contains-push, Contains-append_left}
 use Rattle.exact_field.specs.Rational.{ℚ}

@@ -1,4 +1,5 @@
--- Entries that meet their rules keep the description: the live generators describe the cone of the rows in use.
+-- Entries that meet their rules keep the description: the live generators describe the cone of the
+-- rows in use.
 use Rattle.std.proofs.Common.{◌≡◌, suc, List, [], ◌∷◌, ◌++◌, refl, sym, subst, Bool, false, true≢false, IsTrue, ◌==◌, length, All}
 use Rattle.std.proofs.lemmas.List.Elements.{All-nil, All-append, All-cons, All-weaker}
 use Rattle.polyhedra.specs.Exactness.{rows_of}

@@ -1,4 +1,5 @@
--- What is taken of single entries: the image is convex, a cut is valid, and pre-images show points and directions.
+-- What is taken of single entries: the image is convex, a cut is valid, and pre-images show points
+-- and directions.
 use Rattle.std.proofs.Common.{◌≡◌, List, length}
 use Rattle.exact_field.specs.Rational.{ℚ}
 use Rattle.frac128.specs.declared.vectors.Spot.{Spot}

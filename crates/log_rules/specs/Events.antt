@@ -36,7 +36,8 @@ pub data Event : Type 0 where
   test : Rule → Bool → Event
   step : Op → ℚ → ℚ → Event
 
--- a rule that fails, or the operation of a step whose exact result is not held, with the step's number in its entry
+-- a rule that fails, or the operation of a step whose exact result is not held, with the step's
+-- number in its entry
 pub data Failure : Type 0 where
   wrong : Rule → Failure
   left : ℕ → Op → ℚ → ℚ → Failure
@@ -109,7 +110,8 @@ in_recession file x =
     places_within file.cols x
     ∷ flat_map (λ side. product_steps side.normal x ++ test rule.Side (le_ℚ zero_ℚ (product side.normal x)) ∷ []) (sides file)
 
--- y minus the objectives' value at x, entry by entry, and then the test that it is in the cone, with the multipliers m
+-- y minus the objectives' value at x, entry by entry, and then the test that it is in the cone,
+-- with the multipliers m
 abbrev pub above : Problem → List ℚ → List Spot → List Spot → List Event
 above file y x m =
     flat_map (λ i. product_steps (objective file i) x ++ step op.Sub (entry y i) (product (objective file i) x) ∷ []) (numbers_from 1 file.objs)
@@ -222,7 +224,8 @@ meeting_steps k plus minus = flat_map (λ e. step op.Mul k e.1 ∷ step op.Add e
 abbrev pub meeting_point : ℚ → List ℚ → List ℚ → List ℚ
 meeting_point k plus minus = map (λ e. e.0 +ℚ k *ℚ e.1) (zip plus minus)
 
--- the divisor that norms (y, t): t or, where that is 0, the magnitude of the first entry of y that is not 0
+-- the divisor that norms (y, t): t or, where that is 0, the magnitude of the first entry of y that
+-- is not 0
 abbrev pub divisor : ℕ → List ℚ → ℚ
 divisor q z = if is_zero (entry z (suc q)) then magnitude (leading (take q z)) else entry z (suc q)
 

@@ -72,7 +72,8 @@ pub record Says (file : Problem) (parts : Parts) : Type 0 where
   pub cone : file.cone ≡ parts.cone
   pub duality : file.duality ≡ parts.duality
 
--- a failure in numbers: its entry, and 0 with the rule, or 1 with the step and the numerators of its operands without their signs
+-- a failure in numbers: its entry, and 0 with the rule, or 1 with the step and the numerators of
+-- its operands without their signs
 abbrev pub in_numbers : Option Failing → List ℕ
 in_numbers None = []
 in_numbers (Some f) = f.entry ∷ elim (f.failure) [ wrong r ↦ 0 ∷ rule_number r ∷ [] | left k op a b ↦ 1 ∷ k ∷ unsigned_abs a.num ∷ unsigned_abs b.num ∷ [] ]
@@ -127,8 +128,8 @@ last_ray = entry.Ray 3 (at 2 (n 1) ∷ []) []
 abbrev pub solved_end : List Entry
 solved_end = entry.End kind.Solved ∷ []
 
--- the log as it should be; the bound of a cut changed; a pair left out; no pre-image of a direction; a facet not named; an `add`
--- behind a facet
+-- the log as it should be; the bound of a cut changed; a pair left out; no pre-image of a
+-- direction; a facet not named; an `add` behind a facet
 pub record SmallLogs : Type 0 where
   pub solved : Passes small (small_front ++ last_ray ∷ entry.Facet 1 ∷ entry.Facet 2 ∷ entry.Facet 3 ∷ solved_end)
   pub bound : Fails small (small_cuts (n 4) ++ solved_end) (6 ∷ 0 ∷ 10 ∷ [])
@@ -179,7 +180,8 @@ line_log =
     ∷ entry.Cut (n 0 ∷ n 1 ∷ []) (n 0) (at 1 (n 1) ∷ []) []
     ∷ the_line ∷ entry.End kind.NoVertex ∷ []
 
--- the cone of (1, 2) and (2, 1), with c = (1, 1) = 1/3 (1, 2) + 1/3 (2, 1), and the inverse of the two; (0, 1) is no multiple of (1, 2)
+-- the cone of (1, 2) and (2, 1), with c = (1, 1) = 1/3 (1, 2) + 1/3 (2, 1), and the inverse of the
+-- two; (0, 1) is no multiple of (1, 2)
 abbrev pub wide_cone : Cone
 wide_cone = Gens ((n 1 ∷ n 2 ∷ []) ∷ (n 2 ∷ n 1 ∷ []) ∷ [])
 
@@ -195,7 +197,8 @@ cone_log =
     ∷ entry.Ray 2 [] (at 1 (n 1) ∷ [])
     ∷ solved_end
 
--- the same cone with both variables fixed at 0: the image is the cone itself, and each direction is a multiple of a generator
+-- the same cone with both variables fixed at 0: the image is the cone itself, and each direction is
+-- a multiple of a generator
 abbrev pub cone_alone : Parts
 cone_alone = plain wide_cone (Some (n 2 ∷ n 2 ∷ [])) (Fixed (n 0) ∷ Fixed (n 0) ∷ [])
 
@@ -265,8 +268,9 @@ empty = record {
 abbrev pub farkas_log : ℚ → List Entry
 farkas_log u = entry.Version 1 ∷ entry.Farkas (at 1 (n 1) ∷ at 2 u ∷ []) ∷ entry.End kind.Infeasible ∷ []
 
--- an operation that is not held; a line, and one without a cut before it; a direction by a wrong generator; cones by generators and by rows; everything; one objective; no solution; a cut before the
--- duality vector, a second version and none
+-- an operation that is not held; a line, and one without a cut before it; a direction by a wrong
+-- generator; cones by generators and by rows; everything; one objective; no solution; a cut before
+-- the duality vector, a second version and none
 pub record OtherLogs : Type 0 where
   pub overflow : Fails large large_log (3 ∷ 1 ∷ 11 ∷ wide ∷ wide ∷ [])
   pub has_line : Passes (plain Orthant None (Free ∷ Lower (n 0) ∷ [])) line_log
@@ -317,8 +321,9 @@ largest_log = largest_front ++ solved_end
 abbrev pub numerators : List (List ℚ) → List (List ℤ)
 numerators vs = map (λ v. map (λ q. q.num) v) vs
 
--- the points (0, 1) and (1, 0), the directions (-1, 0) and (0, -1) and the facets y2 ≤ 1, (y1 + y2) / 2 ≤ 1 / 2 and y1 ≤ 1 in the
--- coordinates of the file, each facet with the numbers of its tight points and directions; and the log proves this answer
+-- the points (0, 1) and (1, 0), the directions (-1, 0) and (0, -1) and the facets y2 ≤ 1, (y1 + y2)
+-- / 2 ≤ 1 / 2 and y1 ≤ 1 in the coordinates of the file, each facet with the numbers of its tight
+-- points and directions; and the log proves this answer
 pub record LargestLog : Type 0 where
   pub file : Problem
   pub says : Says file largest

@@ -33,7 +33,8 @@ abbrev pub MeetsGiveEvents : Type 0
 MeetsGiveEvents = (file : Problem) (entries : List Entry) → AllMeet file entries → log_failure (λ _. true) file entries ≡ None
 
 -- ---- what stands
--- the live generators describe the cone of the rows in use, each normed, by rising numbers; and each is a point or a direction
+-- the live generators describe the cone of the rows in use, each normed, by rising numbers; and
+-- each is a point or a direction
 pub record Stands (file : Problem) (s : State) : Type 0 where
   pub is_live : IsLive (suc file.objs) (rows_in_use file.objs s) s.list
   pub open is_live use *
@@ -92,16 +93,18 @@ OneAnswer = (file : Problem) (entries : List Entry) (answer answer' : Answer) �
 abbrev pub SomeAnswer : Type 0
 SomeAnswer = (file : Problem) (entries : List Entry) → IsLog entries → AllMeet file entries → (answer : Answer) × Proves file entries answer
 
--- two right solutions for one file and one c agree in all but pre-images and dual vectors: in the points, the directions and the
--- facets, in their order, and in the numbers of tight points and directions
+-- two right solutions for one file and one c agree in all but pre-images and dual vectors: in the
+-- points, the directions and the facets, in their order, and in the numbers of tight points and
+-- directions
 abbrev pub RightSolutionsAgree : Type 0
 RightSolutionsAgree = (file : Problem) (c : List ℚ) (points points' directions directions' : List Gen) (facets facets' : List Facet) →
     IsSolution file c points directions facets → IsSolution file c points' directions' facets' →
     (map (λ g. g.y) points ≡ map (λ g. g.y) points') × (map (λ g. g.y) directions ≡ map (λ g. g.y) directions')
     × (map stated facets ≡ map stated facets') × (map (λ f. f.tight) facets ≡ map (λ f. f.tight) facets')
 
--- the facets, each by all entries of its normal but the last and its bound, are the vertices of the lower image; and where that is not
--- empty it has one normed extreme direction, in which the bound says less
+-- the facets, each by all entries of its normal but the last and its bound, are the vertices of the
+-- lower image; and where that is not empty it has one normed extreme direction, in which the bound
+-- says less
 pub record DescribeLowerImage (file : Problem) (c : List ℚ) (facets : List Facet) : Type 0 where
   pub vertices : (w : List ℚ) (bound : ℚ) → length w ≡ file.objs - 1 →
       Contains (map stated facets) (completed (front c) w bound) ↔ IsVertex (IsInLowerImageOf file c) (w ++ bound ∷ [])

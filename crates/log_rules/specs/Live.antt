@@ -46,7 +46,8 @@ find [] k = None
 find (g ∷ live) k = elim (g.number == k) [ true ↦ Some g | false ↦ find live k ]
 
 -- ---- what stands
--- the cuts in their order, the numbers of those in use in the order in which they came into use, and the live generators
+-- the cuts in their order, the numbers of those in use in the order in which they came into use,
+-- and the live generators
 pub record State : Type 0 where
   pub cuts : List Stated
   pub used : List ℕ
@@ -73,8 +74,8 @@ live_vectors s = vectors s.list.live
 abbrev pub log_pair : ℕ × ℕ → LogPair
 log_pair pair = record { plus = pair.0; minus = pair.1 }
 
--- the pairs of a live generator with a positive and one with a negative value that no third one covers, by rising plus and then by
--- rising minus
+-- the pairs of a live generator with a positive and one with a negative value that no third one
+-- covers, by rising plus and then by rising minus
 abbrev pub required_pairs : List (List ℚ) → List Numbered → List ℚ → List LogPair
 required_pairs rows live row = map log_pair (pairs rows live row)
 
@@ -82,8 +83,8 @@ required_pairs rows live row = map log_pair (pairs rows live row)
 abbrev pub first_vectors : ℕ → List ℚ → List ℚ → List (List ℚ)
 first_vectors q point directions = homogenised point one_ℚ ∷ map (λ d. homogenised d zero_ℚ) (pieces q q directions)
 
--- what stands after one more entry, where there are q objectives; a step makes the new generators of the pairs that are required,
--- whatever pairs the log names
+-- what stands after one more entry, where there are q objectives; a step makes the new generators
+-- of the pairs that are required, whatever pairs the log names
 abbrev pub after : ℕ → State → Entry → State
 after q s (Cut w gamma u _) = record s { cuts = s.cuts ++ record { w = w; gamma = gamma; u = u } ∷ [] }
 after q s (Start cuts point directions) = record s { used = cuts; list = starting 1 (first_vectors q point directions) }

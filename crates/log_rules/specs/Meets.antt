@@ -1,4 +1,5 @@
--- What an entry must meet behind the entries before it: rule by rule, over exact numbers, in no order.
+-- What an entry must meet behind the entries before it: rule by rule, over exact numbers, in no
+-- order.
 use Rattle.polyhedra.specs.DoubleDescription.{leading}
 use Rattle.polyhedra.specs.Exactness.{IsCornerOf, TightLiesIn, IsNamed, IsAccounted}
 use Rattle.polyhedra.specs.Hull.{IsNormedDirection}

@@ -57,7 +57,8 @@ pub record GivesSolution (file : Problem) (entries : List Entry) (c : List ℚ) 
   pub directions_are : IsSorting (λ g. g.y) (live_at file entries zero_ℚ) directions
   pub facets_are : IsSorting (λ f. key (stated f)) (named_facets file entries (map (λ g. g.y) points) (map (λ g. g.y) directions)) facets
 
--- the pre-images of d and of -d in the coordinates of the file: for a maximising file the log's two change places
+-- the pre-images of d and of -d in the coordinates of the file: for a maximising file the log's two
+-- change places
 abbrev pub forth : Dir → List Spot → List Spot → List Spot
 forth Min ray back = ray
 forth Max ray back = back

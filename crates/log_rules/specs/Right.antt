@@ -25,8 +25,8 @@ places_from k [] = []
 places_from k (true ∷ bs) = k ∷ places_from (suc k) bs
 places_from k (false ∷ bs) = places_from (suc k) bs
 
--- the numbers of the tight points, counted from 1, and of the tight directions, which go on: those with w . y = gamma and
--- with w . d = 0
+-- the numbers of the tight points, counted from 1, and of the tight directions, which go on: those
+-- with w . y = gamma and with w . d = 0
 abbrev pub tight_numbers : List (List ℚ) → List (List ℚ) → Inequality → List ℕ
 tight_numbers points directions e =
     places_from 1 (map (λ y. same_ℚ (dot e.normal y) e.bound) points ++ map (λ d. is_zero (dot e.normal d)) directions)
@@ -47,8 +47,8 @@ Rise vs = AllPairs (λ v v'. IsTrue (is_before v v')) vs
 abbrev pub key : Inequality → List ℚ
 key e = e.normal ++ e.bound ∷ []
 
--- the points are exactly the vertices, the directions exactly the extreme directions and the facets exactly the facets of the
--- image, each list in rising order, each with what shows it
+-- the points are exactly the vertices, the directions exactly the extreme directions and the facets
+-- exactly the facets of the image, each list in rising order, each with what shows it
 pub record IsSolution (file : Problem) (c : List ℚ) (points directions : List Gen) (facets : List Facet) : Type 0 where
   pub fits : Fits file c
   pub exact : IsExactFor file c (map (λ g. g.y) points) (map (λ g. g.y) directions) (map stated facets)

@@ -10,9 +10,9 @@ pub struct Gen {
     pub pre: Sparse,
 }
 
-/// The inequality `w.y >= gamma`, or `<=` for a maximising file, with its dual vector, and the numbers
-/// of the points and directions at which it is an equation. Points are numbered from 1, and directions
-/// go on.
+/// The inequality `w.y >= gamma`, or `<=` for a maximising file, with its dual vector, and the
+/// numbers of the points and directions at which it is an equation. Points are numbered from 1, and
+/// directions go on.
 #[derive(Debug, Drop)]
 pub struct Facet {
     pub w: Vector,

@@ -1,5 +1,5 @@
-//! The rules of a log, what a log proves, and when an answer is right. Each function is a law: it does nothing, and its contract is
-//! the statement.
+//! The rules of a log, what a log proves, and when an answer is right. Each function is a law: it
+//! does nothing, and its contract is the statement.
 #![tactic(auto)]
 
 ghost use Rattle.log_rules.specs.Examples.{WorkedLogs};
@@ -25,7 +25,8 @@ pub fn meets_give_events()
     ensures { MeetsGiveEvents }
 {}
 
-/// A log that meets its rules is never found wrong, whatever numbers are held: the first event that fails is a step.
+/// A log that meets its rules is never found wrong, whatever numbers are held: the first event that
+/// fails is a step.
 pub fn never_wrong()
     ensures { NeverWrong }
 {}
@@ -70,7 +71,8 @@ pub fn right_solutions_agree()
     ensures { RightSolutionsAgree }
 {}
 
-/// The facets of a right solution are the vertices of the lower image, which has one extreme direction.
+/// The facets of a right solution are the vertices of the lower image, which has one extreme
+/// direction.
 pub fn facets_describe_lower_image()
     ensures { FacetsDescribeLowerImage }
 {}

@@ -35,7 +35,8 @@ pub left_overflows : (holds : ℚ → Bool) (s : Setting) (place : Place) (left 
 left_overflows holds s place left trail (Stuck licence) is over = subst (λ l. Overflows holds s trail (Stuck l)) (sym is) (refl, over)
 left_overflows holds s place left trail NoMemory is over = tt
 
--- what is told of the fault of an elimination of these rows overflows in each setting where they may be eliminated
+-- what is told of the fault of an elimination of these rows overflows in each setting where they
+-- may be eliminated
 abbrev pub AlwaysOverflows : {F : Type 0} → (F → ℚ) → (ℚ → Bool) → List (List ℚ) → List Entry → RowFault F → SolveFault → Type 0
 AlwaysOverflows value holds rows trail fault told =
     (s : Setting) (width columns : ℕ) (t : Table) → AreElimRows s rows width → IsElimTable rows width t columns → IsElimFault value holds columns t fault →

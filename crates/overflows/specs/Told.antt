@@ -10,7 +10,8 @@ use Rattle.overflows.specs.Faults.{IsEliminationLeft, IsLeftAt}
 use Rattle.overflows.specs.declared.fault.SolveFault.{SolveFault}
 use Rattle.overflows.specs.declared.fault.SolveFault.TheVariants.{NoMemory}
 
--- the fault of a start with these rows, at the step of their elimination that it tells; nothing where no start has it
+-- the fault of a start with these rows, at the step of their elimination that it tells; nothing
+-- where no start has it
 abbrev pub IsStartLeft : {F : Type 0} → (F → ℚ) → List (List ℚ) → DdFault F → SolveFault → Type 0
 IsStartLeft value rows (description.Elim fault) told = IsEliminationLeft value rows [] fault told
 IsStartLeft value rows (description.Left first second step left) told = Unit {0}

@@ -1,4 +1,5 @@
-//! Licences from what double descriptions tell of their overflows, for any rows that may be eliminated or added.
+//! Licences from what double descriptions tell of their overflows, for any rows that may be
+//! eliminated or added.
 ghost use Rattle.std.specs.Prelude.{◌≡◌, [], ◌∷◌, ◌++◌, IfOk, map, length};
 ghost use Rattle.deriv_log.specs.declared.licence.Place.TheVariants as place_of;
 ghost use Rattle.licence.specs.Steps.{in_numbers};
@@ -32,7 +33,8 @@ fn vectors_with<F: Field>(alloc: Global, dd: &Dd<F>, last: &[F]) -> Result<Vecto
     Ok(out)
 }
 
-/// The overflow of a step of the addition of a row of such a family to a double description, with no trail.
+/// The overflow of a step of the addition of a row of such a family to a double description, with
+/// no trail.
 fn pair_fault<F: Field>(
     alloc: Global,
     family: Family,
@@ -43,7 +45,9 @@ fn pair_fault<F: Field>(
     step: u64,
     left: Left<F>,
 ) -> SolveFault
-    ensures { IsLeftAt (place_of.Pair family (dd.now.rows ++ map F.value row.now ∷ []) first second step) (in_numbers F.value left) [] result }
+    ensures { IsLeftAt
+        (place_of.Pair family (dd.now.rows ++ map F.value row.now ∷ []) first second step)
+        (in_numbers F.value left) [] result }
 {
     match vectors_with(alloc, dd, row) {
         Err(_) => SolveFault::NoMemory,
@@ -64,9 +68,11 @@ fn pair_fault<F: Field>(
 /// What is told where a start with these rows is given up, with no trail.
 pub fn start_fault<F: Field>(alloc: Global, rows: &Rows<F>, fault: DdFault<F>) -> SolveFault
     requires square { length rows.now.list ≡ rows.now.width }
-    requires fault { IsStartFault F.value F.holds rows.now.width (numbers F.value rows.now.list) fault }
+    requires fault { IsStartFault F.value F.holds rows.now.width
+        (numbers F.value rows.now.list) fault }
     ensures told { IsStartLeft F.value (numbers F.value rows.now.list) fault result }
-    ensures licensed { (s : Setting) → AreElimRows s (numbers F.value rows.now.list) rows.now.width → Overflows F.holds s [] result }
+    ensures licensed { (s : Setting) → AreElimRows s (numbers F.value rows.now.list) rows.now.width
+        → Overflows F.holds s [] result }
 {
     match fault {
         DdFault::NoMemory => SolveFault::NoMemory,
@@ -83,9 +89,12 @@ pub fn add_fault<F: Field>(
     row: &[F],
     fault: DdFault<F>,
 ) -> SolveFault
-    requires fault { IsAddFault F.value F.holds (add_blocks dd.now.rows dd.now.list.live (map F.value row.now)) fault }
+    requires fault { IsAddFault F.value F.holds
+        (add_blocks dd.now.rows dd.now.list.live (map F.value row.now)) fault }
     ensures told { IsAdditionLeft F.value family dd.now.rows (map F.value row.now) fault result }
-    ensures licensed { (s : Setting) → IsAddition s dd.now.rows (map F.value row.now) dd.now.list family → Overflows F.holds s [] result }
+    ensures licensed { (s : Setting)
+        → IsAddition s dd.now.rows (map F.value row.now) dd.now.list family
+        → Overflows F.holds s [] result }
 {
     match fault {
         DdFault::NoMemory => SolveFault::NoMemory,

@@ -32,7 +32,8 @@ impl SolveFault {
     /// The fault with this trail in place of its own.
     pub fn behind(self, trail: Entries) -> SolveFault
         ensures told { result ≡ with_trail self trail }
-        ensures licensed { (holds : ℚ → Bool) (s : Setting) → Overflows holds s [] self → Overflows holds s trail result }
+        ensures licensed { (holds : ℚ → Bool) (s : Setting) → Overflows holds s [] self
+            → Overflows holds s trail result }
     {
         match self {
             SolveFault::Left(licence) => SolveFault::Left(Licence {

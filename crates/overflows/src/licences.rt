@@ -44,7 +44,8 @@ fn program_name<F: Field>(alloc: Global, name: &LpName<F>) -> Result<Program, No
 
 /// The overflow of an operation at a place.
 fn left_at<F: Field>(place: Place, left: Left<F>, trail: Entries) -> SolveFault
-    ensures told { result ≡ fault_of.Left (record { place = place; left = in_numbers F.value left; trail = trail }) }
+    ensures told { result
+        ≡ fault_of.Left (record { place = place; left = in_numbers F.value left; trail = trail }) }
     ensures held { IsTrue (F.holds (F.value left.a)) }
 {
     SolveFault::Left(Licence {
@@ -62,7 +63,9 @@ pub fn program_fault<F: Field>(
     trail: Entries,
 ) -> SolveFault
     ensures told { IsProgramLeft F.value (named F.value name.now) trail fault result }
-    ensures licensed { (s : Setting) → IsAllowed s (named F.value name.now) → IsLpFault F.value F.holds (system_in s (named F.value name.now)) fault → Overflows F.holds s trail result }
+    ensures licensed { (s : Setting) → IsAllowed s (named F.value name.now)
+        → IsLpFault F.value F.holds (system_in s (named F.value name.now)) fault
+        → Overflows F.holds s trail result }
 {
     match fault {
         LpFault::NoMemory => SolveFault::NoMemory,
@@ -96,7 +99,10 @@ pub fn elimination_fault<F: Field>(
     trail: Entries,
 ) -> SolveFault
     ensures told { IsEliminationLeft F.value (numbers F.value rows.now.list) trail fault result }
-    ensures licensed { (s : Setting) (width columns : ℕ) (t : Table) → AreElimRows s (numbers F.value rows.now.list) width → IsElimTable (numbers F.value rows.now.list) width t columns → IsElimFault F.value F.holds columns t fault → Overflows F.holds s trail result }
+    ensures licensed { (s : Setting) (width columns : ℕ) (t : Table)
+        → AreElimRows s (numbers F.value rows.now.list) width
+        → IsElimTable (numbers F.value rows.now.list) width t columns
+        → IsElimFault F.value F.holds columns t fault → Overflows F.holds s trail result }
 {
     match fault {
         RowFault::NoMemory => SolveFault::NoMemory,
@@ -130,8 +136,12 @@ pub fn scale_fault<F: Field>(
     left: Left<F>,
     trail: Entries,
 ) -> SolveFault
-    ensures told { IsLeftAt (place_of.Scale (map F.value vector.now) entry) (in_numbers F.value left) trail result }
-    ensures licensed { (s : Setting) → IsScaled s (map F.value vector.now) → IsDivisor s (map F.value vector.now) (F.value left.b) → IsQuotientAt F.value F.holds (map F.value vector.now) entry left → Overflows F.holds s trail result }
+    ensures told { IsLeftAt (place_of.Scale (map F.value vector.now) entry)
+        (in_numbers F.value left) trail result }
+    ensures licensed { (s : Setting) → IsScaled s (map F.value vector.now)
+        → IsDivisor s (map F.value vector.now) (F.value left.b)
+        → IsQuotientAt F.value F.holds (map F.value vector.now) entry left
+        → Overflows F.holds s trail result }
 {
     match fractions(alloc, vector) {
         Err(_) => SolveFault::NoMemory,
@@ -151,8 +161,14 @@ fn step_number(op: Op) -> u8
 
 /// The overflow of a sum of products, behind the entries of a trail. No memory is taken.
 pub fn term_fault<F: Field>(alloc: Global, fault: SumFault<F>, trail: Entries) -> SolveFault
-    ensures told { result ≡ fault_of.Left (record { place = place_of.Elim [] [] 0 fault.place (term_number fault.left.op); left = in_numbers F.value fault.left; trail = trail }) }
-    ensures licensed { (s : Setting) (xs ys : List ℚ) → AreMultiplied s xs ys ⊎ AreMultiplied s ys xs → IsTermAt F.value F.holds xs ys fault → Overflows F.holds s trail result }
+    ensures told { result ≡ fault_of.Left (record {
+      place = place_of.Elim [] [] 0 fault.place (term_number fault.left.op);
+      left = in_numbers F.value fault.left;
+      trail = trail;
+    }) }
+    ensures licensed { (s : Setting) (xs ys : List ℚ)
+        → AreMultiplied s xs ys ⊎ AreMultiplied s ys xs → IsTermAt F.value F.holds xs ys fault
+        → Overflows F.holds s trail result }
 {
     let place = Place::Elim {
         rows: Items::new(alloc),

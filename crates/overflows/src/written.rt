@@ -1,4 +1,5 @@
-//! That a log can write what stands in memory: each number is read once, and so is in the range of its type.
+//! That a log can write what stands in memory: each number is read once, and so is in the range of
+//! its type.
 ghost use Rattle.std.specs.Prelude.{◌≡◌, ℕ, List, All, IsTrue};
 ghost use Rattle.exact_field.specs.Rational.{ℚ};
 ghost use Rattle.frac128.specs.Held.{is_held};
@@ -46,7 +47,8 @@ pub fn spots_are_written(list: &[Spot])
 
 /// A `duality` entry can be written.
 pub fn duality_is_written(opening: &Entry)
-    ensures { (c weights : List ℚ) (picks : List ℕ) (inverse : List ℚ) → opening.now ≡ line.Duality c weights picks inverse → IsTrue (is_formed opening.now) }
+    ensures { (c weights : List ℚ) (picks : List ℕ) (inverse : List ℚ)
+        → opening.now ≡ line.Duality c weights picks inverse → IsTrue (is_formed opening.now) }
 {
     if let Entry::Duality {
         c,
