@@ -9,7 +9,7 @@ use Rattle.polyhedra.specs.DoubleDescription.{magnitude, leading}
 use Rattle.polyhedra.specs.TightSets.{IsTight, IsDoubleDescriptionPair}
 use Rattle.polyhedra.specs.Inequality.{Inequality}
 use Rattle.polyhedra.specs.Hull.{IsConvex, IsValidAt, IsNormedDirection}
-use Rattle.polyhedra.specs.Exactness.{homogenised, level, row_of, rows_of, IsOneOf, TightLiesIn, IsNamed, IsAccounted, IsEnclosed, IsExact}
+use Rattle.polyhedra.specs.Exactness.{homogenised, level, row_of, rows_of, IsOneOf, TightLiesIn, IsNamed, IsAccounted, IsEnclosed, IsSolved, IsExact}
 use Rattle.polyhedra.proofs.Linear.{length-plus, length-scaled, length-zeros}
 use Rattle.polyhedra.proofs.Lists.{HasWidth, all_from_map}
 use Rattle.polyhedra.proofs.Members.{all_of_members, member_of, Contains-map}
@@ -274,23 +274,28 @@ module _ (n : ℕ) (Set Directions : List ℚ → Type 0) (c : List ℚ) (lines 
             (subst (λ (b : List ℚ). TightLiesIn (map W gens) (W (row_of e)) b) (row' f.0 (member_of (IsNamed n cuts gens) named f.0 names f.1).cut) (lies_down (row_of e) (row_of f.0) f.2)),
       )
 
--- what is exact for the set without these entries
-pub exact_erased : (n : ℕ) (Set Directions : List ℚ → Type 0) (c : List ℚ) (lines : List (List ℚ)) (cuts : List Inequality) (gens points directions : List (List ℚ))
-    (named : List Inequality) (s : IsSolvedAlong n Set Directions c lines cuts gens points directions named) →
-    let bs = marks n lines in
-    let form = echelon_of n lines s.enclosed.along.echelon in
-    IsExact (open_count bs) (IsErased n lines form Set) (IsErased n lines form Directions) (without bs (reduction n lines c)) (map (without bs) points) (map (without bs) directions)
-    (map (inequality_without bs) named)
-exact_erased n Set Directions c lines cuts gens points directions named s =
-    exactness (IsErased n lines (echelon_of n lines s.enclosed.along.echelon) Set) (IsErased n lines (echelon_of n lines s.enclosed.along.echelon) Directions)
-    (open_count (marks n lines)) (without (marks n lines) (reduction n lines c))
-    (map (inequality_without (marks n lines)) cuts) (map (without (marks n lines)) gens) (map (without (marks n lines)) points) (map (without (marks n lines)) directions)
-    (map (inequality_without (marks n lines)) named) record {
-      enclosed = enclosed' n Set Directions c lines cuts gens points directions s.enclosed;
-      names = All-map (IsNamed (open_count (marks n lines)) (map (inequality_without (marks n lines)) cuts) (map (without (marks n lines)) gens)) (inequality_without (marks n lines)) named
-          (all_of_members (λ e. IsNamed (open_count (marks n lines)) (map (inequality_without (marks n lines)) cuts) (map (without (marks n lines)) gens) (inequality_without (marks n lines) e)) named
-          (λ e k. named' n Set Directions c lines cuts gens points directions s.enclosed e (member_of (IsNamed n cuts gens) named e s.names k)));
-      accounted = All-map (IsAccounted (open_count (marks n lines)) (map (inequality_without (marks n lines)) named) (map (without (marks n lines)) gens)) (inequality_without (marks n lines)) cuts
-          (all_of_members (λ e. IsAccounted (open_count (marks n lines)) (map (inequality_without (marks n lines)) named) (map (without (marks n lines)) gens) (inequality_without (marks n lines) e)) cuts
-          (λ e k. accounted' n Set Directions c lines cuts gens points directions s.enclosed named s.names e k (member_of (IsAccounted n named gens) cuts e s.accounted k)));
-    }
+-- the conditions hold without these entries, so what is exact then
+module _ (n : ℕ) (Set Directions : List ℚ → Type 0) (c : List ℚ) (lines : List (List ℚ)) (cuts : List Inequality) (gens points directions : List (List ℚ))
+    (named : List Inequality) (s : IsSolvedAlong n Set Directions c lines cuts gens points directions named) where
+  abbrev bs : List Bool
+  bs = marks n lines
+
+  abbrev erased : (List ℚ → Type 0) → List ℚ → Type 0
+  erased = IsErased n lines (echelon_of n lines s.enclosed.along.echelon)
+
+  pub solved_erased : IsSolved (open_count bs) (erased Set) (erased Directions) (without bs (reduction n lines c)) (map (inequality_without bs) cuts) (map (without bs) gens)
+      (map (without bs) points) (map (without bs) directions) (map (inequality_without bs) named)
+  solved_erased = record {
+    enclosed = enclosed' n Set Directions c lines cuts gens points directions s.enclosed;
+    names = All-map (IsNamed (open_count bs) (map (inequality_without bs) cuts) (map (without bs) gens)) (inequality_without bs) named
+        (all_of_members (λ e. IsNamed (open_count bs) (map (inequality_without bs) cuts) (map (without bs) gens) (inequality_without bs e)) named
+        (λ e k. named' n Set Directions c lines cuts gens points directions s.enclosed e (member_of (IsNamed n cuts gens) named e s.names k)));
+    accounted = All-map (IsAccounted (open_count bs) (map (inequality_without bs) named) (map (without bs) gens)) (inequality_without bs) cuts
+        (all_of_members (λ e. IsAccounted (open_count bs) (map (inequality_without bs) named) (map (without bs) gens) (inequality_without bs e)) cuts
+        (λ e k. accounted' n Set Directions c lines cuts gens points directions s.enclosed named s.names e k (member_of (IsAccounted n named gens) cuts e s.accounted k)));
+  }
+
+  pub exact_erased : IsExact (open_count bs) (erased Set) (erased Directions) (without bs (reduction n lines c)) (map (without bs) points) (map (without bs) directions)
+      (map (inequality_without bs) named)
+  exact_erased = exactness (erased Set) (erased Directions) (open_count bs) (without bs (reduction n lines c)) (map (inequality_without bs) cuts) (map (without bs) gens)
+      (map (without bs) points) (map (without bs) directions) (map (inequality_without bs) named) solved_erased

@@ -10,7 +10,7 @@ use Rattle.exact_field.proofs.Rationals.{rationals}
 use Rattle.polyhedra.specs.Vectors.{AreWide, zeros, plus, scaled, combination}
 use Rattle.polyhedra.specs.Inequality.{Inequality}
 use Rattle.polyhedra.specs.Negatives.{negated}
-use Rattle.polyhedra.specs.Hull.{IsInHull, IsVertex, IsMultiple, IsExtremeDirection, IsNormedDirection, IsValidAt, IsFacet}
+use Rattle.polyhedra.specs.Hull.{IsInHull, IsVertex, IsMultiple, IsExtremeDirection, IsNormedDirection, IsValid, IsValidAt, IsFacet}
 use Rattle.polyhedra.specs.Exactness.{homogenised, level, row_of, rows_of, IsExact, IsNamed}
 use Rattle.polyhedra.proofs.Laws.{add_zero, le_antisymm}
 use Rattle.polyhedra.proofs.Algebra.{zero_add}
@@ -96,16 +96,16 @@ module _ (n : ℕ) (Set Directions : List ℚ → Type 0) (c : List ℚ) (lines 
   some = some_listed points some_points
 
   -- ---- valid inequalities are level along the lineality space
-  valid_level : (e : Inequality) → IsValidAt n Set c e → (d : List ℚ) → IsInLineality Directions d → dot e.normal d ≡ zero_ℚ
+  valid_level : (e : Inequality) → IsValid n Set e → (d : List ℚ) → IsInLineality Directions d → dot e.normal d ≡ zero_ℚ
   valid_level e v d h =
       let y : (y : List ℚ) × Contains points y = some in
-      let up : zero_ℚ ≤ℚ dot e.normal d = direction_value n Set Directions s.convex e y.0 d v.valid (in_points y.0 y.1).member h.forth in
-      let down : zero_ℚ ≤ℚ dot e.normal (negated d) = direction_value n Set Directions s.convex e y.0 (negated d) v.valid (in_points y.0 y.1).member h.back in
+      let up : zero_ℚ ≤ℚ dot e.normal d = direction_value n Set Directions s.convex e y.0 d v (in_points y.0 y.1).member h.forth in
+      let down : zero_ℚ ≤ℚ dot e.normal (negated d) = direction_value n Set Directions s.convex e y.0 (negated d) v (in_points y.0 y.1).member h.back in
       le_antisymm (dot e.normal d) zero_ℚ
       (Rattle.polyhedra.proofs.Order.le_of_difference (dot e.normal d) zero_ℚ (dot e.normal (negated d)) down
       (ap (λ a. dot e.normal d +ℚ a) (dot-negated e.normal d) ∙ Rattle.polyhedra.proofs.Laws.add_neg (dot e.normal d))) up
 
-  level_of : (e : Inequality) → IsValidAt n Set c e → IsLevel lines e.normal
+  pub level_of : (e : Inequality) → IsValid n Set e → IsLevel lines e.normal
   level_of e v = all_of_members (λ d. dot e.normal d ≡ zero_ℚ) lines
       (λ d k. valid_level e v d (member_of (IsInLineality Directions) lines d s.along.each k))
 
@@ -128,7 +128,7 @@ module _ (n : ℕ) (Set Directions : List ℚ → Type 0) (c : List ℚ) (lines 
 
     tight : (e : Inequality) → Contains cuts e → dot (row_of (cut' e)) (homogenised (W rest) zero_ℚ) ≡ zero_ℚ
     tight e k =
-        let v : IsValidAt n Set c e = cut_valid e k in
+        let v : IsValid n Set e = (cut_valid e k).valid in
         row_value_direction (cut' e) (W rest) (erased_wide n lines form e.normal v.wide ∙ sym erased_rest)
         ∙ level_product n lines form e.normal d (level_of e v) d_wide ∙ valid_level e v d h
 
@@ -331,11 +331,11 @@ module _ (n : ℕ) (Set Directions : List ℚ → Type 0) (c : List ℚ) (lines 
   -- ---- facets
   same_cut : (a b : Inequality) → IsValidAt n Set c a → IsValidAt n Set c b → cut' a ≡ cut' b → a ≡ b
   same_cut a b va vb e = same_inequality a b
-      (same_level n lines form a.normal b.normal va.wide vb.wide (level_of a va) (level_of b vb) (ap (λ (f : Inequality). f.normal) e))
+      (same_level n lines form a.normal b.normal va.wide vb.wide (level_of a va.valid) (level_of b vb.valid) (ap (λ (f : Inequality). f.normal) e))
       (ap (λ (f : Inequality). f.bound) e)
 
   valid_down : (e : Inequality) → IsValidAt n Set c e → IsValidAt m Set' c' (cut' e)
-  valid_down e v = erased_valid n lines form Set c e s.c_wide v (level_of e v)
+  valid_down e v = erased_valid n lines form Set c e s.c_wide v (level_of e v.valid)
 
   facet_up : (e : Inequality) → IsValidAt n Set c e → IsFacet m Set' c' (cut' e) → IsFacet n Set c e
   facet_up e v f = record {
@@ -379,7 +379,7 @@ module _ (n : ℕ) (Set Directions : List ℚ → Type 0) (c : List ℚ) (lines 
         let B : Inequality = lifted b vb in
         let A_valid : IsValidAt n Set c A = lifted_valid a va in
         let B_valid : IsValidAt n Set c B = lifted_valid b vb in
-        let e_level : IsLevel lines e.normal = level_of e f.valid in
+        let e_level : IsLevel lines e.normal = level_of e f.valid.valid in
         let r : (A ≡ e) × (B ≡ e) = f.no_midpoint A B A_valid B_valid
         (same_level n lines form (plus e.normal e.normal) (plus A.normal B.normal)
         (length-plus n e.normal e.normal f.valid.wide f.valid.wide) (length-plus n A.normal B.normal A_valid.wide B_valid.wide)

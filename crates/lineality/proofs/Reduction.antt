@@ -1,19 +1,19 @@
 -- A vector without its part along lines, and a convex set as its reduced part and all combinations
 -- of its lines.
-use Rattle.std.proofs.Common.{◌≡◌, ℕ, List, [], ◌∷◌, map, length, All, refl, sym, ap, ap₂, ◌∙◌, subst}
+use Rattle.std.proofs.Common.{◌≡◌, ℕ, ◌-◌, List, [], ◌∷◌, map, length, All, refl, sym, ap, ap₂, ◌∙◌, subst}
 use Rattle.std.proofs.lemmas.List.Elements.{All-nil, All-cons, All-head, All-tail}
 use Rattle.std.proofs.lemmas.List.{length-map}
 use Rattle.exact_field.specs.Rational.{ℚ, zero_ℚ, one_ℚ, ◌+ℚ◌, ◌*ℚ◌, neg_ℚ}
 use Rattle.exact_field.specs.Vector.{dot, entry}
-use Rattle.exact_field.specs.Ring.{v0, v1, v2, ◌⊕◌, ◌⊗◌, ⊖}
+use Rattle.exact_field.specs.Ring.{v0, v1, v2, v3, ◌⊕◌, ◌⊗◌, ⊖}
 use Rattle.exact_field.proofs.RingTool.{ring}
 use Rattle.exact_field.proofs.Rationals.{rationals}
 use Rattle.polyhedra.specs.Vectors.{AreWide, zeros, plus, scaled, values, combination}
 use Rattle.polyhedra.specs.Hull.{IsConvex}
 use Rattle.polyhedra.specs.Image.{IsConvexCone}
 use Rattle.polyhedra.proofs.Laws.{add_zero, add_neg}
-use Rattle.polyhedra.proofs.Algebra.{zero_add, mul_zero, neg_zero, add_cancel}
-use Rattle.polyhedra.proofs.Linear.{dot-plus, dot-scaled, dot-combination, length-plus, length-scaled, length-combination, same_wide}
+use Rattle.polyhedra.proofs.Algebra.{zero_add, zero_mul, mul_zero, neg_zero, add_cancel}
+use Rattle.polyhedra.proofs.Linear.{dot-plus, dot-plus_left, dot-scaled, dot-scaled_left, dot-combination, length-plus, length-scaled, length-combination, same_wide}
 use Rattle.polyhedra.proofs.Members.{all_of_members, member_of}
 use Rattle.lineality.specs.Lines.{leading_place, IsCombined, RunsAlong, IsReduced, IsReducedIn, reduction}
 use Rattle.lineality.specs.Exactness.{HasParts, IsAlongLines, PartsAlongLines}
@@ -107,6 +107,52 @@ level_reduction n lines r y h = dot-reduction n lines r y ∙ ap (λ a. dot r y 
 
 pub level_combination : (n : ℕ) (lines : List (List ℚ)) (ms r : List ℚ) → All (λ d. dot r d ≡ zero_ℚ) lines → dot r (combination n ms lines) ≡ zero_ℚ
 level_combination n lines ms r h = dot-combination n r ms lines ∙ level_values ms lines r h
+
+-- a reduced vector is its own reduction
+no_entries : (lines : List (List ℚ)) (y xs : List ℚ) → IsReduced lines y → dot (entries_at lines y) xs ≡ zero_ℚ
+no_entries [] y xs h = refl
+no_entries (d ∷ lines) y [] h = refl
+no_entries (d ∷ lines) y (x ∷ xs) h =
+    ap₂ (λ a b. a *ℚ x +ℚ b) (All-head (λ d. entry y (leading_place d) ≡ zero_ℚ) d lines h)
+    (no_entries lines y xs (All-tail (λ d. entry y (leading_place d) ≡ zero_ℚ) d lines h))
+    ∙ ap (λ a. a +ℚ zero_ℚ) (zero_mul x) ∙ add_zero zero_ℚ
+
+pub reduction_same : (n : ℕ) (lines : List (List ℚ)) (y : List ℚ) → AreWide n lines → length y ≡ n → IsReduced lines y → reduction n lines y ≡ y
+reduction_same n lines y w l h = same_wide n (reduction n lines y) y (length-reduction n lines y w l) l
+    (λ r. dot-reduction n lines r y ∙ ap (λ a. dot r y +ℚ neg_ℚ a) (no_entries lines y (values lines r) h)
+    ∙ ap (λ a. dot r y +ℚ a) neg_zero ∙ add_zero (dot r y))
+
+-- reductions of sums and of multiples
+entries-plus : (lines : List (List ℚ)) (u v : List ℚ) → entries_at lines (plus u v) ≡ plus (entries_at lines u) (entries_at lines v)
+entries-plus [] u v = refl
+entries-plus (d ∷ lines) u v = ap₂ (λ a b. a ∷ b) (at-plus u v (leading_place d - 1)) (entries-plus lines u v)
+
+entries-scaled : (lines : List (List ℚ)) (c : ℚ) (v : List ℚ) → entries_at lines (scaled c v) ≡ scaled c (entries_at lines v)
+entries-scaled [] c v = refl
+entries-scaled (d ∷ lines) c v = ap₂ (λ a b. a ∷ b) (at-scaled c v (leading_place d - 1)) (entries-scaled lines c v)
+
+pub reduction-plus : (n : ℕ) (lines : List (List ℚ)) (u v : List ℚ) → AreWide n lines → length u ≡ n → length v ≡ n →
+    reduction n lines (plus u v) ≡ plus (reduction n lines u) (reduction n lines v)
+reduction-plus n lines u v w h k =
+    same_wide n (reduction n lines (plus u v)) (plus (reduction n lines u) (reduction n lines v)) (length-reduction n lines (plus u v) w (length-plus n u v h k))
+    (length-plus n (reduction n lines u) (reduction n lines v) (length-reduction n lines u w h) (length-reduction n lines v w k))
+    (λ r. dot-reduction n lines r (plus u v)
+    ∙ ap₂ (λ a b. a +ℚ neg_ℚ b) (dot-plus r u v)
+    (ap (λ es. dot es (values lines r)) (entries-plus lines u v) ∙ dot-plus_left (entries_at lines u) (entries_at lines v) (values lines r))
+    ∙ ring rationals (dot r u ∷ dot r v ∷ dot (entries_at lines u) (values lines r) ∷ dot (entries_at lines v) (values lines r) ∷ [])
+    ((v0 ⊕ v1) ⊕ ⊖ (v2 ⊕ v3)) ((v0 ⊕ ⊖ v2) ⊕ (v1 ⊕ ⊖ v3)) refl
+    ∙ sym (dot-plus r (reduction n lines u) (reduction n lines v) ∙ ap₂ (λ a b. a +ℚ b) (dot-reduction n lines r u) (dot-reduction n lines r v)))
+
+pub reduction-scaled : (n : ℕ) (lines : List (List ℚ)) (c : ℚ) (v : List ℚ) → AreWide n lines → length v ≡ n →
+    reduction n lines (scaled c v) ≡ scaled c (reduction n lines v)
+reduction-scaled n lines c v w h =
+    same_wide n (reduction n lines (scaled c v)) (scaled c (reduction n lines v)) (length-reduction n lines (scaled c v) w (length-scaled c v ∙ h))
+    (length-scaled c (reduction n lines v) ∙ length-reduction n lines v w h)
+    (λ r. dot-reduction n lines r (scaled c v)
+    ∙ ap₂ (λ a b. a +ℚ neg_ℚ b) (dot-scaled r c v)
+    (ap (λ es. dot es (values lines r)) (entries-scaled lines c v) ∙ dot-scaled_left c (entries_at lines v) (values lines r))
+    ∙ ring rationals (c ∷ dot r v ∷ dot (entries_at lines v) (values lines r) ∷ []) (v0 ⊗ v1 ⊕ ⊖ (v0 ⊗ v2)) (v0 ⊗ (v1 ⊕ ⊖ v2)) refl
+    ∙ sym (dot-scaled r c (reduction n lines v) ∙ ap (λ a. c *ℚ a) (dot-reduction n lines r v)))
 
 -- ---- two parts of one vector
 module _ (n : ℕ) (lines : List (List ℚ)) (form : IsEchelon n lines) where
