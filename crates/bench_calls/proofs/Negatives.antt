@@ -16,18 +16,17 @@ use Rattle.exact_field.proofs.Inequalities.{neg-le}
 use Rattle.exact_field.proofs.Integers.{same_test}
 use Rattle.exact_field.proofs.Rationals.{rationals, neg-add_ℚ, neg-neg_ℚ}
 use Rattle.exact_field.proofs.RingTool.{ring}
-use Rattle.frac128.specs.Held.{is_held, held_neg}
 
-held_alike : (q : ℚ) → is_held (neg_ℚ q) ≡ is_held q
-held_alike q = same_test (is_held (neg_ℚ q)) (is_held q) (λ h. subst (λ (p : ℚ). IsTrue (is_held p)) (neg-neg_ℚ q) (held_neg (neg_ℚ q) h)) (held_neg q)
+held_alike : (holds : ℚ → Bool) → ((q : ℚ) → IsTrue (holds q) → IsTrue (holds (neg_ℚ q))) → (q : ℚ) → holds (neg_ℚ q) ≡ holds q
+held_alike holds law q = same_test (holds (neg_ℚ q)) (holds q) (λ h. subst (λ (p : ℚ). IsTrue (holds p)) (neg-neg_ℚ q) (law (neg_ℚ q) h)) (law q)
 
-pub sum_alike : (p q r s : ℚ) → r ≡ neg_ℚ p → s ≡ neg_ℚ q → is_held (r +ℚ s) ≡ is_held (p +ℚ q)
-sum_alike p q r s e f =
-    ap (λ (x : ℚ). is_held (x +ℚ s)) e ∙ ap (λ (x : ℚ). is_held (neg_ℚ p +ℚ x)) f ∙ ap is_held (sym (neg-add_ℚ p q)) ∙ held_alike (p +ℚ q)
+pub sum_alike : (holds : ℚ → Bool) → ((q : ℚ) → IsTrue (holds q) → IsTrue (holds (neg_ℚ q))) → (p q r s : ℚ) → r ≡ neg_ℚ p → s ≡ neg_ℚ q → holds (r +ℚ s) ≡ holds (p +ℚ q)
+sum_alike holds law p q r s e f =
+    ap (λ (x : ℚ). holds (x +ℚ s)) e ∙ ap (λ (x : ℚ). holds (neg_ℚ p +ℚ x)) f ∙ ap holds (sym (neg-add_ℚ p q)) ∙ held_alike holds law (p +ℚ q)
 
-pub product_alike : (p q r s : ℚ) → r ≡ neg_ℚ p → s ≡ neg_ℚ q → is_held (r *ℚ s) ≡ is_held (p *ℚ q)
-product_alike p q r s e f =
-    ap (λ (x : ℚ). is_held (x *ℚ s)) e ∙ ap (λ (x : ℚ). is_held (neg_ℚ p *ℚ x)) f ∙ ap is_held (ring rationals (p ∷ q ∷ []) (⊖ v0 ⊗ ⊖ v1) (v0 ⊗ v1) refl)
+pub product_alike : (holds : ℚ → Bool) (p q r s : ℚ) → r ≡ neg_ℚ p → s ≡ neg_ℚ q → holds (r *ℚ s) ≡ holds (p *ℚ q)
+product_alike holds p q r s e f =
+    ap (λ (x : ℚ). holds (x *ℚ s)) e ∙ ap (λ (x : ℚ). holds (neg_ℚ p *ℚ x)) f ∙ ap holds (ring rationals (p ∷ q ∷ []) (⊖ v0 ⊗ ⊖ v1) (v0 ⊗ v1) refl)
 
 and_swap : (a b : Bool) → (a && b) ≡ (b && a)
 and_swap true true = refl
@@ -44,9 +43,9 @@ same_alike p q r s e f =
     ∙ ap not (and_swap (le_ℚ q p) (le_ℚ p q))
 
 -- an answer is there exactly where the number is held
-pub ok_is_held : (operation : Op) (p q exact : ℚ) (r : Result ℚ (Left ℚ)) → Answers (λ (x : ℚ). x) is_held operation p q exact r → is_ok r ≡ is_held exact
-ok_is_held operation p q exact (Ok x) answer = sym answer.1
-ok_is_held operation p q exact (Err left) answer = sym answer.1
+pub ok_is_held : {F : Type 0} (value : F → ℚ) (holds : ℚ → Bool) (operation : Op) (a b : F) (exact : ℚ) (r : Result F (Left F)) → Answers value holds operation a b exact r → is_ok r ≡ holds exact
+ok_is_held value holds operation a b exact (Ok x) answer = sym answer.1
+ok_is_held value holds operation a b exact (Err left) answer = sym answer.1
 
 -- one more round, with the test passed or not
 pub counted_then : (t : Bool) (k n m : ℕ) → t ≡ true → k ≡ cond t n 0 → m ≡ k + 1 → m ≡ cond t (n + 1) 0

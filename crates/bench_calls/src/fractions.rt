@@ -10,6 +10,7 @@ ghost use Rattle.bench_calls.specs.Operands.{wide_value, count};
 use exact_field::Field;
 use frac128::Frac;
 use std::cmp::Ordering;
+use tier_frac::Tier;
 
 /// A whole number of 128 bits, `high` times 2^64 and `low`.
 #[repr(C)]
@@ -42,14 +43,14 @@ fn whole(wide: Wide) -> i128
 }
 
 /// The number of these parts, if it is held and its denominator is positive.
-pub fn fraction(number: Number) -> Option<Frac>
-    ensures { AnswersFraction (λ q. q) is_held (wide_value number.num) (wide_value number.den) result }
+pub fn fraction<F: Field>(number: Number) -> Option<F>
+    ensures { AnswersFraction F.value F.holds (wide_value number.num) (wide_value number.den) result }
 {
-    Frac::of(whole(number.num), whole(number.den))
+    F::of(whole(number.num), whole(number.den))
 }
 
-fn sums(first: Frac, second: Frac, rounds: u32) -> u32
-    ensures { result ≡ cond (is_held (first +ℚ second)) rounds 0 }
+fn sums<F: Field>(first: F, second: F, rounds: u32) -> u32
+    ensures { result ≡ cond (F.holds (F.value first +ℚ F.value second)) rounds 0 }
 {
     let mut a = first;
     let mut b = second;
@@ -69,16 +70,29 @@ fn sums(first: Frac, second: Frac, rounds: u32) -> u32
 pub extern "C" fn bench_sums(operands: &Operands, rounds: u32) -> u32
     ensures { result ≡ count (λ p q. is_held (p +ℚ q)) operands.now rounds }
 {
-    let first = fraction(operands.first);
-    let second = fraction(operands.second);
+    let first = fraction::<Frac>(operands.first);
+    let second = fraction::<Frac>(operands.second);
     match (first, second) {
         (Some(a), Some(b)) => sums(a, b, rounds),
         _ => 0,
     }
 }
 
-fn products(first: Frac, second: Frac, rounds: u32) -> u32
-    ensures { result ≡ cond (is_held (first *ℚ second)) rounds 0 }
+/// The same in two sizes.
+#[unsafe(no_mangle)]
+pub extern "C" fn bench_tier_sums(operands: &Operands, rounds: u32) -> u32
+    ensures { result ≡ count (λ p q. is_held (p +ℚ q)) operands.now rounds }
+{
+    let first = fraction::<Tier>(operands.first);
+    let second = fraction::<Tier>(operands.second);
+    match (first, second) {
+        (Some(a), Some(b)) => sums(a, b, rounds),
+        _ => 0,
+    }
+}
+
+fn products<F: Field>(first: F, second: F, rounds: u32) -> u32
+    ensures { result ≡ cond (F.holds (F.value first *ℚ F.value second)) rounds 0 }
 {
     let mut a = first;
     let mut b = second;
@@ -98,16 +112,29 @@ fn products(first: Frac, second: Frac, rounds: u32) -> u32
 pub extern "C" fn bench_products(operands: &Operands, rounds: u32) -> u32
     ensures { result ≡ count (λ p q. is_held (p *ℚ q)) operands.now rounds }
 {
-    let first = fraction(operands.first);
-    let second = fraction(operands.second);
+    let first = fraction::<Frac>(operands.first);
+    let second = fraction::<Frac>(operands.second);
     match (first, second) {
         (Some(a), Some(b)) => products(a, b, rounds),
         _ => 0,
     }
 }
 
-fn comparisons(first: Frac, second: Frac, rounds: u32) -> u32
-    ensures { result ≡ cond (not (same_ℚ first second)) rounds 0 }
+/// The same in two sizes.
+#[unsafe(no_mangle)]
+pub extern "C" fn bench_tier_products(operands: &Operands, rounds: u32) -> u32
+    ensures { result ≡ count (λ p q. is_held (p *ℚ q)) operands.now rounds }
+{
+    let first = fraction::<Tier>(operands.first);
+    let second = fraction::<Tier>(operands.second);
+    match (first, second) {
+        (Some(a), Some(b)) => products(a, b, rounds),
+        _ => 0,
+    }
+}
+
+fn comparisons<F: Field>(first: F, second: F, rounds: u32) -> u32
+    ensures { result ≡ cond (not (same_ℚ (F.value first) (F.value second))) rounds 0 }
 {
     let mut a = first;
     let mut b = second;
@@ -127,8 +154,21 @@ fn comparisons(first: Frac, second: Frac, rounds: u32) -> u32
 pub extern "C" fn bench_comparisons(operands: &Operands, rounds: u32) -> u32
     ensures { result ≡ count (λ p q. not (same_ℚ p q)) operands.now rounds }
 {
-    let first = fraction(operands.first);
-    let second = fraction(operands.second);
+    let first = fraction::<Frac>(operands.first);
+    let second = fraction::<Frac>(operands.second);
+    match (first, second) {
+        (Some(a), Some(b)) => comparisons(a, b, rounds),
+        _ => 0,
+    }
+}
+
+/// The same in two sizes.
+#[unsafe(no_mangle)]
+pub extern "C" fn bench_tier_comparisons(operands: &Operands, rounds: u32) -> u32
+    ensures { result ≡ count (λ p q. not (same_ℚ p q)) operands.now rounds }
+{
+    let first = fraction::<Tier>(operands.first);
+    let second = fraction::<Tier>(operands.second);
     match (first, second) {
         (Some(a), Some(b)) => comparisons(a, b, rounds),
         _ => 0,

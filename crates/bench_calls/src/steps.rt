@@ -71,7 +71,7 @@ fn put(given: &[Number], numbers: &mut [Frac]) -> bool
     ensures held { IsTrue result ↔ IsTrue (are_operands given.now) }
 {
     for (k, number) in given.iter().enumerate() {
-        match fraction(*number) {
+        match fraction::<Frac>(*number) {
             Some(value) => numbers[k] = value,
             None => return false,
         }

@@ -1,7 +1,8 @@
 use Rattle.std.proofs.Common.{◌≡◌, cond}
 use Rattle.exact_field.specs.Rational.{◌*ℚ◌}
-use Rattle.frac128.specs.Held.{is_held}
 use Rattle.bench_calls.proofs.fractions.products.Given as goal
 
 abbrev pub invariant-loop-round : goal.invariant-loop-round
-invariant-loop-round l = (l.counted ≡ cond (is_held (l.fn.first *ℚ l.fn.second)) l.round 0) × (is_held (l.a *ℚ l.b) ≡ is_held (l.fn.first *ℚ l.fn.second))
+invariant-loop-round g l =
+    let exact = g.F.Field.value l.fn.first *ℚ g.F.Field.value l.fn.second in
+    (l.counted ≡ cond (g.F.Field.holds exact) l.round 0) × (g.F.Field.holds (g.F.Field.value l.a *ℚ g.F.Field.value l.b) ≡ g.F.Field.holds exact)
