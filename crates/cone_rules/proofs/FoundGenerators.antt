@@ -25,7 +25,8 @@ use Rattle.cone_rules.proofs.Gaps.{gap, gap_long, gap_value, gap_product, gaps_v
 use Rattle.cone_rules.proofs.Given.{nonneg_zeros, nonneg_ones, ones_long, nonneg_three}
 use Rattle.cone_rules.proofs.Ranks.{unit_nonneg}
 
--- ---- what the multipliers say: p on the gaps, t on the last entry, k on the equation that bounds e
+-- ---- what the multipliers say: p on the gaps, t on the last entry,
+-- k on the equation that bounds e
 module _ (n : ℕ) (p col : List ℚ) (t k bound : ℚ)
     (low : (a b : List ℚ) (e r : ℚ) → length a ≡ n → length b ≡ n → AtLeastZero a → AtLeastZero b → zero_ℚ ≤ℚ e → zero_ℚ ≤ℚ r →
     bound *ℚ e ≤ℚ gap_value n p a b e +ℚ (t *ℚ dot a col +ℚ k *ℚ (e +ℚ r))) where

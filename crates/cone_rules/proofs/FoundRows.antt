@@ -42,7 +42,8 @@ use Rattle.cone_rules.proofs.Lineality.{support_at}
 use Rattle.cone_rules.proofs.Ranks.{unit_nonneg}
 use Rattle.cone_rules.proofs.Rows.{kept, kept_wide, kept_nonzero, spread_combination, spread_well}
 
--- ---- what the multipliers say: p on the gaps, t on the last entry, k on the equation that bounds e
+-- ---- what the multipliers say: p on the gaps, t on the last entry,
+-- k on the equation that bounds e
 -- the value of the equations at unknowns whose vectors have the values l and m, with the product b
 -- of the surpluses
 abbrev rows_value : (bar k l m b e r : ℚ) → ℚ

@@ -22,7 +22,8 @@ use Rattle.deriv_log.specs.declared.entry.Entry.{Entry}
 use Rattle.deriv_log.specs.declared.entry.Entry.TheVariants.{Version, Duality, Cut, Start, Add, Point, Ray, Farkas, Whole, Line, Facet, End}
 use Rattle.log_rules.specs.Order as order
 
--- ---- start: a point at which q cuts are tight, and for each of them a direction in which it alone grows
+-- ---- start: a point at which q cuts are tight,
+-- and for each of them a direction in which it alone grows
 pub record MeetsStart (file : Problem) (s : State) (cuts : List ℕ) (point directions : List ℚ) : Type 0 where
   pub directions_many : length directions ≡ file.objs * file.objs
   pub rise : AllPairs (λ k k'. k < k') cuts
@@ -80,7 +81,8 @@ pub record MeetsLine (file : Problem) (d : List ℚ) (x ray m back n : List Spot
   pub back_recedes : ShowsRecession file back
   pub back_above : ShowsAbove file (map neg_ℚ d) back n
 
--- ---- facet: a cut in use whose set of tight generators is largest, and not that of a facet named before
+-- ---- facet: a cut in use whose set of tight generators is largest,
+-- and not that of a facet named before
 pub record MeetsFacet (file : Problem) (before : List Entry) (s : State) (cut : ℕ) : Type 0 where
   pub used : Contains s.used cut
   pub unnamed : Contains (named before) cut → ⊥

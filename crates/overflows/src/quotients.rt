@@ -21,8 +21,8 @@ pub fn divided<F: Field>(
     requires by { F.value by ≢ zero_ℚ }
     requires count { count ≤ length vector.now }
     requires short { length vector.now ≤ 4294967294 }
-    ensures ok { IfOk result (λ r.
-        map F.value r ≡ scaled (inverse_ℚ (F.value by)) (take count (map F.value vector.now))) }
+    ensures ok { IfOk result (λ r. map F.value r
+        ≡ scaled (inverse_ℚ (F.value by)) (take count (map F.value vector.now))) }
     ensures left { (s : Setting) → IsScaled s (map F.value vector.now)
         → IsDivisor s (map F.value vector.now) (F.value by)
         → IfErr result (Overflows F.holds s []) }

@@ -14,8 +14,7 @@ use std::alloc::Global;
 fn push_spot<F: Field>(spots: &mut Sparse, at: u32, x: F) -> Result<(), NoMemory>
     ensures written { OnOk result
         (Writes at (F.value x) (map entry_of spots.old) (map entry_of spots.new)) }
-    ensures kept { OnOk result
-        (All (λ s. IsTrue (not (is_nought s.value))) spots.old
+    ensures kept { OnOk result (All (λ s. IsTrue (not (is_nought s.value))) spots.old
         → All (λ s. IsTrue (not (is_nought s.value))) spots.new) }
 {
     if is_zero(x) {
