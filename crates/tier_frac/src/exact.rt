@@ -1,6 +1,6 @@
 //! Numbers in lowest terms as operations on words give them, before it is known which size holds them.
 
-ghost use Rattle.std.specs.Prelude.{◌≡◌, ◌*◌, ◌<◌, ◌^◌, IsTrue, unsigned_abs};
+ghost use Rattle.std.specs.Prelude.{◌≡◌, ◌*◌, ◌<◌, unsigned_abs};
 ghost use Rattle.std.specs.Int.{IsGcd};
 ghost use Rattle.exact_field.specs.Field.{AnswersHeld};
 ghost use Rattle.exact_field.specs.Rational.{fraction};
