@@ -16,6 +16,7 @@ mod vectors;
 
 pub use fault::FracFault;
 pub use frac::{Frac, Sum, frac_of, wide};
+pub use size::LIMIT;
 pub use text::put_frac;
 pub use tiny::Tiny;
 pub use vectors::{Sparse, Spot, Vector, Vectors, is_zero};

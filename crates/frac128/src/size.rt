@@ -5,7 +5,7 @@ ghost use Rattle.std.specs.Prelude.{◌≡◌, ◌*◌, ◌^◌, ◌<◌, ◌≤
 pub(crate) const WORD: u128 = 0xffff_ffff_ffff_ffff;
 
 /// Parts of fractions are below this.
-pub(crate) const LIMIT: u128 = 1 << 120;
+pub const LIMIT: u128 = 1 << 120;
 
 /// How many bits the number has: the least number of bits that hold it.
 pub(crate) fn bits(x: u128) -> u32

@@ -1,5 +1,5 @@
 -- Products of fractions in lowest terms.
-use Rattle.std.specs.Prelude.{◌≡◌, ℕ, ℤ, pos, ◌*ℤ◌, ◌*◌, ◌/◌, ◌<◌, unsigned_abs, Bool}
+use Rattle.std.specs.Prelude.{◌≡◌, ℕ, ℤ, pos, ◌*ℤ◌, ◌*◌, ◌/◌, ◌<◌, Bool}
 use Rattle.std.specs.Int.{IsGcd}
 use Rattle.std.proofs.Common.{sym, ap, ◌∙◌, subst}
 use Rattle.std.proofs.Math.Nat.{mul-div_cancel', mul_comm}

@@ -1,6 +1,6 @@
 //! Numbers in lowest terms as operations on words give them, before it is known which size holds them.
 
-ghost use Rattle.std.specs.Prelude.{◌≡◌, ◌*◌, ◌<◌, ◌^◌, IsTrue, unsigned_abs};
+ghost use Rattle.std.specs.Prelude.{◌≡◌, ◌*◌, ◌<◌, unsigned_abs};
 ghost use Rattle.std.specs.Int.{IsGcd};
 ghost use Rattle.exact_field.specs.Field.{AnswersHeld};
 ghost use Rattle.exact_field.specs.Rational.{fraction};
@@ -11,14 +11,11 @@ ghost use Rattle.tier_frac.specs.Size.{fit, is_small};
 use crate::words::Words;
 use exact_field::Field;
 use frac128::gcd::{gcd, gcd_words, quotient, quotient_words};
-use frac128::{Frac, wide};
+use frac128::{Frac, LIMIT, wide};
 use std::marker::Model;
 
 /// Numerators and denominators that fit into an `i64` are below this, but for the least numerator.
 const HALF: u128 = 1 << 63;
-
-/// Parts of fractions are below this.
-const LIMIT: u128 = 1 << 120;
 
 /// A number by its sign, its magnitude and its denominator in lowest terms, each part of at most 128 bits. In contracts
 /// it is the rational number that it stands for.

@@ -7,7 +7,7 @@ ghost use Rattle.exact_field.specs.Order.{same_ℚ, cmp_ℚ};
 ghost use Rattle.exact_field.specs.Rational.{zero_ℚ, ◌+ℚ◌, ◌*ℚ◌, ◌/ℚ◌};
 ghost use Rattle.exact_field.proofs.Comparison.{cmp_ℚ-total, same_ℚ-equivalence, same_ℚ-partial_equivalence, cmp_ℚ-partial_order, same_ℚ-matches_cmp};
 ghost use Rattle.frac128.specs.Held.{is_held, held_zero, held_one, held_neg, held_small};
-ghost use Rattle.tier_frac.specs.Node.{number, IsSized};
+ghost use Rattle.tier_frac.specs.Form.{number, IsSized};
 ghost use Rattle.tier_frac.specs.Size.{is_small};
 
 use crate::dot::dot;
@@ -20,7 +20,7 @@ use std::marker::Model;
 
 /// The two sizes.
 #[derive(Clone, Copy, Debug)]
-enum Node {
+enum Form {
     /// Both parts fit into an `i64`.
     Small(Words),
     /// One of them does not.
@@ -31,7 +31,7 @@ enum Node {
 /// contracts it is the rational number that it stands for.
 #[derive(Clone, Copy, Debug)]
 pub struct Tier {
-    node: Node,
+    form: Form,
 }
 
 impl Model for Tier {
@@ -41,15 +41,15 @@ impl Model for Tier {
 
     ghost coded = { coded_ℚ };
 
-    ghost use Rattle.tier_frac.specs.Node.{number, IsSized, sized, sized_number};
+    ghost use Rattle.tier_frac.specs.Form.{number, IsSized, sized, sized_number};
 
-    ghost view = { λ t. number t.node };
+    ghost view = { λ t. number t.form };
 
-    ghost invariant = { λ t. IsSized t.node };
+    ghost invariant = { λ t. IsSized t.form };
 
-    ghost inverse = { λ q. record { node = sized q } };
+    ghost inverse = { λ q. record { form = sized q } };
 
-    ghost inverse_ok = { λ t h i. record { node = sized_number t.node h i } };
+    ghost inverse_ok = { λ t h i. record { form = sized_number t.form h i } };
 }
 
 impl Tier {
@@ -67,9 +67,9 @@ impl Tier {
     pub fn frac(self) -> Frac
         ensures { result ≡ self }
     {
-        match self.node() {
-            Node::Small(words) => words.frac(),
-            Node::Wide(frac) => frac,
+        match self.form() {
+            Form::Small(words) => words.frac(),
+            Form::Wide(frac) => frac,
         }
     }
 
@@ -77,15 +77,15 @@ impl Tier {
     pub fn is_small(self) -> bool
         ensures { result ≡ is_small self }
     {
-        matches!(self.node, Node::Small(_))
+        matches!(self.form, Form::Small(_))
     }
 
     /// The number in the size that it has.
-    fn node(self) -> Node
+    fn form(self) -> Form
         ensures value { number result ≡ self }
         ensures size { IsSized result }
     {
-        self.node
+        self.form
     }
 
     fn small(words: Words) -> Tier
@@ -93,7 +93,7 @@ impl Tier {
         ensures { result ≡ words }
     {
         Tier {
-            node: Node::Small(words),
+            form: Form::Small(words),
         }
     }
 
@@ -102,7 +102,7 @@ impl Tier {
         ensures { result ≡ frac }
     {
         Tier {
-            node: Node::Wide(frac),
+            form: Form::Wide(frac),
         }
     }
 
@@ -152,12 +152,12 @@ impl Tier {
 fn both_small(left: Tier, right: Tier) -> Option<(Words, Words)>
     ensures { IfSome result (λ pair. (pair.0 ≡ left) × (pair.1 ≡ right)) }
 {
-    match left.node() {
-        Node::Small(words) => match right.node() {
-            Node::Small(others) => Some((words, others)),
-            Node::Wide(_) => None,
+    match left.form() {
+        Form::Small(words) => match right.form() {
+            Form::Small(others) => Some((words, others)),
+            Form::Wide(_) => None,
         },
-        Node::Wide(_) => None,
+        Form::Wide(_) => None,
     }
 }
 
@@ -230,33 +230,33 @@ impl Field for Tier {
     }
 
     fn num(self) -> i128 {
-        match self.node() {
-            Node::Small(words) => i128::from(words.num()),
-            Node::Wide(frac) => frac.num(),
+        match self.form() {
+            Form::Small(words) => i128::from(words.num()),
+            Form::Wide(frac) => frac.num(),
         }
     }
 
     fn den(self) -> i128 {
-        match self.node() {
-            Node::Small(words) => i128::from(words.den()),
-            Node::Wide(frac) => frac.den(),
+        match self.form() {
+            Form::Small(words) => i128::from(words.den()),
+            Form::Wide(frac) => frac.den(),
         }
     }
 
     fn neg(self) -> Tier {
-        match self.node() {
-            Node::Small(words) => match words.neg() {
+        match self.form() {
+            Form::Small(words) => match words.neg() {
                 Some(negative) => Tier::small(negative),
                 None => Tier::from_frac(words.frac().neg()),
             },
-            Node::Wide(frac) => Tier::from_frac(frac.neg()),
+            Form::Wide(frac) => Tier::from_frac(frac.neg()),
         }
     }
 
     fn sign(self) -> i8 {
-        match self.node() {
-            Node::Small(words) => words.sign(),
-            Node::Wide(frac) => frac.sign(),
+        match self.form() {
+            Form::Small(words) => words.sign(),
+            Form::Wide(frac) => frac.sign(),
         }
     }
 
