@@ -5,6 +5,7 @@ use Rattle.bensolve_main.specs.Shapes.{Shape, shape_seen, problem_path, log_out_
 use Rattle.bensolve_main.specs.Shapes.Shape.{check, solve, sample}
 use Rattle.bensolve_main.specs.World.{World}
 use Rattle.bensolve_main.specs.Outcome.{Outcome, Honest, Completes}
+use Rattle.bensolve_main.specs.Accepted.{Accepted}
 use Rattle.bensolve_main.specs.declared.command.Command.{Command}
 use Rattle.bensolve_main.specs.declared.command.Command.TheVariants.{Check, Solve, Sample}
 use Rattle.bensolve_main.specs.declared.status.Status.{Status}
@@ -13,6 +14,7 @@ use Rattle.bensolve_main.proofs.Outcomes.{check_never_words}
 use Rattle.bensolve_main.proofs.Complete.{check_complete}
 use Rattle.bensolve_main.proofs.Solves.{solve_never_words, solve_complete}
 use Rattle.bensolve_main.proofs.Sampled.{sample_never_words, sample_complete}
+use Rattle.bensolve_main.proofs.Accepted.{accepts}
 
 -- ---- a command
 pub check_outcome : (k : Command) (file log : Bor (List ℕ)) (result : Status) (v w : World) → k ≡ Check file log → ((file log : List ℕ) → Outcome (check file log) result v w) →
@@ -79,3 +81,10 @@ pub complete_of : (o : Option Command) (k : Command) (s : Option Shape) (result 
 complete_of o k s result v w shape is outcome =
     subst (λ (x : Option Shape). IfSome x (λ shape. Honest shape v w → Completes result)) (seen o k s shape is)
     (λ honest. completes (shape_seen k) result v w honest outcome)
+
+pub accepted_of : (o : Option Command) (k : Command) (s : Option Shape) (result : Status) (v w : World) →
+    option_map shape_seen o ≡ s → o ≡ Some k → Outcome (shape_seen k) result v w →
+    IfSome s (λ shape. Accepted shape result v w)
+accepted_of o k s result v w shape is outcome =
+    subst (λ (x : Option Shape). IfSome x (λ shape. Accepted shape result v w)) (seen o k s shape is)
+    (accepts (shape_seen k) result v w outcome)

@@ -15,7 +15,7 @@ use Rattle.bensolve_main.specs.Shapes.Shape.{check}
 use Rattle.cert_check.specs.Streams.{ReadsWhole}
 use Rattle.bensolve_main.specs.World.{Channel, World, ReadPast, sources_of}
 use Rattle.bensolve_main.specs.Reply.{DeliversWith}
-use Rattle.bensolve_main.specs.Reading.{GoodFile}
+use Rattle.bensolve_main.specs.Reading.{GoodFile, problem_limit}
 use Rattle.bensolve_main.specs.Check.{Checked, Told, CheckHalts, HonestCheck, log_limit}
 use Rattle.bensolve_main.specs.Outcome.{Outcome}
 use Rattle.bensolve_main.specs.declared.status.LogRefusal.{LogRefusal}
@@ -23,52 +23,83 @@ use Rattle.bensolve_main.specs.declared.status.LogRefusal.TheVariants.{Text, Wro
 use Rattle.bensolve_main.specs.declared.status.Status.{Status}
 use Rattle.bensolve_main.specs.declared.status.Status.TheVariants.{Done, Words, FileFault, ConeFault, Left, NoMemory, ReadFault, WriteFault, Refused, TooLong}
 
+-- both texts are told, are a file's and a log's and lie within their limits, and no event of the
+-- log's entries fails
+pub record PassingTexts (old : World) : Type 0 where
+  pub bytes : List ℕ
+  pub problem : old.problem.bytes ≡ Some bytes
+  pub problem_within : length bytes ≤ problem_limit
+  pub file : Problem
+  pub reads : Reads bytes file
+  pub log_bytes : List ℕ
+  pub log : old.log_in.bytes ≡ Some log_bytes
+  pub log_within : length log_bytes ≤ log_limit
+  pub entries : List Entry
+  pub is_log : IsTextOf log_bytes entries
+  pub passes : (file : Problem) → Reads bytes file → log_failure is_held file entries ≡ None
+
+texts_of : (v w : World) → HonestCheck v w → PassingTexts v
+texts_of v w honest = record {
+  bytes = honest.bytes;
+  problem = honest.problem;
+  problem_within = honest.problem_within;
+  file = honest.file;
+  reads = honest.reads;
+  log_bytes = honest.log_bytes;
+  log = honest.log;
+  log_within = honest.log_within;
+  entries = honest.entries;
+  is_log = honest.is_log;
+  passes = honest.passes;
+}
+
 -- bytes that are told are those that are read
 pub same_bytes : (left left' : Option (List ℕ)) (limit : ℕ) (told bytes : List ℕ) → left ≡ Some told → ReadsWhole left left' limit bytes → bytes ≡ told
 same_bytes left left' limit told bytes is read = (Consumes-to_end left left' told bytes is read.consumed read.at_end).0
 
--- the entries of an honest log have no failure for the file that was read
-passes : {v w : World} (bytes : List ℕ) (file : Problem) (entries : List Entry) → IsTextOf bytes entries → ReadsWhole v.log_in.bytes w.log_in.bytes log_limit bytes → GoodFile file v.problem w.problem →
-    HonestCheck v w → log_failure is_held file entries ≡ None
-passes bytes file entries log read good honest =
-    let same = one_reading.one_log honest.log_bytes entries honest.entries
-    (subst (λ (l : List ℕ). IsTextOf l entries) (same_bytes _ _ _ _ _ honest.log read) log) honest.is_log in
-    ap (log_failure is_held file) same ∙ honest.passes file (subst (λ (l : List ℕ). Reads l file) (same_bytes _ _ _ _ _ honest.problem good.read) good.reads)
+-- entries that pass have no failure for the file that was read
+passes : (v w : World) (bytes : List ℕ) (file : Problem) (entries : List Entry) → IsTextOf bytes entries →
+    ReadsWhole v.log_in.bytes w.log_in.bytes log_limit bytes → GoodFile file v.problem w.problem →
+    PassingTexts v → log_failure is_held file entries ≡ None
+passes v w bytes file entries log read good texts =
+    let same = one_reading.one_log texts.log_bytes entries texts.entries
+    (subst (λ (l : List ℕ). IsTextOf l entries) (same_bytes _ _ _ _ _ texts.log read) log) texts.is_log in
+    ap (log_failure is_held file) same ∙ texts.passes file (subst (λ (l : List ℕ). Reads l file) (same_bytes _ _ _ _ _ texts.problem good.read) good.reads)
 
 not_failed : (file : Problem) (entries : List Entry) (f : Failing) → log_failure is_held file entries ≡ None → log_failure is_held file entries ≡ Some f → ⊥
 not_failed file entries f none some = true≢false (sym (ap (λ (o : Option Failing). is_some o) (sym none ∙ some)))
 
--- an honest log is not refused
-not_refused : (why : LogRefusal) (text : List ℕ) (v w : World) → HonestCheck v w → Checked (Refused why) text (sources_of v) (sources_of w) → ⊥
-not_refused (Text f) text v w honest checked =
-    one_reading.apart checked.bytes honest.entries f (subst (λ (l : List ℕ). IsTextOf l honest.entries) (sym (same_bytes _ _ _ _ _ honest.log checked.read)) honest.is_log) checked.verdict.fault
-not_refused (Wrong entry rule) text v w honest checked =
-    not_failed checked.file checked.verdict.entries _ (passes checked.bytes checked.file checked.verdict.entries checked.verdict.log checked.read checked.good honest) checked.verdict.wrong
+-- a log that passes is not refused
+not_refused : (why : LogRefusal) (text : List ℕ) (v w : World) → PassingTexts v → Checked (Refused why) text (sources_of v) (sources_of w) → ⊥
+not_refused (Text f) text v w texts checked =
+    one_reading.apart checked.bytes texts.entries f (subst (λ (l : List ℕ). IsTextOf l texts.entries) (sym (same_bytes _ _ _ _ _ texts.log checked.read)) texts.is_log) checked.verdict.fault
+not_refused (Wrong entry rule) text v w texts checked =
+    not_failed checked.file checked.verdict.entries _ (passes v w checked.bytes checked.file checked.verdict.entries checked.verdict.log checked.read checked.good texts) checked.verdict.wrong
 
 -- nor does a step of it stop
-not_stopped : (l : Licence) (text : List ℕ) (v w : World) → HonestCheck v w → Checked (Left l) text (sources_of v) (sources_of w) → ⊥
-not_stopped l text v w honest checked =
-    not_failed checked.file checked.verdict.entries _ (passes checked.bytes checked.file checked.verdict.entries checked.verdict.log checked.read checked.good honest) checked.verdict.stops
+not_stopped : (l : Licence) (text : List ℕ) (v w : World) → PassingTexts v → Checked (Left l) text (sources_of v) (sources_of w) → ⊥
+not_stopped l text v w texts checked =
+    not_failed checked.file checked.verdict.entries _ (passes v w checked.bytes checked.file checked.verdict.entries checked.verdict.log checked.read checked.good texts) checked.verdict.stops
 
 -- a source within its limit is not too long
 pub not_long : (old new : Channel) (told : List ℕ) (limit k : ℕ) → old.bytes ≡ Some told → length told ≤ limit → ReadPast old new limit k → ⊥
 not_long old new told limit k is within past = let above = past.above in let most = (TakesCount-known old.bytes new.bytes told k is past.taken).0 in omega arith
 
--- what is told of an honest world is an answer
-told_done : (status : Status) (text : List ℕ) (v w : World) → HonestCheck v w → Told status text (sources_of v) (sources_of w) → status ≡ Done
-told_done Done text v w honest told = refl
-told_done Words text v w honest told = absurd told
-told_done (FileFault f) text v w honest told =
-    absurd (never_both told.bytes honest.file f.line f.kind
-    (subst (λ (l : List ℕ). Reads l honest.file) (sym (same_bytes _ _ _ _ _ honest.problem told.read)) honest.reads) told.fault)
-told_done (Left l) text v w honest told = absurd (not_stopped l text v w honest told)
-told_done NoMemory text v w honest told = absurd told
-told_done (ReadFault log) text v w honest told = absurd told
-told_done (WriteFault log sent) text v w honest told = absurd told
-told_done (Refused why) text v w honest told = absurd (not_refused why text v w honest told)
-told_done (ConeFault f) text v w honest told = absurd told
-told_done (TooLong false read) text v w honest told = absurd (not_long _ _ _ _ _ honest.problem honest.problem_within told.past)
-told_done (TooLong true read) text v w honest told = absurd (not_long _ _ _ _ _ honest.log honest.log_within told.past)
+-- what is told of texts that pass is an answer
+pub told_done : (status : Status) (text : List ℕ) (v w : World) → PassingTexts v → Told status text (sources_of v) (sources_of w) → status ≡ Done
+told_done Done text v w texts told = refl
+told_done Words text v w texts told = absurd told
+told_done (FileFault f) text v w texts told =
+    absurd (never_both told.bytes texts.file f.line f.kind
+    (subst (λ (l : List ℕ). Reads l texts.file) (sym (same_bytes _ _ _ _ _ texts.problem told.read)) texts.reads) told.fault)
+told_done (Left l) text v w texts told = absurd (not_stopped l text v w texts told)
+told_done NoMemory text v w texts told = absurd told
+told_done (ReadFault log) text v w texts told = absurd told
+told_done (WriteFault log sent) text v w texts told = absurd told
+told_done (Refused why) text v w texts told = absurd (not_refused why text v w texts told)
+told_done (ConeFault f) text v w texts told = absurd told
+told_done (TooLong false read) text v w texts told = absurd (not_long _ _ _ _ _ texts.problem texts.problem_within told.past)
+told_done (TooLong true read) text v w texts told = absurd (not_long _ _ _ _ _ texts.log texts.log_within told.past)
 
 -- where the sources are honest, only want of memory halts
 halts_for_memory : (result : Status) (v w : World) → HonestCheck v w → CheckHalts result (sources_of v) (sources_of w) → result ≡ NoMemory
@@ -98,6 +129,6 @@ check_complete file log result v w honest outcome =
       | inl replied ↦
           inl (delivered replied.0.status result replied.0.text v w honest
           (subst (λ (l : Option (List ℕ)). DeliversWith l replied.0.status replied.0.text result v w) replied.1.no_log replied.2)
-          ∙ told_done replied.0.status replied.0.text v w honest replied.1.told)
+          ∙ told_done replied.0.status replied.0.text v w (texts_of v w honest) replied.1.told)
       | inr halts ↦ inr (halts_for_memory result v w honest halts.cause)
     ]

@@ -149,6 +149,10 @@ abbrev pub IsWords : Status → Type 0
 IsWords Words = Unit {0}
 IsWords _ = ⊥
 
+abbrev pub IsWriteFault : Status → Type 0
+IsWriteFault (WriteFault log sent) = Unit {0}
+IsWriteFault _ = ⊥
+
 not_sent : (status : Status) (text : List ℕ) (v w : Sources) (old new : Channel) → Told status text v w → Sends false text status Words old new → ⊥
 not_sent status text v w old new is_told sends =
     elim sends [

@@ -22,7 +22,7 @@ use Rattle.bensolve_main.specs.Reply.{reply, Sends, DeliversWith}
 use Rattle.bensolve_main.specs.Sample.{SampleVerdict, HonestSample}
 use Rattle.bensolve_main.specs.Outcome.{Outcome, Completes}
 use Rattle.bensolve_main.proofs.Outcomes.{IsWords}
-use Rattle.bensolve_main.proofs.Solves.{delivered_words}
+use Rattle.bensolve_main.proofs.Solves.{delivered_as}
 use Rattle.bensolve_main.specs.declared.reading.Reply.{Reply as Made}
 use Rattle.bensolve_main.specs.declared.status.Status.{Status}
 use Rattle.bensolve_main.specs.declared.status.Status.TheVariants.{Done, Words, FileFault, ConeFault, Left, NoMemory, ReadFault, WriteFault, Refused, TooLong}
@@ -84,7 +84,7 @@ pub sample_never_words : (number : ℕ) (v w : World) → Outcome (sample number
 sample_never_words number v w outcome =
     elim outcome [
       | inl made ↦
-          subst (λ (s : Status). SampleVerdict number s made.0.text made.0.log) (sym (delivered_words made.0.log made.0.status made.0.text v w made.2)) made.1
+          subst (λ (s : Status). SampleVerdict number s made.0.text made.0.log) (sym (delivered_as made.0.log made.0.status Words made.0.text v w (λ h. h) made.2)) made.1
       | inr halts ↦ subst (λ (s : Status). IsWords s) halts.cause tt
     ]
 

@@ -20,7 +20,7 @@ use Rattle.bensolve_main.specs.Reading.{GoodFile, ProblemTold, ProblemHalts}
 use Rattle.bensolve_main.specs.ProblemReply.{EndsProblem}
 use Rattle.bensolve_main.specs.Solve.{SolveVerdict, SolveReplies, HonestSolve}
 use Rattle.bensolve_main.specs.Outcome.{Outcome, Completes}
-use Rattle.bensolve_main.proofs.Outcomes.{IsWords}
+use Rattle.bensolve_main.proofs.Outcomes.{IsWriteFault}
 use Rattle.bensolve_main.proofs.Complete.{same_bytes, not_long}
 use Rattle.bensolve_main.specs.declared.reading.Reply.{Reply as Made}
 use Rattle.bensolve_main.specs.declared.reading.ProblemEnd.{ProblemEnd}
@@ -90,20 +90,21 @@ solve_replied logs file log result r problem log_in problem' out out' log_out lo
     inl (r, subst (λ (b : Bool). SolveReplies b r (sources problem log_in) (sources problem' log_in)) same replies, delivers)
 
 -- ---- words
--- an outcome with the status of words without a shape has a reply with it
-pub delivered_words : (log : Option (List ℕ)) (status : Status) (text : List ℕ) (v w : World) → DeliversWith log status text Words v w → Words ≡ status
-delivered_words None status text v w delivers =
+-- a result that tells no fault of an output is the status of its reply
+pub delivered_as : (log : Option (List ℕ)) (status result : Status) (text : List ℕ) (v w : World) →
+    (IsWriteFault result → ⊥) → DeliversWith log status text result v w → result ≡ status
+delivered_as None status result text v w steady delivers =
     elim delivers.0 [
       | inl whole ↦ whole.0
-      | inr failed ↦ absurd (subst (λ (s : Status). IsWords s) failed.1 tt)
+      | inr failed ↦ absurd (steady (subst (λ (s : Status). IsWriteFault s) (sym failed.1) tt))
     ]
-delivered_words (Some log) status text v w delivers =
+delivered_as (Some log) status result text v w steady delivers =
     elim delivers [
       | inl sent ↦ elim sent.1 [
         | inl whole ↦ whole.0
-        | inr failed ↦ absurd (subst (λ (s : Status). IsWords s) failed.1 tt)
+        | inr failed ↦ absurd (steady (subst (λ (s : Status). IsWriteFault s) (sym failed.1) tt))
       ]
-      | inr failed ↦ absurd (subst (λ (s : Status). IsWords s) failed.0.1 tt)
+      | inr failed ↦ absurd (steady (subst (λ (s : Status). IsWriteFault s) (sym failed.0.1) tt))
     ]
 
 no_words : (logs : Bool) (r : Reply) (v w : Sources) → SolveReplies logs r v w → Words ≡ r.status → ⊥
@@ -117,7 +118,7 @@ no_words logs r v w replies same =
 pub solve_never_words : (file : List ℕ) (log : Option (List ℕ)) (v w : World) → Outcome (solve file log) Words v w → ⊥
 solve_never_words file log v w outcome =
     elim outcome [
-      | inl made ↦ no_words (is_some log) made.0 (sources_of v) (sources_of w) made.1 (delivered_words made.0.log made.0.status made.0.text v w made.2)
+      | inl made ↦ no_words (is_some log) made.0 (sources_of v) (sources_of w) made.1 (delivered_as made.0.log made.0.status Words made.0.text v w (λ h. h) made.2)
       | inr halts ↦ halts.cause
     ]
 

@@ -10,3 +10,4 @@ pub mod Solve
 pub mod SolveReply
 pub mod Sample
 pub mod Outcome
+pub mod Accepted

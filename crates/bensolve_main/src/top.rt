@@ -6,6 +6,7 @@ ghost use Rattle.bensolve_main.specs.Shapes.Shape.{check, solve, sample};
 ghost use Rattle.bensolve_main.specs.World.{Channel, channel, world, NoCountFell};
 ghost use Rattle.bensolve_main.specs.Reply.{Sends, DeliversWith};
 ghost use Rattle.bensolve_main.specs.Outcome.{Outcome, Honest, Completes};
+ghost use Rattle.bensolve_main.specs.Accepted.{Accepted};
 
 use crate::command::{Command, command_in};
 use crate::examine::examine;
@@ -50,6 +51,21 @@ pub fn run<S: Source, L: Source, T: Sink, K: Sink>(
         (world (channel (S.left problem.old) (S.faults problem.old)) (channel (L.left log_in.old) (L.faults log_in.old)) (channel (T.held out.old) (T.faults out.old)) (channel (K.held log_out.old) (K.faults log_out.old)))
         (world (channel (S.left problem.new) (S.faults problem.new)) (channel (L.left log_in.new) (L.faults log_in.new)) (channel (T.held out.new) (T.faults out.new)) (channel (K.held log_out.new) (K.faults log_out.new)))
         → Completes result) }
+
+    // With the same problem, `check` accepts the log that `solve FILE LOG` writes, and reports the
+    // same.
+    ensures accepted { IfSome (shape_of (map string_bytes words.now)) (λ shape.
+        Accepted shape result
+        (world
+        (channel (S.left problem.old) (S.faults problem.old))
+        (channel (L.left log_in.old) (L.faults log_in.old))
+        (channel (T.held out.old) (T.faults out.old))
+        (channel (K.held log_out.old) (K.faults log_out.old)))
+        (world
+        (channel (S.left problem.new) (S.faults problem.new))
+        (channel (L.left log_in.new) (L.faults log_in.new))
+        (channel (T.held out.new) (T.faults out.new))
+        (channel (K.held log_out.new) (K.faults log_out.new)))) }
 
     // No count of faults falls.
     ensures counts { NoCountFell

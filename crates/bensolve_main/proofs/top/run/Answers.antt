@@ -1,6 +1,6 @@
 use Rattle.std.proofs.Common.{Option, ap, ◌∙◌}
 use Rattle.bensolve_main.specs.Shapes.{Shape, problem_path, log_in_path, log_out_path}
-use Rattle.bensolve_main.proofs.Commands.{seen, words_of, outcome_of, complete_of}
+use Rattle.bensolve_main.proofs.Commands.{seen, words_of, outcome_of, complete_of, accepted_of}
 use Rattle.bensolve_main.proofs.top.run.Goals as goal
 
 pub returns-in-Some-clause-words : goal.returns-in-Some-clause-words
@@ -20,3 +20,6 @@ returns-in-Some-clause-outcome g c = outcome_of _ _ _ c.run_command.result _ _ c
 
 pub returns-in-Some-clause-complete : goal.returns-in-Some-clause-complete
 returns-in-Some-clause-complete g c = complete_of _ _ _ c.run_command.result _ _ c.command_in.ensures c.in-Some.is c.run_command.ensures.outcome
+
+pub returns-in-Some-clause-accepted : goal.returns-in-Some-clause-accepted
+returns-in-Some-clause-accepted g c = accepted_of _ _ _ c.run_command.result _ _ c.command_in.ensures c.in-Some.is c.run_command.ensures.outcome
