@@ -14,15 +14,14 @@ ghost use Rattle.frac128.specs.Signed.{signed};
 mod arith;
 mod dot;
 
-pub use arith::wide;
-pub use dot::Sum;
-
 use crate::exact::exact_quotient;
 use crate::fault::FracFault;
 use crate::gcd::gcd;
 use crate::order::compare;
 use crate::sign::{opposite, signed_number};
 use crate::size::LIMIT;
+pub use arith::wide;
+pub use dot::Sum;
 use exact_field::Field;
 use std::cmp::Ordering;
 use std::marker::Model;

@@ -7,7 +7,8 @@ ghost use Rattle.frac128.specs.Held.{is_held};
 use crate::tier::Tier;
 use frac128::Sum;
 
-/// The product of two vectors of one width, where each product of two entries and each sum of those so far is short.
+/// The product of two vectors of one width, where each product of two entries and each sum of
+/// those so far is short.
 pub(crate) fn dot(row: &[Tier], vector: &[Tier]) -> Option<Tier>
     requires { length row.now ≡ length vector.now }
     ensures { IsShortDot (λ q. q) is_held row.now vector.now result }

@@ -17,8 +17,8 @@ use std::marker::Model;
 /// Numerators and denominators that fit into an `i64` are below this, but for the least numerator.
 const HALF: u128 = 1 << 63;
 
-/// A number by its sign, its magnitude and its denominator in lowest terms, each part of at most 128 bits. In contracts
-/// it is the rational number that it stands for.
+/// A number by its sign, its magnitude and its denominator in lowest terms, each part of at most
+/// 128 bits. In contracts it is the rational number that it stands for.
 #[derive(Drop)]
 pub(crate) struct Exact {
     negative: bool,
@@ -71,8 +71,8 @@ impl Exact {
         Exact::of(negative, quotient(num, common), quotient(den, common))
     }
 
-    /// The product of `x / b` and `y / d`, which are in lowest terms: each numerator is divided by what it has in common
-    /// with the other denominator.
+    /// The product of `x / b` and `y / d`, which are in lowest terms: each numerator is divided by
+    /// what it has in common with the other denominator.
     pub(crate) fn product(negative: bool, x: u64, b: u64, y: u64, d: u64) -> Exact
         requires b_positive { 0 < b }
         requires d_positive { 0 < d }

@@ -1,4 +1,5 @@
-//! Fractions in two sizes: in words where both parts fit into an `i64`, and else as fractions of 120-bit numbers.
+//! Fractions in two sizes: in words where both parts fit into an `i64`, and else as fractions of
+//! 120-bit numbers.
 #![tactic(auto)]
 
 mod dot;

@@ -27,8 +27,8 @@ enum Form {
     Wide(Frac),
 }
 
-/// A number that `Frac` holds, in words where both parts fit into an `i64`. Equal numbers have one representation. In
-/// contracts it is the rational number that it stands for.
+/// A number that `Frac` holds, in words where both parts fit into an `i64`. Equal numbers have one
+/// representation. In contracts it is the rational number that it stands for.
 #[derive(Clone, Copy, Debug)]
 pub struct Tier {
     form: Form,

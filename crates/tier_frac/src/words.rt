@@ -14,8 +14,8 @@ use frac128::{Frac, wide};
 use std::cmp::Ordering;
 use std::marker::Model;
 
-/// A reduced fraction whose numerator and denominator fit into an `i64`. In contracts it is the rational number that it
-/// stands for.
+/// A reduced fraction whose numerator and denominator fit into an `i64`. In contracts it is the
+/// rational number that it stands for.
 #[derive(Clone, Copy, Debug)]
 pub(crate) struct Words {
     num: i64,
@@ -96,6 +96,7 @@ impl Words {
         self.den
     }
 
+    /// The same number as a fraction of the other size.
     pub(crate) fn frac(self) -> Frac
         ensures { result ≡ self }
     {
@@ -134,8 +135,8 @@ impl Words {
         Exact::reduced(sum < 0, sum.unsigned_abs(), u128::from(self.den))
     }
 
-    /// The sum: with g the greatest common divisor of the denominators, t = a (d / g) + c (b / g) and k that of t and g,
-    /// it is t / k over (b / g) (d / k).
+    /// The sum: with g the greatest common divisor of the denominators, t = a (d / g) + c (b / g)
+    /// and k that of t and g, it is t / k over (b / g) (d / k).
     fn plus_other(self, other: Words) -> Exact
         ensures { result ≡ self +ℚ other }
     {

@@ -67,13 +67,7 @@ fn told<F: Field>(operation: i128, a: F, b: F) -> Option<(i128, i128)> {
 }
 
 /// What a line is to have, by its operation and its operands.
-fn outcome<F: Field>(
-    operation: i128,
-    a: i128,
-    b: i128,
-    c: i128,
-    d: i128,
-) -> Option<(i128, i128)> {
+fn outcome<F: Field>(operation: i128, a: i128, b: i128, c: i128, d: i128) -> Option<(i128, i128)> {
     match operation {
         5 => Some(made(a, b)),
         4 => Some(order(F::of(a, b)?, F::of(c, d)?)),
@@ -110,8 +104,14 @@ fn is_kept(num: i128, den: i128, is_small: bool) -> bool {
 #[test]
 fn words_hold_what_fits(rt: HostRuntime) {
     let end = 1 << 63;
-    assert!(rt; is_kept(end - 1, 1, true) && is_kept(1, end - 1, true) && is_kept(-end, end - 1, true));
+    assert!(rt;
+        is_kept(end - 1, 1, true) && is_kept(1, end - 1, true) && is_kept(-end, end - 1, true)
+    );
     assert!(rt; is_kept(end, 1, false) && is_kept(1, end, false) && is_kept(-end - 1, 1, false));
-    assert!(rt; is_kept(2 * end, 2, false) && is_kept(2 * end - 2, 2, true) && is_kept(0, end, true));
-    assert!(rt; Tier::whole(i64::MIN).is_some_and(|least| least.is_small() && !least.neg().is_small()));
+    assert!(rt;
+        is_kept(2 * end, 2, false) && is_kept(2 * end - 2, 2, true) && is_kept(0, end, true)
+    );
+    assert!(rt;
+        Tier::whole(i64::MIN).is_some_and(|least| least.is_small() && !least.neg().is_small())
+    );
 }
