@@ -25,8 +25,10 @@ use std::alloc::Global;
 
 /// How the program of a line ends.
 pub fn pointed_end<F: Field>(alloc: Global, form: &Data<F>) -> Result<LpEnd<F>, SolveFault>
-    ensures certified { IfOk result (IsCertified F.value (pointed_system (length form.now.p) (cone_of F.value form.now.cone))) }
-    ensures left { (file : File) → IsDataOf F.value file form.now → IfErr result (λ fault. OnLicence fault (LicensedWithout F.holds file)) }
+    ensures certified { IfOk result
+        (IsCertified F.value (pointed_system (length form.now.p) (cone_of F.value form.now.cone))) }
+    ensures left { (file : File) → IsDataOf F.value file form.now
+        → IfErr result (λ fault. OnLicence fault (LicensedWithout F.holds file)) }
 {
     let system = pointed(alloc, form.p.len() as u32, &form.cone)?;
     match solve_lp(alloc, &system) {
@@ -40,9 +42,12 @@ pub fn pointed_end<F: Field>(alloc: Global, form: &Data<F>) -> Result<LpEnd<F>, 
 
 /// How the program of an interior vector ends.
 pub fn interior_end<F: Field>(alloc: Global, form: &Data<F>) -> Result<LpEnd<F>, SolveFault>
-    ensures certified { IfOk result (IsCertified F.value (interior_system (length form.now.p) (cone_of F.value form.now.cone) (duality_of F.value form.now.duality))) }
-    ensures read_off { IfOk result (IsReadOff F.value (interior_system (length form.now.p) (cone_of F.value form.now.cone) (duality_of F.value form.now.duality))) }
-    ensures left { (file : File) → IsDataOf F.value file form.now → IfErr result (λ fault. OnLicence fault (LicensedWithout F.holds file)) }
+    ensures certified { IfOk result (IsCertified F.value (interior_system (length form.now.p)
+        (cone_of F.value form.now.cone) (duality_of F.value form.now.duality))) }
+    ensures read_off { IfOk result (IsReadOff F.value (interior_system (length form.now.p)
+        (cone_of F.value form.now.cone) (duality_of F.value form.now.duality))) }
+    ensures left { (file : File) → IsDataOf F.value file form.now
+        → IfErr result (λ fault. OnLicence fault (LicensedWithout F.holds file)) }
 {
     let system = interior(alloc, form.p.len() as u32, &form.cone, &form.duality)?;
     match solve_lp(alloc, &system) {
@@ -63,7 +68,9 @@ pub fn independent_vectors<F: Field>(
 ) -> Result<Indep<F>, SolveFault>
     requires { AreWide (length form.now.p) (numbers F.value vectors.now) }
     ensures ok { IfOk result (IsIndep F.value (length form.now.p) (numbers F.value vectors.now)) }
-    ensures left { (file : File) → IsDataOf F.value file form.now → cone_vectors file.cone ≡ numbers F.value vectors.now → IfErr result (λ fault. OnLicence fault (LicensedWithout F.holds file)) }
+    ensures left { (file : File) → IsDataOf F.value file form.now
+        → cone_vectors file.cone ≡ numbers F.value vectors.now
+        → IfErr result (λ fault. OnLicence fault (LicensedWithout F.holds file)) }
 {
     let q = form.p.len() as u32;
     let rows = rows_of(alloc, q, vectors)?;
@@ -82,8 +89,12 @@ pub fn inverse_columns<F: Field>(
 ) -> Result<Items<F>, SolveFault>
     requires wide { AreWide (length form.now.p) (numbers F.value vectors.now) }
     requires picks { AreIndependent (length form.now.p) (numbers F.value vectors.now) picks.now }
-    ensures ok { IfOk result (λ entries. (inverse : Table) × AreInverse (length form.now.p) (map (row_of (numbers F.value vectors.now)) picks.now) inverse × (map F.value entries ≡ joined (columns_of (length form.now.p) inverse))) }
-    ensures left { (file : File) → IsDataOf F.value file form.now → cone_vectors file.cone ≡ numbers F.value vectors.now → IfErr result (λ fault. OnLicence fault (LicensedWithout F.holds file)) }
+    ensures ok { IfOk result (λ entries. (inverse : Table) × AreInverse (length form.now.p)
+        (map (row_of (numbers F.value vectors.now)) picks.now) inverse
+        × (map F.value entries ≡ joined (columns_of (length form.now.p) inverse))) }
+    ensures left { (file : File) → IsDataOf F.value file form.now
+        → cone_vectors file.cone ≡ numbers F.value vectors.now
+        → IfErr result (λ fault. OnLicence fault (LicensedWithout F.holds file)) }
 {
     let q = form.p.len() as u32;
     let rows = picked_rows(alloc, q, vectors, picks)?;

@@ -35,7 +35,9 @@ pub struct ZeroCombination {
 fn next_number<F: Field>(vector: &[F], list: &[F], next: usize) -> (F, usize)
     requires { next ≤ length list.now }
     ensures inside { result.1 ≤ length list.now }
-    ensures number { (more : List (List ℚ)) → spread (map F.value vector.now ∷ more) (drop next (map F.value list.now)) ≡ F.value result.0 ∷ spread more (drop result.1 (map F.value list.now)) }
+    ensures number { (more : List (List ℚ))
+        → spread (map F.value vector.now ∷ more) (drop next (map F.value list.now))
+        ≡ F.value result.0 ∷ spread more (drop result.1 (map F.value list.now)) }
 {
     if next == list.len() {
         return (F::zero(), next);
@@ -53,7 +55,8 @@ pub fn spread_over<F: Field>(
     vectors: &[Items<F>],
     list: &[F],
 ) -> Result<Items<F>, NoMemory>
-    ensures { IfOk result (λ r. map F.value r ≡ spread (numbers F.value vectors.now) (map F.value list.now)) }
+    ensures { IfOk result
+        (λ r. map F.value r ≡ spread (numbers F.value vectors.now) (map F.value list.now)) }
 {
     let mut numbers = Items::new(alloc);
     let mut next = 0;
@@ -74,7 +77,8 @@ fn combination_of<F: Field>(
 ) -> Result<ZeroCombination, NoMemory>
     requires wide { AreWide q (numbers F.value vectors.now) }
     requires few { length vectors.now ≤ 100000 }
-    requires optimal { (dual : List ℚ) × IsOptimal (combination_system q (nonzero_vectors (cone.Gens (numbers F.value vectors.now)))) (map F.value x.now) dual }
+    requires optimal { (dual : List ℚ) × IsOptimal (combination_system q
+        (nonzero_vectors (cone.Gens (numbers F.value vectors.now)))) (map F.value x.now) dual }
     ensures { IfOk result (λ z. IsZeroCombination q (numbers F.value vectors.now) z.m z.first) }
 {
     let numbers = spread_over(alloc, vectors, x)?;
@@ -94,10 +98,15 @@ pub fn zero_combination<F: Field>(
 ) -> Result<Option<ZeroCombination>, SolveFault>
     requires wide { AreWide (length form.now.p) (numbers F.value vectors.now) }
     requires few { length vectors.now ≤ 100000 }
-    requires program { pointed_system (length form.now.p) (cone_of F.value form.now.cone) ≡ combination_system (length form.now.p) (nonzero_vectors (cone.Gens (numbers F.value vectors.now))) }
-    ensures some { IfOk result (λ r. IfSome r (λ z. IsZeroCombination (length form.now.p) (numbers F.value vectors.now) z.m z.first)) }
-    ensures none { IfOk result (λ r. IfNone r ((y : List ℚ) × IsInfeasible (combination_system (length form.now.p) (nonzero_vectors (cone.Gens (numbers F.value vectors.now)))) y)) }
-    ensures left { (file : File) → IsDataOf F.value file form.now → IfErr result (λ fault. OnLicence fault (LicensedWithout F.holds file)) }
+    requires program { pointed_system (length form.now.p) (cone_of F.value form.now.cone)
+        ≡ combination_system (length form.now.p)
+        (nonzero_vectors (cone.Gens (numbers F.value vectors.now))) }
+    ensures some { IfOk result (λ r. IfSome r
+        (λ z. IsZeroCombination (length form.now.p) (numbers F.value vectors.now) z.m z.first)) }
+    ensures none { IfOk result (λ r. IfNone r ((y : List ℚ) × IsInfeasible (combination_system
+        (length form.now.p) (nonzero_vectors (cone.Gens (numbers F.value vectors.now)))) y)) }
+    ensures left { (file : File) → IsDataOf F.value file form.now
+        → IfErr result (λ fault. OnLicence fault (LicensedWithout F.holds file)) }
 {
     let q = form.p.len() as u32;
     match pointed_end(alloc, form)? {

@@ -24,9 +24,13 @@ use std::alloc::Global;
 /// The numbers of as many independent rows as they have entries.
 fn basis_of<F: Field>(alloc: Global, rows: &Rows<F>) -> Result<Items<u32>, SolveFault>
     requires { HasFullRank rows.now.width (numbers F.value rows.now.list) }
-    ensures ok { IfOk result (λ picks. AreIndependent rows.now.width (numbers F.value rows.now.list) picks) }
-    ensures place { IfErr result (λ fault. OnLicence fault (λ licence. IsOver (numbers F.value rows.now.list) licence.place)) }
-    ensures left { (file : Problem) → AreConeRows file rows.now.width (numbers F.value rows.now.list) → IfErr result (λ fault. OnLicence fault (LicensedWithout F.holds file)) }
+    ensures ok { IfOk result
+        (λ picks. AreIndependent rows.now.width (numbers F.value rows.now.list) picks) }
+    ensures place { IfErr result (λ fault. OnLicence fault
+        (λ licence. IsOver (numbers F.value rows.now.list) licence.place)) }
+    ensures left { (file : Problem)
+        → AreConeRows file rows.now.width (numbers F.value rows.now.list)
+        → IfErr result (λ fault. OnLicence fault (LicensedWithout F.holds file)) }
 {
     match independent(alloc, rows, rows.width()) {
         Ok(Indep::Basis(picks)) => Ok(picks),
@@ -42,8 +46,11 @@ fn started<F: Field>(alloc: Global, rows: &Rows<F>) -> Result<Dd<F>, SolveFault>
     ensures width { IfOk result (λ dd. dd.width ≡ rows.now.width) }
     ensures rows { IfOk result (λ dd. dd.rows ≡ numbers F.value rows.now.list) }
     ensures made { IfOk result (λ dd. IsMadeOver rows.now.width dd.rows dd.list) }
-    ensures place { IfErr result (λ fault. OnLicence fault (λ licence. IsOver (numbers F.value rows.now.list) licence.place)) }
-    ensures left { (file : Problem) → AreConeRows file rows.now.width (numbers F.value rows.now.list) → IfErr result (λ fault. OnLicence fault (LicensedWithout F.holds file)) }
+    ensures place { IfErr result (λ fault. OnLicence fault
+        (λ licence. IsOver (numbers F.value rows.now.list) licence.place)) }
+    ensures left { (file : Problem)
+        → AreConeRows file rows.now.width (numbers F.value rows.now.list)
+        → IfErr result (λ fault. OnLicence fault (LicensedWithout F.holds file)) }
 {
     match Dd::start(alloc, rows) {
         Ok(dd) => Ok(dd),
@@ -55,9 +62,16 @@ fn started<F: Field>(alloc: Global, rows: &Rows<F>) -> Result<Dd<F>, SolveFault>
 fn add_row<F: Field>(alloc: Global, dd: &mut Dd<F>, row: &[F]) -> Result<(), SolveFault>
     requires wide { length row.now ≡ dd.old.width }
     requires made { IsMadeOver dd.old.width dd.old.rows dd.old.list }
-    ensures ok { OnOk result (dd.new ≡ record { width = dd.old.width; rows = dd.old.rows ++ map F.value row.now ∷ []; list = step dd.old.rows dd.old.list (map F.value row.now) }) }
-    ensures place { IfErr result (λ fault. OnLicence fault (λ licence. IsOver (dd.old.rows ++ map F.value row.now ∷ []) licence.place)) }
-    ensures left { (file : Problem) → AreConeRows file dd.old.width (dd.old.rows ++ map F.value row.now ∷ []) → IfErr result (λ fault. OnLicence fault (LicensedWithout F.holds file)) }
+    ensures ok { OnOk result (dd.new ≡ record {
+      width = dd.old.width;
+      rows = dd.old.rows ++ map F.value row.now ∷ [];
+      list = step dd.old.rows dd.old.list (map F.value row.now);
+    }) }
+    ensures place { IfErr result (λ fault. OnLicence fault
+        (λ licence. IsOver (dd.old.rows ++ map F.value row.now ∷ []) licence.place)) }
+    ensures left { (file : Problem)
+        → AreConeRows file dd.old.width (dd.old.rows ++ map F.value row.now ∷ [])
+        → IfErr result (λ fault. OnLicence fault (LicensedWithout F.holds file)) }
 {
     match dd.add(row) {
         Ok(_) => Ok(()),
@@ -72,8 +86,11 @@ fn add_all<F: Field>(alloc: Global, dd: &mut Dd<F>, rows: &Rows<F>) -> Result<()
     ensures width { OnOk result (dd.new.width ≡ dd.old.width) }
     ensures rows { OnOk result (dd.new.rows ≡ dd.old.rows ++ numbers F.value rows.now.list) }
     ensures made { OnOk result (IsMadeOver dd.old.width dd.new.rows dd.new.list) }
-    ensures place { IfErr result (λ fault. OnLicence fault (λ licence. IsOver (dd.old.rows ++ numbers F.value rows.now.list) licence.place)) }
-    ensures left { (file : Problem) → AreConeRows file dd.old.width (dd.old.rows ++ numbers F.value rows.now.list) → IfErr result (λ fault. OnLicence fault (LicensedWithout F.holds file)) }
+    ensures place { IfErr result (λ fault. OnLicence fault
+        (λ licence. IsOver (dd.old.rows ++ numbers F.value rows.now.list) licence.place)) }
+    ensures left { (file : Problem)
+        → AreConeRows file dd.old.width (dd.old.rows ++ numbers F.value rows.now.list)
+        → IfErr result (λ fault. OnLicence fault (LicensedWithout F.holds file)) }
 {
     for k in 0..rows.count() {
         add_row(alloc, dd, rows.row(k + 1))?;
@@ -103,10 +120,15 @@ fn generators_of<F: Field>(alloc: Global, dd: &Dd<F>, width: u32) -> Result<Rows
 pub fn dual_gens<F: Field>(alloc: Global, rows: &Rows<F>) -> Result<Rows<F>, SolveFault>
     requires { HasFullRank rows.now.width (numbers F.value rows.now.list) }
     ensures width { IfOk result (λ out. out.width ≡ rows.now.width) }
-    ensures generators { IfOk result (λ out. AreGenerators rows.now.width (numbers F.value rows.now.list) (numbers F.value out.list)) }
-    ensures order { IfOk result (λ out. AreMadeInOrder rows.now.width (numbers F.value rows.now.list) (numbers F.value out.list)) }
-    ensures place { IfErr result (λ fault. OnLicence fault (λ licence. IsOver (numbers F.value rows.now.list) licence.place)) }
-    ensures left { (file : Problem) → AreConeRows file rows.now.width (numbers F.value rows.now.list) → IfErr result (λ fault. OnLicence fault (LicensedWithout F.holds file)) }
+    ensures generators { IfOk result (λ out. AreGenerators rows.now.width
+        (numbers F.value rows.now.list) (numbers F.value out.list)) }
+    ensures order { IfOk result (λ out. AreMadeInOrder rows.now.width
+        (numbers F.value rows.now.list) (numbers F.value out.list)) }
+    ensures place { IfErr result (λ fault. OnLicence fault
+        (λ licence. IsOver (numbers F.value rows.now.list) licence.place)) }
+    ensures left { (file : Problem)
+        → AreConeRows file rows.now.width (numbers F.value rows.now.list)
+        → IfErr result (λ fault. OnLicence fault (LicensedWithout F.holds file)) }
 {
     let picks = basis_of(alloc, rows)?;
     let others = other_numbers(alloc, rows.count(), picks.as_slice())?;

@@ -40,7 +40,8 @@ use std::alloc::Global;
 fn solid<F: Field>(alloc: Global, form: &Data<F>, vectors: &[Items<F>]) -> Result<(), ConeEnd>
     requires { form.now.cone ≡ cone.Dual vectors.now }
     ensures ok { OnOk result (HasInterior (length form.now.p) (cone_of F.value form.now.cone)) }
-    ensures end { (file : File) → IsDataOf F.value file form.now → IfErr result (IsEnd F.holds file) }
+    ensures end { (file : File) → IsDataOf F.value file form.now
+        → IfErr result (IsEnd F.holds file) }
 {
     match zero_combination(alloc, form, vectors)? {
         None => Ok(()),
@@ -60,7 +61,8 @@ fn without_line<F: Field>(
     requires rows { form.now.cone ≡ cone.Dual vectors.now }
     requires solid { HasInterior (length form.now.p) (cone_of F.value form.now.cone) }
     ensures ok { OnOk result (HasNoLine (length form.now.p) (cone_of F.value form.now.cone)) }
-    ensures end { (file : File) → IsDataOf F.value file form.now → IfErr result (IsEnd F.holds file) }
+    ensures end { (file : File) → IsDataOf F.value file form.now
+        → IfErr result (IsEnd F.holds file) }
 {
     match independent_vectors(alloc, form, vectors)? {
         Indep::Basis(_) => Ok(()),
@@ -83,9 +85,15 @@ fn is_against<F: Field>(
 ) -> Result<bool, SolveFault>
     requires duality { form.now.duality ≡ Some f.now }
     requires wide { length vector.now ≡ length f.now }
-    ensures no { IfOk result (λ against. against ≡ false → list_all is_nought (map F.value vector.now) ≡ false → zero_ℚ <ℚ dot (map F.value vector.now) (map F.value f.now)) }
-    ensures yes { IfOk result (λ against. IsTrue against → (list_all is_nought (map F.value vector.now) ≡ false) × (dot (map F.value vector.now) (map F.value f.now) ≤ℚ zero_ℚ)) }
-    ensures left { (file : File) → IsDataOf F.value file form.now → Contains (cone_vectors file.cone) (map F.value vector.now) → IfErr result (λ fault. OnLicence fault (LicensedWithout F.holds file)) }
+    ensures no { IfOk result (λ against. against ≡ false
+        → list_all is_nought (map F.value vector.now) ≡ false
+        → zero_ℚ <ℚ dot (map F.value vector.now) (map F.value f.now)) }
+    ensures yes { IfOk result (λ against. IsTrue against
+        → (list_all is_nought (map F.value vector.now) ≡ false)
+        × (dot (map F.value vector.now) (map F.value f.now) ≤ℚ zero_ℚ)) }
+    ensures left { (file : File) → IsDataOf F.value file form.now
+        → Contains (cone_vectors file.cone) (map F.value vector.now)
+        → IfErr result (λ fault. OnLicence fault (LicensedWithout F.holds file)) }
 {
     if is_zero_vector(vector) {
         return Ok(false);
@@ -107,8 +115,10 @@ fn inside_given<F: Field>(
     requires duality { form.now.duality ≡ Some f.now }
     requires solid { HasInterior (length form.now.p) (cone_of F.value form.now.cone) }
     requires pointed { HasNoLine (length form.now.p) (cone_of F.value form.now.cone) }
-    ensures ok { OnOk result (All (λ v. zero_ℚ <ℚ dot v (map F.value f.now)) (nonzero_vectors (form_of.Dual (numbers F.value vectors.now)))) }
-    ensures end { (file : File) → IsDataOf F.value file form.now → IfErr result (IsEnd F.holds file) }
+    ensures ok { OnOk result (All (λ v. zero_ℚ <ℚ dot v (map F.value f.now))
+        (nonzero_vectors (form_of.Dual (numbers F.value vectors.now)))) }
+    ensures end { (file : File) → IsDataOf F.value file form.now
+        → IfErr result (IsEnd F.holds file) }
 {
     for k in 0..vectors.len() {
         let vector = vectors[k].as_slice();
@@ -121,7 +131,8 @@ fn inside_given<F: Field>(
 
 /// The fault of the vector with this number, at which the vector that is given is not positive.
 fn outside<F: Field>(alloc: Global, vector: &[F], number: u32) -> Result<ConeFault, NoMemory>
-    ensures { IfOk result (λ fault. fault ≡ fault_of.NotInterior (map F.value vector.now) (record { at = number; value = one_ℚ } ∷ [])) }
+    ensures { IfOk result (λ fault. fault ≡ fault_of.NotInterior (map F.value vector.now)
+        (record { at = number; value = one_ℚ } ∷ [])) }
 {
     let mut v = Items::new(alloc);
     v.push(Spot {
@@ -140,9 +151,14 @@ fn last_fault<F: Field>(
 ) -> Result<Sparse, SolveFault>
     requires rows { form.now.cone ≡ cone.Dual vectors.now }
     requires short { length y.now ≤ 4294967294 }
-    requires infeasible { IsInfeasible (interior_of_dual (length form.now.p) (nonzero_vectors (form_of.Dual (numbers F.value vectors.now)))) (map F.value y.now) }
-    ensures ok { IfOk result (CombinesToMinusLast (length form.now.p) (numbers F.value vectors.now)) }
-    ensures left { (file : File) → IsDataOf F.value file form.now → AreFirstMultipliersOff (interior_of_dual (length form.now.p) (nonzero_vectors (form_of.Dual (numbers F.value vectors.now)))) (map F.value y.now) → IfErr result (λ fault. OnLicence fault (LicensedWithout F.holds file)) }
+    requires infeasible { IsInfeasible (interior_of_dual (length form.now.p)
+        (nonzero_vectors (form_of.Dual (numbers F.value vectors.now)))) (map F.value y.now) }
+    ensures ok { IfOk result
+        (CombinesToMinusLast (length form.now.p) (numbers F.value vectors.now)) }
+    ensures left { (file : File) → IsDataOf F.value file form.now
+        → AreFirstMultipliersOff (interior_of_dual (length form.now.p)
+        (nonzero_vectors (form_of.Dual (numbers F.value vectors.now)))) (map F.value y.now)
+        → IfErr result (λ fault. OnLicence fault (LicensedWithout F.holds file)) }
 {
     let n = y.len() - 2;
     let quotients = divided(alloc, y, n, y[n].neg())?;
@@ -161,9 +177,12 @@ fn inside_found<F: Field>(
     requires duality { form.now.duality ≡ None }
     requires solid { HasInterior (length form.now.p) (cone_of F.value form.now.cone) }
     requires pointed { HasNoLine (length form.now.p) (cone_of F.value form.now.cone) }
-    ensures ok { IfOk result (λ c. IsInsideRows (length form.now.p) (numbers F.value vectors.now) (map F.value c)) }
-    ensures read { (file : File) → IsDataOf F.value file form.now → IfOk result (λ c. IsInteriorOff file (map F.value c)) }
-    ensures end { (file : File) → IsDataOf F.value file form.now → IfErr result (IsEnd F.holds file) }
+    ensures ok { IfOk result
+        (λ c. IsInsideRows (length form.now.p) (numbers F.value vectors.now) (map F.value c)) }
+    ensures read { (file : File) → IsDataOf F.value file form.now
+        → IfOk result (λ c. IsInteriorOff file (map F.value c)) }
+    ensures end { (file : File) → IsDataOf F.value file form.now
+        → IfErr result (IsEnd F.holds file) }
 {
     let q = form.p.len();
     match interior_end(alloc, form)? {
@@ -190,8 +209,10 @@ fn given<F: Field>(
     requires duality { form.now.duality ≡ Some f.now }
     requires solid { HasInterior (length form.now.p) (cone_of F.value form.now.cone) }
     requires pointed { HasNoLine (length form.now.p) (cone_of F.value form.now.cone) }
-    ensures ok { (file : File) → IsDataOf F.value file form.now → IfOk result (IsDualityOf F.value F.holds file) }
-    ensures end { (file : File) → IsDataOf F.value file form.now → IfErr result (IsEnd F.holds file) }
+    ensures ok { (file : File) → IsDataOf F.value file form.now
+        → IfOk result (IsDualityOf F.value F.holds file) }
+    ensures end { (file : File) → IsDataOf F.value file form.now
+        → IfErr result (IsEnd F.holds file) }
 {
     inside_given(alloc, form, vectors, f)?;
     let c = scaled_given(alloc, form, f)?;
@@ -208,8 +229,10 @@ fn found<F: Field>(
     requires duality { form.now.duality ≡ None }
     requires solid { HasInterior (length form.now.p) (cone_of F.value form.now.cone) }
     requires pointed { HasNoLine (length form.now.p) (cone_of F.value form.now.cone) }
-    ensures ok { (file : File) → IsDataOf F.value file form.now → IfOk result (IsDualityOf F.value F.holds file) }
-    ensures end { (file : File) → IsDataOf F.value file form.now → IfErr result (IsEnd F.holds file) }
+    ensures ok { (file : File) → IsDataOf F.value file form.now
+        → IfOk result (IsDualityOf F.value F.holds file) }
+    ensures end { (file : File) → IsDataOf F.value file form.now
+        → IfErr result (IsEnd F.holds file) }
 {
     let c = inside_found(alloc, form, vectors)?;
     Ok(made(alloc, c, Items::new(alloc), Items::new(alloc), &[])?)
@@ -222,8 +245,10 @@ pub fn dual_form_facts<F: Field>(
     vectors: &[Items<F>],
 ) -> Result<Duality<F>, ConeEnd>
     requires { form.now.cone ≡ cone.Dual vectors.now }
-    ensures ok { (file : File) → IsDataOf F.value file form.now → IfOk result (IsDualityOf F.value F.holds file) }
-    ensures end { (file : File) → IsDataOf F.value file form.now → IfErr result (IsEnd F.holds file) }
+    ensures ok { (file : File) → IsDataOf F.value file form.now
+        → IfOk result (IsDualityOf F.value F.holds file) }
+    ensures end { (file : File) → IsDataOf F.value file form.now
+        → IfErr result (IsEnd F.holds file) }
 {
     solid(alloc, form, vectors)?;
     without_line(alloc, form, vectors)?;

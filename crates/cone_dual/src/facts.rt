@@ -23,8 +23,10 @@ use std::alloc::Global;
 /// is that of two linear programs over the vectors of the cone, and of one or two eliminations of
 /// them.
 pub fn cone_facts<F: Field>(alloc: Global, form: &Data<F>) -> Result<Duality<F>, ConeEnd>
-    ensures ok { (file : File) → IsDataOf F.value file form.now → IfOk result (IsDualityOf F.value F.holds file) }
-    ensures end { (file : File) → IsDataOf F.value file form.now → IfErr result (IsEnd F.holds file) }
+    ensures ok { (file : File) → IsDataOf F.value file form.now
+        → IfOk result (IsDualityOf F.value F.holds file) }
+    ensures end { (file : File) → IsDataOf F.value file form.now
+        → IfErr result (IsEnd F.holds file) }
 {
     match &form.cone {
         ConeOf::Orthant => orthant_facts(alloc, form),

@@ -39,7 +39,8 @@ fn spanning<F: Field>(
 ) -> Result<Items<u32>, ConeEnd>
     requires { form.now.cone ≡ cone.Gens vectors.now }
     ensures ok { IfOk result (AreIndependent (length form.now.p) (numbers F.value vectors.now)) }
-    ensures end { (file : File) → IsDataOf F.value file form.now → IfErr result (IsEnd F.holds file) }
+    ensures end { (file : File) → IsDataOf F.value file form.now
+        → IfErr result (IsEnd F.holds file) }
 {
     match independent_vectors(alloc, form, vectors)? {
         Indep::Basis(picks) => Ok(picks),
@@ -62,7 +63,8 @@ fn without_line<F: Field>(
     requires generators { form.now.cone ≡ cone.Gens vectors.now }
     requires solid { HasInterior (length form.now.p) (cone_of F.value form.now.cone) }
     ensures ok { OnOk result (HasNoLine (length form.now.p) (cone_of F.value form.now.cone)) }
-    ensures end { (file : File) → IsDataOf F.value file form.now → IfErr result (IsEnd F.holds file) }
+    ensures end { (file : File) → IsDataOf F.value file form.now
+        → IfErr result (IsEnd F.holds file) }
 {
     match zero_combination(alloc, form, vectors)? {
         None => Ok(()),
@@ -93,7 +95,8 @@ fn outside<F: Field>(
     requires solid { HasInterior (length form.now.p) (cone_of F.value form.now.cone) }
     requires pointed { HasNoLine (length form.now.p) (cone_of F.value form.now.cone) }
     requires long { length vectors.now ≤ length y.now }
-    requires shown { IsGivenOutside (length form.now.p) (cone_of F.value form.now.cone) (duality_of F.value form.now.duality) (drop (length vectors.now) (map F.value y.now)) [] }
+    requires shown { IsGivenOutside (length form.now.p) (cone_of F.value form.now.cone)
+        (duality_of F.value form.now.duality) (drop (length vectors.now) (map F.value y.now)) [] }
     ensures { (file : File) → IsDataOf F.value file form.now → IfOk result (HasFault file) }
 {
     let w = behind(y, vectors.len());
@@ -111,9 +114,13 @@ fn inside_given<F: Field>(
     requires duality { form.now.duality ≡ Some f.now }
     requires solid { HasInterior (length form.now.p) (cone_of F.value form.now.cone) }
     requires pointed { HasNoLine (length form.now.p) (cone_of F.value form.now.cone) }
-    ensures ok { IfOk result (λ z. IsPositiveCombination (length form.now.p) (numbers F.value vectors.now) (take (length vectors.now) (map F.value z)) (map F.value f.now)) }
-    ensures read { IfOk result (λ z. IsSolutionOff (interior_of_generators (length form.now.p) (numbers F.value vectors.now) (Some (map F.value f.now))) (map F.value z)) }
-    ensures end { (file : File) → IsDataOf F.value file form.now → IfErr result (IsEnd F.holds file) }
+    ensures ok { IfOk result
+        (λ z. IsPositiveCombination (length form.now.p) (numbers F.value vectors.now)
+        (take (length vectors.now) (map F.value z)) (map F.value f.now)) }
+    ensures read { IfOk result (λ z. IsSolutionOff (interior_of_generators (length form.now.p)
+        (numbers F.value vectors.now) (Some (map F.value f.now))) (map F.value z)) }
+    ensures end { (file : File) → IsDataOf F.value file form.now
+        → IfErr result (IsEnd F.holds file) }
 {
     let n = vectors.len();
     match interior_end(alloc, form)? {
@@ -143,9 +150,13 @@ fn inside_found<F: Field>(
     requires duality { form.now.duality ≡ None }
     requires solid { HasInterior (length form.now.p) (cone_of F.value form.now.cone) }
     requires pointed { HasNoLine (length form.now.p) (cone_of F.value form.now.cone) }
-    ensures ok { IfOk result (λ mu. CombinesToLastOne (length form.now.p) (numbers F.value vectors.now) (map F.value mu)) }
-    ensures read { IfOk result (λ mu. (z : List ℚ) × IsSolutionOff (interior_of_generators (length form.now.p) (numbers F.value vectors.now) None) z × (map F.value mu ≡ take (length vectors.now) z)) }
-    ensures end { (file : File) → IsDataOf F.value file form.now → IfErr result (IsEnd F.holds file) }
+    ensures ok { IfOk result (λ mu. CombinesToLastOne (length form.now.p)
+        (numbers F.value vectors.now) (map F.value mu)) }
+    ensures read { IfOk result (λ mu. (z : List ℚ) × IsSolutionOff
+        (interior_of_generators (length form.now.p) (numbers F.value vectors.now) None) z
+        × (map F.value mu ≡ take (length vectors.now) z)) }
+    ensures end { (file : File) → IsDataOf F.value file form.now
+        → IfErr result (IsEnd F.holds file) }
 {
     match interior_end(alloc, form)? {
         LpEnd::Optimal { x, .. } => {
@@ -170,8 +181,11 @@ fn combined<F: Field>(
     requires wide { AreWide q (numbers F.value vectors.now) }
     requires few { length vectors.now ≤ 100000 }
     requires one_each { length mu.now ≡ length vectors.now }
-    ensures ok { IfOk result (λ c. map F.value c ≡ combination q (map F.value mu.now) (numbers F.value vectors.now)) }
-    ensures left { (s : Setting) → s.file.objs ≡ q → cone_vectors s.file.cone ≡ numbers F.value vectors.now → AreBaseShares s (map F.value mu.now) → IfErr result (Overflows F.holds s []) }
+    ensures ok { IfOk result
+        (λ c. map F.value c ≡ combination q (map F.value mu.now) (numbers F.value vectors.now)) }
+    ensures left { (s : Setting) → s.file.objs ≡ q
+        → cone_vectors s.file.cone ≡ numbers F.value vectors.now
+        → AreBaseShares s (map F.value mu.now) → IfErr result (Overflows F.holds s []) }
 {
     let mut c = Items::new(alloc);
     for i in 0..q {
@@ -196,8 +210,10 @@ fn given<F: Field>(
     requires duality { form.now.duality ≡ Some f.now }
     requires picks { AreIndependent (length form.now.p) (numbers F.value vectors.now) picks }
     requires pointed { HasNoLine (length form.now.p) (cone_of F.value form.now.cone) }
-    ensures ok { (file : File) → IsDataOf F.value file form.now → IfOk result (IsDualityOf F.value F.holds file) }
-    ensures end { (file : File) → IsDataOf F.value file form.now → IfErr result (IsEnd F.holds file) }
+    ensures ok { (file : File) → IsDataOf F.value file form.now
+        → IfOk result (IsDualityOf F.value F.holds file) }
+    ensures end { (file : File) → IsDataOf F.value file form.now
+        → IfErr result (IsEnd F.holds file) }
 {
     let z = inside_given(alloc, form, vectors, f)?;
     let c = scaled_given(alloc, form, f)?;
@@ -217,8 +233,10 @@ fn found<F: Field>(
     requires duality { form.now.duality ≡ None }
     requires picks { AreIndependent (length form.now.p) (numbers F.value vectors.now) picks }
     requires pointed { HasNoLine (length form.now.p) (cone_of F.value form.now.cone) }
-    ensures ok { (file : File) → IsDataOf F.value file form.now → IfOk result (IsDualityOf F.value F.holds file) }
-    ensures end { (file : File) → IsDataOf F.value file form.now → IfErr result (IsEnd F.holds file) }
+    ensures ok { (file : File) → IsDataOf F.value file form.now
+        → IfOk result (IsDualityOf F.value F.holds file) }
+    ensures end { (file : File) → IsDataOf F.value file form.now
+        → IfErr result (IsEnd F.holds file) }
 {
     let mu = inside_found(alloc, form, vectors)?;
     let c = combined(alloc, form.p.len() as u32, vectors, mu.as_slice())?;
@@ -233,8 +251,10 @@ pub fn generator_facts<F: Field>(
     vectors: &[Items<F>],
 ) -> Result<Duality<F>, ConeEnd>
     requires { form.now.cone ≡ cone.Gens vectors.now }
-    ensures ok { (file : File) → IsDataOf F.value file form.now → IfOk result (IsDualityOf F.value F.holds file) }
-    ensures end { (file : File) → IsDataOf F.value file form.now → IfErr result (IsEnd F.holds file) }
+    ensures ok { (file : File) → IsDataOf F.value file form.now
+        → IfOk result (IsDualityOf F.value F.holds file) }
+    ensures end { (file : File) → IsDataOf F.value file form.now
+        → IfErr result (IsEnd F.holds file) }
 {
     let picks = spanning(alloc, form, vectors)?;
     without_line(alloc, form, vectors)?;

@@ -53,10 +53,13 @@ pub fn scaled_given<F: Field>(alloc: Global, form: &Data<F>, f: &[F]) -> Result<
     requires duality { form.now.duality ≡ Some f.now }
     requires solid { HasInterior (length form.now.p) (cone_of F.value form.now.cone) }
     requires pointed { HasNoLine (length form.now.p) (cone_of F.value form.now.cone) }
-    requires inside { IsGivenInside (length form.now.p) (cone_of F.value form.now.cone) (duality_of F.value form.now.duality) }
+    requires inside { IsGivenInside (length form.now.p) (cone_of F.value form.now.cone)
+        (duality_of F.value form.now.duality) }
     ensures positive { OnOk result (zero_ℚ <ℚ entry (map F.value f.now) (length form.now.p)) }
-    ensures ok { IfOk result (λ c. map F.value c ≡ at_last_one (length form.now.p) (map F.value f.now)) }
-    ensures end { (file : File) → IsDataOf F.value file form.now → IfErr result (IsEnd F.holds file) }
+    ensures ok { IfOk result
+        (λ c. map F.value c ≡ at_last_one (length form.now.p) (map F.value f.now)) }
+    ensures end { (file : File) → IsDataOf F.value file form.now
+        → IfErr result (IsEnd F.holds file) }
 {
     let last = f[f.len() - 1];
     if !is_positive(last) {

@@ -14,7 +14,8 @@ use std::alloc::Global;
 
 /// The place of the first entry that is not positive, counted from 0.
 pub fn first_not_positive<F: Field>(list: &[F]) -> Option<usize>
-    ensures some { IfSome result (λ k. (k < length list.now) × (entry (map F.value list.now) (k + 1) ≤ℚ zero_ℚ)) }
+    ensures some { IfSome result (λ k. (k < length list.now)
+        × (entry (map F.value list.now) (k + 1) ≤ℚ zero_ℚ)) }
     ensures none { IfNone result (All (λ x. zero_ℚ <ℚ x) (map F.value list.now)) }
 {
     for i in 0..list.len() {
@@ -49,7 +50,8 @@ pub fn picked_rows<F: Field>(
     requires from_one { All (λ k. 1 ≤ k) picks.now }
     requires to_end { All (λ k. k ≤ length vectors.now) picks.now }
     ensures width { IfOk result (λ rows. rows.width ≡ q) }
-    ensures rows { IfOk result (λ rows. numbers F.value rows.list ≡ map (row_of (numbers F.value vectors.now)) picks.now) }
+    ensures rows { IfOk result
+        (λ rows. numbers F.value rows.list ≡ map (row_of (numbers F.value vectors.now)) picks.now) }
 {
     let mut rows = Rows::new(alloc, q);
     for k in picks {

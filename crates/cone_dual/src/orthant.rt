@@ -20,7 +20,8 @@ fn all_positive<F: Field>(alloc: Global, form: &Data<F>, f: &[F]) -> Result<(), 
     requires cone { form.now.cone ≡ cone.Orthant }
     requires duality { form.now.duality ≡ Some f.now }
     ensures positive { OnOk result (All (λ x. zero_ℚ <ℚ x) (map F.value f.now)) }
-    ensures end { (file : File) → IsDataOf F.value file form.now → IfErr result (IsEnd F.holds file) }
+    ensures end { (file : File) → IsDataOf F.value file form.now
+        → IfErr result (IsEnd F.holds file) }
 {
     match first_not_positive(f) {
         None => Ok(()),
@@ -36,8 +37,10 @@ fn all_positive<F: Field>(alloc: Global, form: &Data<F>, f: &[F]) -> Result<(), 
 fn given<F: Field>(alloc: Global, form: &Data<F>, f: &[F]) -> Result<Duality<F>, ConeEnd>
     requires cone { form.now.cone ≡ cone.Orthant }
     requires duality { form.now.duality ≡ Some f.now }
-    ensures ok { (file : File) → IsDataOf F.value file form.now → IfOk result (IsDualityOf F.value F.holds file) }
-    ensures end { (file : File) → IsDataOf F.value file form.now → IfErr result (IsEnd F.holds file) }
+    ensures ok { (file : File) → IsDataOf F.value file form.now
+        → IfOk result (IsDualityOf F.value F.holds file) }
+    ensures end { (file : File) → IsDataOf F.value file form.now
+        → IfErr result (IsEnd F.holds file) }
 {
     all_positive(alloc, form, f)?;
     let c = scaled_given(alloc, form, f)?;
@@ -48,7 +51,8 @@ fn given<F: Field>(alloc: Global, form: &Data<F>, f: &[F]) -> Result<Duality<F>,
 fn ones<F: Field>(alloc: Global, form: &Data<F>) -> Result<Duality<F>, NoMemory>
     requires cone { form.now.cone ≡ cone.Orthant }
     requires duality { form.now.duality ≡ None }
-    ensures { (file : File) → IsDataOf F.value file form.now → IfOk result (IsDualityOf F.value F.holds file) }
+    ensures { (file : File) → IsDataOf F.value file form.now
+        → IfOk result (IsDualityOf F.value F.holds file) }
 {
     let mut c = Items::new(alloc);
     push_ones(&mut c, form.p.len() as u32)?;
@@ -58,8 +62,10 @@ fn ones<F: Field>(alloc: Global, form: &Data<F>) -> Result<Duality<F>, NoMemory>
 /// All of the orthant: ones, or the vector that is given.
 pub fn orthant_facts<F: Field>(alloc: Global, form: &Data<F>) -> Result<Duality<F>, ConeEnd>
     requires { form.now.cone ≡ cone.Orthant }
-    ensures ok { (file : File) → IsDataOf F.value file form.now → IfOk result (IsDualityOf F.value F.holds file) }
-    ensures end { (file : File) → IsDataOf F.value file form.now → IfErr result (IsEnd F.holds file) }
+    ensures ok { (file : File) → IsDataOf F.value file form.now
+        → IfOk result (IsDualityOf F.value F.holds file) }
+    ensures end { (file : File) → IsDataOf F.value file form.now
+        → IfErr result (IsEnd F.holds file) }
 {
     match &form.duality {
         Some(f) => given(alloc, form, f.as_slice()),

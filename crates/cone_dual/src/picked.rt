@@ -13,7 +13,8 @@ use std::alloc::Global;
 
 /// Appends a number, unless it is picked.
 fn push_other(out: &mut Items<u32>, picks: &[u32], number: u32) -> Result<(), NoMemory>
-    ensures { OnOk result (out.new ≡ out.old ++ filter (λ k. not (contains picks.now k)) (number ∷ [])) }
+    ensures { OnOk result
+        (out.new ≡ out.old ++ filter (λ k. not (contains picks.now k)) (number ∷ [])) }
 {
     if picks.contains(&number) {
         return Ok(());
@@ -37,7 +38,8 @@ pub fn rows_at<F: Field>(alloc: Global, rows: &Rows<F>, picks: &[u32]) -> Result
     requires low { All (λ k. 1 ≤ k) picks.now }
     requires high { All (λ k. k ≤ length rows.now.list) picks.now }
     ensures width { IfOk result (λ out. out.width ≡ rows.now.width) }
-    ensures rows { IfOk result (λ out. numbers F.value out.list ≡ map (row_of (numbers F.value rows.now.list)) picks.now) }
+    ensures rows { IfOk result
+        (λ out. numbers F.value out.list ≡ map (row_of (numbers F.value rows.now.list)) picks.now) }
 {
     let mut out = Rows::new(alloc, rows.width());
     for i in 0..picks.len() {
