@@ -49,29 +49,23 @@ stay_reached old new g here others k had = elim (eqb_tells k g) [
   | inr f ↦ λ none. had (sym (others k f.1) ∙ none)
 ]
 
--- what holds of the numbers from the last i on, and of one more
-pub seen_more : (live : List ℕ) (P Q : ℕ → Type 0) (i : ℕ) → i < length live → ((j : ℕ) → length live - i ≤ j → j < length live → P (slice_index_or live j 0)) →
-    ((k : ℕ) → P k → Q k) → Q (slice_index_or live (length live - 1 - i) 0) →
-    (j : ℕ) → length live - (i + 1) ≤ j → j < length live → Q (slice_index_or live j 0)
-seen_more live P Q i inside seen stay here j low high = elim (eqb_tells j (length live - 1 - i)) [
+-- what holds of the last i of n numbers, and of one more
+pub seen_more : (live : List ℕ) (P Q : ℕ → Type 0) (n i : ℕ) → i < n → ((j : ℕ) → n - i ≤ j → j < n → P (slice_index_or live j 0)) →
+    ((k : ℕ) → P k → Q k) → Q (slice_index_or live (n - 1 - i) 0) →
+    (j : ℕ) → n - (i + 1) ≤ j → j < n → Q (slice_index_or live j 0)
+seen_more live P Q n i inside seen stay here j low high = elim (eqb_tells j (n - 1 - i)) [
   | inl t ↦ subst (λ (k : ℕ). Q (slice_index_or live k 0)) (sym t.1) here
   | inr f ↦ stay (slice_index_or live j 0) (seen j (omega (arith, low, high, inside, f.1)) high)
 ]
 
--- what holds of all numbers of live generators
-all_seen : (live : List ℕ) (gs : List Numbered) (P : ℕ → Type 0) (i : ℕ) → live ≡ numbers gs → length live ≤ i →
-    ((j : ℕ) → length live - i ≤ j → j < length live → P (slice_index_or live j 0)) → (k : ℕ) (d : Numbered) → k < length gs → P (slice_index_or gs k d).number
-all_seen live gs P i is past seen k d inside =
-    let long : length live ≡ length gs = ap length is ∙ length-map gs (λ (g : Numbered). g.number) in
-    subst P (ap (λ (ns : List ℕ). slice_index_or ns k 0) is ∙ get_or-map (λ (g : Numbered). g.number) gs k d 0 inside)
-    (seen k (omega (arith, past)) (omega (arith, inside, long)))
-
--- where each number is done, each generator that is asked has a pre-image
-pub all_done : (scope : Scope) (trail : List Entry) (dd : Description) (live : List ℕ) (i : ℕ) → live ≡ numbers dd.list.live → length live ≤ i →
-    ((j : ℕ) → length live - i ≤ j → j < length live → IsDone scope trail dd (slice_index_or live j 0)) → AreReached scope trail dd
-all_done scope trail dd live i is past seen k d inside = λ asked.
-    all_seen live dd.list.live (IsDone scope trail dd) i is past seen k d inside (slice_index_or dd.list.live k d).vector
-    (Contains-get_or dd.list.live k d inside) asked
+-- where each of n numbers is done, which are all, each generator that is asked has a pre-image
+pub all_done : (scope : Scope) (trail : List Entry) (dd : Description) (n i : ℕ) → n ≡ length (numbers dd.list.live) → n ≤ i →
+    ((j : ℕ) → n - i ≤ j → j < n → IsDone scope trail dd (slice_index_or (numbers dd.list.live) j 0)) → AreReached scope trail dd
+all_done scope trail dd n i all past seen k d inside =
+    let gs = dd.list.live in
+    let long : n ≡ length gs = all ∙ length-map gs (λ (g : Numbered). g.number) in
+    λ asked. subst (IsDone scope trail dd) (get_or-map (λ (g : Numbered). g.number) gs k d 0 inside)
+    (seen k (omega (arith, past)) (omega (arith, inside, long))) (slice_index_or gs k d).vector (Contains-get_or gs k d inside) asked
 
 -- a generator that is not asked is done
 pub done_left_out : {F : Type 0} (value : F → ℚ) (scope : Scope) (trail : List Entry) (dd : Description) (g : ℕ) (generator : List F) →

@@ -3,6 +3,7 @@ use Rattle.std.specs.Prelude.{◌≡◌, ◌≢◌, ⊤, ℕ, Bool, List, [], �
 use Rattle.exact_field.specs.Rational.{ℚ, zero_ℚ}
 use Rattle.exact_field.specs.Vector.{entry}
 use Rattle.polyhedra.specs.Exactness.{row_of}
+use Rattle.polyhedra.specs.LiveList.{numbers}
 use Rattle.deriv_log.specs.declared.entry.Entry.{Entry}
 use Rattle.double_descr.specs.State.{State as Description}
 use Rattle.log_rules.specs.Live.{preimages}
@@ -11,10 +12,18 @@ use Rattle.lp_form.specs.declared.data.Data.{Data}
 use Rattle.licence.specs.Turns.{IsCutTurn, said_row}
 use Rattle.benson_program.specs.declared.cut.Cut.{Cut}
 use Rattle.outer_approx.specs.Cuts.{IsCutFor, said_by}
-use Rattle.outer_approx.specs.Task.{Task, IsFitting}
+use Rattle.outer_approx.specs.Preimages.{AreMarks}
+use Rattle.outer_approx.specs.Standing.{IsOpenTrail, IsOuter, StandForSame}
+use Rattle.outer_approx.specs.Task.{Task, IsFitting, behind}
+use Rattle.overflows.specs.Faults.{OnLicence, Overflows}
+use Rattle.overflows.specs.declared.fault.SolveFault.{SolveFault}
 use Rattle.recession.specs.Asking.{IsProper}
+use Rattle.benson_primal.specs.declared.search.Found.{Found}
+use Rattle.benson_primal.specs.declared.search.Round.{Round}
+use Rattle.benson_primal.specs.declared.search.Round.TheVariants as round
 use Rattle.benson_primal.specs.declared.search.Scope.{Scope}
 use Rattle.benson_primal.specs.declared.search.Scope.TheVariants.{Both, Directions}
+use Rattle.benson_primal.specs.declared.search.Search.{Search}
 
 -- the data, the duality vector and the weights are those of the task, which has an image to describe
 pub record IsKnown {F : Type 0} (value : F → ℚ) (holds : ℚ → Bool) (task : Task) (form : Data F) (c weights : List F) : Type 0 where
@@ -23,6 +32,20 @@ pub record IsKnown {F : Type 0} (value : F → ℚ) (holds : ℚ → Bool) (task
   pub weights_is : map value weights ≡ task.weights
   pub fitting : IsFitting holds task
   pub proper : IsProper task
+
+-- a search stands: its data are those of the task, its trail and its double description stand for
+-- the same cuts, and its marks are those of the generators that have a pre-image
+pub record IsSearching {F : Type 0} (value : F → ℚ) (holds : ℚ → Bool) (task : Task) (s : Search F) : Type 0 where
+  pub known : IsKnown value holds task s.form.now s.c.now s.weights.now
+  pub outer : IsOuter task s.trail s.dd
+  pub marks : AreMarks s.trail s.reached
+
+-- a search stopped at a fault: no entry ends its trail, which after an overflow stands for the same
+-- cuts as its double description, and the overflow is one behind this trail
+pub record Stopped {F : Type 0} (holds : ℚ → Bool) (task : Task) (s : Search F) (fault : SolveFault) : Type 0 where
+  pub trail : IsOpenTrail task s.trail
+  pub same : OnLicence fault (λ licence. StandForSame task s.trail s.dd)
+  pub left : Overflows holds (behind task s.trail) [] fault
 
 -- a base cut that some point violates at which each row is at least 0: so no row says it yet
 pub record IsNextCut {F : Type 0} (value : F → ℚ) (task : Task) (dd : Description) (cut : Cut F) : Type 0 where
@@ -57,3 +80,15 @@ AreDirectionsReached trail dd = All (λ g. entry g.vector (length g.vector) ≡ 
 -- each live generator has a pre-image
 abbrev pub AreAllReached : List Entry → Description → Type 0
 AreAllReached trail dd = All (λ g. preimages trail g.number ≢ []) dd.list.live
+
+-- a cut that a live generator violates
+pub record IsFound {F : Type 0} (value : F → ℚ) (task : Task) (dd : Description) (found : Found F) : Type 0 where
+  pub listed : Contains (numbers dd.list.live) found.generator
+  pub next : IsNextCut value task dd found.cut
+
+-- a round from this double description to a search ends so: one more cut stands; or all is as before,
+-- and a live generator violates this cut; or each live generator that is asked has a pre-image
+abbrev pub IsRound : {F : Type 0} → (F → ℚ) → Task → Scope → Description → Search F → Round F → Type 0
+IsRound value task scope old s round.Grown = HasGrown value task old s.dd
+IsRound value task scope old s (round.Overflowed found) = (s.dd ≡ old) × IsFound value task s.dd found
+IsRound value task scope old s round.Reached = AreReached scope s.trail s.dd

@@ -18,9 +18,9 @@ ghost use Rattle.log_rules.specs.Live.{preimages};
 ghost use Rattle.upper_image.specs.Shows.{ShowsFitting};
 ghost use Rattle.vlp_reader.specs.declared.problem.Problem.{Problem as File};
 ghost use Rattle.benson_primal.specs.Logs.{IsOwnLog};
-ghost use Rattle.benson_primal.specs.Search.{IsKnown};
+ghost use Rattle.benson_primal.specs.Search.{IsKnown, IsSearching};
 
-use crate::search::{Scope, approximate, directions};
+use crate::search::{Scope, Search};
 use benson_program::{Cut, WholeParts};
 use cone_dual::Duality;
 use deriv_log::{Entries, Entry};
@@ -33,6 +33,7 @@ use overflows::{SolveFault, spots_of};
 use recession::{First, first_cuts};
 use src_sink::{Items, NoMemory};
 use std::alloc::Global;
+use std::mem::replace;
 
 /// The log that no point is feasible, by multipliers of the sides.
 fn contradiction_log<F: Field>(alloc: Global, u: &[F]) -> Result<Entries, NoMemory>
@@ -68,41 +69,34 @@ fn everything_log<F: Field>(
     Ok(log)
 }
 
-/// Describes an image from its first cuts on, behind a trail that has them: first its directions, then its points.
-fn describe<F: Field>(
-    alloc: Global,
-    form: &Data<F>,
-    c: &[F],
-    weights: &[F],
-    cuts: &[Cut<F>],
-    trail: &mut Entries,
-    kept: &mut Kept<F>,
-) -> Result<(), SolveFault>
+/// Describes an image from the first state of its search on: first its directions, then its points.
+fn describe<F: Field>(search: &mut Search<'_, F>) -> Result<(), SolveFault>
     ghost task: { Task }
-    requires known { IsKnown F.value F.holds task form.now c.now weights.now }
-    requires first { AreFirstCuts F.value task cuts.now }
-    requires begun { IsBegun task (map (said_by F.value) cuts.now) trail.old }
-    requires unreached { (k : ℕ) → preimages trail.old k ≡ [] }
-    ensures ok { OnOk result (IsEnded task trail.new) }
-    ensures trail { IfErr result (λ fault. OnLicence fault (λ licence. IsOpenTrail task trail.new)) }
-    ensures left { IfErr result (Overflows F.holds (behind task trail.new) []) }
+    requires { IsSearching F.value F.holds task search.old }
+    ensures ok { OnOk result (IsEnded task search.new.trail) }
+    ensures trail { IfErr result (λ fault. OnLicence fault (λ licence. IsOpenTrail task search.new.trail)) }
+    ensures left { IfErr result (Overflows F.holds (behind task search.new.trail) []) }
 {
-    let mut dd = started(alloc, form.p.len() as u32, trail, cuts)?;
-    let mut reached = Marks::new(alloc, 0)?;
-    directions(alloc, form, c, weights, trail, &mut dd, &mut reached, kept)?;
-    approximate(
-        alloc,
-        form,
-        c,
-        weights,
-        Scope::Both,
-        trail,
-        &mut dd,
-        &mut reached,
-        kept,
-    )?;
-    solved(alloc, trail, &dd)?;
+    search.directions()?;
+    search.approximate(Scope::Both)?;
+    solved(search.alloc, &mut search.trail, &search.dd)?;
     Ok(())
+}
+
+/// The log of an image with a vertex, from the first state of its search on.
+fn searched<F: Field>(search: Search<'_, F>) -> Result<Entries, SolveFault>
+    ghost task: { Task }
+    requires { IsSearching F.value F.holds task search }
+    ensures ok { IfOk result (IsEnded task) }
+    ensures left { IfErr result (λ fault. OnLicence fault (Licensed F.holds task.file task.c)) }
+{
+    let mut search = search;
+    let told = describe(&mut search);
+    let entries = search.into_trail();
+    match told {
+        Ok(()) => Ok(entries),
+        Err(fault) => Err(fault.behind(entries)),
+    }
 }
 
 /// The log of an image with a vertex, from its first cuts on.
@@ -123,9 +117,23 @@ fn described<F: Field>(
     ensures left { IfErr result (λ fault. OnLicence fault (Licensed F.holds task.file task.c)) }
 {
     let mut trail = begun(alloc, opening, cuts)?;
-    match describe(alloc, form, c, weights, cuts, &mut trail, kept) {
-        Ok(()) => Ok(trail),
+    match started(alloc, form.p.len() as u32, &mut trail, cuts) {
         Err(fault) => Err(fault.behind(trail)),
+        Ok(dd) => {
+            let reached = Marks::new(alloc, 0)?;
+            let kept = replace(kept, Kept::new());
+            searched(Search {
+                alloc,
+                form,
+                c,
+                weights,
+                trail,
+                dd,
+                reached,
+                kept,
+                failed: 0,
+            })
+        }
     }
 }
 
@@ -153,9 +161,14 @@ fn primal_with<F: Field>(
     }
 }
 
-/// The log that describes the image of a problem: that it is infeasible, that its image is everything or has a line, or its
-/// vertices, extreme directions and facets, found by Benson's outer approximation (Benson 1998; Löhne 2011) in the image space.
-/// After an overflow the licence has the entries so far as its trail.
+/// The log that describes the image of a problem: that it is infeasible, that its image is everything
+/// or has a line, or its vertices, extreme directions and facets, found by Benson's outer approximation
+/// (Benson 1998; Löhne 2011) in the image space. It differs from the textbook at two places. A generator
+/// of the outer polyhedron with long entries is asked at a vector with short ones near by first, since
+/// the cut that a linear program gives is valid whoever asks. And where the addition of a cut overflows,
+/// those of the other open generators are tried, up to ten failed additions for each row in use. The
+/// overflow that is told is that of a cut which a generator itself violates, or of the program that asks
+/// at it; the licence has the entries so far as its trail.
 pub fn primal<F: Field>(
     alloc: Global,
     form: &Data<F>,

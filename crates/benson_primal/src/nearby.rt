@@ -1,25 +1,15 @@
-//! Cuts that are asked at a vector near a generator with long entries.
-ghost use Rattle.std.specs.Prelude.{◌≡◌, ◌≢◌, ◌≤◌, ◌↔◌, ◌+◌, List, IfOk, IfSome, IsTrue, length, map, Contains};
+//! A vector near a generator with long entries, at which a cut is asked first.
+ghost use Rattle.std.specs.Prelude.{◌≡◌, ◌≢◌, ◌≤◌, ◌↔◌, ◌+◌, IfOk, IfSome, IsTrue, length, map};
 ghost use Rattle.exact_field.specs.Rational.{zero_ℚ, ◌<ℚ◌};
 ghost use Rattle.exact_field.specs.Vector.{dot, entry};
-ghost use Rattle.deriv_log.specs.declared.entry.Entry.{Entry};
 ghost use Rattle.outer_approx.specs.Cuts.{said_by};
-ghost use Rattle.outer_approx.specs.Standing.{IsOuter};
-ghost use Rattle.outer_approx.specs.Task.{Task};
 ghost use Rattle.polyhedra.specs.Exactness.{row_of};
-ghost use Rattle.polyhedra.specs.LiveList.{numbers};
-ghost use Rattle.benson_primal.specs.Search.{IsKnown, IsNextCut};
 
 use benson_program::Cut;
-use double_descr::Dd;
 use exact_field::Field;
-use exact_simplex::Kept;
 use lin_rows::cells::is_zero;
 use lin_rows::dot;
-use lp_form::Data;
 use outer_approx::cut_row;
-use overflows::SolveFault;
-use recession::{Asked, ask};
 use src_sink::{Items, NoMemory};
 use std::alloc::Global;
 
@@ -55,7 +45,7 @@ fn rounded<F: Field>(x: F) -> Option<F> {
 }
 
 /// Another vector near `v`, mostly with shorter entries, if an entry of `v` is long and such a vector is found.
-fn vector_nearby<F: Field>(alloc: Global, v: &[F]) -> Result<Option<Items<F>>, NoMemory>
+pub(crate) fn vector_nearby<F: Field>(alloc: Global, v: &[F]) -> Result<Option<Items<F>>, NoMemory>
     ensures { IfOk result (λ r. IfSome r (λ near. length near ≡ length v.now)) }
 {
     if !v.iter().any(|x| is_long(*x)) {
@@ -75,7 +65,11 @@ fn vector_nearby<F: Field>(alloc: Global, v: &[F]) -> Result<Option<Items<F>>, N
 }
 
 /// Whether a generator is seen to violate a cut: not where the product with its row is not held.
-fn violates<F: Field>(alloc: Global, generator: &[F], cut: &Cut<F>) -> Result<bool, NoMemory>
+pub(crate) fn violates<F: Field>(
+    alloc: Global,
+    generator: &[F],
+    cut: &Cut<F>,
+) -> Result<bool, NoMemory>
     requires { length generator.now ≡ length cut.now.w + 1 }
     ensures { IfOk result (λ b. IsTrue b → dot (row_of (said_by F.value cut.now)) (map F.value generator.now) <ℚ zero_ℚ) }
 {
@@ -83,41 +77,5 @@ fn violates<F: Field>(alloc: Global, generator: &[F], cut: &Cut<F>) -> Result<bo
     match dot(row.as_slice(), generator) {
         Ok(product) => Ok(product < F::zero()),
         Err(_) => Ok(false),
-    }
-}
-
-/// A cut that the live generator `g` violates, asked at a vector with short entries near by, if `g` has long ones and there is such a
-/// cut: each cut of Benson's program is valid, whoever asked for it. An overflow is dropped there, as no licence names such a vector.
-pub(crate) fn cut_nearby<F: Field>(
-    alloc: Global,
-    form: &Data<F>,
-    c: &[F],
-    weights: &[F],
-    dd: &Dd<F>,
-    g: u32,
-    kept: &mut Kept<F>,
-) -> Result<Option<Cut<F>>, NoMemory>
-    ghost task: { Task }
-    requires known { IsKnown F.value F.holds task form.now c.now weights.now }
-    requires outer { (trail : List Entry) × IsOuter task trail dd.now }
-    requires listed { Contains (numbers dd.now.list.live) g }
-    ensures { IfOk result (λ r. IfSome r (IsNextCut F.value task dd.now)) }
-{
-    let generator = dd.generator(g);
-    let Some(near) = vector_nearby(alloc, &generator[..c.len()])? else {
-        return Ok(None);
-    };
-    let t = is_point(generator);
-    match ask(alloc, form, c, weights, near.as_slice(), t, kept) {
-        Ok(Asked::Cut(cut)) => {
-            if violates(alloc, generator, &cut)? {
-                Ok(Some(cut))
-            } else {
-                Ok(None)
-            }
-        }
-        Ok(Asked::Reached(_)) => Ok(None),
-        Err(SolveFault::Left(_)) => Ok(None),
-        Err(SolveFault::NoMemory) => Err(NoMemory),
     }
 }

@@ -2,14 +2,12 @@
 ghost use Rattle.std.specs.Prelude.{◌≡◌, ◌≢◌, ◌≤◌, ◌||◌, [], ℕ, false, IfErr, IfNone, IfOk, IfSome, IsTrue, OnOk, length, map, nat_eq, Contains};
 ghost use Rattle.incid_sets.specs.Marks.{has};
 ghost use Rattle.log_rules.specs.Live.{preimages};
-ghost use Rattle.overflows.specs.Faults.{OnLicence, Overflows};
 ghost use Rattle.polyhedra.specs.LiveList.{numbers};
-ghost use Rattle.outer_approx.specs.Preimages.{AreMarks};
-ghost use Rattle.outer_approx.specs.Standing.{IsOpenTrail, IsOuter, StandForSame};
-ghost use Rattle.outer_approx.specs.Task.{Task, behind};
-ghost use Rattle.benson_primal.specs.Search.{AreDirectionsReached, AreReached, HasGrown, IsDone, IsInScope, IsKnown, IsNextCut};
+ghost use Rattle.outer_approx.specs.Standing.{IsOpenTrail};
+ghost use Rattle.outer_approx.specs.Task.{Task};
+ghost use Rattle.benson_primal.specs.Search.{AreDirectionsReached, AreReached, HasGrown, IsDone, IsFound, IsInScope, IsNextCut, IsRound, IsSearching, Stopped};
 
-use crate::nearby::{cut_nearby, is_point};
+use crate::nearby::{is_point, vector_nearby, violates};
 use benson_program::Cut;
 use deriv_log::Entries;
 use double_descr::Dd;
@@ -20,7 +18,7 @@ use lp_form::Data;
 use outer_approx::{push_preimage, take, try_take};
 use overflows::SolveFault;
 use recession::{Asked, ask};
-use src_sink::{Items, NoMemory};
+use src_sink::NoMemory;
 use std::alloc::Global;
 
 /// Which live generators are asked.
@@ -43,41 +41,6 @@ fn is_left_out<F: Field>(scope: Scope, generator: &[F]) -> bool
     }
 }
 
-/// Asks at the live generator `g`, which has no pre-image yet: a cut that it violates, or none, and then its pre-image stands in
-/// the log.
-fn asked<F: Field>(
-    alloc: Global,
-    form: &Data<F>,
-    c: &[F],
-    weights: &[F],
-    dd: &Dd<F>,
-    g: u32,
-    trail: &mut Entries,
-    kept: &mut Kept<F>,
-) -> Result<Option<Cut<F>>, SolveFault>
-    ghost task: { Task }
-    requires known { IsKnown F.value F.holds task form.now c.now weights.now }
-    requires outer { IsOuter task trail.old dd.now }
-    requires listed { Contains (numbers dd.now.list.live) g }
-    requires fresh { preimages trail.old g ≡ [] }
-    ensures outer { IsOuter task trail.new dd.now }
-    ensures cut { IfOk result (λ r. IfSome r (IsNextCut F.value task dd.now)) }
-    ensures kept { IfOk result (λ r. IfSome r (λ cut. trail.new ≡ trail.old)) }
-    ensures reached { IfOk result (λ r. IfNone r (preimages trail.new g ≢ [])) }
-    ensures others { IfOk result (λ r. (k : ℕ) → k ≢ g → preimages trail.new k ≡ preimages trail.old k) }
-    ensures left { IfErr result (Overflows F.holds (behind task trail.new) []) }
-{
-    let generator = dd.generator(g);
-    let t = is_point(generator);
-    match ask(alloc, form, c, weights, &generator[..c.len()], t, kept)? {
-        Asked::Cut(cut) => Ok(Some(cut)),
-        Asked::Reached(parts) => {
-            push_preimage(alloc, trail, g, t, &parts)?;
-            Ok(None)
-        }
-    }
-}
-
 /// Gives the set one more number, whatever its bound.
 fn mark(reached: &mut Marks, g: u32) -> Result<(), NoMemory>
     ensures { OnOk result ((k : ℕ) → has reached.new k ≡ (nat_eq k g || has reached.old k)) }
@@ -92,245 +55,309 @@ fn mark(reached: &mut Marks, g: u32) -> Result<(), NoMemory>
     }
 }
 
-/// The same as `asked`, of a live generator that may be left out or have a pre-image; the set is that of those that have one. One with
-/// long entries is asked at a vector near by first.
-fn reach<F: Field>(
-    alloc: Global,
-    form: &Data<F>,
-    c: &[F],
-    weights: &[F],
-    dd: &Dd<F>,
-    scope: Scope,
-    g: u32,
-    trail: &mut Entries,
-    reached: &mut Marks,
-    kept: &mut Kept<F>,
-) -> Result<Option<Cut<F>>, SolveFault>
-    ghost task: { Task }
-    requires known { IsKnown F.value F.holds task form.now c.now weights.now }
-    requires outer { IsOuter task trail.old dd.now }
-    requires listed { Contains (numbers dd.now.list.live) g }
-    requires marks { AreMarks trail.old reached.old }
-    ensures outer { IsOuter task trail.new dd.now }
-    ensures marks { OnOk result (AreMarks trail.new reached.new) }
-    ensures cut { IfOk result (λ r. IfSome r (IsNextCut F.value task dd.now)) }
-    ensures done { IfOk result (λ r. IfNone r (IsDone scope trail.new dd.now g)) }
-    ensures stay { IfOk result (λ r. (k : ℕ) → preimages trail.old k ≢ [] → preimages trail.new k ≢ []) }
-    ensures left { IfErr result (Overflows F.holds (behind task trail.new) []) }
-{
-    if reached.has(g) {
-        return Ok(None);
-    }
-    if is_left_out(scope, dd.generator(g)) {
-        return Ok(None);
-    }
-    if let Some(near) = cut_nearby(alloc, form, c, weights, dd, g, kept)? {
-        return Ok(Some(near));
-    }
-    match asked(alloc, form, c, weights, dd, g, trail, kept)? {
-        Some(cut) => Ok(Some(cut)),
-        None => {
-            mark(reached, g)?;
-            Ok(None)
-        }
-    }
+/// A cut that a live generator violates.
+#[derive(Drop)]
+pub(crate) struct Found<F: Drop> {
+    pub(crate) generator: u32,
+    /// Whether it was asked at a vector near the generator, and not at the generator itself.
+    pub(crate) is_near: bool,
+    pub(crate) cut: Cut<F>,
 }
 
-/// The first cut that a live generator violates, from the newest to the oldest, or none, and then all that are asked have pre-images.
-fn next_cut<F: Field>(
-    alloc: Global,
-    form: &Data<F>,
-    c: &[F],
-    weights: &[F],
-    dd: &Dd<F>,
-    scope: Scope,
-    trail: &mut Entries,
-    reached: &mut Marks,
-    kept: &mut Kept<F>,
-) -> Result<Option<Cut<F>>, SolveFault>
-    ghost task: { Task }
-    requires known { IsKnown F.value F.holds task form.now c.now weights.now }
-    requires outer { IsOuter task trail.old dd.now }
-    requires marks { AreMarks trail.old reached.old }
-    ensures outer { IsOuter task trail.new dd.now }
-    ensures marks { OnOk result (AreMarks trail.new reached.new) }
-    ensures cut { IfOk result (λ r. IfSome r (IsNextCut F.value task dd.now)) }
-    ensures none { IfOk result (λ r. IfNone r (AreReached scope trail.new dd.now)) }
-    ensures left { IfErr result (Overflows F.holds (behind task trail.new) []) }
-{
-    let live = dd.live();
-    for i in 0..live.len() {
-        let g = live[live.len() - 1 - i];
-        if let Some(cut) = reach(alloc, form, c, weights, dd, scope, g, trail, reached, kept)? {
-            return Ok(Some(cut));
-        }
-    }
-    Ok(None)
+/// How a round over the live generators ends.
+#[derive(Drop)]
+pub(crate) enum Round<F: Drop> {
+    /// A cut came into use.
+    Grown,
+    /// No cut came into use, since each addition that was tried overflows: this is the first cut
+    /// of these.
+    Overflowed(Found<F>),
+    /// All that are asked have pre-images.
+    Reached,
 }
 
-/// Of so many cuts whose addition overflows another one is looked for.
-const MOST_TRIES: u32 = 6;
+/// So many failed additions there may be for each row in use.
+const MOST_FAILED: u32 = 10;
 
-/// Brings the first cut into use that a live generator violates, from the newest to the oldest, and whose addition does not overflow,
-/// and answers whether one was found. A few cuts that overflow are passed over: others may take away the long generators.
-fn advance<F: Field>(
-    alloc: Global,
-    form: &Data<F>,
-    c: &[F],
-    weights: &[F],
-    dd: &mut Dd<F>,
-    scope: Scope,
-    trail: &mut Entries,
-    reached: &mut Marks,
-    kept: &mut Kept<F>,
-) -> Result<bool, SolveFault>
-    ghost task: { Task }
-    requires known { IsKnown F.value F.holds task form.now c.now weights.now }
-    requires outer { IsOuter task trail.old dd.old }
-    requires marks { AreMarks trail.old reached.old }
-    ensures outer { OnOk result (IsOuter task trail.new dd.new) }
-    ensures marks { OnOk result (AreMarks trail.new reached.new) }
-    ensures grown { IfOk result (λ more. IsTrue more → HasGrown F.value task dd.old dd.new) }
-    ensures still { IfOk result (λ more. more ≡ false → dd.new ≡ dd.old) }
-    ensures trail { IsOpenTrail task trail.new }
-    ensures same { IfErr result (λ fault. OnLicence fault (λ licence. StandForSame task trail.new dd.new)) }
-    ensures left { IfErr result (Overflows F.holds (behind task trail.new) []) }
-{
-    let count = dd.live().len();
-    let mut tries = 0;
-    for i in 0..count {
-        let live = dd.live();
-        let g = live[count - 1 - i];
-        if let Some(cut) = reach(alloc, form, c, weights, dd, scope, g, trail, reached, kept)? {
-            if try_take(alloc, trail, dd, &cut)? {
-                return Ok(true);
-            }
-            tries += 1;
-            if tries == MOST_TRIES {
-                return Ok(false);
+/// The state of a search. After want of memory it is of no use.
+#[derive(Drop)]
+pub(crate) struct Search<'a, F: Field> {
+    pub(crate) alloc: Global,
+    pub(crate) form: &'a Data<F>,
+    /// The duality vector.
+    pub(crate) c: &'a [F],
+    /// What combines the generators of the ordering cone to it.
+    pub(crate) weights: &'a [F],
+    pub(crate) trail: Entries,
+    pub(crate) dd: Dd<F>,
+    /// The numbers of the generators that have a pre-image.
+    pub(crate) reached: Marks,
+    /// What is kept of the last program.
+    pub(crate) kept: Kept<F>,
+    /// How many additions were tried that overflow.
+    pub(crate) failed: u32,
+}
+
+impl<'a, F: Field> Search<'a, F> {
+    /// The log so far.
+    pub(crate) fn into_trail(self) -> Entries
+        ensures { result ≡ self.entry.trail }
+    {
+        self.trail
+    }
+
+    /// Asks at the live generator `g`, which has no pre-image yet: a cut that it violates, or
+    /// none, and then its pre-image stands in the log.
+    fn own_cut(&mut self, g: u32) -> Result<Option<Cut<F>>, SolveFault>
+        ghost task: { Task }
+        requires searching { IsSearching F.value F.holds task self.old }
+        requires listed { Contains (numbers self.old.dd.list.live) g }
+        requires fresh { preimages self.old.trail g ≡ [] }
+        ensures searching { OnOk result (IsSearching F.value F.holds task self.new) }
+        ensures dd { self.new.dd ≡ self.old.dd }
+        ensures cut { IfOk result (λ r. IfSome r (IsNextCut F.value task self.new.dd)) }
+        ensures reached { IfOk result (λ r. IfNone r (preimages self.new.trail g ≢ [])) }
+        ensures stay { OnOk result ((k : ℕ) → preimages self.old.trail k ≢ [] → preimages self.new.trail k ≢ []) }
+        ensures stopped { IfErr result (Stopped F.holds task self.new) }
+    {
+        let generator = self.dd.generator(g);
+        let t = is_point(generator);
+        let v = &generator[..self.c.len()];
+        match ask(
+            self.alloc,
+            self.form,
+            self.c,
+            self.weights,
+            v,
+            t,
+            &mut self.kept,
+        )? {
+            Asked::Cut(cut) => Ok(Some(cut)),
+            Asked::Reached(parts) => {
+                push_preimage(self.alloc, &mut self.trail, g, t, &parts)?;
+                mark(&mut self.reached, g)?;
+                Ok(None)
             }
         }
     }
-    Ok(false)
-}
 
-/// Brings the first cut into use that a live generator violates, from the newest to the oldest, and answers whether there is one: if
-/// not, all that are asked have pre-images.
-fn take_first<F: Field>(
-    alloc: Global,
-    form: &Data<F>,
-    c: &[F],
-    weights: &[F],
-    dd: &mut Dd<F>,
-    scope: Scope,
-    trail: &mut Entries,
-    reached: &mut Marks,
-    kept: &mut Kept<F>,
-) -> Result<bool, SolveFault>
-    ghost task: { Task }
-    requires known { IsKnown F.value F.holds task form.now c.now weights.now }
-    requires outer { IsOuter task trail.old dd.old }
-    requires marks { AreMarks trail.old reached.old }
-    ensures outer { OnOk result (IsOuter task trail.new dd.new) }
-    ensures marks { OnOk result (AreMarks trail.new reached.new) }
-    ensures grown { IfOk result (λ more. IsTrue more → HasGrown F.value task dd.old dd.new) }
-    ensures reached { IfOk result (λ more. more ≡ false → AreReached scope trail.new dd.new) }
-    ensures trail { IsOpenTrail task trail.new }
-    ensures same { IfErr result (λ fault. OnLicence fault (λ licence. StandForSame task trail.new dd.new)) }
-    ensures left { IfErr result (Overflows F.holds (behind task trail.new) []) }
-{
-    match next_cut(alloc, form, c, weights, dd, scope, trail, reached, kept)? {
-        None => Ok(false),
-        Some(cut) => {
-            take(alloc, trail, dd, &cut)?;
-            Ok(true)
+    /// A cut that the live generator `g` violates, asked at a vector with short entries near by,
+    /// if `g` has long ones and there is such a cut: each cut of Benson's program is valid,
+    /// whoever asked for it. An overflow is dropped there, as no licence names such a vector.
+    fn near_cut(&mut self, g: u32) -> Result<Option<Cut<F>>, NoMemory>
+        ghost task: { Task }
+        requires searching { IsSearching F.value F.holds task self.old }
+        requires listed { Contains (numbers self.old.dd.list.live) g }
+        ensures searching { IsSearching F.value F.holds task self.new }
+        ensures trail { self.new.trail ≡ self.old.trail }
+        ensures dd { self.new.dd ≡ self.old.dd }
+        ensures cut { IfOk result (λ r. IfSome r (IsNextCut F.value task self.new.dd)) }
+    {
+        let generator = self.dd.generator(g);
+        let Some(near) = vector_nearby(self.alloc, &generator[..self.c.len()])? else {
+            return Ok(None);
+        };
+        let t = is_point(generator);
+        let near = near.as_slice();
+        match ask(
+            self.alloc,
+            self.form,
+            self.c,
+            self.weights,
+            near,
+            t,
+            &mut self.kept,
+        ) {
+            Ok(Asked::Cut(cut)) => {
+                if violates(self.alloc, generator, &cut)? {
+                    Ok(Some(cut))
+                } else {
+                    Ok(None)
+                }
+            }
+            Ok(Asked::Reached(_)) => Ok(None),
+            Err(SolveFault::Left(_)) => Ok(None),
+            Err(SolveFault::NoMemory) => Err(NoMemory),
         }
     }
-}
 
-/// The same as `take_first`, where another cut is taken if the addition of the first overflows, and that of the other does not.
-fn turn<F: Field>(
-    alloc: Global,
-    form: &Data<F>,
-    c: &[F],
-    weights: &[F],
-    dd: &mut Dd<F>,
-    scope: Scope,
-    trail: &mut Entries,
-    reached: &mut Marks,
-    kept: &mut Kept<F>,
-) -> Result<bool, SolveFault>
-    ghost task: { Task }
-    requires known { IsKnown F.value F.holds task form.now c.now weights.now }
-    requires outer { IsOuter task trail.old dd.old }
-    requires marks { AreMarks trail.old reached.old }
-    ensures outer { OnOk result (IsOuter task trail.new dd.new) }
-    ensures marks { OnOk result (AreMarks trail.new reached.new) }
-    ensures grown { IfOk result (λ more. IsTrue more → HasGrown F.value task dd.old dd.new) }
-    ensures reached { IfOk result (λ more. more ≡ false → AreReached scope trail.new dd.new) }
-    ensures trail { IsOpenTrail task trail.new }
-    ensures same { IfErr result (λ fault. OnLicence fault (λ licence. StandForSame task trail.new dd.new)) }
-    ensures left { IfErr result (Overflows F.holds (behind task trail.new) []) }
-{
-    if advance(alloc, form, c, weights, dd, scope, trail, reached, kept)? {
-        return Ok(true);
+    /// A cut that the live generator `g` violates, or none, and then it is not asked or has a
+    /// pre-image. One with long entries is asked at a vector near by first.
+    fn reach(&mut self, scope: Scope, g: u32) -> Result<Option<Found<F>>, SolveFault>
+        ghost task: { Task }
+        requires searching { IsSearching F.value F.holds task self.old }
+        requires listed { Contains (numbers self.old.dd.list.live) g }
+        ensures searching { OnOk result (IsSearching F.value F.holds task self.new) }
+        ensures dd { self.new.dd ≡ self.old.dd }
+        ensures found { IfOk result (λ r. IfSome r (IsFound F.value task self.new.dd)) }
+        ensures done { IfOk result (λ r. IfNone r (IsDone scope self.new.trail self.new.dd g)) }
+        ensures stay { OnOk result ((k : ℕ) → preimages self.old.trail k ≢ [] → preimages self.new.trail k ≢ []) }
+        ensures stopped { IfErr result (Stopped F.holds task self.new) }
+    {
+        if self.reached.has(g) {
+            return Ok(None);
+        }
+        if is_left_out(scope, self.dd.generator(g)) {
+            return Ok(None);
+        }
+        if let Some(cut) = self.near_cut(g)? {
+            return Ok(Some(Found {
+                generator: g,
+                is_near: true,
+                cut,
+            }));
+        }
+        match self.own_cut(g)? {
+            None => Ok(None),
+            Some(cut) => Ok(Some(Found {
+                generator: g,
+                is_near: false,
+                cut,
+            })),
+        }
     }
-    take_first(alloc, form, c, weights, dd, scope, trail, reached, kept)
-}
 
-/// Brings cuts into use, one at a time, until each live generator that is asked has a pre-image in the log; the set is that of those
-/// that have one. Each turn costs a linear program for each such generator that has none, up to the first that violates a cut, and an
-/// addition to the double description.
-pub(crate) fn approximate<F: Field>(
-    alloc: Global,
-    form: &Data<F>,
-    c: &[F],
-    weights: &[F],
-    scope: Scope,
-    trail: &mut Entries,
-    dd: &mut Dd<F>,
-    reached: &mut Marks,
-    kept: &mut Kept<F>,
-) -> Result<(), SolveFault>
-    ghost task: { Task }
-    requires known { IsKnown F.value F.holds task form.now c.now weights.now }
-    requires outer { IsOuter task trail.old dd.old }
-    requires marks { AreMarks trail.old reached.old }
-    ensures outer { OnOk result (IsOuter task trail.new dd.new) }
-    ensures marks { OnOk result (AreMarks trail.new reached.new) }
-    ensures reached { OnOk result (AreReached scope trail.new dd.new) }
-    ensures trail { IsOpenTrail task trail.new }
-    ensures same { IfErr result (λ fault. OnLicence fault (λ licence. StandForSame task trail.new dd.new)) }
-    ensures left { IfErr result (Overflows F.holds (behind task trail.new) []) }
-{
-    while turn(alloc, form, c, weights, dd, scope, trail, reached, kept)? {}
-    Ok(())
-}
+    /// Brings a cut into use, if its addition does not overflow, and answers whether it did.
+    fn try_cut(&mut self, cut: &Cut<F>) -> Result<bool, NoMemory>
+        ghost task: { Task }
+        requires searching { IsSearching F.value F.holds task self.old }
+        requires next { IsNextCut F.value task self.old.dd cut.now }
+        ensures searching { OnOk result (IsSearching F.value F.holds task self.new) }
+        ensures grown { IfOk result (λ taken. IsTrue taken → HasGrown F.value task self.old.dd self.new.dd) }
+        ensures as_before { IfOk result (λ taken. taken ≡ false → self.new.dd ≡ self.old.dd) }
+        ensures trail { IsOpenTrail task self.new.trail }
+    {
+        if try_take(self.alloc, &mut self.trail, &mut self.dd, cut)? {
+            return Ok(true);
+        }
+        self.failed = self.failed.saturating_add(1);
+        Ok(false)
+    }
 
-/// Asks at the live directions, and brings the cuts that they violate into use, until each has a pre-image in the log, so that they
-/// are the extreme directions of the image's recession cone. `reached` is the set of the generators with a pre-image, and `kept` what
-/// is kept of the last program. After want of memory the trail is of no use.
-pub(crate) fn directions<F: Field>(
-    alloc: Global,
-    form: &Data<F>,
-    c: &[F],
-    weights: &[F],
-    trail: &mut Entries,
-    dd: &mut Dd<F>,
-    reached: &mut Marks,
-    kept: &mut Kept<F>,
-) -> Result<(), SolveFault>
-    ghost task: { Task }
-    requires known { IsKnown F.value F.holds task form.now c.now weights.now }
-    requires outer { IsOuter task trail.old dd.old }
-    requires marks { AreMarks trail.old reached.old }
-    ensures outer { OnOk result (IsOuter task trail.new dd.new) }
-    ensures marks { OnOk result (AreMarks trail.new reached.new) }
-    ensures reached { OnOk result (AreDirectionsReached trail.new dd.new) }
-    ensures trail { IsOpenTrail task trail.new }
-    ensures same { IfErr result (λ fault. OnLicence fault (λ licence. StandForSame task trail.new dd.new)) }
-    ensures left { IfErr result (Overflows F.holds (behind task trail.new) []) }
-{
-    let scope = Scope::Directions;
-    approximate(alloc, form, c, weights, scope, trail, dd, reached, kept)
+    /// Whether there were too many failed additions for the rows in use. No clause speaks of it.
+    fn is_spent(&self) -> bool {
+        self.failed / MOST_FAILED >= self.dd.row_count()
+    }
+
+    /// Brings the first cut into use whose addition does not overflow, of those that live
+    /// generators violate, from the newest to the oldest: it may take away the long generators, at
+    /// which others overflow. If there is none, the first cut whose addition overflows is kept; so
+    /// it is after too many failed additions.
+    fn advance(&mut self, scope: Scope) -> Result<Round<F>, SolveFault>
+        ghost task: { Task }
+        requires { IsSearching F.value F.holds task self.old }
+        ensures searching { OnOk result (IsSearching F.value F.holds task self.new) }
+        ensures round { IfOk result (IsRound F.value task scope self.old.dd self.new) }
+        ensures stopped { IfErr result (Stopped F.holds task self.new) }
+    {
+        let count = self.dd.live().len();
+        let mut first = None;
+        for i in 0..count {
+            let g = self.dd.live()[count - 1 - i];
+            if let Some(found) = self.reach(scope, g)? {
+                if self.try_cut(&found.cut)? {
+                    return Ok(Round::Grown);
+                }
+                let kept = first.unwrap_or(found);
+                if self.is_spent() {
+                    return Ok(Round::Overflowed(kept));
+                }
+                first = Some(kept);
+            }
+        }
+        match first {
+            Some(found) => Ok(Round::Overflowed(found)),
+            None => Ok(Round::Reached),
+        }
+    }
+
+    /// The cut of a generator itself, in the place of one that was asked near it.
+    fn kept_cut(&mut self, found: Found<F>) -> Result<Cut<F>, SolveFault>
+        ghost task: { Task }
+        requires searching { IsSearching F.value F.holds task self.old }
+        requires found { IsFound F.value task self.old.dd found }
+        ensures searching { OnOk result (IsSearching F.value F.holds task self.new) }
+        ensures dd { self.new.dd ≡ self.old.dd }
+        ensures cut { IfOk result (IsNextCut F.value task self.new.dd) }
+        ensures stopped { IfErr result (Stopped F.holds task self.new) }
+    {
+        let Found {
+            generator,
+            is_near,
+            cut,
+        } = found;
+        if !is_near {
+            return Ok(cut);
+        }
+        if self.reached.has(generator) {
+            return Ok(cut);
+        }
+        match self.own_cut(generator)? {
+            Some(own) => Ok(own),
+            None => Ok(cut),
+        }
+    }
+
+    /// Brings a cut into use that a live generator violates, whether or not its addition
+    /// overflows. Where it was asked near the generator, it is that of the generator itself
+    /// instead.
+    fn settle(&mut self, found: Found<F>) -> Result<(), SolveFault>
+        ghost task: { Task }
+        requires searching { IsSearching F.value F.holds task self.old }
+        requires found { IsFound F.value task self.old.dd found }
+        ensures searching { OnOk result (IsSearching F.value F.holds task self.new) }
+        ensures grown { OnOk result (HasGrown F.value task self.old.dd self.new.dd) }
+        ensures stopped { IfErr result (Stopped F.holds task self.new) }
+    {
+        let cut = self.kept_cut(found)?;
+        take(self.alloc, &mut self.trail, &mut self.dd, &cut)
+    }
+
+    /// Brings a cut into use that a live generator violates, and answers whether there is one: if
+    /// not, all that are asked have pre-images.
+    fn turn(&mut self, scope: Scope) -> Result<bool, SolveFault>
+        ghost task: { Task }
+        requires { IsSearching F.value F.holds task self.old }
+        ensures searching { OnOk result (IsSearching F.value F.holds task self.new) }
+        ensures grown { IfOk result (λ more. IsTrue more → HasGrown F.value task self.old.dd self.new.dd) }
+        ensures reached { IfOk result (λ more. more ≡ false → AreReached scope self.new.trail self.new.dd) }
+        ensures stopped { IfErr result (Stopped F.holds task self.new) }
+    {
+        match self.advance(scope)? {
+            Round::Grown => Ok(true),
+            Round::Overflowed(found) => {
+                self.settle(found)?;
+                Ok(true)
+            }
+            Round::Reached => Ok(false),
+        }
+    }
+
+    /// Brings cuts into use, one at a time, until each live generator that is asked has a
+    /// pre-image in the log. Each turn costs a linear program for each such generator that has
+    /// none, up to the first with a cut whose addition does not overflow, and an addition to the
+    /// double description for each cut.
+    pub(crate) fn approximate(&mut self, scope: Scope) -> Result<(), SolveFault>
+        ghost task: { Task }
+        requires { IsSearching F.value F.holds task self.old }
+        ensures searching { OnOk result (IsSearching F.value F.holds task self.new) }
+        ensures reached { OnOk result (AreReached scope self.new.trail self.new.dd) }
+        ensures stopped { IfErr result (Stopped F.holds task self.new) }
+    {
+        while self.turn(scope)? {}
+        Ok(())
+    }
+
+    /// Asks at the live directions, and brings the cuts that they violate into use, until each has
+    /// a pre-image in the log, so that they are the extreme directions of the image's recession
+    /// cone.
+    pub(crate) fn directions(&mut self) -> Result<(), SolveFault>
+        ghost task: { Task }
+        requires { IsSearching F.value F.holds task self.old }
+        ensures searching { OnOk result (IsSearching F.value F.holds task self.new) }
+        ensures reached { OnOk result (AreDirectionsReached self.new.trail self.new.dd) }
+        ensures stopped { IfErr result (Stopped F.holds task self.new) }
+    {
+        self.approximate(Scope::Directions)
+    }
 }

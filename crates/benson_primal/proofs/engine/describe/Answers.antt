@@ -1,28 +1,8 @@
-use Rattle.std.proofs.Common.{rules, ◌≡◌, ◌≤◌, ◌<◌, length, ◌∙◌, arith}
-use Rattle.lp_form.proofs.Figures.{objective_number}
-use Rattle.benson_primal.proofs.Marked.{all_reached, no_marks}
+use Rattle.std.proofs.Common.{rules}
+use Rattle.benson_primal.proofs.Marked.{all_reached}
 use Rattle.benson_primal.proofs.engine.describe.Goals as goal
-
-pub started-requires : goal.started-requires
-started-requires g c κs within =
-    let k = c.requires.1.0 in
-    let first = c.requires.1.1.0 in
-    let q : c.len.result ≡ g.task.file.objs = c.len.ensures.value ∙ objective_number g.F.Field.value g.task.file c.args.form.now k.stands in
-    let most : g.task.file.objs ≤ 100000 = g.task.file.objs_bounded in
-    (search rules, (q, (omega (arith, q, most), (c.requires.1.1.1.0, (first.many, (λ i d l. (first.each i d l).wide, first.rank))))))
-
-pub directions-requires : goal.directions-requires
-directions-requires g c κs within = (
-  search rules,
-  (
-    c.requires.1.0,
-    (
-      c.in_ok-dd.ensures.ok,
-      no_marks c.started.new.trail c.in_ok-reached.reached c.in_ok-reached.ensures (λ i. c.in_ok-dd.ensures.preimages i ∙ c.requires.1.1.1.1 i),
-    ),
-  ),
-)
 
 pub solved-requires : goal.solved-requires
 solved-requires g c κs within =
-    (search rules, (c.in_ok-approximate.ensures.outer, all_reached c.approximate.new.trail c.approximate.new.dd c.in_ok-approximate.ensures.reached))
+    let s = c.approximate.new.self in
+    (search rules, (c.in_ok-approximate.ensures.searching.outer, all_reached s.trail s.dd c.in_ok-approximate.ensures.reached))

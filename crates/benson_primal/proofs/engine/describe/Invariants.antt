@@ -1,8 +1,5 @@
 use Rattle.benson_primal.proofs.engine.describe.Given as goal
 
-abbrev pub ghost-started : goal.ghost-started
-ghost-started g a = g.task
-
 abbrev pub ghost-directions : goal.ghost-directions
 ghost-directions g a = g.task
 

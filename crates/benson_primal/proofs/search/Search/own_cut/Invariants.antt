@@ -1,4 +1,4 @@
-use Rattle.benson_primal.proofs.search.asked.Given as goal
+use Rattle.benson_primal.proofs.search.Search.own_cut.Given as goal
 
 abbrev pub ghost-ask : goal.ghost-ask
 ghost-ask g a = g.task
