@@ -1,11 +1,14 @@
-//! Rows: sums and products, independent rows, inverses, and each step that can overflow.
+//! Rows: sums and products, independent rows, inverses, complements, and each step that can
+//! overflow.
 
 use super::texts::{
     begins, number, numbers, put_fault, put_numbers, put_places, put_rows, rows, sum_text,
 };
 use exact_field::Field;
 use frac128::{Frac, Tiny};
-use lin_rows::{Indep, Inverse, RowFault, Rows, combine, dot, independent, invert, scale};
+use lin_rows::{
+    Indep, Inverse, RowFault, Rows, combine, complement, dot, independent, invert, scale,
+};
 use src_sink::{Bytes, Items, NoMemory};
 use std::alloc::Global;
 
@@ -15,6 +18,11 @@ independent; 1/2 1/2, 0 1; basis 1 2
 invert; 1/2 1/2, 0 1; inverse 2 -1, 0 1,
 independent; 0 1; orthogonal 1 0
 invert; 0 1, 0 1; orthogonal 1 0
+complement; 1/2 1/2; complement 1 -1, end
+complement; 1 2, 2 4, -1/2 -1; complement 1 -1/2, end
+complement; -2 1 1; complement 1 0 2, 0 1 -1, end
+complement; 1 0, 0 1, 1 1; complement end
+complement of no rows; 2; complement 1 0, 0 1, end
 combine; 1 0; 1/4; -4 4; list 0 1
 scale; 0 1; 4; list 0 4
 dot; 1 4; 4 4; sum 20";
@@ -23,6 +31,7 @@ dot; 1 4; 4 4; sum 20";
 const GIVEN_UP: &str = "\
 independent; 100 1/2; left 1 2 1 div 100 1/2
 independent; 12 1, 1 12; left 1 2 2 mul 12 12
+complement; 12 1, 1 12; left 1 2 2 mul 12 12
 independent; 10 1, -100 10; left 1 2 3 sub -100 100
 combine; 1 100; 12; 1 3; left 0 2 3 add 100 36
 scale; 1 12; 12; left 0 2 2 mul 12 12
@@ -65,6 +74,20 @@ fn invert_text<F: Field>(alloc: Global, rows: &Rows<F>) -> Option<Bytes> {
     Some(text)
 }
 
+/// What `complement` answers.
+fn complement_text<F: Field>(alloc: Global, rows: &Rows<F>) -> Result<Bytes, NoMemory> {
+    let mut text = Bytes::new(alloc);
+    match complement(alloc, rows, rows.width()) {
+        Ok(vectors) => {
+            text.append(b"complement")?;
+            put_rows(&mut text, &vectors)?;
+            text.append(b" end")?;
+        }
+        Err(fault) => put_fault(&mut text, &fault)?,
+    }
+    Ok(text)
+}
+
 /// The text of a list or a fault.
 fn list_text<F: Field>(
     alloc: Global,
@@ -102,6 +125,11 @@ fn answer<F: Field>(alloc: Global, call: &[&str]) -> Option<Bytes> {
     match call {
         ["independent", list] => independent_text::<F>(alloc, &rows(alloc, list)?).ok(),
         ["invert", list] => invert_text::<F>(alloc, &rows(alloc, list)?),
+        ["complement", list] => complement_text::<F>(alloc, &rows(alloc, list)?).ok(),
+        ["complement of no rows", width] => {
+            let none: Rows<F> = Rows::new(alloc, width.trim().parse().ok()?);
+            complement_text(alloc, &none).ok()
+        }
         ["dot", a, b] => {
             let (a, b) = (numbers::<F>(alloc, a)?, numbers(alloc, b)?);
             dot_text(alloc, a.as_slice(), b.as_slice())
