@@ -52,11 +52,12 @@ pub record NoLog (f : ALogFault) (bytes text : List ℕ) : Type 0 where
 pub record FailsAt (entry : ℕ) (rule : Rule) (file : Problem) (bytes text : List ℕ) : Type 0 where
   pub entries : List Entry
   pub log : IsTextOf bytes entries
-  pub wrong : log_failure is_held file entries ≡ Some (record { entry = entry; failure = wrong rule })
+  pub wrong : log_failure is_held file entries
+      ≡ Some (record { entry = entry; failure = wrong rule })
   pub line : text ≡ refusal_text (Wrong entry rule)
 
--- the first event of a log's entries that fails is a step, of the entry and number that the licence names and with its
--- operands; no entry was made
+-- the first event of a log's entries that fails is a step, of the entry and number that the licence
+-- names and with its operands; no entry was made
 pub record StopsAt (l : Licence) (file : Problem) (bytes text : List ℕ) : Type 0 where
   pub entry : ℕ
   pub step : ℕ
@@ -64,10 +65,12 @@ pub record StopsAt (l : Licence) (file : Problem) (bytes text : List ℕ) : Type
   pub trail : l.trail ≡ []
   pub entries : List Entry
   pub log : IsTextOf bytes entries
-  pub stops : log_failure is_held file entries ≡ Some (record { entry = entry; failure = left step l.left.op l.left.a l.left.b })
+  pub stops : log_failure is_held file entries
+      ≡ Some (record { entry = entry; failure = left step l.left.op l.left.a l.left.b })
   pub line : text ≡ left_text entry step l.left
 
--- no event of a log's entries fails, they prove an answer for the file, that answer is right, and this is its report
+-- no event of a log's entries fails, they prove an answer for the file, that answer is right, and
+-- this is its report
 pub record Proved (file : Problem) (bytes text : List ℕ) : Type 0 where
   pub entries : List Entry
   pub log : IsTextOf bytes entries
@@ -117,8 +120,8 @@ abbrev pub CheckHalts : Status → Sources → Sources → Type 0
 CheckHalts (ReadFault true) old new = LogFailed old new
 CheckHalts status old new = ProblemHalts status old new
 
--- the outside did not fail in this call of `check FILE LOG`, both texts were told, are a file's and a log's and lie within
--- their limits, and no event of the log's entries fails
+-- the outside did not fail in this call of `check FILE LOG`, both texts were told, are a file's
+-- and a log's and lie within their limits, and no event of the log's entries fails
 pub record HonestCheck (old new : World) : Type 0 where
   pub bytes : List ℕ
   pub problem : old.problem.bytes ≡ Some bytes

@@ -28,9 +28,12 @@ TellsRefusal why status text = (status ≡ Refused why) × (text ≡ refusal_tex
 -- a status and a text tell the end of the check of a log
 abbrev pub TellsEnd : StreamEnd → Status → List ℕ → Type 0
 TellsEnd (end.Text f) status text = TellsRefusal (Text f) status text
-TellsEnd (end.Refused (refusal.Wrong entry rule)) status text = TellsRefusal (Wrong entry rule) status text
-TellsEnd (end.Refused (refusal.Left entry step l)) status text = (status ≡ Left (step_licence entry step l)) × (text ≡ left_text entry step l)
-TellsEnd (end.TooLong read) status text = (status ≡ TooLong true read) × (text ≡ too_long_text true read)
+TellsEnd (end.Refused (refusal.Wrong entry rule)) status text =
+    TellsRefusal (Wrong entry rule) status text
+TellsEnd (end.Refused (refusal.Left entry step l)) status text =
+    (status ≡ Left (step_licence entry step l)) × (text ≡ left_text entry step l)
+TellsEnd (end.TooLong read) status text =
+    (status ≡ TooLong true read) × (text ≡ too_long_text true read)
 TellsEnd _ status text = ⊥
 
 -- or there are none: memory was wanting, or the source failed
@@ -39,8 +42,11 @@ HaltsEnd e status = (status ≡ NoMemory) ⊎ ((e ≡ end.Fault) × (status ≡ 
 
 -- what a status and a text tell of the source of a log, for a file
 abbrev pub LogTold : Problem → Status → List ℕ → Channel → Channel → Type 0
-LogTold file (TooLong true read) text old new = ReadPast old new log_limit read × (text ≡ too_long_text true read)
-LogTold file status text old new = (bytes : List ℕ) × ReadsWhole old.bytes new.bytes log_limit bytes × LogVerdict file bytes status text
+LogTold file (TooLong true read) text old new =
+    ReadPast old new log_limit read × (text ≡ too_long_text true read)
+LogTold file status text old new =
+    (bytes : List ℕ) × ReadsWhole old.bytes new.bytes log_limit bytes
+    × LogVerdict file bytes status text
 
 -- why they tell nothing
 abbrev pub LogHalts : Status → Channel → Channel → Type 0

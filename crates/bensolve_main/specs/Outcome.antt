@@ -15,7 +15,8 @@ use Rattle.bensolve_main.specs.declared.status.Status.TheVariants.{Done, NoMemor
 -- what a reply says of the bytes that were read
 abbrev pub Replies : Shape → Reply → World → World → Type 0
 Replies (check file log) reply old new = CheckReplies reply (sources_of old) (sources_of new)
-Replies (solve file log) reply old new = SolveReplies (is_some log) reply (sources_of old) (sources_of new)
+Replies (solve file log) reply old new =
+    SolveReplies (is_some log) reply (sources_of old) (sources_of new)
 Replies (sample number) reply old new = SampleReplies number reply
 
 -- why a command halts without a reply: a source failed, or memory was wanting
@@ -32,10 +33,12 @@ pub record Halts (shape : Shape) (result : Status) (old new : World) : Type 0 wh
 
 -- some reply was to be made, and this became of it, or the command halted
 abbrev pub Outcome : Shape → Status → World → World → Type 0
-Outcome shape result old new = ((reply : Reply) × Replies shape reply old new × Delivers reply result old new) ⊎ Halts shape result old new
+Outcome shape result old new =
+    ((reply : Reply) × Replies shape reply old new × Delivers reply result old new)
+    ⊎ Halts shape result old new
 
--- nothing stands against an answer: the outside did not fail in this call, what it told is right and within its limits, and no exact
--- number that is wanted is too large to be held
+-- nothing stands against an answer: the outside did not fail in this call, what it told is right
+-- and within its limits, and no exact number that is wanted is too large to be held
 abbrev pub Honest : Shape → World → World → Type 0
 Honest (check file log) old new = HonestCheck old new
 Honest (solve file log) old new = HonestSolve (is_some log) old new

@@ -17,8 +17,8 @@ use Rattle.bensolve_main.specs.Reply.{Reply}
 use Rattle.bensolve_main.specs.declared.status.Status.{Status}
 use Rattle.bensolve_main.specs.declared.status.Status.TheVariants.{Done, Left}
 
--- there are the sample file, as which its text reads, and a log's entries and an answer, which solve it: the answer lists its image, the
--- text is the summary of the lists, and there is no log
+-- there are the sample file, as which its text reads, and a log's entries and an answer, which
+-- solve it: the answer lists its image, the text is the summary of the lists, and there is no log
 pub record SampleSolved (number : ℕ) (text : List ℕ) (log : Option (List ℕ)) : Type 0 where
   pub file : Problem
   pub sample : IsSample number file
@@ -29,7 +29,8 @@ pub record SampleSolved (number : ℕ) (text : List ℕ) (log : Option (List ℕ
   pub no_log : log ≡ None
 
 -- the overflow is licensed for the sample file, the text tells it, and there is no log
-pub record SampleOverflowed (l : Licence) (number : ℕ) (text : List ℕ) (log : Option (List ℕ)) : Type 0 where
+pub record SampleOverflowed (l : Licence) (number : ℕ) (text : List ℕ) (log : Option (List ℕ))
+    : Type 0 where
   pub file : Problem
   pub sample : IsSample number file
   pub overflow : Overflowed l file text log
@@ -44,7 +45,9 @@ SampleVerdict number _ text log = ⊥
 abbrev pub SampleReplies : ℕ → Reply → Type 0
 SampleReplies number r = SampleVerdict number r.status r.text r.log
 
--- the outside did not fail in this call of `sample`, and no overflow is licensed for the sample file
+-- the outside did not fail in this call of `sample`, and no overflow is licensed for the sample
+-- file
 pub record HonestSample (number : ℕ) (old new : World) : Type 0 where
-  pub held : (file : Problem) → IsSample number file → (l : Licence) → LicensedAnyhow is_held file l → ⊥
+  pub held : (file : Problem) → IsSample number file →
+      (l : Licence) → LicensedAnyhow is_held file l → ⊥
   pub out_steady : ¬ (Rose old.out.faults new.out.faults)

@@ -6,14 +6,15 @@ use Rattle.std.specs.Option.{option_copied, option_map}
 use Rattle.std.specs.Str.{bytes_eq}
 use Rattle.sample_file.specs.Words.{number_of}
 
--- the shape of a command, with the words that name its files; `solve` has a log or none, and `sample` a number and no file
+-- the shape of a command, with the words that name its files; `solve` has a log or none, and
+-- `sample` a number and no file
 pub data Shape : Type 0 where
   check : (file log : List ℕ) → Shape
   solve : (file : List ℕ) (log : Option (List ℕ)) → Shape
   sample : (number : ℕ) → Shape
 
--- the shape of words without the program's name: `solve FILE`, `sample N` with the decimal text of a number from 1 to 1000, and
--- `check FILE LOG` and `solve FILE LOG` with two different files
+-- the shape of words without the program's name: `solve FILE`, `sample N` with the decimal text
+-- of a number from 1 to 1000, and `check FILE LOG` and `solve FILE LOG` with two different files
 abbrev pub shape_of : List (List ℕ) → Option Shape
 shape_of (word ∷ file ∷ []) =
     if bytes_eq word (codes "solve") then Some (solve file None)

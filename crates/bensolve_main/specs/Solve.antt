@@ -25,21 +25,25 @@ abbrev pub log_for : Bool → List Entry → Option (List ℕ)
 log_for true entries = Some (log_text entries)
 log_for false entries = None
 
--- there are a log's entries and an answer, which solve the problem: the text is the report of the answer, and the log that of the entries
-pub record Solved (logs : Bool) (file : Problem) (text : List ℕ) (log : Option (List ℕ)) : Type 0 where
+-- there are a log's entries and an answer, which solve the problem: the text is the report of the
+-- answer, and the log that of the entries
+pub record Solved (logs : Bool) (file : Problem) (text : List ℕ) (log : Option (List ℕ))
+    : Type 0 where
   pub solution : Solution
   pub right : IsSolutionOf file solution
   pub report : text ≡ report_text file solution.answer
   pub printed : log ≡ log_for logs solution.entries
 
 -- the ordering cone has this first fault, the text tells it, and there is no log
-pub record ConeRefused (f : AConeFault) (file : Problem) (text : List ℕ) (log : Option (List ℕ)) : Type 0 where
+pub record ConeRefused (f : AConeFault) (file : Problem) (text : List ℕ) (log : Option (List ℕ))
+    : Type 0 where
   pub fault : HasFault file f
   pub line : text ≡ cone_fault_text f
   pub no_log : log ≡ None
 
 -- the overflow is licensed, the text tells it, and there is no log
-pub record Overflowed (l : Licence) (file : Problem) (text : List ℕ) (log : Option (List ℕ)) : Type 0 where
+pub record Overflowed (l : Licence) (file : Problem) (text : List ℕ) (log : Option (List ℕ))
+    : Type 0 where
   pub licensed : LicensedAnyhow is_held file l
   pub line : text ≡ licence_text l
   pub no_log : log ≡ None
@@ -67,8 +71,9 @@ pub record TellsNoFile (r : Reply) (old new : Sources) : Type 0 where
 abbrev pub SolveReplies : Bool → Reply → Sources → Sources → Type 0
 SolveReplies logs r old new = TellsNoFile r old new ⊎ Solves logs r old new
 
--- the outside did not fail in this call of `solve`, the problem was told, lies within its limit and reads as some file; and of each file
--- as which it reads the cone has no fault and no overflow is licensed
+-- the outside did not fail in this call of `solve`, the problem was told, lies within its limit and
+-- reads as some file; and of each file as which it reads the cone has no fault and no overflow is
+-- licensed
 pub record HonestSolve (logs : Bool) (old new : World) : Type 0 where
   pub bytes : List ℕ
   pub problem : old.problem.bytes ≡ Some bytes

@@ -3,7 +3,8 @@ use Rattle.std.specs.Prelude.{◌≡◌, ℕ, ◌<◌, ◌≤◌, List, length, 
 use Rattle.src_sink.specs.Outside.{Appends, Rose}
 use Rattle.src_sink.specs.Ends.{TakesAtMost, TakesCount}
 
--- what a channel tells: the bytes that are left in a source, or held by an output, and how many calls failed
+-- what a channel tells: the bytes that are left in a source, or held by an output, and how many
+-- calls failed
 pub record Channel : Type 0 where
   pub bytes : Option (List ℕ)
   pub faults : ℕ
@@ -19,7 +20,12 @@ pub record World : Type 0 where
   pub log_out : Channel
 
 abbrev pub world : Channel → Channel → Channel → Channel → World
-world problem log_in out log_out = record { problem = problem; log_in = log_in; out = out; log_out = log_out }
+world problem log_in out log_out = record {
+  problem = problem;
+  log_in = log_in;
+  out = out;
+  log_out = log_out;
+}
 
 -- the two sources
 pub record Sources : Type 0 where

@@ -22,7 +22,8 @@ const LOG_LIMIT: u64 = 268_435_456;
 
 /// What is told of a step whose exact result is not held.
 fn step_reply(alloc: Global, entry: u32, step: u64, left: Left<Frac>) -> Result<Reply, NoMemory>
-    ensures { IfOk result (λ r. (r.status ≡ Status.Left (step_licence entry step left)) × (r.text ≡ left_text entry step left)) }
+    ensures { IfOk result (λ r. (r.status ≡ Status.Left (step_licence entry step left))
+        × (r.text ≡ left_text entry step left)) }
 {
     let licence = Licence {
         place: Place::Step { entry, step },
@@ -73,8 +74,12 @@ fn end_reply(alloc: Global, end: StreamEnd) -> Result<Reply, Status>
 /// Reads and checks the log. An `Err` is a status without a text.
 fn examine_log<L: Source>(alloc: Global, file: &Problem, log_in: &mut L) -> Result<Reply, Status>
     ensures count { L.faults log_in.old ≤ L.faults log_in.new }
-    ensures told { IfOk result (λ r. LogTold file.now r.status r.text (channel (L.left log_in.old) (L.faults log_in.old)) (channel (L.left log_in.new) (L.faults log_in.new))) }
-    ensures halts { IfErr result (λ s. LogHalts s (channel (L.left log_in.old) (L.faults log_in.old)) (channel (L.left log_in.new) (L.faults log_in.new))) }
+    ensures told { IfOk result (λ r. LogTold file.now r.status r.text
+        (channel (L.left log_in.old) (L.faults log_in.old))
+        (channel (L.left log_in.new) (L.faults log_in.new))) }
+    ensures halts { IfErr result (λ s. LogHalts s
+        (channel (L.left log_in.old) (L.faults log_in.old))
+        (channel (L.left log_in.new) (L.faults log_in.new))) }
 {
     match check_from(alloc, file, log_in, LOG_LIMIT) {
         Ok(answer) => {
@@ -92,13 +97,18 @@ pub(crate) fn examine<S: Source, L: Source>(
     problem: &mut S,
     log_in: &mut L,
 ) -> Result<Reply, Status>
-    ensures counts { (S.faults problem.old ≤ S.faults problem.new) × (L.faults log_in.old ≤ L.faults log_in.new) }
+    ensures counts { (S.faults problem.old ≤ S.faults problem.new)
+        × (L.faults log_in.old ≤ L.faults log_in.new) }
     ensures told { IfOk result (λ r. Told r.status r.text
-        (sources (channel (S.left problem.old) (S.faults problem.old)) (channel (L.left log_in.old) (L.faults log_in.old)))
-        (sources (channel (S.left problem.new) (S.faults problem.new)) (channel (L.left log_in.new) (L.faults log_in.new)))) }
+        (sources (channel (S.left problem.old) (S.faults problem.old))
+        (channel (L.left log_in.old) (L.faults log_in.old)))
+        (sources (channel (S.left problem.new) (S.faults problem.new))
+        (channel (L.left log_in.new) (L.faults log_in.new)))) }
     ensures halts { IfErr result (λ s. CheckHalts s
-        (sources (channel (S.left problem.old) (S.faults problem.old)) (channel (L.left log_in.old) (L.faults log_in.old)))
-        (sources (channel (S.left problem.new) (S.faults problem.new)) (channel (L.left log_in.new) (L.faults log_in.new)))) }
+        (sources (channel (S.left problem.old) (S.faults problem.old))
+        (channel (L.left log_in.old) (L.faults log_in.old)))
+        (sources (channel (S.left problem.new) (S.faults problem.new))
+        (channel (L.left log_in.new) (L.faults log_in.new)))) }
 {
     match read_problem(alloc, problem) {
         Ok(file) => examine_log(alloc, &file, log_in),

@@ -53,7 +53,8 @@ pub(crate) fn reply_at(end: ProblemEnd) -> Result<Reply, Status>
 
 /// What is told of a problem's text that has a fault.
 fn file_reply(alloc: Global, fault: FileFault) -> Result<Reply, NoMemory>
-    ensures { IfOk result (λ r. (r.status ≡ Status.FileFault fault) × (r.text ≡ file_fault_text fault)) }
+    ensures { IfOk result (λ r. (r.status ≡ Status.FileFault fault)
+        × (r.text ≡ file_fault_text fault)) }
 {
     let text = file_fault_line(alloc, fault)?;
     let status = Status::FileFault(fault);
@@ -62,7 +63,8 @@ fn file_reply(alloc: Global, fault: FileFault) -> Result<Reply, NoMemory>
 
 /// What is told of a source with more bytes than its limit.
 pub(crate) fn long_reply(alloc: Global, log: bool, read: u64) -> Result<Reply, NoMemory>
-    ensures { IfOk result (λ r. (r.status ≡ Status.TooLong log read) × (r.text ≡ too_long_text log read)) }
+    ensures { IfOk result (λ r. (r.status ≡ Status.TooLong log read)
+        × (r.text ≡ too_long_text log read)) }
 {
     let text = too_long_line(alloc, log, read)?;
     let status = Status::TooLong { log, read };
@@ -72,7 +74,9 @@ pub(crate) fn long_reply(alloc: Global, log: bool, read: u64) -> Result<Reply, N
 /// Reads the problem.
 pub(crate) fn read_problem<S: Source>(alloc: Global, problem: &mut S) -> Result<Problem, ProblemEnd>
     ensures count { S.faults problem.old ≤ S.faults problem.new }
-    ensures file { IfOk result (λ file. GoodFile file (channel (S.left problem.old) (S.faults problem.old)) (channel (S.left problem.new) (S.faults problem.new))) }
+    ensures file { IfOk result (λ file. GoodFile file
+        (channel (S.left problem.old) (S.faults problem.old))
+        (channel (S.left problem.new) (S.faults problem.new))) }
     ensures end { IfErr result (λ end. (log_in : Channel) → EndsProblem end
         (sources (channel (S.left problem.old) (S.faults problem.old)) log_in)
         (sources (channel (S.left problem.new) (S.faults problem.new)) log_in)) }

@@ -96,7 +96,8 @@ pub(crate) fn solve_problem<S: Source>(
     logs: bool,
 ) -> Result<LoggedReply, Status>
     ensures count { S.faults problem.old ≤ S.faults problem.new }
-    ensures told { IfOk result (λ r. (log_in : Channel) → SolveReplies logs (reply r.reply.status r.reply.text r.log)
+    ensures told { IfOk result (λ r. (log_in : Channel) →
+        SolveReplies logs (reply r.reply.status r.reply.text r.log)
         (sources (channel (S.left problem.old) (S.faults problem.old)) log_in)
         (sources (channel (S.left problem.new) (S.faults problem.new)) log_in)) }
     ensures no_log { IfOk result (λ r. logs ≡ false → r.log ≡ None) }

@@ -25,8 +25,8 @@ pub enum Status {
     FileFault(FileFault),
     /// The ordering cone or the duality vector has this first fault.
     ConeFault(ConeFault),
-    /// An operation has an exact result that is not held. Of `check` it is a step of an entry's check, at `Place::Step`, and
-    /// no entry was made.
+    /// An operation has an exact result that is not held. Of `check` it is a step of an entry's
+    /// check, at `Place::Step`, and no entry was made.
     Left(Licence),
     /// Memory was wanting.
     NoMemory,

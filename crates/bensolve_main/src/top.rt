@@ -18,12 +18,13 @@ use std::alloc::Global;
 
 /// Runs the command that `words` give, without the program's name.
 ///
-/// `check FILE LOG` reads the problem, then the log, checks the log, and writes the report of the answer
-/// that it proves, or one fault line, to `out`. `solve FILE` reads the problem, solves it, and writes the report
-/// of its answer, or one fault line, to `out`; `solve FILE LOG` then writes a log that proves the answer to
-/// `log_out`, where there is an answer. `sample N` makes the sample file of a number from 1 to 1000, solves it, and
-/// writes five lines to `out`, which tell how many points, directions and facets its image has, or one fault line.
-/// Everything is read, and every text made, before anything is written.
+/// `check FILE LOG` reads the problem, then the log, checks the log, and writes the report of the
+/// answer that it proves, or one fault line, to `out`. `solve FILE` reads the problem, solves it,
+/// and writes the report of its answer, or one fault line, to `out`; `solve FILE LOG` then writes a
+/// log that proves the answer to `log_out`, where there is an answer. `sample N` makes the sample
+/// file of a number from 1 to 1000, solves it, and writes five lines to `out`, which tell how many
+/// points, directions and facets its image has, or one fault line. Everything is read, and every
+/// text made, before anything is written.
 pub fn run<S: Source, L: Source, T: Sink, K: Sink>(
     alloc: Global,
     words: &[String],
@@ -36,20 +37,39 @@ pub fn run<S: Source, L: Source, T: Sink, K: Sink>(
     ensures words { (result ≡ Status.Words) ↔ (shape_of (map string_bytes words.now) ≡ None) }
 
     // What the words do not name is not called.
-    ensures problem { problem_path (shape_of (map string_bytes words.now)) ≡ None → problem.new ≡ problem.old }
-    ensures log_in { log_in_path (shape_of (map string_bytes words.now)) ≡ None → log_in.new ≡ log_in.old }
+    ensures problem { problem_path (shape_of (map string_bytes words.now)) ≡ None →
+        problem.new ≡ problem.old }
+    ensures log_in { log_in_path (shape_of (map string_bytes words.now)) ≡ None →
+        log_in.new ≡ log_in.old }
     ensures out { shape_of (map string_bytes words.now) ≡ None → out.new ≡ out.old }
-    ensures log_out { log_out_path (shape_of (map string_bytes words.now)) ≡ None → log_out.new ≡ log_out.old }
+    ensures log_out { log_out_path (shape_of (map string_bytes words.now)) ≡ None →
+        log_out.new ≡ log_out.old }
 
     // What the status says of the bytes that were read and written.
     ensures outcome { IfSome (shape_of (map string_bytes words.now)) (λ shape. Outcome shape result
-        (world (channel (S.left problem.old) (S.faults problem.old)) (channel (L.left log_in.old) (L.faults log_in.old)) (channel (T.held out.old) (T.faults out.old)) (channel (K.held log_out.old) (K.faults log_out.old)))
-        (world (channel (S.left problem.new) (S.faults problem.new)) (channel (L.left log_in.new) (L.faults log_in.new)) (channel (T.held out.new) (T.faults out.new)) (channel (K.held log_out.new) (K.faults log_out.new)))) }
+        (world
+        (channel (S.left problem.old) (S.faults problem.old))
+        (channel (L.left log_in.old) (L.faults log_in.old))
+        (channel (T.held out.old) (T.faults out.old))
+        (channel (K.held log_out.old) (K.faults log_out.old)))
+        (world
+        (channel (S.left problem.new) (S.faults problem.new))
+        (channel (L.left log_in.new) (L.faults log_in.new))
+        (channel (T.held out.new) (T.faults out.new))
+        (channel (K.held log_out.new) (K.faults log_out.new)))) }
 
     // Where the outside is honest there is an answer, unless memory is wanting.
     ensures complete { IfSome (shape_of (map string_bytes words.now)) (λ shape. Honest shape
-        (world (channel (S.left problem.old) (S.faults problem.old)) (channel (L.left log_in.old) (L.faults log_in.old)) (channel (T.held out.old) (T.faults out.old)) (channel (K.held log_out.old) (K.faults log_out.old)))
-        (world (channel (S.left problem.new) (S.faults problem.new)) (channel (L.left log_in.new) (L.faults log_in.new)) (channel (T.held out.new) (T.faults out.new)) (channel (K.held log_out.new) (K.faults log_out.new)))
+        (world
+        (channel (S.left problem.old) (S.faults problem.old))
+        (channel (L.left log_in.old) (L.faults log_in.old))
+        (channel (T.held out.old) (T.faults out.old))
+        (channel (K.held log_out.old) (K.faults log_out.old)))
+        (world
+        (channel (S.left problem.new) (S.faults problem.new))
+        (channel (L.left log_in.new) (L.faults log_in.new))
+        (channel (T.held out.new) (T.faults out.new))
+        (channel (K.held log_out.new) (K.faults log_out.new)))
         → Completes result) }
 
     // With the same problem, `check` accepts the log that `solve FILE LOG` writes, and reports the
@@ -69,8 +89,16 @@ pub fn run<S: Source, L: Source, T: Sink, K: Sink>(
 
     // No count of faults falls.
     ensures counts { NoCountFell
-        (world (channel (S.left problem.old) (S.faults problem.old)) (channel (L.left log_in.old) (L.faults log_in.old)) (channel (T.held out.old) (T.faults out.old)) (channel (K.held log_out.old) (K.faults log_out.old)))
-        (world (channel (S.left problem.new) (S.faults problem.new)) (channel (L.left log_in.new) (L.faults log_in.new)) (channel (T.held out.new) (T.faults out.new)) (channel (K.held log_out.new) (K.faults log_out.new))) }
+        (world
+        (channel (S.left problem.old) (S.faults problem.old))
+        (channel (L.left log_in.old) (L.faults log_in.old))
+        (channel (T.held out.old) (T.faults out.old))
+        (channel (K.held log_out.old) (K.faults log_out.old)))
+        (world
+        (channel (S.left problem.new) (S.faults problem.new))
+        (channel (L.left log_in.new) (L.faults log_in.new))
+        (channel (T.held out.new) (T.faults out.new))
+        (channel (K.held log_out.new) (K.faults log_out.new))) }
 {
     match command_in(words) {
         Some(command) => run_command(alloc, command, problem, log_in, out, log_out),
@@ -87,15 +115,34 @@ fn run_command<S: Source, L: Source, T: Sink, K: Sink>(
     out: &mut T,
     log_out: &mut K,
 ) -> Status
-    ensures problem { problem_path (Some (shape_seen command.entry)) ≡ None → problem.new ≡ problem.old }
-    ensures log_in { log_in_path (Some (shape_seen command.entry)) ≡ None → log_in.new ≡ log_in.old }
-    ensures log_out { log_out_path (Some (shape_seen command.entry)) ≡ None → log_out.new ≡ log_out.old }
+    ensures problem { problem_path (Some (shape_seen command.entry)) ≡ None →
+        problem.new ≡ problem.old }
+    ensures log_in { log_in_path (Some (shape_seen command.entry)) ≡ None →
+        log_in.new ≡ log_in.old }
+    ensures log_out { log_out_path (Some (shape_seen command.entry)) ≡ None →
+        log_out.new ≡ log_out.old }
     ensures outcome { Outcome (shape_seen command.entry) result
-        (world (channel (S.left problem.old) (S.faults problem.old)) (channel (L.left log_in.old) (L.faults log_in.old)) (channel (T.held out.old) (T.faults out.old)) (channel (K.held log_out.old) (K.faults log_out.old)))
-        (world (channel (S.left problem.new) (S.faults problem.new)) (channel (L.left log_in.new) (L.faults log_in.new)) (channel (T.held out.new) (T.faults out.new)) (channel (K.held log_out.new) (K.faults log_out.new))) }
+        (world
+        (channel (S.left problem.old) (S.faults problem.old))
+        (channel (L.left log_in.old) (L.faults log_in.old))
+        (channel (T.held out.old) (T.faults out.old))
+        (channel (K.held log_out.old) (K.faults log_out.old)))
+        (world
+        (channel (S.left problem.new) (S.faults problem.new))
+        (channel (L.left log_in.new) (L.faults log_in.new))
+        (channel (T.held out.new) (T.faults out.new))
+        (channel (K.held log_out.new) (K.faults log_out.new))) }
     ensures counts { NoCountFell
-        (world (channel (S.left problem.old) (S.faults problem.old)) (channel (L.left log_in.old) (L.faults log_in.old)) (channel (T.held out.old) (T.faults out.old)) (channel (K.held log_out.old) (K.faults log_out.old)))
-        (world (channel (S.left problem.new) (S.faults problem.new)) (channel (L.left log_in.new) (L.faults log_in.new)) (channel (T.held out.new) (T.faults out.new)) (channel (K.held log_out.new) (K.faults log_out.new))) }
+        (world
+        (channel (S.left problem.old) (S.faults problem.old))
+        (channel (L.left log_in.old) (L.faults log_in.old))
+        (channel (T.held out.old) (T.faults out.old))
+        (channel (K.held log_out.old) (K.faults log_out.old)))
+        (world
+        (channel (S.left problem.new) (S.faults problem.new))
+        (channel (L.left log_in.new) (L.faults log_in.new))
+        (channel (T.held out.new) (T.faults out.new))
+        (channel (K.held log_out.new) (K.faults log_out.new))) }
 {
     match command {
         Command::Check { .. } => run_check(alloc, problem, log_in, out),
@@ -111,10 +158,20 @@ fn run_check<S: Source, L: Source, T: Sink>(
     log_in: &mut L,
     out: &mut T,
 ) -> Status
-    ensures counts { (S.faults problem.old ≤ S.faults problem.new) × (L.faults log_in.old ≤ L.faults log_in.new) × (T.faults out.old ≤ T.faults out.new) }
+    ensures counts { (S.faults problem.old ≤ S.faults problem.new)
+        × (L.faults log_in.old ≤ L.faults log_in.new)
+        × (T.faults out.old ≤ T.faults out.new) }
     ensures outcome { (file log : List ℕ) (log_out : Channel) → Outcome (check file log) result
-        (world (channel (S.left problem.old) (S.faults problem.old)) (channel (L.left log_in.old) (L.faults log_in.old)) (channel (T.held out.old) (T.faults out.old)) log_out)
-        (world (channel (S.left problem.new) (S.faults problem.new)) (channel (L.left log_in.new) (L.faults log_in.new)) (channel (T.held out.new) (T.faults out.new)) log_out) }
+        (world
+        (channel (S.left problem.old) (S.faults problem.old))
+        (channel (L.left log_in.old) (L.faults log_in.old))
+        (channel (T.held out.old) (T.faults out.old))
+        log_out)
+        (world
+        (channel (S.left problem.new) (S.faults problem.new))
+        (channel (L.left log_in.new) (L.faults log_in.new))
+        (channel (T.held out.new) (T.faults out.new))
+        log_out) }
 {
     match examine(alloc, problem, log_in) {
         Ok(reply) => send(out, false, reply.status, reply.text.as_slice()),
@@ -130,11 +187,22 @@ fn run_solve<S: Source, T: Sink, K: Sink>(
     out: &mut T,
     log_out: &mut K,
 ) -> Status
-    ensures counts { (S.faults problem.old ≤ S.faults problem.new) × (T.faults out.old ≤ T.faults out.new) × (K.faults log_out.old ≤ K.faults log_out.new) }
+    ensures counts { (S.faults problem.old ≤ S.faults problem.new)
+        × (T.faults out.old ≤ T.faults out.new)
+        × (K.faults log_out.old ≤ K.faults log_out.new) }
     ensures quiet { logs ≡ false → log_out.new ≡ log_out.old }
-    ensures outcome { (file : List ℕ) (log : Option (List ℕ)) (log_in : Channel) → logs ≡ is_some log → Outcome (solve file log) result
-        (world (channel (S.left problem.old) (S.faults problem.old)) log_in (channel (T.held out.old) (T.faults out.old)) (channel (K.held log_out.old) (K.faults log_out.old)))
-        (world (channel (S.left problem.new) (S.faults problem.new)) log_in (channel (T.held out.new) (T.faults out.new)) (channel (K.held log_out.new) (K.faults log_out.new))) }
+    ensures outcome { (file : List ℕ) (log : Option (List ℕ)) (log_in : Channel) →
+        logs ≡ is_some log → Outcome (solve file log) result
+        (world
+        (channel (S.left problem.old) (S.faults problem.old))
+        log_in
+        (channel (T.held out.old) (T.faults out.old))
+        (channel (K.held log_out.old) (K.faults log_out.old)))
+        (world
+        (channel (S.left problem.new) (S.faults problem.new))
+        log_in
+        (channel (T.held out.new) (T.faults out.new))
+        (channel (K.held log_out.new) (K.faults log_out.new))) }
 {
     match solve_problem(alloc, problem, logs) {
         Ok(reply) => tell_with_log(out, log_out, reply),
@@ -155,13 +223,22 @@ fn run_sample<T: Sink>(alloc: Global, number: u32, out: &mut T) -> Status
     }
 }
 
-/// Writes the text of a reply and then its log, if it has one, and answers its status, or that an output failed.
+/// Writes the text of a reply and then its log, if it has one, and answers its status, or that an
+/// output failed.
 fn tell_with_log<T: Sink, K: Sink>(out: &mut T, log_out: &mut K, told: LoggedReply) -> Status
-    ensures counts { (T.faults out.old ≤ T.faults out.new) × (K.faults log_out.old ≤ K.faults log_out.new) }
+    ensures counts { (T.faults out.old ≤ T.faults out.new)
+        × (K.faults log_out.old ≤ K.faults log_out.new) }
     ensures quiet { told.log ≡ None → log_out.new ≡ log_out.old }
-    ensures sent { (problem log_in problem' log_in' : Channel) → DeliversWith told.log told.reply.status told.reply.text result
-        (world problem log_in (channel (T.held out.old) (T.faults out.old)) (channel (K.held log_out.old) (K.faults log_out.old)))
-        (world problem' log_in' (channel (T.held out.new) (T.faults out.new)) (channel (K.held log_out.new) (K.faults log_out.new))) }
+    ensures sent { (problem log_in problem' log_in' : Channel) →
+        DeliversWith told.log told.reply.status told.reply.text result
+        (world
+        problem log_in
+        (channel (T.held out.old) (T.faults out.old))
+        (channel (K.held log_out.old) (K.faults log_out.old)))
+        (world
+        problem' log_in'
+        (channel (T.held out.new) (T.faults out.new))
+        (channel (K.held log_out.new) (K.faults log_out.new))) }
 {
     let LoggedReply { reply, log } = told;
     match log {
@@ -173,10 +250,13 @@ fn tell_with_log<T: Sink, K: Sink>(out: &mut T, log_out: &mut K, told: LoggedRep
     }
 }
 
-/// Writes a text to an output (that of the log, or the other one), and answers the status, or that the output failed.
+/// Writes a text to an output (that of the log, or the other one), and answers the status, or that
+/// the output failed.
 fn send<T: Sink>(sink: &mut T, log: bool, status: Status, text: &[u8]) -> Status
     ensures counts { T.faults sink.old ≤ T.faults sink.new }
-    ensures sent { Sends log text.now status result (channel (T.held sink.old) (T.faults sink.old)) (channel (T.held sink.new) (T.faults sink.new)) }
+    ensures sent { Sends log text.now status result
+        (channel (T.held sink.old) (T.faults sink.old))
+        (channel (T.held sink.new) (T.faults sink.new)) }
 {
     match write_all(sink, text) {
         Ok(()) => status,

@@ -12,13 +12,16 @@ use Rattle.log_rules.specs.Report.{report_text}
 use Rattle.log_rules.specs.declared.answer.Answer.{Answer}
 use Rattle.solver.specs.declared.end.Solution.{Solution}
 
--- the text of the entries is that of a log, no event of which fails for the problem, and each answer that they prove for it has this
--- report
+-- the text of the entries is that of a log, no event of which fails for the problem, and each
+-- answer that they prove for it has this report
 pub record PassesAs (report : List ℕ) (problem : Problem) (entries : List Entry) : Type 0 where
   pub text : IsTextOf (log_text entries) entries
   pub passes : log_failure is_held problem entries ≡ None
-  pub reports : (answer : Answer) → Proves problem entries answer → report_text problem answer ≡ report
+  pub reports : (answer : Answer) → Proves problem entries answer →
+      report_text problem answer ≡ report
 
--- whatever bytes read as the file: of each problem as which they read the solution's log proves an answer with the same report
+-- whatever bytes read as the file: of each problem as which they read the solution's log proves an
+-- answer with the same report
 abbrev pub IsAccepted : Problem → Solution → Type 0
-IsAccepted file s = (bytes : List ℕ) (problem : Problem) → Reads bytes file → Reads bytes problem → PassesAs (report_text file s.answer) problem s.entries
+IsAccepted file s = (bytes : List ℕ) (problem : Problem) → Reads bytes file → Reads bytes problem →
+    PassesAs (report_text file s.answer) problem s.entries

@@ -8,11 +8,15 @@ use Rattle.deriv_log.specs.declared.licence.Place.TheVariants.{Step}
 use Rattle.log_rules.specs.Events.{log_failure}
 use Rattle.log_rules.specs.Events.Failure.{left as overflows}
 
--- the licence of the first step of a log whose exact result is not held: its number in its entry, its operands, and the whole log
+-- the licence of the first step of a log whose exact result is not held: its number in its entry,
+-- its operands, and the whole log
 pub record IsStepLicence (file : Problem) (entries : List Entry) (licence : Licence) : Type 0 where
   pub entry : ℕ
   pub step : ℕ
   pub first : log_failure is_held file entries
-      ≡ Some (record { entry = entry; failure = overflows step licence.left.op licence.left.a licence.left.b })
+      ≡ Some (record {
+        entry = entry;
+        failure = overflows step licence.left.op licence.left.a licence.left.b;
+      })
   pub place : licence.place ≡ Step entry step
   pub trail : licence.trail ≡ entries

@@ -11,13 +11,15 @@ use Rattle.solver.specs.declared.end.Solution.{Solution}
 use Rattle.solver.specs.declared.end.SolveEnd.{SolveEnd}
 use Rattle.solver.specs.declared.end.SolveEnd.TheVariants.{Cone, Left, NoMemory}
 
--- the ordering cone is sound, the entries are a log of which no event fails, and prove the answer, which is right
+-- the ordering cone is sound, the entries are a log of which no event fails, and prove the answer,
+-- which is right
 pub record IsSolutionOf (file : Problem) (s : Solution) : Type 0 where
   pub sound : IsSound file
   pub log : IsLog s.entries
   pub accepts : Accepts file s.entries s.answer
 
--- the first fault of the cone; or an overflow of an operation on numbers that these are, which is licensed; nothing of want of memory
+-- the first fault of the cone; or an overflow of an operation on numbers that these are, which is
+-- licensed; nothing of want of memory
 abbrev pub EndsIn : (ℚ → Bool) → Problem → SolveEnd → Type 0
 EndsIn holds file (Cone fault) = HasFault file fault
 EndsIn holds file (Left licence) = LicensedAnyhow holds file licence

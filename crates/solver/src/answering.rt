@@ -60,8 +60,9 @@ fn checked(alloc: Global, problem: &Problem, entries: Entries) -> Result<Solutio
     Ok(check_own(alloc, problem, entries)?)
 }
 
-/// The log of a problem, by its data in some field: a duality vector, and then Benson's outer approximation with it. In place of a
-/// log comes the first fault of the ordering cone, or the licence of the first overflow.
+/// The log of a problem, by its data in some field: a duality vector, and then Benson's outer
+/// approximation with it. In place of a log comes the first fault of the ordering cone, or the
+/// licence of the first overflow.
 pub fn log_of<F: Field>(
     alloc: Global,
     problem: &Problem,
@@ -79,9 +80,10 @@ pub fn log_of<F: Field>(
     Ok(log)
 }
 
-/// The answer of a problem with the log that proves it, or the first fault of its ordering cone. It costs two linear programs
-/// over the cone, one over the sides for each vertex, extreme direction and cut of the image, the additions of the cuts to a
-/// double description, and the check of the log.
+/// The answer of a problem with the log that proves it, or the first fault of its ordering cone.
+/// It costs two linear programs over the cone, one over the sides for each vertex, extreme
+/// direction and cut of the image, the additions of the cuts to a double description, and the
+/// check of the log.
 pub fn solve(alloc: Global, problem: &Problem) -> Result<Solution, SolveEnd>
     ensures ok { IfOk result (IsSolutionOf problem.now) }
     ensures accepted { IfOk result (IsAccepted problem.now) }

@@ -15,15 +15,16 @@ use overflows::SolveFault;
 use std::alloc::Global;
 use vlp_reader::Problem;
 
-/// The answer of a log that meets its rules. Where a step of the check overflows, the fault's licence has the whole log
-/// as its trail.
+/// The answer of a log that meets its rules. Where a step of the check overflows, the fault's
+/// licence has the whole log as its trail.
 pub fn check_own(alloc: Global, problem: &Problem, entries: Entries) -> Result<Solution, SolveFault>
     requires log { IsLog entries }
     requires meet { AllMeet problem.now entries }
     ensures same { IfOk result (λ checked. checked.entries ≡ entries) }
     ensures ok { IfOk result (λ checked. Accepts problem.now entries checked.answer) }
     ensures first { IfErr result (λ fault. OnLicence fault (IsStepLicence problem.now entries)) }
-    ensures licensed { IfErr result (λ fault. (s : Setting) → s.file ≡ problem.now → s.trail ≡ entries → Overflows is_held s entries fault) }
+    ensures licensed { IfErr result (λ fault. (s : Setting) → s.file ≡ problem.now →
+        s.trail ≡ entries → Overflows is_held s entries fault) }
 {
     match check(alloc, problem, &entries) {
         Ok(answer) => Ok(Solution { entries, answer }),
