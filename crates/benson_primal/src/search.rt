@@ -77,7 +77,7 @@ pub(crate) enum Round<F: Drop> {
 }
 
 /// So many failed additions there may be for each row in use.
-const MOST_FAILED: u32 = 10;
+const MOST_FAILED: u32 = 3;
 
 /// The state of a search. After want of memory it is of no use.
 #[derive(Drop)]
