@@ -17,6 +17,15 @@ fn words(rt: &(impl Env + AllocGlobal)) -> io::Result<Vec<String>> {
     Ok(words)
 }
 
+/// Why there are no words: memory was wanting, or one of them is no text and so has no shape.
+fn unread(error: &io::Error) -> Status {
+    if error.kind() == io::ErrorKind::OutOfMemory {
+        Status::NoMemory
+    } else {
+        Status::Words
+    }
+}
+
 /// The file of a path as a source. One that cannot be opened, and none, is a missing one.
 fn source<R: Files>(rt: &R, path: Option<&str>) -> StdSource<R::File> {
     match path.and_then(|path| fs::open(rt, path).ok()) {
@@ -34,9 +43,9 @@ fn sink<R: Files>(rt: &R, path: Option<&str>) -> StdSink<R::File> {
 }
 
 fn main(rt: HostRuntime) -> ExitCode {
-    // Words that cannot be read have no shape.
-    let Ok(words) = words(&rt) else {
-        return ExitCode::from(Status::Words.code());
+    let words = match words(&rt) {
+        Ok(words) => words,
+        Err(error) => return ExitCode::from(unread(&error).code()),
     };
     let paths = paths(words.as_slice());
     let mut problem = source(&rt, paths.problem);
