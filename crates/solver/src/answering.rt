@@ -17,7 +17,6 @@ use frac128::Frac;
 use lp_form::{Data, DataFault};
 use src_sink::NoMemory;
 use std::alloc::Global;
-use tier_frac::Tier;
 use vlp_reader::Problem;
 
 /// That a number is held, which the reading of its parts says.
@@ -40,11 +39,11 @@ fn wanting(fault: &DataFault) -> NoMemory
     }
 }
 
-/// The data of a problem in fractions, of which those that fit into words are kept so.
-fn data_of(alloc: Global, problem: &Problem) -> Result<Data<Tier>, NoMemory>
+/// The data of a problem in fractions.
+fn data_of(alloc: Global, problem: &Problem) -> Result<Data<Frac>, NoMemory>
     ensures { IfOk result (IsDataOf (λ q. q) problem.now) }
 {
-    match Data::<Tier>::of(alloc, problem) {
+    match Data::<Frac>::of(alloc, problem) {
         Ok(form) => Ok(form),
         Err(fault) => Err(wanting(&fault)),
     }
