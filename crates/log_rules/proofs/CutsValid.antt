@@ -1,14 +1,17 @@
 -- Each cut of a log meets the rules of its entry at the log's duality vector, so it is valid for
 -- the image.
-use Rattle.std.proofs.Common.{ℕ, List, [], ◌∷◌, ◌++◌, sym, subst, IsTrue, All}
+use Rattle.std.proofs.Common.{◌≡◌, ℕ, List, [], ◌∷◌, ◌++◌, sym, subst, IsTrue, All}
 use Rattle.std.proofs.lemmas.List.Elements.{All-nil, All-head, All-push, All-weaker, All-map, Contains-push, Contains-append_left}
-use Rattle.exact_field.specs.Rational.{ℚ}
+use Rattle.exact_field.specs.Rational.{ℚ, zero_ℚ}
+use Rattle.exact_field.specs.Vector.{dot}
+use Rattle.lineality.specs.Lines.{IsInLineality}
+use Rattle.polyhedra.specs.Inequality.{Inequality}
 use Rattle.frac128.specs.Sparse.{IsSparse}
 use Rattle.frac128.specs.declared.vectors.Spot.{Spot}
 use Rattle.polyhedra.specs.Hull.{IsValidAt}
 use Rattle.polyhedra.proofs.Members.{all_of_members, member_of}
 use Rattle.upper_image.specs.Shows.{ShowsCut}
-use Rattle.upper_image.specs.UpperImage.{IsInWorkingImage}
+use Rattle.upper_image.specs.UpperImage.{IsInWorkingImage, IsWorkingDirection}
 use Rattle.log_rules.specs.Live.{Stated, State, state, after, duality_vector, inequality, cut_at}
 use Rattle.log_rules.specs.Meets.{Meets}
 use Rattle.log_rules.specs.Order.{has}
@@ -93,4 +96,19 @@ numbered_valid file sound entries meet ks exist =
     All-map (IsValidAt file.objs (IsInWorkingImage file) (duality_vector entries)) (λ k. inequality (cut_at cuts k)) ks
     (All-weaker (Exists cuts) (λ k. IsValidAt file.objs (IsInWorkingImage file) (duality_vector entries) (inequality (cut_at cuts k)))
     (cut_of (λ (cut : Stated). IsValidAt file.objs (IsInWorkingImage file) (duality_vector entries) (inequality cut)) cuts (cuts_valid file sound entries meet))
+    ks exist)
+
+-- they are level along each vector of the lineality space
+pub numbered_level : (file : Problem) → AreSound file → (entries : List Entry) → AllMeet file entries → (ks : List ℕ) →
+    All (Exists (state file.objs entries).cuts) ks → (ls : List (List ℚ)) → All (IsInLineality (IsWorkingDirection file)) ls →
+    All (λ e. All (λ d. dot e.normal d ≡ zero_ℚ) ls) (stated (state file.objs entries).cuts ks)
+numbered_level file sound entries meet ks exist ls each =
+    let cuts = (state file.objs entries).cuts in
+    All-map (λ (e : Inequality). All (λ d. dot e.normal d ≡ zero_ℚ) ls) (λ k. inequality (cut_at cuts k)) ks
+    (All-weaker (Exists cuts) (λ k. All (λ d. dot (inequality (cut_at cuts k)).normal d ≡ zero_ℚ) ls)
+    (cut_of (λ (cut : Stated). All (λ d. dot cut.w d ≡ zero_ℚ) ls) cuts
+    (All-weaker (IsStatedBy file entries) (λ (cut : Stated). All (λ d. dot cut.w d ≡ zero_ℚ) ls)
+    (λ cut h. all_of_members (λ d. dot cut.w d ≡ zero_ℚ) ls
+    (λ d k. sound.level (duality_vector entries) cut.w cut.gamma cut.u h.multipliers d h.meets (member_of (IsInLineality (IsWorkingDirection file)) ls d each k)))
+    cuts (cuts_stated file entries meet)))
     ks exist)

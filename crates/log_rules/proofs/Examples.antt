@@ -6,18 +6,19 @@ use Rattle.exact_field.specs.Gcd.{gcd}
 use Rattle.exact_field.specs.Rational.{ℚ, zero_ℚ, one_ℚ, whole, fraction, ◌+ℚ◌, ◌*ℚ◌, neg_ℚ, inverse_ℚ, le_ℚ}
 use Rattle.frac128.specs.Held.{is_held}
 use Rattle.vlp_reader.specs.declared.problem.Problem.{Problem}
-use Rattle.vlp_reader.specs.declared.problem.Bound.TheVariants.{Unsaid, Free, Lower}
-use Rattle.vlp_reader.specs.declared.problem.Cone.TheVariants.{Orthant}
+use Rattle.vlp_reader.specs.declared.problem.Bound.TheVariants.{Unsaid, Lower}
 use Rattle.vlp_reader.specs.Cells.{are_cells}
 use Rattle.vlp_reader.specs.Cones.{cone_fits, duality_fits}
 use Rattle.deriv_log.specs.Formed.{is_formed}
 use Rattle.deriv_log.specs.declared.entry.EndKind.TheVariants as kind
+use Rattle.deriv_log.specs.declared.entry.Entry.{Entry}
 use Rattle.deriv_log.specs.declared.entry.Entry.TheVariants as entry
 use Rattle.polyhedra.proofs.Members.{pairs-nil, pairs-cons}
 use Rattle.polyhedra.proofs.Tests.{both_true}
 use Rattle.log_rules.specs.Events.{log_failure}
-use Rattle.log_rules.specs.Examples.{n, wide, Parts, Says, Fails, small, small_cuts, small_front, last_ray, solved_end, large, large_log, plain, the_line, line_log, wide_cone, cone_log, cone_alone, cone_alone_log, dual_cone, dual_log, one, whole_log, bounded_log, empty, farkas_log, largest, largest_front, largest_log, LargestLog, WorkedLogs, pair}
+use Rattle.log_rules.specs.Examples.{n, wide, Parts, Says, Fails, small, small_cuts, small_front, last_ray, solved_end, large, large_log, plain, line_file, the_line, line_end, line_log, line_first_log, line_cuts, line_above, line_add_log, line_below, LineBelow, half_space, first_line, second_line, mixed_line, half_space_log, wide_cone, cone_log, cone_alone, cone_alone_log, dual_cone, dual_log, one, whole_log, bounded_log, empty, farkas_log, largest, largest_front, largest_log, LargestLog, WorkedLogs, pair}
 use Rattle.log_rules.specs.Live.{duality_vector}
+use Rattle.log_rules.specs.ReportExamples.{line_answer}
 use Rattle.log_rules.specs.Proves.{Proves, live_at, named_facets}
 use Rattle.log_rules.specs.Right.{Rise, is_before, key, stated}
 use Rattle.log_rules.proofs.LogMeets.{events_give_meets}
@@ -105,9 +106,51 @@ large_kept = record {
   duality_entries = refl;
 }
 
-unfoldable pub line_kept : IsProblem (plain Orthant None (Free ∷ Lower (n 0) ∷ []))
+unfoldable pub line_kept : IsProblem line_file
 unfolding whole fraction gcd
 line_kept = record {
+  rows_bounded = omega arith;
+  some_column = omega arith;
+  cols_bounded = omega arith;
+  some_objective = omega arith;
+  objs_bounded = omega arith;
+  a_cells = refl;
+  o_cells = refl;
+  cone_vectors = refl;
+  duality_entries = refl;
+}
+
+line_above_kept : IsProblem line_above
+unfolding whole fraction gcd
+line_above_kept = record {
+  rows_bounded = omega arith;
+  some_column = omega arith;
+  cols_bounded = omega arith;
+  some_objective = omega arith;
+  objs_bounded = omega arith;
+  a_cells = refl;
+  o_cells = refl;
+  cone_vectors = refl;
+  duality_entries = refl;
+}
+
+line_below_kept : IsProblem line_below
+unfolding whole fraction gcd
+line_below_kept = record {
+  rows_bounded = omega arith;
+  some_column = omega arith;
+  cols_bounded = omega arith;
+  some_objective = omega arith;
+  objs_bounded = omega arith;
+  a_cells = refl;
+  o_cells = refl;
+  cone_vectors = refl;
+  duality_entries = refl;
+}
+
+half_space_kept : IsProblem half_space
+unfolding whole fraction gcd
+half_space_kept = record {
   rows_bounded = omega arith;
   some_column = omega arith;
   cols_bounded = omega arith;
@@ -246,18 +289,53 @@ overflow : Fails large (large_log) (3 ∷ 1 ∷ 11 ∷ wide ∷ wide ∷ [])
 unfolding large_kept whole fraction ◌+ℚ◌ ◌*ℚ◌ neg_ℚ inverse_ℚ le_ℚ gcd
 overflow = record { file = file_of large large_kept; says = file_says large large_kept; first = refl }
 
-has_line : Fails (plain Orthant None (Free ∷ Lower (n 0) ∷ [])) (line_log) ([])
+has_line : Fails line_file (line_log) ([])
 unfolding line_kept whole fraction ◌+ℚ◌ ◌*ℚ◌ neg_ℚ inverse_ℚ le_ℚ gcd
-has_line = record { file = file_of (plain Orthant None (Free ∷ Lower (n 0) ∷ [])) line_kept; says = file_says (plain Orthant None (Free ∷ Lower (n 0) ∷ [])) line_kept; first = refl }
+has_line = record { file = file_of line_file line_kept; says = file_says line_file line_kept; first = refl }
 
-line_alone : Fails (plain Orthant None (Free ∷ Lower (n 0) ∷ []))
-    (entry.Version 1 ∷ entry.Duality (n 1 ∷ n 1 ∷ []) [] [] [] ∷ the_line ∷ entry.End kind.NoVertex ∷ []) (3 ∷ 0 ∷ 2 ∷ [])
+line_first : Fails line_file (line_first_log) ([])
 unfolding line_kept whole fraction ◌+ℚ◌ ◌*ℚ◌ neg_ℚ inverse_ℚ le_ℚ gcd
-line_alone = record {
-  file = file_of (plain Orthant None (Free ∷ Lower (n 0) ∷ [])) line_kept;
-  says = file_says (plain Orthant None (Free ∷ Lower (n 0) ∷ [])) line_kept;
-  first = refl;
-}
+line_first = record { file = file_of line_file line_kept; says = file_says line_file line_kept; first = refl }
+
+way_not_reduced : Fails line_file (line_cuts ++ the_line ∷ line_end (n 0 ∷ n 0 ∷ []) (n 1 ∷ n 1 ∷ [])) (5 ∷ 0 ∷ 12 ∷ [])
+unfolding line_kept whole fraction ◌+ℚ◌ ◌*ℚ◌ neg_ℚ inverse_ℚ le_ℚ gcd
+way_not_reduced = record { file = file_of line_file line_kept; says = file_says line_file line_kept; first = refl }
+
+point_not_reduced : Fails line_file (line_cuts ++ the_line ∷ line_end (n 1 ∷ n 0 ∷ []) (n 0 ∷ n 1 ∷ [])) (5 ∷ 0 ∷ 12 ∷ [])
+unfolding line_kept whole fraction ◌+ℚ◌ ◌*ℚ◌ neg_ℚ inverse_ℚ le_ℚ gcd
+point_not_reduced = record { file = file_of line_file line_kept; says = file_says line_file line_kept; first = refl }
+
+line_twice : Fails line_file (line_cuts ++ the_line ∷ the_line ∷ solved_end) (5 ∷ 0 ∷ 5 ∷ [])
+unfolding line_kept whole fraction ◌+ℚ◌ ◌*ℚ◌ neg_ℚ inverse_ℚ le_ℚ gcd
+line_twice = record { file = file_of line_file line_kept; says = file_says line_file line_kept; first = refl }
+
+line_late : Fails line_file (line_log ++ the_line ∷ []) (10 ∷ 0 ∷ 2 ∷ [])
+unfolding line_kept whole fraction ◌+ℚ◌ ◌*ℚ◌ neg_ℚ inverse_ℚ le_ℚ gcd
+line_late = record { file = file_of line_file line_kept; says = file_says line_file line_kept; first = refl }
+
+no_vertex : Fails line_file (line_cuts ++ the_line ∷ entry.End kind.NoVertex ∷ []) (5 ∷ 0 ∷ 15 ∷ [])
+unfolding line_kept whole fraction ◌+ℚ◌ ◌*ℚ◌ neg_ℚ inverse_ℚ le_ℚ gcd
+no_vertex = record { file = file_of line_file line_kept; says = file_says line_file line_kept; first = refl }
+
+line_added : Fails line_above (line_add_log (pair 2 1 ∷ [])) ([])
+unfolding line_above_kept whole fraction ◌+ℚ◌ ◌*ℚ◌ neg_ℚ inverse_ℚ le_ℚ gcd
+line_added = record { file = file_of line_above line_above_kept; says = file_says line_above line_above_kept; first = refl }
+
+line_left_out : Fails line_above (line_add_log []) (7 ∷ 0 ∷ 13 ∷ [])
+unfolding line_above_kept whole fraction ◌+ℚ◌ ◌*ℚ◌ neg_ℚ inverse_ℚ le_ℚ gcd
+line_left_out = record { file = file_of line_above line_above_kept; says = file_says line_above line_above_kept; first = refl }
+
+two_lines : Fails half_space (half_space_log first_line second_line) ([])
+unfolding half_space_kept whole fraction ◌+ℚ◌ ◌*ℚ◌ neg_ℚ inverse_ℚ le_ℚ gcd
+two_lines = record { file = file_of half_space half_space_kept; says = file_says half_space half_space_kept; first = refl }
+
+mixed : Fails half_space (half_space_log mixed_line second_line) (5 ∷ 0 ∷ 5 ∷ [])
+unfolding half_space_kept whole fraction ◌+ℚ◌ ◌*ℚ◌ neg_ℚ inverse_ℚ le_ℚ gcd
+mixed = record { file = file_of half_space half_space_kept; says = file_says half_space half_space_kept; first = refl }
+
+falling : Fails half_space (half_space_log second_line first_line) (5 ∷ 0 ∷ 5 ∷ [])
+unfolding half_space_kept whole fraction ◌+ℚ◌ ◌*ℚ◌ neg_ℚ inverse_ℚ le_ℚ gcd
+falling = record { file = file_of half_space half_space_kept; says = file_says half_space half_space_kept; first = refl }
 
 by_generators : Fails (plain wide_cone (Some (n 2 ∷ n 2 ∷ [])) (Lower (n 0) ∷ Lower (n 0) ∷ [])) (cone_log) (7 ∷ 0 ∷ 9 ∷ [])
 unfolding cone_kept whole fraction ◌+ℚ◌ ◌*ℚ◌ neg_ℚ inverse_ℚ le_ℚ gcd
@@ -349,7 +427,7 @@ facets_rise : rising (map (λ f. key (stated f)) facets) ≡ true
 unfolding rising facets points directions whole fraction ◌+ℚ◌ ◌*ℚ◌ neg_ℚ inverse_ℚ le_ℚ gcd
 facets_rise = refl
 
-proves : Proves largest_file largest_log (Solved (duality_vector largest_log) points directions facets)
+proves : Proves largest_file largest_log (Solved (duality_vector largest_log) [] points directions facets)
 unfolding points directions facets
 proves = record {
   log = record { formed = formed; ends = refl };
@@ -358,6 +436,7 @@ proves = record {
     Contains-push largest_front (entry.End kind.Solved),
     record {
       c_given = refl;
+      lines_are = refl;
       points_are = record { same = λ x. (λ h. h, λ h. h); rise = rise_by_test (map (λ g. g.y) points) points_rise };
       directions_are = record { same = λ x. (λ h. h, λ h. h); rise = rise_by_test (map (λ g. g.y) directions) directions_rise };
       facets_are = record { same = λ x. (λ h. h, λ h. h); rise = rise_by_test (map (λ f. key (stated f)) facets) facets_rise };
@@ -377,13 +456,76 @@ found = record {
   proves = proves;
 }
 
+-- ---- lines
+-- the log with a line proves the answer whose report is worked
+abbrev whole_line : Problem
+whole_line = file_of line_file line_kept
+
+abbrev line_front : List Entry
+line_front =
+    line_cuts ++ the_line ∷ entry.Start (1 ∷ []) (n 0 ∷ n 0 ∷ []) (n 0 ∷ n 1 ∷ [])
+    ∷ entry.Point 1 [] []
+    ∷ entry.Ray 2 [] []
+    ∷ entry.Facet 1 ∷ []
+
+line_accepted : log_failure is_held whole_line line_log ≡ None
+unfolding line_kept whole fraction ◌+ℚ◌ ◌*ℚ◌ neg_ℚ inverse_ℚ le_ℚ gcd
+line_accepted = refl
+
+line_formed : list_all is_formed line_log ≡ true
+unfolding whole fraction ◌+ℚ◌ ◌*ℚ◌ neg_ℚ inverse_ℚ le_ℚ gcd
+line_formed = refl
+
+lone_rises : (v : List ℚ) → Rise (v ∷ [])
+lone_rises v = pairs-cons (λ u w. IsTrue (is_before u w)) v [] (All-nil (λ w. IsTrue (is_before v w))) (pairs-nil (λ u w. IsTrue (is_before u w)))
+
+pub line_proves : Proves whole_line line_log line_answer
+unfolding line_kept whole fraction ◌+ℚ◌ ◌*ℚ◌ neg_ℚ inverse_ℚ le_ℚ gcd
+line_proves = record {
+  log = record { formed = line_formed; ends = refl };
+  meet = events_give_meets is_held whole_line line_log line_accepted;
+  gives = (
+    Contains-push line_front (entry.End kind.Solved),
+    record {
+      c_given = refl;
+      lines_are = refl;
+      points_are = record { same = λ x. (λ h. h, λ h. h); rise = lone_rises (n 0 ∷ n 0 ∷ []) };
+      directions_are = record { same = λ x. (λ h. h, λ h. h); rise = lone_rises (n 0 ∷ n 1 ∷ []) };
+      facets_are = record { same = λ x. (λ h. h, λ h. h); rise = lone_rises (n 0 ∷ n 1 ∷ n 0 ∷ []) };
+    },
+  );
+}
+
+line_turned : LineBelow
+unfolding line_below_kept whole fraction ◌+ℚ◌ ◌*ℚ◌ neg_ℚ inverse_ℚ le_ℚ gcd
+line_turned = record {
+  file = file_of line_below line_below_kept;
+  says = file_says line_below line_below_kept;
+  passes = refl;
+  line = refl;
+  direction = refl;
+}
+
 pub worked_logs : WorkedLogs
 worked_logs = record {
   small = record { solved = small_solved; bound = small_bound; left_out = small_left_out; no_ray = small_no_ray; no_facet = small_no_facet; add_last = small_add_last };
+  lines = record {
+    has_line = has_line;
+    line_first = line_first;
+    way_not_reduced = way_not_reduced;
+    point_not_reduced = point_not_reduced;
+    line_twice = line_twice;
+    line_late = line_late;
+    no_vertex = no_vertex;
+    added = line_added;
+    left_out = line_left_out;
+    two_lines = two_lines;
+    mixed = mixed;
+    falling = falling;
+  };
+  below = line_turned;
   other = record {
     overflow = overflow;
-    has_line = has_line;
-    line_alone = line_alone;
     by_generators = by_generators;
     generators = generators;
     by_rows = by_rows;

@@ -8,17 +8,14 @@ use Rattle.polyhedra.proofs.Tests.{or_left, or_right, not_true}
 use Rattle.log_rules.specs.Laws.{OneAnswer}
 use Rattle.log_rules.specs.Meets.{Meets}
 use Rattle.log_rules.specs.Order.{Kind, kind, place, has, implies, stands_once}
-use Rattle.log_rules.specs.Proves.{Proves, AllMeet, Gives, IsSorting, facet_of, forth, live_at, named_facets}
+use Rattle.log_rules.specs.Proves.{Proves, AllMeet, Gives, IsSorting, live_at, named_facets}
 use Rattle.log_rules.specs.Right.{key, stated}
 use Rattle.log_rules.proofs.Entries.{order_of, along, StandsAt, stands_at, end_last}
 use Rattle.log_rules.proofs.Rising.{sorted_same}
-use Rattle.frac128.specs.declared.vectors.Spot.{Spot}
-use Rattle.vlp_reader.specs.declared.problem.Dir.{Dir}
-use Rattle.vlp_reader.specs.declared.problem.Dir.TheVariants.{Min, Max}
 use Rattle.vlp_reader.specs.declared.problem.Problem.{Problem}
 use Rattle.deriv_log.specs.Formed.{ends_once}
 use Rattle.log_rules.specs.declared.answer.Answer.{Answer}
-use Rattle.log_rules.specs.declared.answer.Answer.TheVariants.{Infeasible, Whole, NoVertex, Solved}
+use Rattle.log_rules.specs.declared.answer.Answer.TheVariants.{Infeasible, Whole, Solved}
 use Rattle.log_rules.specs.declared.answer.Facet.{Facet}
 use Rattle.log_rules.specs.declared.answer.Gen.{Gen}
 use Rattle.deriv_log.specs.declared.entry.EndKind.{EndKind}
@@ -79,21 +76,14 @@ same_end entries k k' ends c c' =
 abbrev end_of : Answer → EndKind
 end_of (Infeasible u) = ending.Infeasible
 end_of (Whole c x ray) = ending.Whole
-end_of (NoVertex c x d ray back cut) = ending.NoVertex
-end_of (Solved c points directions facets) = ending.Solved
+end_of (Solved c ls points directions facets) = ending.Solved
 
 stands_end : (file : Problem) (entries : List Entry) (answer : Answer) → Gives file entries answer → Contains entries (entry.End (end_of answer))
 stands_end file entries (Infeasible u) h = h.0
 stands_end file entries (Whole c x ray) h = h.0
-stands_end file entries (NoVertex c x d ray back cut) h = h.0
-stands_end file entries (Solved c points directions facets) h = h.0
+stands_end file entries (Solved c ls points directions facets) h = h.0
 
 -- ---- the parts
-forth_same : (dir : Dir) (ray back ray' back' : List Spot) → forth dir ray back ≡ forth dir ray' back' → forth dir back ray ≡ forth dir back' ray' →
-    (ray ≡ ray') × (back ≡ back')
-forth_same Min ray back ray' back' h k = (h, k)
-forth_same Max ray back ray' back' h k = (k, h)
-
 facets_same : (file : Problem) (entries : List Entry) (points points' directions directions' : List Gen) (facets facets' : List Facet) →
     points ≡ points' → directions ≡ directions' →
     IsSorting (λ (f : Facet). key (stated f)) (named_facets file entries (map (λ (g : Gen). g.y) points) (map (λ (g : Gen). g.y) directions)) facets →
@@ -117,24 +107,11 @@ module _ (file : Problem) (entries : List Entry) where
       only_one file order.whole refl entries h.meet (entry.Whole x ray g.m) (entry.Whole x' ray' g'.m) refl refl g.stands g'.stands in
       let q : c ≡ c' = g.c_given ∙ sym g'.c_given in
       cc
-  one (NoVertex c x d ray back cut) (NoVertex c' x' d' ray' back' cut') e h h' =
-      let g = h.gives.1 in
-      let g' = h'.gives.1 in
-      let line = entry.Line d x (forth file.dir ray back) g.m (forth file.dir back ray) g.n in
-      let line' = entry.Line d' x' (forth file.dir ray' back') g'.m (forth file.dir back' ray') g'.n in
-      let p : line ≡ line' = only_one file order.line refl entries h.meet line line' refl refl g.stands g'.stands in
-      let a : forth file.dir ray back ≡ forth file.dir ray' back' = cc in
-      let b : forth file.dir back ray ≡ forth file.dir back' ray' = cc in
-      let r : (ray ≡ ray') × (back ≡ back') = forth_same file.dir ray back ray' back' a b in
-      let q : c ≡ c' = g.c_given ∙ sym g'.c_given in
-      let both : g.first ∷ [] ≡ g'.first ∷ [] = sym g.cuts ∙ g'.cuts in
-      let f : g.first ≡ g'.first = cc in
-      let k : cut ≡ cut' = g.shown_cut ∙ ap (facet_of file [] []) f ∙ sym g'.shown_cut in
-      cc
-  one (Solved c points directions facets) (Solved c' points' directions' facets') e h h' =
+  one (Solved c ls points directions facets) (Solved c' ls' points' directions' facets') e h h' =
       let g = h.gives.1 in
       let g' = h'.gives.1 in
       let q : c ≡ c' = g.c_given ∙ sym g'.c_given in
+      let l : ls ≡ ls' = g.lines_are ∙ sym g'.lines_are in
       let p : points ≡ points' = sorted_same (λ (v : Gen). v.y) (live_at file entries one_ℚ) points points' g.points_are g'.points_are in
       let d : directions ≡ directions' = sorted_same (λ (v : Gen). v.y) (live_at file entries zero_ℚ) directions directions' g.directions_are g'.directions_are in
       let f : facets ≡ facets' =

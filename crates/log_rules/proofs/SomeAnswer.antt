@@ -1,10 +1,12 @@
 -- A log whose entries meet their rules proves some answer.
-use Rattle.std.proofs.Common.{◌≡◌, ℕ, List, [], ◌∷◌, ◌++◌, refl, sym, ap, ap₂, ◌∙◌, subst, arith, Bool, true, true≢false, not, IsTrue, ◌⊎◌, inl, inr, map, take, filter, fold, All, Contains}
+use Rattle.std.proofs.Common.{◌≡◌, ℕ, List, [], ◌∷◌, ◌++◌, refl, sym, ap, ap₂, ◌∙◌, subst, arith, Bool, true, true≢false, not, IsTrue, ◌⊎◌, inl, inr, map, filter, All, Contains}
 use Rattle.std.proofs.lemmas.List.{same_from_push}
 use Rattle.std.proofs.lemmas.List.Elements.{All-cons, Contains-append_left, Contains-append_right}
 use Rattle.exact_field.specs.Rational.{ℚ, zero_ℚ, one_ℚ}
 use Rattle.exact_field.specs.Order.{same_ℚ}
 use Rattle.exact_field.proofs.Comparison.{same_ℚ-is}
+use Rattle.lineality.specs.Steps.{numbered_without, list_without}
+use Rattle.lineality.specs.Without.{marks, without}
 use Rattle.polyhedra.specs.Exactness.{homogenised}
 use Rattle.polyhedra.specs.LiveList.{Numbered}
 use Rattle.polyhedra.proofs.LiveList.{numbers_tell_apart}
@@ -14,33 +16,30 @@ use Rattle.polyhedra.proofs.Tests.{both_true}
 use Rattle.upper_image.specs.UpperImage.{working}
 use Rattle.upper_image.proofs.TurnedSets.{turned-same}
 use Rattle.frac128.specs.declared.vectors.Spot.{Spot}
-use Rattle.vlp_reader.specs.declared.problem.Dir.{Dir}
-use Rattle.vlp_reader.specs.declared.problem.Dir.TheVariants.{Min, Max}
 use Rattle.vlp_reader.specs.declared.problem.Problem.{Problem}
 use Rattle.deriv_log.specs.Formed.{IsLog, is_end, ends_once}
 use Rattle.deriv_log.specs.declared.entry.EndKind.{EndKind}
 use Rattle.deriv_log.specs.declared.entry.EndKind.TheVariants as ending
 use Rattle.deriv_log.specs.declared.entry.Entry.{Entry}
-use Rattle.deriv_log.specs.declared.entry.Entry.TheVariants.{Cut, Start, Add, Farkas, Whole, Line, End}
+use Rattle.deriv_log.specs.declared.entry.Entry.TheVariants.{Farkas, Whole, End}
 use Rattle.log_rules.specs.Laws.{Stands, SomeAnswer}
-use Rattle.log_rules.specs.Live.{State, Stated, state, after, nothing, y_of, t_of, cut_at, inequality, duality_vector, named}
-use Rattle.log_rules.specs.Meets.{Meets, MeetsEnd}
-use Rattle.log_rules.specs.Order.{has, implies, needs_cut, ends_at_facet, in_order}
-use Rattle.log_rules.specs.Proves.{AllMeet, Proves, Gives, IsSorting, shown, live_at, facet_of, named_facets, forth}
+use Rattle.log_rules.specs.Live.{State, state, y_of, t_of, cut_at, inequality, duality_vector, named, lines}
+use Rattle.log_rules.specs.Meets.{MeetsEnd}
+use Rattle.log_rules.specs.Order.{has}
+use Rattle.log_rules.specs.Proves.{AllMeet, Proves, Gives, IsSorting, shown, live_at, facet_of, named_facets, shown_lines}
 use Rattle.log_rules.specs.Right.{Rise, is_before, key, stated}
 use Rattle.log_rules.specs.declared.answer.Answer.{Answer}
 use Rattle.log_rules.specs.declared.answer.Answer.TheVariants as answer
 use Rattle.log_rules.specs.declared.answer.Facet.{Facet}
 use Rattle.log_rules.specs.declared.answer.Gen.{Gen}
 use Rattle.log_rules.proofs.AnswerMembers.{stated-cut}
-use Rattle.log_rules.proofs.Entries.{StandsAt, stands_at, has_more}
 use Rattle.log_rules.proofs.KeepsDescription.{rules_keep_description}
+use Rattle.log_rules.proofs.Kept.{state-rises}
 use Rattle.log_rules.proofs.LiveNumbers.{same_number}
 use Rattle.log_rules.proofs.NamedOnce.{named_once}
-use Rattle.log_rules.proofs.NormedMembers.{one_of}
+use Rattle.log_rules.proofs.NormedMembers.{one_standing}
 use Rattle.log_rules.proofs.Rising.{before_or_same, before_through}
 use Rattle.log_rules.proofs.SolvedIsSolved.{solved_met}
-use Rattle.log_rules.specs.Live.{in_use}
 use Rattle.log_rules.specs.Order as order
 
 -- ---- sorting
@@ -176,62 +175,15 @@ whole_in [] h = absurd (true≢false (sym h))
 whole_in (Whole x ray m ∷ entries) h = (x, ray, m, Contains-here (Whole x ray m) entries (Whole x ray m) refl)
 whole_in (e ∷ entries) h = let r = whole_in entries h in (r.0, r.1, r.2, Contains-there e entries (Whole r.0 r.1 r.2) r.3)
 
-record HasLine (entries : List Entry) : Type 0 where
-  pub d : List ℚ
-  pub x : List Spot
-  pub ray : List Spot
-  pub m : List Spot
-  pub back : List Spot
-  pub n : List Spot
-  pub stands : Contains entries (Line d x ray m back n)
-
-line_in : (entries : List Entry) → IsTrue (has order.line entries) → HasLine entries
-line_in [] h = absurd (true≢false (sym h))
-line_in (Line d x ray m back n ∷ entries) h =
-    record { d = d; x = x; ray = ray; m = m; back = back; n = n; stands = Contains-here (Line d x ray m back n) entries (Line d x ray m back n) refl }
-line_in (e ∷ entries) h =
-    let r = line_in entries h in
-    record { d = r.d; x = r.x; ray = r.ray; m = r.m; back = r.back; n = r.n; stands = Contains-there e entries (Line r.d r.x r.ray r.m r.back r.n) r.stands }
-
--- ---- the first cut
-first_stays : (q : ℕ) (entries : List Entry) (s : State) (c : Stated) (cs : List Stated) → s.cuts ≡ c ∷ cs → take 1 (fold (after q) s entries).cuts ≡ c ∷ []
-first_stays q [] s c cs h = ap (take 1) h
-first_stays q (Cut w gamma u v ∷ entries) s c cs h =
-    let new : Stated = record { w = w; gamma = gamma; u = u } in
-    first_stays q entries (after q s (Cut w gamma u v)) c (cs ++ new ∷ []) (ap (λ (l : List Stated). l ++ new ∷ []) h)
-first_stays q (Start cuts point directions ∷ entries) s c cs h = first_stays q entries (after q s (Start cuts point directions)) c cs h
-first_stays q (Add cut pairs ∷ entries) s c cs h = first_stays q entries (after q s (Add cut pairs)) c cs h
-first_stays q (e ∷ entries) s c cs h = first_stays q entries s c cs h
-
-first_cut : (q : ℕ) (entries : List Entry) (s : State) → s.cuts ≡ [] → IsTrue (has order.cut entries) →
-    (c : Stated) × (take 1 (fold (after q) s entries).cuts ≡ c ∷ [])
-first_cut q [] s h k = absurd (true≢false (sym k))
-first_cut q (Cut w gamma u v ∷ entries) s h k =
-    let new : Stated = record { w = w; gamma = gamma; u = u } in
-    (new, first_stays q entries (after q s (Cut w gamma u v)) new [] (ap (λ (l : List Stated). l ++ new ∷ []) h))
-first_cut q (Start cuts point directions ∷ entries) s h k = first_cut q entries (after q s (Start cuts point directions)) h k
-first_cut q (Add cut pairs ∷ entries) s h k = first_cut q entries (after q s (Add cut pairs)) h k
-first_cut q (e ∷ entries) s h k = first_cut q entries s h k
-
--- a `line` has a `cut` before it
-cut_before : (before : List Entry) → IsTrue (in_order before order.line) → IsTrue (has order.cut before)
-cut_before before h =
-    let a = both_true _ (implies (ends_at_facet order.line) (not (has order.facet before))) h in
-    (both_true _ (implies (needs_cut order.line) (has order.cut before)) a.0).1
-
-forth_twice : (dir : Dir) (ray back : List Spot) → forth dir (forth dir ray back) (forth dir back ray) ≡ ray
-forth_twice Min ray back = refl
-forth_twice Max ray back = refl
-
 -- ---- the lists of a solved log
 module _ (file : Problem) (entries : List Entry) (meet : AllMeet file entries) where
   abbrev s : State
   s = state file.objs entries
 
   -- two live generators with one vector are one
-  module _ (stands : Stands file s) where
+  module _ (stands : Stands file (lines entries) s) where
     whole : (g : Numbered) → Contains s.list.live g → g.vector ≡ homogenised (y_of file.objs g) (t_of file.objs g)
-    whole g c = elim (one_of file.objs (in_use s) s.list stands.is_live g c) [
+    whole g c = elim (one_standing file (lines entries) s stands g c) [
       | inl a ↦ a.same ∙ ap (λ u. homogenised (y_of file.objs g) u) (sym a.level)
       | inr a ↦ a.same ∙ ap (λ u. homogenised (y_of file.objs g) u) (sym a.level)
     ]
@@ -239,6 +191,7 @@ module _ (file : Problem) (entries : List Entry) (meet : AllMeet file entries) w
     live_same : (t : ℚ) (a b : Gen) → Contains (live_at file entries t) a → Contains (live_at file entries t) b → a.y ≡ b.y → a ≡ b
     live_same t a b c d e =
         let live : List Numbered = s.list.live in
+        let bs : List Bool = marks file.objs (lines entries) in
         let test : Numbered → Bool = λ g. same_ℚ (t_of file.objs g) t in
         let m : (g : Numbered) × Contains (filter test live) g × (shown file entries g ≡ a) = Contains-map_source (shown file entries) (filter test live) a c in
         let n : (g : Numbered) × Contains (filter test live) g × (shown file entries g ≡ b) = Contains-map_source (shown file entries) (filter test live) b d in
@@ -249,8 +202,9 @@ module _ (file : Problem) (entries : List Entry) (meet : AllMeet file entries) w
         turned-same file.dir (y_of file.objs m.0) (y_of file.objs n.0) (ap (λ (p : Gen). p.y) m.2 ∙ e ∙ sym (ap (λ (p : Gen). p.y) n.2)) in
         let vector : m.0.vector ≡ n.0.vector = whole m.0 f.0 ∙ ap₂ homogenised y level ∙ sym (whole n.0 g.0) in
         let number : m.0.number ≡ n.0.number =
-        (numbers_tell_apart _ _ s.list stands.is_live.rising stands.is_live.described m.0 n.0 f.0 g.0).1 vector in
-        let same : m.0 ≡ n.0 = same_number live stands.is_live.rising.rises m.0 n.0 f.0 g.0 number in
+        (numbers_tell_apart _ _ (list_without bs s.list) stands.is_live.rising stands.is_live.described (numbered_without bs m.0) (numbered_without bs n.0)
+        (Contains-map (numbered_without bs) live m.0 f.0) (Contains-map (numbered_without bs) live n.0 g.0)).1 (ap (without bs) vector) in
+        let same : m.0 ≡ n.0 = same_number live (state-rises file.objs entries).rises m.0 n.0 f.0 g.0 number in
         sym m.2 ∙ ap (shown file entries) same ∙ n.2
 
   -- two named facets that state one inequality are one
@@ -288,14 +242,6 @@ module _ (file : Problem) (entries : List Entry) (log : IsLog entries) (meet : A
   met_end : MeetsEnd file before end_is.0
   met_end = (meet before (End end_is.0) [] end_is.2).rules
 
-  -- a cut stands before a line
-  has_cut : (l : HasLine entries) → IsTrue (has order.cut entries)
-  has_cut l =
-      let e : Entry = Line l.d l.x l.ray l.m l.back l.n in
-      let at : StandsAt entries e = stands_at entries e l.stands in
-      let m : Meets file at.before e = meet at.before e at.rest at.same in
-      subst (λ (es : List Entry). IsTrue (has order.cut es)) (sym at.same) (has_more order.cut at.before (e ∷ at.rest) (cut_before at.before m.order))
-
   gives : (k : EndKind) → Contains entries (End k) → MeetsEnd file before k → (a : Answer) × Gives file entries a
   gives ending.Infeasible c m = let f = farkas_in before m in (answer.Infeasible f.0, (c, stands_before (Farkas f.0) f.1))
   gives ending.Whole c m =
@@ -303,38 +249,17 @@ module _ (file : Problem) (entries : List Entry) (log : IsLog entries) (meet : A
         answer.Whole (duality_vector entries) w.0 w.1,
         (c, record { c_given = refl; m = w.2; stands = stands_before (Whole w.0 w.1 w.2) w.3 }),
       )
-  gives ending.NoVertex c m =
-      let b = line_in before m in
-      let ray = forth file.dir b.ray b.back in
-      let back = forth file.dir b.back b.ray in
-      let l : HasLine entries =
-      record { d = b.d; x = b.x; ray = b.ray; m = b.m; back = b.back; n = b.n; stands = stands_before (Line b.d b.x b.ray b.m b.back b.n) b.stands } in
-      let f = first_cut q entries nothing refl (has_cut l) in (
-        answer.NoVertex (duality_vector entries) b.x b.d ray back (facet_of file [] [] f.0),
-        (
-          c,
-          record {
-            c_given = refl;
-            m = b.m;
-            n = b.n;
-            stands = subst (λ (r : List Spot). Contains entries (Line b.d b.x r b.m (forth file.dir back ray) b.n)) (sym (forth_twice file.dir b.ray b.back))
-                (subst (λ (r : List Spot). Contains entries (Line b.d b.x b.ray b.m r b.n)) (sym (forth_twice file.dir b.back b.ray)) l.stands);
-            first = f.0;
-            cuts = f.1;
-            shown_cut = refl;
-          },
-        ),
-      )
+  gives ending.NoVertex c m = absurd m
   gives ending.Solved c m =
       let met = solved_met file entries meet log.ends c in
-      let stands : Stands file (state q entries) = rules_keep_description file entries meet met.started in
+      let stands : Stands file (lines entries) (state q entries) = rules_keep_description file entries meet met.started in
       let points = sorting (λ (g : Gen). g.y) (live_at file entries one_ℚ) (live_same file entries meet stands one_ℚ) in
       let directions = sorting (λ (g : Gen). g.y) (live_at file entries zero_ℚ) (live_same file entries meet stands zero_ℚ) in
       let ys = map (λ (g : Gen). g.y) points.0 in
       let ds = map (λ (g : Gen). g.y) directions.0 in
       let facets = sorting (λ (f : Facet). key (stated f)) (named_facets file entries ys ds) (facet_same file entries meet ys ds) in (
-        answer.Solved (duality_vector entries) points.0 directions.0 facets.0,
-        (c, record { c_given = refl; points_are = points.1; directions_are = directions.1; facets_are = facets.1 }),
+        answer.Solved (duality_vector entries) (shown_lines file entries) points.0 directions.0 facets.0,
+        (c, record { c_given = refl; lines_are = refl; points_are = points.1; directions_are = directions.1; facets_are = facets.1 }),
       )
 
   some : (a : Answer) × Proves file entries a

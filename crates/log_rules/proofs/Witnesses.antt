@@ -1,5 +1,5 @@
 -- What the entries `farkas`, `whole`, `line` and `cut` show is what their answers say.
-use Rattle.std.proofs.Common.{◌≡◌, ℕ, List, [], map, length, sym, ap, ◌∙◌, subst}
+use Rattle.std.proofs.Common.{◌≡◌, ℕ, List, map, length, sym, ap, ◌∙◌, subst}
 use Rattle.std.specs.Prelude.{All}
 use Rattle.std.proofs.lemmas.List.{length-map}
 use Rattle.exact_field.specs.Rational.{ℚ, zero_ℚ, neg_ℚ, ◌<ℚ◌}
@@ -11,7 +11,7 @@ use Rattle.upper_image.specs.OrderingCone.{IsInOrderingCone, Fits}
 use Rattle.upper_image.specs.Shows.{ShowsRecession, ShowsAbove, ShowsCut}
 use Rattle.upper_image.specs.Spots.{dense, product, IsVector}
 use Rattle.upper_image.specs.UpperImage.{objectives, rest, turned, normals}
-use Rattle.upper_image.specs.Witnesses.{HasDirectionPreimage, HasDualVector, IsInfeasible, IsWhole, IsWithoutVertex}
+use Rattle.upper_image.specs.Witnesses.{HasDirectionPreimage, HasDualVector, IsInfeasible, IsWhole, IsShownLine}
 use Rattle.upper_image.proofs.ConvexCones.{ordering_cone_convex}
 use Rattle.upper_image.proofs.Coordinates.{length-turned, unturned, signed-twice}
 use Rattle.upper_image.proofs.Shown.{nonneg-dense, cone_shown, dual_shown}
@@ -24,6 +24,7 @@ use Rattle.log_rules.specs.Right.{stated}
 use Rattle.frac128.specs.Sparse.{IsSparse}
 use Rattle.frac128.specs.declared.vectors.Spot.{Spot}
 use Rattle.vlp_reader.specs.Sides.{sides, side_bounds, IsRecession}
+use Rattle.deriv_log.specs.declared.entry.Entry.{Entry}
 use Rattle.vlp_reader.specs.declared.problem.Problem.{Problem}
 use Rattle.vlp_reader.specs.declared.problem.Dir.{Dir}
 use Rattle.vlp_reader.specs.declared.problem.Dir.TheVariants.{Min, Max}
@@ -69,11 +70,12 @@ cut_right file c points directions cut v s h = record {
   };
 }
 
-swapped : (dir : Dir) (P : List ℚ → List Spot → Type 0) (d : List ℚ) (ray back : List Spot) → P d (forth dir ray back) → P (map neg_ℚ d) (forth dir back ray) →
-    P (turned dir d) ray × P (turned dir (map neg_ℚ d)) back
+-- what a log shows of d and of -d, in the coordinates of the file
+swapped : (dir : Dir) (P : List ℚ → List Spot → Type 0) (d : List ℚ) (ray back : List Spot) → P d ray → P (map neg_ℚ d) back →
+    P (turned dir d) (forth dir ray back) × P (turned dir (map neg_ℚ d)) (forth dir back ray)
 swapped Min P d ray back h k =
     (subst (λ (e : List ℚ). P e ray) (sym (unturned d)) h, subst (λ (e : List ℚ). P e back) (sym (unturned (map neg_ℚ d))) k)
-swapped Max P d ray back h k = (k, subst (λ (e : List ℚ). P e back) (sym (negated_twice d)) h)
+swapped Max P d ray back h k = (k, subst (λ (e : List ℚ). P e ray) (sym (negated_twice d)) h)
 
 record ShowsDirection (file : Problem) (d : List ℚ) (x : List Spot) : Type 0 where
   pub wide : length d ≡ file.objs
@@ -93,22 +95,14 @@ direction_shown file d x m w s h k = record {
 preimage_of : (file : Problem) (d : List ℚ) (x : List Spot) → ShowsDirection file (turned file.dir d) x → HasDirectionPreimage file d x
 preimage_of file d x h = record { vector = h.vector; shown = record { wide = sym (length-turned file.dir d) ∙ h.wide; recedes = h.recedes; above = h.above } }
 
-pub line_right : (file : Problem) (c : List ℚ) (x : List Spot) (d : List ℚ) (ray back m n : List Spot) (first : Stated) (v : List Spot) →
-    Fits file c → IsSparse x → IsSparse (forth file.dir ray back) → IsSparse (forth file.dir back ray) → IsSparse first.u →
-    MeetsLine file d x (forth file.dir ray back) m (forth file.dir back ray) n → ShowsCut file c first.w first.gamma first.u v →
-    IsWithoutVertex file c x d ray back (stated (facet_of file [] [] first)) first.u
-line_right file c x d ray back m n first v f s t u q h k =
-    let both : ShowsDirection file (turned file.dir d) ray × ShowsDirection file (turned file.dir (map neg_ℚ d)) back =
+pub line_right : (file : Problem) (before : List Entry) (d : List ℚ) (x ray m back n : List Spot) → IsSparse ray → IsSparse back →
+    MeetsLine file before d x ray m back n → IsShownLine file d (forth file.dir ray back) (forth file.dir back ray)
+line_right file before d x ray m back n t u h =
+    let both : ShowsDirection file (turned file.dir d) (forth file.dir ray back) × ShowsDirection file (turned file.dir (map neg_ℚ d)) (forth file.dir back ray) =
     swapped file.dir (ShowsDirection file) d ray back
-    (direction_shown file d (forth file.dir ray back) m h.lengths t h.recedes h.above)
-    (direction_shown file (map neg_ℚ d) (forth file.dir back ray) n (length-map d neg_ℚ ∙ h.lengths) u h.back_recedes h.back_above) in
+    (direction_shown file d ray m h.lengths t h.recedes h.above)
+    (direction_shown file (map neg_ℚ d) back n (length-map d neg_ℚ ∙ h.lengths) u h.back_recedes h.back_above) in
     record {
-      fits = f;
-      x_vector = record { sparse = s; places = h.feasible.index };
-      feasible = h.feasible.side;
-      leading_one = h.scaled;
-      forth = preimage_of file d ray both.0;
-      back_too = preimage_of file (map neg_ℚ d) back both.1;
-      cut_scaled = k.scaled;
-      cut_shown = cut_right file c [] [] first v q k;
+      forth = preimage_of file d (forth file.dir ray back) both.0;
+      back_too = preimage_of file (map neg_ℚ d) (forth file.dir back ray) both.1;
     }

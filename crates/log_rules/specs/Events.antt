@@ -1,11 +1,12 @@
 -- The tests and steps of a log in their order, and the first that fails.
-use Rattle.std.specs.Prelude.{ℕ, suc, ◌*◌, ◌==◌, Bool, true, false, not, ◌&&◌, ◌||◌, nat_le, nat_lt, if◌then◌else◌, List, [], ◌∷◌, ◌++◌, map, length, take, flat_map, zip, Option, None, Some}
+use Rattle.std.specs.Prelude.{ℕ, suc, ◌+◌, ◌*◌, ◌==◌, Bool, true, false, not, ◌&&◌, ◌||◌, nat_le, nat_lt, if◌then◌else◌, List, [], ◌∷◌, ◌++◌, map, length, take, flat_map, zip, Option, None, Some}
 use Rattle.std.specs.List.{list_all, list_any, enumerate_from}
 use Rattle.exact_field.specs.Rational.{ℚ, zero_ℚ, one_ℚ, ◌+ℚ◌, ◌-ℚ◌, ◌*ℚ◌, ◌/ℚ◌, neg_ℚ, le_ℚ, lt_ℚ}
 use Rattle.exact_field.specs.Order.{same_ℚ}
 use Rattle.exact_field.specs.Vector.{dot, entry}
 use Rattle.exact_field.specs.declared.op.Op.{Op}
 use Rattle.exact_field.specs.declared.op.Op.TheVariants as op
+use Rattle.lineality.specs.Lines.{leading_place}
 use Rattle.polyhedra.specs.DoubleDescription.{magnitude, leading}
 use Rattle.polyhedra.specs.Exactness.{level}
 use Rattle.upper_image.specs.OrderingCone.{dual_of}
@@ -13,7 +14,7 @@ use Rattle.upper_image.specs.Shows.{picked}
 use Rattle.upper_image.specs.Spots.{pieces, dense, product, column}
 use Rattle.upper_image.specs.UpperImage.{objective, objective_column, rest}
 use Rattle.polyhedra.specs.LiveList.{Numbered}
-use Rattle.log_rules.specs.Live.{Stated, State, state, y_of, t_of, value, find, cut_at, cut_row, rows_in_use, required_pairs, duality_vector, preimages, named, contains}
+use Rattle.log_rules.specs.Live.{Stated, State, state, y_of, t_of, value, find, cut_at, cut_row, rows_in_use, required_pairs, duality_vector, preimages, named, lines, contains}
 use Rattle.log_rules.specs.Order.{in_order}
 use Rattle.frac128.specs.Sparse.{is_zero}
 use Rattle.frac128.specs.declared.vectors.Spot.{Spot}
@@ -193,12 +194,18 @@ corner directions cut =
     ++ test rule.Corner (if d.0 == cut.0 then lt_ℚ zero_ℚ (dot cut.1.w d.1) else is_zero (dot cut.1.w d.1)) ∷ [])
     (enumerate_from 1 directions)
 
-abbrev pub start_events : Problem → State → List ℕ → List ℚ → List ℚ → List Event
-start_events file s cuts point directions =
+-- each vector is 0 at the place of each line
+abbrev pub all_reduced : List (List ℚ) → List (List ℚ) → Bool
+all_reduced ls vs = list_all (λ v. list_all (λ d. is_zero (entry v (leading_place d))) ls) vs
+
+abbrev pub start_events : Problem → List (List ℚ) → State → List ℕ → List ℚ → List ℚ → List Event
+start_events file ls s cuts point directions =
     let named_cuts = map (cut_at s.cuts) cuts in
-    let ds = pieces file.objs file.objs directions in
-    test rule.Length (length cuts == file.objs && length point == file.objs && length directions == file.objs * file.objs)
+    let ds = pieces (length cuts) file.objs directions in
+    test rule.Length (length cuts + length ls == file.objs && nat_le 1 (length cuts) && length point == file.objs
+    && length directions == length cuts * file.objs)
     ∷ test rule.Index (rises cuts && all_within (length s.cuts) cuts)
+    ∷ test rule.Corner (all_reduced ls (point ∷ ds))
     ∷ test rule.Corner (list_all (λ d. same_ℚ (magnitude (leading d)) one_ℚ) ds)
     ∷ flat_map (λ cut. dot_steps cut.w point ++ test rule.Corner (same_ℚ (dot cut.w point) cut.gamma) ∷ []) named_cuts
     ++ flat_map (corner ds) (enumerate_from 1 named_cuts)
@@ -283,10 +290,17 @@ farkas_events file u =
 abbrev pub whole_events : Problem → List ℚ → List Spot → List Spot → List Spot → List Event
 whole_events file c x ray m = in_feasible file x ++ in_recession file ray ++ above file (map neg_ℚ c) ray m
 
-abbrev pub line_events : Problem → List ℚ → List Spot → List Spot → List Spot → List Spot → List Spot → List Event
-line_events file d x ray m back n =
+-- d goes on the reduced echelon form of the lines before it: its first entry that is not 0 is 1 and
+-- stands behind their places, and they are 0 at its place
+abbrev pub goes_on : List (List ℚ) → List ℚ → Bool
+goes_on ls d =
+    same_ℚ (leading d) one_ℚ
+    && list_all (λ e. nat_lt (leading_place e) (leading_place d) && is_zero (entry e (leading_place d))) ls
+
+abbrev pub line_events : Problem → List (List ℚ) → List ℚ → List Spot → List Spot → List Spot → List Spot → List Spot → List Event
+line_events file ls d x ray m back n =
     test rule.Length (length d == file.objs)
-    ∷ test rule.Scaled (same_ℚ (leading d) one_ℚ)
+    ∷ test rule.Scaled (goes_on ls d)
     ∷ in_feasible file x
     ++ in_recession file ray ++ above file d ray m
     ++ in_recession file back ++ above file (map neg_ℚ d) back n
@@ -318,7 +332,7 @@ is_accounted q s names row = lies_in s.list.live row (level q) || list_any (λ k
 abbrev pub end_events : Problem → List Entry → State → EndKind → List Event
 end_events file before s kind.Infeasible = test rule.Missing (order.has order.farkas before) ∷ []
 end_events file before s kind.Whole = test rule.Missing (order.has order.whole before) ∷ []
-end_events file before s kind.NoVertex = test rule.Missing (order.has order.line before) ∷ []
+end_events file before s kind.NoVertex = test rule.Missing false ∷ []
 end_events file before s kind.Solved =
     test rule.Missing (order.has order.start before
     && list_all (λ g. not (length (preimages before g.number) == 0)) s.list.live
@@ -330,13 +344,13 @@ abbrev pub kind_events : Problem → List Entry → State → Entry → List Eve
 kind_events file before s (Version n) = test rule.Version (n == 1) ∷ []
 kind_events file before s (Duality c weights picks inverse) = duality_events file c weights picks inverse
 kind_events file before s (Cut w gamma u v) = cut_events file before w gamma u v
-kind_events file before s (Start cuts point directions) = start_events file s cuts point directions
+kind_events file before s (Start cuts point directions) = start_events file (lines before) s cuts point directions
 kind_events file before s (Add cut pairs) = add_events file s cut pairs
 kind_events file before s (Point k x m) = point_events file before s k x m
 kind_events file before s (Ray k x m) = ray_events file before s k x m
 kind_events file before s (Farkas u) = farkas_events file u
 kind_events file before s (Whole x ray m) = whole_events file (duality_vector before) x ray m
-kind_events file before s (Line d x ray m back n) = line_events file d x ray m back n
+kind_events file before s (Line d x ray m back n) = line_events file (lines before) d x ray m back n
 kind_events file before s (Facet cut) = facet_events file before s cut
 kind_events file before s (End kind) = end_events file before s kind
 

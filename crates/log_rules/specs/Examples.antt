@@ -18,7 +18,7 @@ use Rattle.deriv_log.specs.declared.entry.Entry.TheVariants as entry
 use Rattle.log_rules.specs.Events.{Failing, log_failure}
 use Rattle.log_rules.specs.Live.{duality_vector}
 use Rattle.log_rules.specs.Names.{rule_number}
-use Rattle.log_rules.specs.Proves.{Proves, live_at, named_facets}
+use Rattle.log_rules.specs.Proves.{Proves, live_at, named_facets, shown_lines}
 use Rattle.log_rules.specs.Events.Failure.{wrong, left}
 use Rattle.log_rules.specs.declared.answer.Answer.TheVariants.{Solved}
 
@@ -171,14 +171,96 @@ plain cone duality bounds = record {
 }
 
 -- the first variable free: the image has a line
+abbrev pub line_file : Parts
+line_file = plain Orthant None (Free ∷ Lower (n 0) ∷ [])
+
 abbrev pub the_line : Entry
 the_line = entry.Line (n 1 ∷ n 0 ∷ []) [] (at 1 (n 1) ∷ []) [] (at 1 minus_one ∷ []) []
 
-abbrev pub line_log : List Entry
-line_log =
+abbrev pub line_cuts : List Entry
+line_cuts =
     entry.Version 1 ∷ entry.Duality (n 1 ∷ n 1 ∷ []) [] [] []
     ∷ entry.Cut (n 0 ∷ n 1 ∷ []) (n 0) (at 1 (n 1) ∷ []) []
-    ∷ the_line ∷ entry.End kind.NoVertex ∷ []
+    ∷ []
+
+-- from the start on, with this point and these directions
+abbrev pub line_end : List ℚ → List ℚ → List Entry
+line_end point directions =
+    entry.Start (1 ∷ []) point directions
+    ∷ entry.Point 1 [] []
+    ∷ entry.Ray 2 [] []
+    ∷ entry.Facet 1 ∷ solved_end
+
+abbrev pub line_log : List Entry
+line_log = line_cuts ++ the_line ∷ line_end (n 0 ∷ n 0 ∷ []) (n 0 ∷ n 1 ∷ [])
+
+-- the line before the cut
+abbrev pub line_first_log : List Entry
+line_first_log =
+    entry.Version 1 ∷ entry.Duality (n 1 ∷ n 1 ∷ []) [] [] []
+    ∷ the_line
+    ∷ entry.Cut (n 0 ∷ n 1 ∷ []) (n 0) (at 1 (n 1) ∷ []) []
+    ∷ line_end (n 0 ∷ n 0 ∷ []) (n 0 ∷ n 1 ∷ [])
+
+-- a row x2 ≥ 1 beside the bound x2 ≥ 0: the cut of the bound comes first, and then that of the row
+abbrev pub line_above : Parts
+line_above = record line_file {
+  a = cell 1 2 (n 1) ∷ [];
+  row_bounds = Lower (n 1) ∷ [];
+}
+
+-- with these pairs
+abbrev pub line_add_log : List LogPair → List Entry
+line_add_log pairs =
+    entry.Version 1 ∷ entry.Duality (n 1 ∷ n 1 ∷ []) [] [] []
+    ∷ entry.Cut (n 0 ∷ n 1 ∷ []) (n 0) (at 2 (n 1) ∷ []) []
+    ∷ entry.Line (n 1 ∷ n 0 ∷ []) (at 2 (n 1) ∷ []) (at 1 (n 1) ∷ []) [] (at 1 minus_one ∷ []) []
+    ∷ entry.Start (1 ∷ []) (n 0 ∷ n 0 ∷ []) (n 0 ∷ n 1 ∷ [])
+    ∷ entry.Cut (n 0 ∷ n 1 ∷ []) (n 1) (at 1 (n 1) ∷ []) []
+    ∷ entry.Add 2 pairs
+    ∷ entry.Point 3 (at 2 (n 1) ∷ []) []
+    ∷ entry.Ray 2 [] []
+    ∷ entry.Facet 2 ∷ solved_end
+
+-- x3 - x1 - x2 as third objective, x1 and x2 free and x3 ≥ 0: the sum of the objectives is at least 0,
+-- and the image has two lines
+abbrev pub half_space : Parts
+half_space = record {
+  dir = Min;
+  objs = 3;
+  a = [];
+  o = cell 1 1 (n 1) ∷ cell 2 2 (n 1) ∷ cell 3 1 minus_one ∷ cell 3 2 minus_one ∷ cell 3 3 (n 1) ∷ [];
+  row_bounds = [];
+  col_bounds = Free ∷ Free ∷ Lower (n 0) ∷ [];
+  cone = Orthant;
+  duality = None;
+}
+
+-- a line with its pre-image, and the negative of both
+abbrev pub line_by : List ℚ → List Spot → List Spot → Entry
+line_by d ray back = entry.Line d [] ray [] back []
+
+abbrev pub first_line : Entry
+first_line = line_by (n 1 ∷ n 0 ∷ minus_one ∷ []) (at 1 (n 1) ∷ []) (at 1 minus_one ∷ [])
+
+abbrev pub second_line : Entry
+second_line = line_by (n 0 ∷ n 1 ∷ minus_one ∷ []) (at 2 (n 1) ∷ []) (at 2 minus_one ∷ [])
+
+-- the first minus the second
+abbrev pub mixed_line : Entry
+mixed_line = line_by (n 1 ∷ minus_one ∷ n 0 ∷ []) (at 1 (n 1) ∷ at 2 minus_one ∷ []) (at 1 minus_one ∷ at 2 (n 1) ∷ [])
+
+-- with these two lines
+abbrev pub half_space_log : Entry → Entry → List Entry
+half_space_log one two =
+    entry.Version 1 ∷ entry.Duality (n 1 ∷ n 1 ∷ n 1 ∷ []) [] [] []
+    ∷ entry.Cut (third ∷ third ∷ third ∷ []) (n 0) (at 1 third ∷ []) []
+    ∷ one
+    ∷ two
+    ∷ entry.Start (1 ∷ []) (n 0 ∷ n 0 ∷ n 0 ∷ []) (n 0 ∷ n 0 ∷ n 1 ∷ [])
+    ∷ entry.Point 1 [] []
+    ∷ entry.Ray 2 [] []
+    ∷ entry.Facet 1 ∷ solved_end
 
 -- the cone of (1, 2) and (2, 1), with c = (1, 1) = 1/3 (1, 2) + 1/3 (2, 1), and the inverse of the
 -- two; (0, 1) is no multiple of (1, 2)
@@ -268,14 +350,28 @@ empty = record {
 abbrev pub farkas_log : ℚ → List Entry
 farkas_log u = entry.Version 1 ∷ entry.Farkas (at 1 (n 1) ∷ at 2 u ∷ []) ∷ entry.End kind.Infeasible ∷ []
 
--- an operation that is not held; a line, and one without a cut before it; a direction by a wrong
--- generator; cones by generators and by rows; everything; one objective; no solution; a cut before
--- the duality vector, a second version and none
+-- a line, behind a cut and before it, and a start whose direction is not reduced, or whose point is not;
+-- a line twice, one behind the start, and the end that no log has. A row that comes into use beside a
+-- line, and its one pair left out. Two lines, of which the first is not 0 at the place of the second,
+-- and whose places fall
+pub record LineLogs : Type 0 where
+  pub has_line : Passes line_file line_log
+  pub line_first : Passes line_file line_first_log
+  pub way_not_reduced : Fails line_file (line_cuts ++ the_line ∷ line_end (n 0 ∷ n 0 ∷ []) (n 1 ∷ n 1 ∷ [])) (5 ∷ 0 ∷ 12 ∷ [])
+  pub point_not_reduced : Fails line_file (line_cuts ++ the_line ∷ line_end (n 1 ∷ n 0 ∷ []) (n 0 ∷ n 1 ∷ [])) (5 ∷ 0 ∷ 12 ∷ [])
+  pub line_twice : Fails line_file (line_cuts ++ the_line ∷ the_line ∷ solved_end) (5 ∷ 0 ∷ 5 ∷ [])
+  pub line_late : Fails line_file (line_log ++ the_line ∷ []) (10 ∷ 0 ∷ 2 ∷ [])
+  pub no_vertex : Fails line_file (line_cuts ++ the_line ∷ entry.End kind.NoVertex ∷ []) (5 ∷ 0 ∷ 15 ∷ [])
+  pub added : Passes line_above (line_add_log (pair 2 1 ∷ []))
+  pub left_out : Fails line_above (line_add_log []) (7 ∷ 0 ∷ 13 ∷ [])
+  pub two_lines : Passes half_space (half_space_log first_line second_line)
+  pub mixed : Fails half_space (half_space_log mixed_line second_line) (5 ∷ 0 ∷ 5 ∷ [])
+  pub falling : Fails half_space (half_space_log second_line first_line) (5 ∷ 0 ∷ 5 ∷ [])
+
+-- an operation that is not held; a direction by a wrong generator; cones by generators and by rows;
+-- everything; one objective; no solution; a cut before the duality vector, a second version and none
 pub record OtherLogs : Type 0 where
   pub overflow : Fails large large_log (3 ∷ 1 ∷ 11 ∷ wide ∷ wide ∷ [])
-  pub has_line : Passes (plain Orthant None (Free ∷ Lower (n 0) ∷ [])) line_log
-  pub line_alone : Fails (plain Orthant None (Free ∷ Lower (n 0) ∷ []))
-      (entry.Version 1 ∷ entry.Duality (n 1 ∷ n 1 ∷ []) [] [] [] ∷ the_line ∷ entry.End kind.NoVertex ∷ []) (3 ∷ 0 ∷ 2 ∷ [])
   pub by_generators : Fails (plain wide_cone (Some (n 2 ∷ n 2 ∷ [])) (Lower (n 0) ∷ Lower (n 0) ∷ [])) cone_log (7 ∷ 0 ∷ 9 ∷ [])
   pub generators : Passes cone_alone cone_alone_log
   pub by_rows : Passes (plain dual_cone None (Lower (n 0) ∷ Lower (n 0) ∷ [])) dual_log
@@ -333,10 +429,34 @@ pub record LargestLog : Type 0 where
       ≡ (1 ∷ 3 ∷ []) ∷ (1 ∷ 2 ∷ []) ∷ (2 ∷ 4 ∷ []) ∷ []
   pub bounds : map (λ f. f.gamma.num) (named_facets file largest_log [] []) ≡ pos 1 ∷ pos 1 ∷ pos 1 ∷ []
   pub proves : Proves file largest_log
-      (Solved (duality_vector largest_log) (live_at file largest_log one_ℚ) (live_at file largest_log zero_ℚ)
+      (Solved (duality_vector largest_log) [] (live_at file largest_log one_ℚ) (live_at file largest_log zero_ℚ)
       (named_facets file largest_log (map (λ g. g.y) (live_at file largest_log one_ℚ)) (map (λ g. g.y) (live_at file largest_log zero_ℚ))))
+
+-- the first variable free and the second at most 0, maximised
+abbrev pub line_below : Parts
+line_below = record line_file {
+  dir = Max;
+  col_bounds = Free ∷ Upper (n 0) ∷ [];
+}
+
+abbrev pub line_below_log : List Entry
+line_below_log =
+    line_cuts
+    ++ line_by (n 1 ∷ n 0 ∷ []) (at 1 minus_one ∷ []) (at 1 (n 1) ∷ [])
+    ∷ line_end (n 0 ∷ n 0 ∷ []) (n 0 ∷ n 1 ∷ [])
+
+-- the log passes; the line stands in the answer as in the log, with its two pre-images changed about;
+-- and the direction is turned
+pub record LineBelow : Type 0 where
+  pub file : Problem
+  pub says : Says file line_below
+  pub passes : log_failure is_held file line_below_log ≡ None
+  pub line : shown_lines file line_below_log ≡ record { d = n 1 ∷ n 0 ∷ []; ray = at 1 (n 1) ∷ []; back = at 1 minus_one ∷ [] } ∷ []
+  pub direction : numerators (map (λ g. g.y) (live_at file line_below_log zero_ℚ)) ≡ (pos 0 ∷ negsuc 0 ∷ []) ∷ []
 
 pub record WorkedLogs : Type 0 where
   pub small : SmallLogs
+  pub lines : LineLogs
+  pub below : LineBelow
   pub other : OtherLogs
   pub largest : LargestLog

@@ -1,14 +1,17 @@
 -- What is proved of the rules: against events, of what stands, and of answers.
-use Rattle.polyhedra.specs.Exactness.{IsSolved}
+use Rattle.lineality.specs.Exactness.{IsSolvedAlong}
+use Rattle.lineality.specs.Lines.{IsInLineality, RunsAlong}
+use Rattle.lineality.specs.Steps.{IsClear, list_without}
+use Rattle.lineality.specs.Without.{marks, open_count, without}
 use Rattle.polyhedra.specs.Hull.{IsInHull, IsValidAt, IsVertex, IsExtremeDirection, IsNormedDirection}
 use Rattle.polyhedra.specs.Inequality.{Inequality}
 use Rattle.polyhedra.specs.LowerImage.{completed, IsRecession}
-use Rattle.polyhedra.specs.Vectors.{zeros}
+use Rattle.polyhedra.specs.Vectors.{AreWide, zeros}
 use Rattle.upper_image.specs.UpperImage.{IsInWorkingImage, IsWorkingDirection, IsInImage, IsDirection, IsValidFor, front, IsInLowerImageOf, signed}
 use Rattle.log_rules.specs.Events.{log_failure}
 use Rattle.polyhedra.specs.LiveList.{Numbered}
 use Rattle.polyhedra.specs.LiveSteps.{IsLive}
-use Rattle.log_rules.specs.Live.{State, state, live_vectors, y_of, t_of, cut_at, inequality, in_use, rows_in_use, named}
+use Rattle.log_rules.specs.Live.{State, state, live_vectors, y_of, t_of, cut_at, inequality, in_use, rows_in_use, named, lines}
 use Rattle.log_rules.specs.Proves.{AllMeet, Proves}
 use Rattle.log_rules.specs.Right.{IsRight, stated, IsSolution}
 use Rattle.std.specs.Prelude.{ℕ, ◌≡◌, ◌⊎◌, ◌++◌, suc, ◌<◌, true, List, [], map, filter, All, Contains, IsTrue, Bool, None, ◌↔◌, ◌-◌, ◌∷◌, length}
@@ -18,6 +21,7 @@ use Rattle.vlp_reader.specs.declared.problem.Problem.{Problem}
 use Rattle.log_rules.specs.declared.answer.Answer.{Answer}
 use Rattle.log_rules.specs.declared.answer.Answer.TheVariants.{Solved}
 use Rattle.log_rules.specs.declared.answer.Gen.{Gen}
+use Rattle.log_rules.specs.declared.answer.LineGen.{LineGen}
 use Rattle.log_rules.specs.declared.answer.Facet.{Facet}
 use Rattle.deriv_log.specs.Formed.{IsLog}
 use Rattle.deriv_log.specs.declared.entry.Entry.{Entry}
@@ -33,17 +37,25 @@ abbrev pub MeetsGiveEvents : Type 0
 MeetsGiveEvents = (file : Problem) (entries : List Entry) → AllMeet file entries → log_failure (λ _. true) file entries ≡ None
 
 -- ---- what stands
--- the live generators describe the cone of the rows in use, each normed, by rising numbers; and
--- each is a point or a direction
-pub record Stands (file : Problem) (s : State) : Type 0 where
-  pub is_live : IsLive (suc file.objs) (rows_in_use file.objs s) s.list
-  pub open is_live use *
+-- without the entries at the places of the lines the live generators describe the cone of the rows
+-- in use, each normed, by rising numbers; at these places each is 0; and each is a point or a
+-- direction
+pub record Stands (file : Problem) (ls : List (List ℚ)) (s : State) : Type 0 where
+  pub is_live :
+      let bs = marks file.objs ls in
+      IsLive (suc (open_count bs)) (map (without bs) (rows_in_use file.objs s)) (list_without bs s.list)
+  pub wide : AreWide (suc file.objs) (live_vectors s)
+  pub clear : All (IsClear (marks file.objs ls)) (live_vectors s)
   pub kinds : All (λ g. (t_of file.objs g ≡ one_ℚ) ⊎ (t_of file.objs g ≡ zero_ℚ)) s.list.live
 
 -- so it is after entries that meet their rules, with a `start` among them
 abbrev pub RulesKeepDescription : Type 0
 RulesKeepDescription = (file : Problem) (entries : List Entry) → AllMeet file entries → IsTrue (order.has order.start entries) →
-    Stands file (state file.objs entries)
+    Stands file (lines entries) (state file.objs entries)
+
+-- the lines before a `start` are in reduced echelon form, and the image runs along them
+abbrev pub RulesKeepLines : Type 0
+RulesKeepLines = (file : Problem) (entries : List Entry) → AllMeet file entries → RunsAlong file.objs (IsWorkingDirection file) (lines entries)
 
 -- a number stays with its generator: a live one whose number was made before was live before
 abbrev pub NumbersStay : Type 0
@@ -52,16 +64,17 @@ NumbersStay = (file : Problem) (before rest : List Entry) → AllMeet file (befo
     Contains (state file.objs before).list.live g
 
 -- what is listed of a solved log is reached, and what is cut off is not in the image
-pub record IsReached (file : Problem) (entries : List Entry) (c : List ℚ) (points directions : List Gen) (facets : List Facet) : Type 0 where
+pub record IsReached (file : Problem) (entries : List Entry) (c : List ℚ) (ls : List LineGen) (points directions : List Gen) (facets : List Facet) : Type 0 where
+  pub lines_in : All (λ l. IsInLineality (IsDirection file) l.d) ls
   pub points_in : All (λ g. IsInImage file g.y) points
   pub directions_in : All (λ g. IsDirection file g.y) directions
   pub cuts_valid : All (λ cut. IsValidAt file.objs (IsInWorkingImage file) c (inequality cut)) (state file.objs entries).cuts
-  pub hull_in : (y : List ℚ) → IsInHull file.objs (map (λ g. g.y) points) (map (λ g. g.y) directions) [] y → IsInImage file y
+  pub hull_in : (y : List ℚ) → IsInHull file.objs (map (λ g. g.y) points) (map (λ g. g.y) directions) (map (λ l. l.d) ls) y → IsInImage file y
   pub facets_valid : All (λ f. IsValidFor file (stated f)) facets
 
 abbrev pub SolvedIsReached : Type 0
-SolvedIsReached = (file : Problem) (entries : List Entry) (c : List ℚ) (points directions : List Gen) (facets : List Facet) →
-    Proves file entries (Solved c points directions facets) → IsReached file entries c points directions facets
+SolvedIsReached = (file : Problem) (entries : List Entry) (c : List ℚ) (ls : List LineGen) (points directions : List Gen) (facets : List Facet) →
+    Proves file entries (Solved c ls points directions facets) → IsReached file entries c ls points directions facets
 
 -- ---- exactness
 -- the y of the live generators (y, t) with this t
@@ -74,10 +87,10 @@ named_cuts s entries = map (λ k. inequality (cut_at s.cuts k)) (named entries)
 
 -- a solved log meets the conditions of exactness for the image in working coordinates
 abbrev pub SolvedIsSolved : Type 0
-SolvedIsSolved = (file : Problem) (entries : List Entry) (c : List ℚ) (points directions : List Gen) (facets : List Facet) →
-    Proves file entries (Solved c points directions facets) →
+SolvedIsSolved = (file : Problem) (entries : List Entry) (c : List ℚ) (ls : List LineGen) (points directions : List Gen) (facets : List Facet) →
+    Proves file entries (Solved c ls points directions facets) →
     let s = state file.objs entries in
-    IsSolved file.objs (IsInWorkingImage file) (IsWorkingDirection file) c (in_use s) (live_vectors s) (listed file.objs s one_ℚ) (listed file.objs s zero_ℚ)
+    IsSolvedAlong file.objs (IsInWorkingImage file) (IsWorkingDirection file) c (lines entries) (in_use s) (live_vectors s) (listed file.objs s one_ℚ) (listed file.objs s zero_ℚ)
     (named_cuts s entries)
 
 -- what a log proves is right
@@ -94,12 +107,12 @@ abbrev pub SomeAnswer : Type 0
 SomeAnswer = (file : Problem) (entries : List Entry) → IsLog entries → AllMeet file entries → (answer : Answer) × Proves file entries answer
 
 -- two right solutions for one file and one c agree in all but pre-images and dual vectors: in the
--- points, the directions and the facets, in their order, and in the numbers of tight points and
--- directions
+-- lines, the points, the directions and the facets, in their order, and in the numbers of tight
+-- points and directions
 abbrev pub RightSolutionsAgree : Type 0
-RightSolutionsAgree = (file : Problem) (c : List ℚ) (points points' directions directions' : List Gen) (facets facets' : List Facet) →
-    IsSolution file c points directions facets → IsSolution file c points' directions' facets' →
-    (map (λ g. g.y) points ≡ map (λ g. g.y) points') × (map (λ g. g.y) directions ≡ map (λ g. g.y) directions')
+RightSolutionsAgree = (file : Problem) (c : List ℚ) (ls ls' : List LineGen) (points points' directions directions' : List Gen) (facets facets' : List Facet) →
+    IsSolution file c ls points directions facets → IsSolution file c ls' points' directions' facets' →
+    (map (λ l. l.d) ls ≡ map (λ l. l.d) ls') × (map (λ g. g.y) points ≡ map (λ g. g.y) points') × (map (λ g. g.y) directions ≡ map (λ g. g.y) directions')
     × (map stated facets ≡ map stated facets') × (map (λ f. f.tight) facets ≡ map (λ f. f.tight) facets')
 
 -- the facets, each by all entries of its normal but the last and its bound, are the vertices of the
@@ -114,5 +127,5 @@ pub record DescribeLowerImage (file : Problem) (c : List ℚ) (facets : List Fac
 
 -- so it is for a right solution
 abbrev pub FacetsDescribeLowerImage : Type 0
-FacetsDescribeLowerImage = (file : Problem) (c : List ℚ) (points directions : List Gen) (facets : List Facet) →
-    IsSolution file c points directions facets → DescribeLowerImage file c facets
+FacetsDescribeLowerImage = (file : Problem) (c : List ℚ) (ls : List LineGen) (points directions : List Gen) (facets : List Facet) →
+    IsSolution file c ls points directions facets → DescribeLowerImage file c facets

@@ -3,7 +3,7 @@ use Rattle.polyhedra.specs.Exactness.{homogenised, row_of, rows_of}
 use Rattle.polyhedra.specs.Inequality.{Inequality}
 use Rattle.polyhedra.specs.LiveList.{Numbered, LiveList, vectors, pairs, starting, step}
 use Rattle.upper_image.specs.Spots.{pieces}
-use Rattle.std.specs.Prelude.{ℕ, suc, ◌-◌, ◌==◌, Bool, true, false, List, [], ◌∷◌, ◌++◌, map, take, fold, slice_index_or}
+use Rattle.std.specs.Prelude.{ℕ, suc, ◌-◌, ◌==◌, Bool, true, false, List, [], ◌∷◌, ◌++◌, map, length, take, fold, slice_index_or}
 use Rattle.std.specs.List.{list_any, filter_map}
 use Rattle.std.specs.Prelude.{Option, None, Some}
 use Rattle.exact_field.specs.Rational.{ℚ, zero_ℚ, one_ℚ}
@@ -11,7 +11,7 @@ use Rattle.exact_field.specs.Vector.{dot, entry}
 use Rattle.frac128.specs.declared.vectors.Spot.{Spot}
 use Rattle.deriv_log.specs.declared.entry.LogPair.{LogPair}
 use Rattle.deriv_log.specs.declared.entry.Entry.{Entry}
-use Rattle.deriv_log.specs.declared.entry.Entry.TheVariants.{Duality, Cut, Start, Add, Point, Ray, Facet}
+use Rattle.deriv_log.specs.declared.entry.Entry.TheVariants.{Duality, Cut, Start, Add, Point, Ray, Line, Facet}
 
 -- ---- cuts
 -- a cut with its dual vector
@@ -79,15 +79,15 @@ log_pair pair = record { plus = pair.0; minus = pair.1 }
 abbrev pub required_pairs : List (List ℚ) → List Numbered → List ℚ → List LogPair
 required_pairs rows live row = map log_pair (pairs rows live row)
 
--- the vectors of the first generators: the point, then the directions
-abbrev pub first_vectors : ℕ → List ℚ → List ℚ → List (List ℚ)
-first_vectors q point directions = homogenised point one_ℚ ∷ map (λ d. homogenised d zero_ℚ) (pieces q q directions)
+-- the vectors of the first generators of so many cuts: the point, then a direction for each cut
+abbrev pub first_vectors : ℕ → ℕ → List ℚ → List ℚ → List (List ℚ)
+first_vectors q count point directions = homogenised point one_ℚ ∷ map (λ d. homogenised d zero_ℚ) (pieces count q directions)
 
 -- what stands after one more entry, where there are q objectives; a step makes the new generators
 -- of the pairs that are required, whatever pairs the log names
 abbrev pub after : ℕ → State → Entry → State
 after q s (Cut w gamma u _) = record s { cuts = s.cuts ++ record { w = w; gamma = gamma; u = u } ∷ [] }
-after q s (Start cuts point directions) = record s { used = cuts; list = starting 1 (first_vectors q point directions) }
+after q s (Start cuts point directions) = record s { used = cuts; list = starting 1 (first_vectors q (length cuts) point directions) }
 after q s (Add cut _) = record s { used = s.used ++ cut ∷ []; list = step (rows_in_use q s) s.list (cut_row s cut) }
 after q s _ = s
 
@@ -105,6 +105,15 @@ abbrev pub duality_vector : List Entry → List ℚ
 duality_vector [] = []
 duality_vector (Duality c _ _ _ ∷ _) = c
 duality_vector (_ ∷ entries) = duality_vector entries
+
+-- the vector of a line that an entry tells
+abbrev pub line_in : Entry → Option (List ℚ)
+line_in (Line d _ _ _ _ _) = Some d
+line_in _ = None
+
+-- the lines, in their order
+abbrev pub lines : List Entry → List (List ℚ)
+lines entries = filter_map line_in entries
 
 -- the pre-image that an entry gives the generator number k
 abbrev pub preimage_in : ℕ → Entry → Option (List Spot)

@@ -1,17 +1,20 @@
 -- What an entry must meet behind the entries before it: rule by rule, over exact numbers, in no
 -- order.
 use Rattle.polyhedra.specs.DoubleDescription.{leading}
-use Rattle.polyhedra.specs.Exactness.{IsCornerOf, TightLiesIn, IsNamed, IsAccounted}
+use Rattle.lineality.specs.Lines.{leading_place}
+use Rattle.lineality.specs.Steps.{IsCornerAlong}
+use Rattle.polyhedra.specs.Exactness.{TightLiesIn, IsNamed, IsAccounted}
 use Rattle.polyhedra.specs.Hull.{IsNormedDirection}
 use Rattle.polyhedra.specs.Vectors.{zeros, combination}
 use Rattle.upper_image.specs.Shows.{ShowsFeasible, ShowsRecession, ShowsAbove, ShowsFitting, ShowsCut}
 use Rattle.upper_image.specs.Spots.{pieces, dense, product}
 use Rattle.upper_image.specs.UpperImage.{normals}
 use Rattle.polyhedra.specs.LiveList.{Numbered}
-use Rattle.log_rules.specs.Live.{State, state, live_vectors, y_of, t_of, inequality, cut_at, cut_row, in_use, rows_in_use, required_pairs, duality_vector, preimages, named}
+use Rattle.log_rules.specs.Live.{State, state, live_vectors, y_of, t_of, inequality, cut_at, cut_row, in_use, rows_in_use, required_pairs, duality_vector, preimages, named, lines}
 use Rattle.log_rules.specs.Order.{in_order}
 use Rattle.std.specs.Prelude.{◌≡◌, ◌≢◌, ℕ, ◌*◌, ◌<◌, ◌≤◌, IsTrue, List, [], map, length, All, AllPairs, Contains}
 use Rattle.exact_field.specs.Rational.{ℚ, zero_ℚ, one_ℚ, neg_ℚ, ◌<ℚ◌}
+use Rattle.exact_field.specs.Vector.{entry}
 use Rattle.frac128.specs.declared.vectors.Spot.{Spot}
 use Rattle.vlp_reader.specs.Sides.{sides, side_bounds}
 use Rattle.vlp_reader.specs.declared.problem.Problem.{Problem}
@@ -22,14 +25,15 @@ use Rattle.deriv_log.specs.declared.entry.Entry.{Entry}
 use Rattle.deriv_log.specs.declared.entry.Entry.TheVariants.{Version, Duality, Cut, Start, Add, Point, Ray, Farkas, Whole, Line, Facet, End}
 use Rattle.log_rules.specs.Order as order
 
--- ---- start: a point at which q cuts are tight,
--- and for each of them a direction in which it alone grows
-pub record MeetsStart (file : Problem) (s : State) (cuts : List ℕ) (point directions : List ℚ) : Type 0 where
-  pub directions_many : length directions ≡ file.objs * file.objs
+-- ---- start: with the lines as many cuts as there are objectives, a reduced point at which they
+-- are tight, and for each of them a reduced direction in which it alone grows
+pub record MeetsStart (file : Problem) (before : List Entry) (s : State) (cuts : List ℕ) (point directions : List ℚ) : Type 0 where
+  pub some : 1 ≤ length cuts
+  pub directions_many : length directions ≡ length cuts * file.objs
   pub rise : AllPairs (λ k k'. k < k') cuts
   pub exist : All (λ k. (1 ≤ k) × (k ≤ length s.cuts)) cuts
-  pub normed : All IsNormedDirection (pieces file.objs file.objs directions)
-  pub corner : IsCornerOf file.objs (map (λ k. inequality (cut_at s.cuts k)) cuts) point (pieces file.objs file.objs directions)
+  pub normed : All IsNormedDirection (pieces (length cuts) file.objs directions)
+  pub corner : IsCornerAlong file.objs (lines before) (map (λ k. inequality (cut_at s.cuts k)) cuts) point (pieces (length cuts) file.objs directions)
 
 -- ---- add: a cut that comes into use, with exactly the pairs that are required
 pub record MeetsAdd (file : Problem) (s : State) (cut : ℕ) (pairs : List LogPair) : Type 0 where
@@ -71,10 +75,13 @@ pub record MeetsWhole (file : Problem) (c : List ℚ) (x ray m : List Spot) : Ty
   pub recedes : ShowsRecession file ray
   pub above : ShowsAbove file (map neg_ℚ c) ray m
 
--- a feasible point, and pre-images of the directions d and -d
-pub record MeetsLine (file : Problem) (d : List ℚ) (x ray m back n : List Spot) : Type 0 where
+-- a vector that goes on the reduced echelon form of the lines before it, a feasible point, and
+-- pre-images of the directions d and -d
+pub record MeetsLine (file : Problem) (before : List Entry) (d : List ℚ) (x ray m back n : List Spot) : Type 0 where
   pub lengths : length d ≡ file.objs
   pub scaled : leading d ≡ one_ℚ
+  pub rises : All (λ e. leading_place e < leading_place d) (lines before)
+  pub clear : All (λ e. entry e (leading_place d) ≡ zero_ℚ) (lines before)
   pub feasible : ShowsFeasible file x
   pub recedes : ShowsRecession file ray
   pub above : ShowsAbove file d ray m
@@ -99,7 +106,7 @@ pub record MeetsSolved (file : Problem) (before : List Entry) (s : State) : Type
 abbrev pub MeetsEnd : Problem → List Entry → EndKind → Type 0
 MeetsEnd file before kind.Infeasible = IsTrue (order.has order.farkas before)
 MeetsEnd file before kind.Whole = IsTrue (order.has order.whole before)
-MeetsEnd file before kind.NoVertex = IsTrue (order.has order.line before)
+MeetsEnd file before kind.NoVertex = ⊥
 MeetsEnd file before kind.Solved = MeetsSolved file before (state file.objs before)
 
 -- ---- all kinds
@@ -108,13 +115,13 @@ abbrev pub MeetsKind : Problem → List Entry → State → Entry → Type 0
 MeetsKind file before s (Version n) = n ≡ 1
 MeetsKind file before s (Duality c weights picks inverse) = ShowsFitting file c weights picks inverse
 MeetsKind file before s (Cut w gamma u v) = ShowsCut file (duality_vector before) w gamma u v
-MeetsKind file before s (Start cuts point directions) = MeetsStart file s cuts point directions
+MeetsKind file before s (Start cuts point directions) = MeetsStart file before s cuts point directions
 MeetsKind file before s (Add cut pairs) = MeetsAdd file s cut pairs
 MeetsKind file before s (Point k x m) = MeetsPoint file before s k x m
 MeetsKind file before s (Ray k x m) = MeetsRay file before s k x m
 MeetsKind file before s (Farkas u) = MeetsFarkas file u
 MeetsKind file before s (Whole x ray m) = MeetsWhole file (duality_vector before) x ray m
-MeetsKind file before s (Line d x ray m back n) = MeetsLine file d x ray m back n
+MeetsKind file before s (Line d x ray m back n) = MeetsLine file before d x ray m back n
 MeetsKind file before s (Facet cut) = MeetsFacet file before s cut
 MeetsKind file before s (End kind) = MeetsEnd file before kind
 

@@ -1,5 +1,6 @@
 -- What a log proves: each entry meets its rules, and the answer is the one that the entries give.
-use Rattle.std.specs.Prelude.{◌≡◌, List, [], ◌∷◌, ◌++◌, map, take, Contains, filter, slice_index_or}
+use Rattle.std.specs.Prelude.{◌≡◌, List, [], ◌∷◌, ◌++◌, map, Contains, filter, slice_index_or, Option, None, Some}
+use Rattle.std.specs.List.{filter_map}
 use Rattle.exact_field.specs.Rational.{ℚ, zero_ℚ, one_ℚ}
 use Rattle.exact_field.specs.Order.{same_ℚ}
 use Rattle.polyhedra.specs.Exactness.{SameMembers}
@@ -14,8 +15,9 @@ use Rattle.vlp_reader.specs.declared.problem.Dir.{Dir}
 use Rattle.vlp_reader.specs.declared.problem.Dir.TheVariants.{Min, Max}
 use Rattle.deriv_log.specs.Formed.{IsLog}
 use Rattle.log_rules.specs.declared.answer.Answer.{Answer}
-use Rattle.log_rules.specs.declared.answer.Answer.TheVariants.{Infeasible, Whole, NoVertex, Solved}
+use Rattle.log_rules.specs.declared.answer.Answer.TheVariants.{Infeasible, Whole, Solved}
 use Rattle.log_rules.specs.declared.answer.Gen.{Gen}
+use Rattle.log_rules.specs.declared.answer.LineGen.{LineGen}
 use Rattle.log_rules.specs.declared.answer.Facet.{Facet}
 use Rattle.deriv_log.specs.declared.entry.EndKind.TheVariants as kind
 use Rattle.deriv_log.specs.declared.entry.Entry.{Entry}
@@ -50,28 +52,28 @@ pub record IsSorting {X : Type 0} (vector : X → List ℚ) (found listed : List
   pub same : SameMembers found listed
   pub rise : Rise (map vector listed)
 
--- the points, directions and facets of the answer are those of the log
-pub record GivesSolution (file : Problem) (entries : List Entry) (c : List ℚ) (points directions : List Gen) (facets : List Facet) : Type 0 where
-  pub c_given : c ≡ duality_vector entries
-  pub points_are : IsSorting (λ g. g.y) (live_at file entries one_ℚ) points
-  pub directions_are : IsSorting (λ g. g.y) (live_at file entries zero_ℚ) directions
-  pub facets_are : IsSorting (λ f. key (stated f)) (named_facets file entries (map (λ g. g.y) points) (map (λ g. g.y) directions)) facets
-
 -- the pre-images of d and of -d in the coordinates of the file: for a maximising file the log's two
 -- change places
 abbrev pub forth : Dir → List Spot → List Spot → List Spot
 forth Min ray back = ray
 forth Max ray back = back
 
--- the line and the first cut of the log
-pub record GivesLine (file : Problem) (entries : List Entry) (c : List ℚ) (x : List Spot) (d : List ℚ) (ray back : List Spot) (cut : Facet) : Type 0 where
+-- the line that an entry tells, with its pre-images; d stands as in the log, for a maximising file too
+abbrev pub shown_line : Dir → Entry → Option LineGen
+shown_line dir (entry.Line d _ ray _ back _) = Some (record { d = d; ray = forth dir ray back; back = forth dir back ray })
+shown_line dir _ = None
+
+-- the lines, in their order
+abbrev pub shown_lines : Problem → List Entry → List LineGen
+shown_lines file entries = filter_map (shown_line file.dir) entries
+
+-- the lines, points, directions and facets of the answer are those of the log
+pub record GivesSolution (file : Problem) (entries : List Entry) (c : List ℚ) (ls : List LineGen) (points directions : List Gen) (facets : List Facet) : Type 0 where
   pub c_given : c ≡ duality_vector entries
-  pub m : List Spot
-  pub n : List Spot
-  pub stands : Contains entries (entry.Line d x (forth file.dir ray back) m (forth file.dir back ray) n)
-  pub first : Stated
-  pub cuts : take 1 (state file.objs entries).cuts ≡ first ∷ []
-  pub shown_cut : cut ≡ facet_of file [] [] first
+  pub lines_are : ls ≡ shown_lines file entries
+  pub points_are : IsSorting (λ g. g.y) (live_at file entries one_ℚ) points
+  pub directions_are : IsSorting (λ g. g.y) (live_at file entries zero_ℚ) directions
+  pub facets_are : IsSorting (λ f. key (stated f)) (named_facets file entries (map (λ g. g.y) points) (map (λ g. g.y) directions)) facets
 
 -- the feasible point and the direction of the log
 pub record GivesWhole (entries : List Entry) (c : List ℚ) (x ray : List Spot) : Type 0 where
@@ -83,9 +85,8 @@ pub record GivesWhole (entries : List Entry) (c : List ℚ) (x ray : List Spot) 
 abbrev pub Gives : Problem → List Entry → Answer → Type 0
 Gives file entries (Infeasible u) = Contains entries (entry.End kind.Infeasible) × Contains entries (entry.Farkas u)
 Gives file entries (Whole c x ray) = Contains entries (entry.End kind.Whole) × GivesWhole entries c x ray
-Gives file entries (NoVertex c x d ray back cut) = Contains entries (entry.End kind.NoVertex) × GivesLine file entries c x d ray back cut
-Gives file entries (Solved c points directions facets) =
-    Contains entries (entry.End kind.Solved) × GivesSolution file entries c points directions facets
+Gives file entries (Solved c ls points directions facets) =
+    Contains entries (entry.End kind.Solved) × GivesSolution file entries c ls points directions facets
 
 -- the entries prove the answer for the file
 pub record Proves (file : Problem) (entries : List Entry) (answer : Answer) : Type 0 where

@@ -3,13 +3,13 @@ use Rattle.std.specs.Prelude.{◌≡◌, ℕ, List, [], ◌∷◌, map, codes, p
 use Rattle.exact_field.specs.Rational.{fraction}
 use Rattle.src_sink.specs.Texts.{words_text}
 use Rattle.vlp_reader.specs.declared.problem.Problem.{Problem}
-use Rattle.vlp_reader.specs.declared.problem.Bound.TheVariants.{Unsaid, Free, Lower}
-use Rattle.vlp_reader.specs.declared.problem.Cone.TheVariants.{Orthant}
-use Rattle.std.specs.Prelude.{None}
-use Rattle.log_rules.specs.Examples.{Parts, Says, n, at, half, minus_one, empty, one, plain, largest}
+use Rattle.vlp_reader.specs.declared.problem.Bound.TheVariants.{Unsaid, Lower}
+use Rattle.deriv_log.specs.declared.entry.Entry.{Entry}
+use Rattle.log_rules.specs.Examples.{Parts, Says, n, at, half, minus_one, empty, one, line_file, line_log, largest}
+use Rattle.log_rules.specs.Proves.{Proves}
 use Rattle.log_rules.specs.Report.{report_lines}
 use Rattle.log_rules.specs.declared.answer.Answer.{Answer}
-use Rattle.log_rules.specs.declared.answer.Answer.TheVariants.{Infeasible, Whole, NoVertex, Solved}
+use Rattle.log_rules.specs.declared.answer.Answer.TheVariants.{Infeasible, Whole, Solved}
 
 -- a file that says this, for which the report of the answer has these lines
 pub record Reports (parts : Parts) (answer : Answer) (lines : List (List ℕ)) : Type 0 where
@@ -17,9 +17,15 @@ pub record Reports (parts : Parts) (answer : Answer) (lines : List (List ℕ)) :
   pub says : Says file parts
   pub lines_are : map words_text (report_lines file answer) ≡ lines
 
+-- a file that says this, for which the log proves the answer
+pub record Shows (parts : Parts) (log : List Entry) (answer : Answer) : Type 0 where
+  pub file : Problem
+  pub says : Says file parts
+  pub proves : Proves file log answer
+
 -- x1 + x2 ≤ 1 and x ≥ 0, maximised: two points, two directions, three facets
 abbrev pub largest_answer : Answer
-largest_answer = Solved (n 1 ∷ n 1 ∷ [])
+largest_answer = Solved (n 1 ∷ n 1 ∷ []) []
     (record { y = n 0 ∷ n 1 ∷ []; pre = at 2 (n 1) ∷ [] } ∷ record { y = n 1 ∷ n 0 ∷ []; pre = at 1 (n 1) ∷ [] } ∷ [])
     (record { y = minus_one ∷ n 0 ∷ []; pre = [] } ∷ record { y = n 0 ∷ minus_one ∷ []; pre = [] } ∷ [])
     (record { w = n 0 ∷ n 1 ∷ []; gamma = n 1; u = at 1 (n 1) ∷ at 2 (n 1) ∷ []; tight = 1 ∷ 3 ∷ [] }
@@ -39,7 +45,7 @@ largest_report =
 
 -- one variable of at least 3/2
 abbrev pub bounded_answer : Answer
-bounded_answer = Solved (n 1 ∷ [])
+bounded_answer = Solved (n 1 ∷ []) []
     (record { y = fraction (pos 3) 2 ∷ []; pre = at 1 (fraction (pos 3) 2) ∷ [] } ∷ [])
     (record { y = n 1 ∷ []; pre = [] } ∷ [])
     (record { w = n 1 ∷ []; gamma = fraction (pos 3) 2; u = at 1 (n 1) ∷ []; tight = 1 ∷ [] } ∷ [])
@@ -53,18 +59,24 @@ bounded_report =
 
 -- a free variable and one of at least 0: a line
 abbrev pub line_answer : Answer
-line_answer = NoVertex (n 1 ∷ n 1 ∷ []) [] (n 1 ∷ n 0 ∷ []) (at 1 (n 1) ∷ []) (at 1 minus_one ∷ [])
-    record { w = n 0 ∷ n 1 ∷ []; gamma = n 0; u = at 1 (n 1) ∷ []; tight = [] }
+line_answer = Solved (n 1 ∷ n 1 ∷ []) (record { d = n 1 ∷ n 0 ∷ []; ray = at 1 (n 1) ∷ []; back = at 1 minus_one ∷ [] } ∷ [])
+    (record { y = n 0 ∷ n 0 ∷ []; pre = [] } ∷ [])
+    (record { y = n 0 ∷ n 1 ∷ []; pre = [] } ∷ [])
+    (record { w = n 0 ∷ n 1 ∷ []; gamma = n 0; u = at 1 (n 1) ∷ []; tight = 1 ∷ [] } ∷ [])
 
 abbrev pub line_report : List (List ℕ)
 line_report =
-    codes "report 1" ∷ codes "answer novertex" ∷ codes "free 0 0" ∷ codes "c 1 1"
-    ∷ codes "witnesses" ∷ codes "x 0" ∷ codes "l 1 0" ∷ codes "r 1 1 1" ∷ codes "r 1 1 -1" ∷ codes "f 0 1 0" ∷ codes "u 1 1 1" ∷ []
+    codes "report 1" ∷ codes "answer solved" ∷ codes "free 0 0" ∷ codes "c 1 1"
+    ∷ codes "lines 1" ∷ codes "l 1 0"
+    ∷ codes "points 1" ∷ codes "1 0 0" ∷ codes "directions 1" ∷ codes "0 0 1" ∷ codes "facets 1" ∷ codes "f 0 1 0"
+    ∷ codes "dual 1" ∷ codes "1 0 0" ∷ codes "0 0 -1" ∷ codes "incidence 1" ∷ codes "n 1 1"
+    ∷ codes "witnesses" ∷ codes "r 1 1 1" ∷ codes "r 1 1 -1" ∷ codes "x 0" ∷ codes "r 0" ∷ codes "u 1 1 1" ∷ []
 
 pub record WorkedReports : Type 0 where
   pub solved : Reports largest largest_answer largest_report
   pub one_objective : Reports (one (Lower (fraction (pos 3) 2))) bounded_answer bounded_report
-  pub line : Reports (plain Orthant None (Free ∷ Lower (n 0) ∷ [])) line_answer line_report
+  pub line : Reports line_file line_answer line_report
+  pub line_shown : Shows line_file line_log line_answer
   pub everything : Reports (one Unsaid) (Whole (n 1 ∷ []) [] (at 1 minus_one ∷ []))
       (codes "report 1" ∷ codes "answer whole" ∷ codes "free 0 1" ∷ codes "c 1" ∷ codes "witnesses" ∷ codes "x 0" ∷ codes "r 1 1 -1" ∷ [])
   pub no_solution : Reports empty (Infeasible (at 1 (n 1) ∷ at 2 (n 1) ∷ []))

@@ -3,15 +3,16 @@ use Rattle.polyhedra.specs.DoubleDescription.{is_zero}
 use Rattle.polyhedra.specs.Inequality.{Inequality}
 use Rattle.upper_image.specs.OrderingCone.{Fits}
 use Rattle.upper_image.specs.UpperImage.{IsExactFor}
-use Rattle.upper_image.specs.Witnesses.{HasPreimage, HasDirectionPreimage, HasDualVector, IsInfeasible, IsWhole, IsWithoutVertex}
+use Rattle.upper_image.specs.Witnesses.{HasPreimage, HasDirectionPreimage, HasDualVector, IsInfeasible, IsWhole, IsShownLine}
 use Rattle.std.specs.Prelude.{◌≡◌, ℕ, suc, Bool, true, false, ◌&&◌, ◌||◌, IsTrue, List, [], ◌∷◌, ◌++◌, map, All, AllPairs}
 use Rattle.exact_field.specs.Rational.{ℚ, lt_ℚ}
 use Rattle.exact_field.specs.Order.{same_ℚ}
 use Rattle.exact_field.specs.Vector.{dot}
 use Rattle.vlp_reader.specs.declared.problem.Problem.{Problem}
 use Rattle.log_rules.specs.declared.answer.Answer.{Answer}
-use Rattle.log_rules.specs.declared.answer.Answer.TheVariants.{Infeasible, Whole, NoVertex, Solved}
+use Rattle.log_rules.specs.declared.answer.Answer.TheVariants.{Infeasible, Whole, Solved}
 use Rattle.log_rules.specs.declared.answer.Gen.{Gen}
+use Rattle.log_rules.specs.declared.answer.LineGen.{LineGen}
 use Rattle.log_rules.specs.declared.answer.Facet.{Facet}
 
 -- ---- facets
@@ -47,15 +48,17 @@ Rise vs = AllPairs (λ v v'. IsTrue (is_before v v')) vs
 abbrev pub key : Inequality → List ℚ
 key e = e.normal ++ e.bound ∷ []
 
--- the points are exactly the vertices, the directions exactly the extreme directions and the facets
--- exactly the facets of the image, each list in rising order, each with what shows it
-pub record IsSolution (file : Problem) (c : List ℚ) (points directions : List Gen) (facets : List Facet) : Type 0 where
+-- the lines are those of the image, the points exactly the vertices of its reduced part, the
+-- directions exactly the extreme directions of this part and the facets exactly the facets of the
+-- image, each list in rising order (the lines by their places), each with what shows it
+pub record IsSolution (file : Problem) (c : List ℚ) (ls : List LineGen) (points directions : List Gen) (facets : List Facet) : Type 0 where
   pub fits : Fits file c
-  pub exact : IsExactFor file c (map (λ g. g.y) points) (map (λ g. g.y) directions) (map stated facets)
+  pub exact : IsExactFor file c (map (λ l. l.d) ls) (map (λ g. g.y) points) (map (λ g. g.y) directions) (map stated facets)
   pub open exact use *
   pub points_rise : Rise (map (λ g. g.y) points)
   pub directions_rise : Rise (map (λ g. g.y) directions)
   pub facets_rise : Rise (map (λ f. key (stated f)) facets)
+  pub lines_shown : All (λ l. IsShownLine file l.d l.ray l.back) ls
   pub preimages : All (λ g. HasPreimage file g.y g.pre) points
   pub direction_preimages : All (λ g. HasDirectionPreimage file g.y g.pre) directions
   pub dual_vectors : All (λ f. HasDualVector file (stated f) f.u) facets
@@ -65,5 +68,4 @@ pub record IsSolution (file : Problem) (c : List ℚ) (points directions : List 
 abbrev pub IsRight : Problem → Answer → Type 0
 IsRight file (Infeasible u) = IsInfeasible file u
 IsRight file (Whole c x ray) = IsWhole file c x ray
-IsRight file (NoVertex c x d ray back cut) = IsWithoutVertex file c x d ray back (stated cut) cut.u × (cut.tight ≡ [])
-IsRight file (Solved c points directions facets) = IsSolution file c points directions facets
+IsRight file (Solved c ls points directions facets) = IsSolution file c ls points directions facets

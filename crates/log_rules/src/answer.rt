@@ -10,6 +10,15 @@ pub struct Gen {
     pub pre: Sparse,
 }
 
+/// A line: a vector along which the image goes on for ever both ways, with a pre-image of it and one
+/// of its negative.
+#[derive(Debug, Drop)]
+pub struct LineGen {
+    pub d: Vector,
+    pub ray: Sparse,
+    pub back: Sparse,
+}
+
 /// The inequality `w.y >= gamma`, or `<=` for a maximising file, with its dual vector, and the
 /// numbers of the points and directions at which it is an equation. Points are numbered from 1, and
 /// directions go on.
@@ -34,18 +43,11 @@ pub enum Answer {
         x: Sparse,
         ray: Sparse,
     },
-    /// The image has no vertex: it contains a line of direction d.
-    NoVertex {
-        c: Vector,
-        x: Sparse,
-        d: Vector,
-        ray: Sparse,
-        back: Sparse,
-        cut: Facet,
-    },
-    /// The vertices, the extreme directions and the facets of the image, each list in rising order.
+    /// The lines of the image in reduced echelon form, the vertices and the extreme directions of
+    /// its reduced part, and its facets, each of the last three lists in rising order.
     Solved {
         c: Vector,
+        lines: Items<LineGen>,
         points: Items<Gen>,
         directions: Items<Gen>,
         facets: Items<Facet>,

@@ -5,13 +5,13 @@
 ghost use Rattle.log_rules.specs.Examples.{WorkedLogs};
 ghost use Rattle.log_rules.specs.Never.{NeverWrong};
 ghost use Rattle.log_rules.specs.ReportExamples.{WorkedReports};
-ghost use Rattle.log_rules.specs.Laws.{EventsGiveMeets, MeetsGiveEvents, RulesKeepDescription, NumbersStay, SolvedIsReached, SolvedIsSolved, ProvedIsRight, RightSolutionsAgree, FacetsDescribeLowerImage, OneAnswer, SomeAnswer};
+ghost use Rattle.log_rules.specs.Laws.{EventsGiveMeets, MeetsGiveEvents, RulesKeepDescription, RulesKeepLines, NumbersStay, SolvedIsReached, SolvedIsSolved, ProvedIsRight, RightSolutionsAgree, FacetsDescribeLowerImage, OneAnswer, SomeAnswer};
 
 mod answer;
 mod rule;
 mod stop;
 
-pub use answer::{Answer, Facet, Gen};
+pub use answer::{Answer, Facet, Gen, LineGen};
 pub use rule::Rule;
 pub use stop::Stop;
 
@@ -34,6 +34,11 @@ pub fn never_wrong()
 /// The live generators describe the cone of the rows in use.
 pub fn rules_keep_description()
     ensures { RulesKeepDescription }
+{}
+
+/// The image runs along the lines.
+pub fn rules_keep_lines()
+    ensures { RulesKeepLines }
 {}
 
 /// A number stays with its generator.

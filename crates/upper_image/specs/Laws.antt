@@ -1,16 +1,18 @@
 -- What is proved of cones, images and witnesses.
 use Rattle.std.specs.Prelude.{◌≡◌, ◌↔◌, ◌-◌, ◌<◌, ◌++◌, ◌∷◌, [], ℕ, List, map, length}
-use Rattle.exact_field.specs.Rational.{ℚ, one_ℚ, neg_ℚ, ◌-ℚ◌}
-use Rattle.polyhedra.specs.Exactness.{IsExact}
+use Rattle.exact_field.specs.Rational.{ℚ, zero_ℚ, one_ℚ, neg_ℚ, ◌-ℚ◌}
+use Rattle.lineality.specs.Exactness.{IsExactAlong}
+use Rattle.lineality.specs.Lines.{IsInLineality}
+use Rattle.polyhedra.specs.Negatives.{negated}
 use Rattle.polyhedra.specs.Hull.{IsConvex, IsValidAt, IsVertex, IsFacet, IsExtremeDirection, IsNormedDirection}
 use Rattle.polyhedra.specs.Image.{IsConvexCone}
 use Rattle.polyhedra.specs.Inequality.{Inequality}
 use Rattle.polyhedra.specs.LowerImage.{completed, IsRecession}
-use Rattle.polyhedra.specs.Vectors.{plus, scaled, zeros}
+use Rattle.polyhedra.specs.Vectors.{zeros}
 use Rattle.upper_image.specs.OrderingCone.{IsInOrderingCone, IsInDualCone, IsInteriorToCone, IsAbsorbed, dual_of, Fits}
 use Rattle.upper_image.specs.Shows.{ShowsIn, ShowsFitting, ShowsFeasible, ShowsRecession, ShowsAbove, ShowsCut}
 use Rattle.upper_image.specs.UpperImage.{IsInWorkingImage, IsWorkingDirection, IsInImage, IsDirection, IsPreimage, IsDirectionPreimage, IsDualVectorOf, IsValidFor, IsExactFor, IsInLowerImageOf, front, phi, turned, signed, working}
-use Rattle.upper_image.specs.Witnesses.{IsInfeasible, IsWhole, IsWithoutVertex}
+use Rattle.upper_image.specs.Witnesses.{IsInfeasible, IsWhole}
 use Rattle.exact_field.specs.Vector.{dot}
 use Rattle.frac128.specs.declared.vectors.Spot.{Spot}
 use Rattle.vlp_reader.specs.Sides.{IsFeasible}
@@ -70,10 +72,10 @@ CutShown = (file : Problem) (c w : List ℚ) (gamma : ℚ) (u v : List Spot) →
 -- ---- the file's coordinates
 -- what is exact in working coordinates is exact in those of the file
 abbrev pub ExactInFile : Type 0
-ExactInFile = (file : Problem) (c : List ℚ) (points directions : List (List ℚ)) (facets : List Inequality) →
-    IsExact file.objs (IsInWorkingImage file) (IsWorkingDirection file) c (map (turned file.dir) points) (map (turned file.dir) directions)
+ExactInFile = (file : Problem) (c : List ℚ) (lines points directions : List (List ℚ)) (facets : List Inequality) →
+    IsExactAlong file.objs (IsInWorkingImage file) (IsWorkingDirection file) c lines (map (turned file.dir) points) (map (turned file.dir) directions)
     (map (working file) facets) →
-    IsExactFor file c points directions facets
+    IsExactFor file c lines points directions facets
 
 -- ---- geometric duality
 -- the vertices of the lower image are the facets: each by all entries of its normal but the last, and its bound
@@ -104,15 +106,12 @@ abbrev pub WholeIsAll : Type 0
 WholeIsAll = (file : Problem) (c : List ℚ) (x ray : List Spot) → IsWhole file c x ray →
     (y : List ℚ) → length y ≡ file.objs → IsInImage file y
 
--- the image is not empty, goes on for ever along d and back, and is not everything
-pub record HasLine (file : Problem) (d : List ℚ) : Type 0 where
-  pub some : List ℚ
-  pub reached : IsInImage file some
-  pub along : (y : List ℚ) (l : ℚ) → IsInImage file y → IsInImage file (plus y (scaled l d))
-  pub other : List ℚ
-  pub other_wide : length other ≡ file.objs
-  pub missed : IsInImage file other → ⊥
+-- ---- lines
+-- pre-images of d and of -d show that d is in the lineality space of the image
+abbrev pub LineShown : Type 0
+LineShown = (file : Problem) (d x y : List ℚ) → IsDirectionPreimage file d x → IsDirectionPreimage file (negated d) y → IsInLineality (IsDirection file) d
 
-abbrev pub LineStays : Type 0
-LineStays = (file : Problem) (c : List ℚ) (x : List Spot) (d : List ℚ) (ray back : List Spot) (cut : Inequality) (u : List Spot) →
-    IsWithoutVertex file c x d ray back cut u → HasLine file d
+-- a cut that is shown is level along each vector of the lineality space, whether the image is empty or not
+abbrev pub CutsAreLevel : Type 0
+CutsAreLevel = (file : Problem) (c w : List ℚ) (gamma : ℚ) (u v : List Spot) (d : List ℚ) → ShowsCut file c w gamma u v →
+    IsInLineality (IsWorkingDirection file) d → dot w d ≡ zero_ℚ

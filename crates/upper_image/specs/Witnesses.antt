@@ -1,11 +1,11 @@
--- Sparse vectors that show what an answer says: pre-images, dual vectors, and the witnesses that the file is infeasible, that its
--- image is everything, and that its image has no vertex.
-use Rattle.std.specs.Prelude.{◌≡◌, List, map, length}
-use Rattle.exact_field.specs.Rational.{ℚ, zero_ℚ, one_ℚ, neg_ℚ, ◌<ℚ◌}
+-- Sparse vectors that show what an answer says: pre-images, dual vectors, the witnesses that the file is infeasible and that its image
+-- is everything, and what shows a line.
+use Rattle.std.specs.Prelude.{List, map, length}
+use Rattle.exact_field.specs.Rational.{ℚ, zero_ℚ, neg_ℚ, ◌<ℚ◌}
 use Rattle.exact_field.specs.Vector.{dot}
-use Rattle.polyhedra.specs.DoubleDescription.{leading}
 use Rattle.polyhedra.specs.Farkas.{IsDualVector}
 use Rattle.polyhedra.specs.Inequality.{Inequality}
+use Rattle.polyhedra.specs.Negatives.{negated}
 use Rattle.polyhedra.specs.Vectors.{zeros}
 use Rattle.upper_image.specs.OrderingCone.{IsInOrderingCone, Fits}
 use Rattle.upper_image.specs.Spots.{dense, IsVector}
@@ -30,7 +30,7 @@ pub record HasDualVector (file : Problem) (e : Inequality) (u : List Spot) : Typ
   pub vector : IsVector (length (sides file)) u
   pub shown : IsDualVectorOf file e (dense (length (sides file)) u)
 
--- ---- no point, everything, and a line
+-- ---- no point, everything, and lines
 -- no point meets all sides: u has no negative entry, the sides times u sum to 0, and the bounds times u to a positive number (Farkas)
 pub record IsInfeasible (file : Problem) (u : List Spot) : Type 0 where
   pub vector : IsVector (length (sides file)) u
@@ -46,13 +46,7 @@ pub record IsWhole (file : Problem) (c : List ℚ) (x ray : List Spot) : Type 0 
   pub recedes : IsRecession file (dense file.cols ray)
   pub against : IsInOrderingCone file (rest file (map neg_ℚ c) (dense file.cols ray))
 
--- the image has a line: d and -d are in its recession cone, and some inequality is valid for it
-pub record IsWithoutVertex (file : Problem) (c : List ℚ) (x : List Spot) (d : List ℚ) (ray back : List Spot) (cut : Inequality) (u : List Spot) : Type 0 where
-  pub fits : Fits file c
-  pub x_vector : IsVector file.cols x
-  pub feasible : IsFeasible file (dense file.cols x)
-  pub leading_one : leading d ≡ one_ℚ
+-- the lineality space of the image has d: ray is a sparse pre-image of d, and back one of -d
+pub record IsShownLine (file : Problem) (d : List ℚ) (ray back : List Spot) : Type 0 where
   pub forth : HasDirectionPreimage file d ray
-  pub back_too : HasDirectionPreimage file (map neg_ℚ d) back
-  pub cut_scaled : dot cut.normal c ≡ one_ℚ
-  pub cut_shown : HasDualVector file cut u
+  pub back_too : HasDirectionPreimage file (negated d) back
