@@ -44,6 +44,7 @@ use Rattle.licence.proofs.Values.{held_all}
 use Rattle.licence.proofs.WorkedBase.{full_after}
 use Rattle.licence.proofs.WorkedImages.{image_examples}
 use Rattle.licence.proofs.WorkedPairs.{three, three_read}
+use Rattle.licence.proofs.WorkedShares.{share_examples}
 
 -- ---- the duality entry
 abbrev interior : System
@@ -293,4 +294,4 @@ entry_examples = record {
 }
 
 pub worked_images : WorkedImages
-worked_images = record { images = image_examples; entries = entry_examples }
+worked_images = record { images = image_examples; entries = entry_examples; shares = share_examples }

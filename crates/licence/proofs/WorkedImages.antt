@@ -1,5 +1,5 @@
 -- The worked rows and generators of the image, computed.
-use Rattle.std.proofs.Common.{◌≡◌, ◌≢◌, slice_index_or, ℕ, zero, suc, ◌<◌, ◌≤◌, Bool, true, false, true≢false, ◌&&◌, List, [], ◌∷◌, ◌++◌, length, map, refl, sym, ap, ap₂, ◌∙◌, subst, arith, All, Contains, slice_get, inl, not}
+use Rattle.std.proofs.Common.{◌≡◌, ◌≢◌, slice_index_or, ℕ, zero, suc, ◌+◌, ◌<◌, ◌≤◌, Bool, true, false, true≢false, ◌&&◌, List, [], ◌∷◌, ◌++◌, length, map, refl, sym, ap, ap₂, ◌∙◌, subst, arith, All, Contains, slice_get, inl, not}
 use Rattle.std.specs.Prelude.{◌==◌}
 use Rattle.std.specs.List.{list_all}
 use Rattle.std.proofs.Math.Dec.{lit≤, lit<}
@@ -9,6 +9,9 @@ use Rattle.exact_field.specs.Rational.{ℚ, zero_ℚ, one_ℚ, whole, fraction, 
 use Rattle.exact_field.specs.Vector.{entry, dot}
 use Rattle.exact_field.specs.declared.op.Op.TheVariants.{Mul, Div}
 use Rattle.exact_field.specs.declared.op.Left.{Left}
+use Rattle.lineality.specs.Steps.{list_without}
+use Rattle.lineality.specs.Without.{without}
+use Rattle.lineality.proofs.MeetingsWithout.{none_marked}
 use Rattle.polyhedra.specs.Cone.{HasFullRank}
 use Rattle.polyhedra.specs.Dependence.{AreCorners}
 use Rattle.polyhedra.specs.DoubleDescription.{same_vector}
@@ -27,7 +30,7 @@ use Rattle.log_rules.proofs.LogMeets.{events_give_meets}
 use Rattle.licence.specs.Base.{IsBaseRow, trail_normals}
 use Rattle.licence.specs.Examples.{plain, n, minus, half, is_few, ones}
 use Rattle.licence.specs.ImageExamples.{quarter, three_quarters, chain, in_chain, image_rows, parallel_rows, added_rows, OverflowsChain, ImageExamples}
-use Rattle.licence.specs.Operands.{standing, AreElimRows, IsElimTable, IsAddition, IsPairStep, IsAdditionStep}
+use Rattle.licence.specs.Operands.{standing, line_marks, AreElimRows, IsElimTable, IsAddition, IsPairStep, IsAdditionStep}
 use Rattle.licence.specs.Steps.{operation, exchange_row, value_steps, pair_steps}
 use Rattle.licence.proofs.Given.{not_held, overflow_laws}
 use Rattle.licence.proofs.Values.{equal, apart, wide_test, two_below, step_is}
@@ -41,7 +44,7 @@ same_rows [] (y ∷ ys) = false
 same_rows (x ∷ xs) [] = false
 same_rows (x ∷ xs) (y ∷ ys) = same_vector x y && same_rows xs ys
 
-rows_are : (s t : List (List ℚ)) → same_rows s t ≡ true → s ≡ t
+pub rows_are : (s t : List (List ℚ)) → same_rows s t ≡ true → s ≡ t
 rows_are [] [] h = refl
 rows_are [] (y ∷ ys) h = absurd (true≢false (sym h))
 rows_are (x ∷ xs) [] h = absurd (true≢false (sym h))
@@ -168,13 +171,22 @@ no_image (a ∷ b ∷ []) all many rank e =
     (All-nil (λ v. dot v (n 1 ∷ n 0 ∷ []) ≡ zero_ℚ)))) in
     apart (n 1) zero_ℚ refl (ap (λ (v : List ℚ). entry v 1) none)
 
+-- the trail has no line, so no entry is left out
+unmarked : (vs : List (List ℚ)) → map (without (line_marks in_chain)) vs ≡ vs
+unfolding whole
+unmarked [] = refl
+unmarked (v ∷ vs) = ap₂ (λ (p : List ℚ) (q : List (List ℚ)). p ∷ q) (none_marked 2 v).without_none (unmarked vs)
+
 no_elimination : AreElimRows in_chain parallel_rows 3 → ⊥
 unfolding whole
 no_elimination h = go 3 h refl
   where
     go : (width : ℕ) → AreElimRows in_chain parallel_rows width → 3 ≡ width → ⊥
     go width (AreElimRows.of_normals e) l = let three : 3 ≡ 2 = l in omega (arith, three)
-    go width (AreElimRows.of_image cuts all many rank e) l = no_image cuts all many rank e
+    go width (AreElimRows.of_image cuts all many rank e) l =
+        let count : length cuts + 0 ≡ 2 = many in
+        no_image cuts all (omega (arith, count)) (subst (λ (vs : List (List ℚ)). HasFullRank 2 vs) (unmarked (map (row_of (trail_normals 2 chain)) cuts)) rank)
+        (e ∙ unmarked (level 2 ∷ map (cut_row (standing in_chain)) cuts))
     go width (AreElimRows.of_cone all) l = let three : 3 ≡ 2 = l in omega (arith, three)
     go width (AreElimRows.of_base c known all) l =
         no_row (subst (λ (d : List ℚ). IsBaseRow plain d (n 0 ∷ n 1 ∷ n 0 ∷ [])) (known_is c known) (all 1 (n 0 ∷ n 1 ∷ n 0 ∷ []) (lit< tt)))
@@ -266,6 +278,10 @@ pair = record {
 last_is : (before : List (List ℚ)) (x : List ℚ) → before ≡ first_rows → added_rows ≡ before ++ x ∷ [] → x ≡ last
 last_is before x e f = sym (ap (λ (rs : List (List ℚ)). slice_index_or rs 4 []) (f ∙ ap (λ (rs : List (List ℚ)). rs ++ x ∷ []) e))
 
+same_list : list_without (line_marks in_chain) list ≡ list
+unfolding whole fraction gcd ◌+ℚ◌ ◌*ℚ◌ neg_ℚ inverse_ℚ le_ℚ
+same_list = refl
+
 fixed : (first second number : ℕ) (left : Left ℚ) → IsAdditionStep in_chain Image added_rows first second number left →
     IsPairStep first_rows last list first second number left
 unfolding whole
@@ -274,7 +290,7 @@ fixed first second number left h = go h.allowed
     go : IsAddition in_chain h.before h.last h.list Image → IsPairStep first_rows last list first second number left
     go (IsAddition.of_image k l u e f m) =
         let same : h.before ≡ first_rows = e ∙ sym used in
-        subst (λ (ls : LiveList). IsPairStep first_rows last ls first second number left) m
+        subst (λ (ls : LiveList). IsPairStep first_rows last ls first second number left) (m ∙ same_list)
         (subst (λ (x : List ℚ). IsPairStep first_rows x h.list first second number left) (last_is h.before h.last same h.parted)
         (subst (λ (rs : List (List ℚ)). IsPairStep rs h.last h.list first second number left) same h.operands))
 

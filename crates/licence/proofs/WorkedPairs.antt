@@ -38,7 +38,7 @@ use Rattle.lp_form.specs.Programs.{side_total, feasible_system, benson_system, u
 use Rattle.licence.specs.Base.{IsSolutionOff, AreMultipliersOff, IsBaseChoice, IsBaseCut, IsBaseNormal, IsBaseRow, IsBaseStart, IsBaseWeight, weight_of}
 use Rattle.licence.specs.Examples.{n, minus, half, minus_half, is_few, ones, trail_of, setting}
 use Rattle.licence.specs.Licence.{IsOverflow}
-use Rattle.licence.specs.Operands.{Setting, vector_of, IsElimStep, IsListStep, IsMadeOver, IsAddition, IsBaseU, IsBaseW, IsTrailEntry, IsChoiceOf, AreSharesOf, IsBaseX, AreBaseShares, IsRowOrWeight, IsStartOrGenerator, AreMultiplied}
+use Rattle.licence.specs.Operands.{Setting, vector_of, IsElimStep, IsListStep, IsMadeOver, IsAddition, IsBaseU, IsBaseW, IsTrailEntry, IsChoiceOf, AreSharesOf, IsBaseX, AreBaseShares, filled, IsRowOrWeight, IsStartOrGenerator, AreMultiplied}
 use Rattle.licence.specs.PairExamples.{narrow, in_dual_form, in_narrow, third, OverflowsNarrow, PairExamples}
 use Rattle.licence.specs.Steps.{operation, exchange_row, IsProductStep}
 use Rattle.licence.specs.Trails.{IsBaseTrail}
@@ -331,11 +331,11 @@ row_wide row (IsBaseRow.of_cone d (i, l, u, unit) e) = ap (λ (v : List ℚ). le
 rows_wide : (rows : List (List ℚ)) → All (IsBaseRow narrow ones) rows → AreWide 3 rows
 rows_wide rows h = record { wide = All-weaker (IsBaseRow narrow ones) (HasWidth 3) row_wide rows h }
 
-live_wide : (rows : List (List ℚ)) (list : LiveList) (g : Numbered) → AreWide 3 rows → IsMadeOver 3 rows list → Contains list.live g → length g.vector ≡ 3
+pub live_wide : (rows : List (List ℚ)) (list : LiveList) (g : Numbered) → AreWide 3 rows → IsMadeOver 3 rows list → Contains list.live g → length g.vector ≡ 3
 live_wide rows list g wide made h = (generator_laws.generator 3 rows list g (generator_laws.live 3 rows list wide made) h).extreme.member.wide
 
 added_wide : (before : List (List ℚ)) (last : List ℚ) (family : Family) (list : LiveList) (g : Numbered) → IsAddition in_narrow before last list family →
-    Contains list.live g ⊎ Contains (step before list last).live g → length g.vector ≡ 3
+    Contains list.live g ⊎ Contains (step before list last).live g → length (filled in_narrow family g.vector) ≡ 3
 unfolding whole
 added_wide before last family list g (IsAddition.of_image k l u e f m) h = let few : k ≤ 0 = u in absurd (omega (arith, l, few))
 added_wide before last family list g (IsAddition.of_cone all c made) h = absurd (Contains-nil last c)

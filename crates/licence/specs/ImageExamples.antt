@@ -1,10 +1,10 @@
 -- Rows and generators of the image in a trail with a start, and the numbers of entries of a trail
 -- or behind one, beside near ones that are none: each example would fail if a definition were
 -- wrong.
-use Rattle.std.specs.Prelude.{◌||◌, pos, codes, Bool, List, [], ◌∷◌, ◌++◌, Some, refl}
+use Rattle.std.specs.Prelude.{◌||◌, pos, negsuc, codes, Bool, List, [], ◌∷◌, ◌++◌, Some, refl}
 use Rattle.exact_field.specs.Rational.{ℚ, fraction}
 use Rattle.exact_field.specs.Order.{same_ℚ}
-use Rattle.exact_field.specs.declared.op.Op.TheVariants.{Mul, Div}
+use Rattle.exact_field.specs.declared.op.Op.TheVariants.{Add, Mul, Div}
 use Rattle.exact_field.specs.declared.op.Left.{Left}
 use Rattle.vlp_reader.specs.declared.problem.Problem.{Problem}
 use Rattle.vlp_reader.specs.declared.problem.Cone.TheVariants.{Gens}
@@ -16,7 +16,7 @@ use Rattle.deriv_log.specs.declared.licence.Place.TheVariants.{Elim, Pair}
 use Rattle.log_rules.specs.Proves.{AllMeet}
 use Rattle.licence.specs.Examples.{n, minus, half, minus_half, is_few, numbers, rows, plain, ones, trail_of, cut_entry}
 use Rattle.licence.specs.Licence.{IsOverflow, opening, Licensed}
-use Rattle.licence.specs.Operands.{Setting, AreElimRows, IsTrailEntry}
+use Rattle.licence.specs.Operands.{Setting, AreElimRows, IsTrailEntry, IsShareStep}
 use Rattle.licence.specs.PairExamples.{narrow_with, third}
 use Rattle.licence.specs.Steps.{operation}
 use Rattle.licence.specs.Trails.{IsBaseTrail}
@@ -133,6 +133,18 @@ pub record EntryExamples : Type 0 where
   pub no_point : IsTrailEntry at_begin (Point 1 (record { at = 1; value = n 4 } ∷ []) []) → ⊥
   pub other_kind : IsTrailEntry at_begin (Point 2 (record { at = 1; value = n 3 } ∷ []) []) → ⊥
 
+-- Benson's program at the direction 3 has at one of its bases the multipliers (0, 0, 3/2, -5/2), of
+-- which the last is negative: its magnitude times the weight 1/2 of the second generator is added
+-- to the share -3/2
+pub record ShareExamples : Type 0 where
+  pub product : IsOverflow is_some at_begin (Elim [] [] 0 2 2) (operation Mul (fraction (pos 5) 2) half)
+  pub sum : IsOverflow is_some at_begin (Elim [] [] 0 2 3) (operation Add (fraction (negsuc 2) 2) (fraction (pos 5) 4))
+  -- not with its sign, nor with another number than the weight; and there is no third weight
+  pub with_sign : IsShareStep at_begin 2 2 (operation Mul (fraction (negsuc 4) 2) half) → ⊥
+  pub other_weight : IsShareStep at_begin 2 2 (operation Mul (fraction (pos 5) 2) third) → ⊥
+  pub no_weight : IsShareStep at_begin 3 2 (operation Mul (fraction (pos 5) 2) half) → ⊥
+
 pub record WorkedImages : Type 0 where
   pub images : ImageExamples
   pub entries : EntryExamples
+  pub shares : ShareExamples

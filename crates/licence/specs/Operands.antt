@@ -30,7 +30,9 @@ use Rattle.deriv_log.specs.declared.licence.Program.{Program}
 use Rattle.deriv_log.specs.declared.licence.Program.TheVariants.{Feasible, Benson, Weight, Interior, Pointed}
 use Rattle.deriv_log.specs.declared.licence.Family.{Family}
 use Rattle.deriv_log.specs.declared.licence.Family.TheVariants.{Image, Exchanged, ConeRows}
-use Rattle.log_rules.specs.Live.{State, state, rows_in_use, cut_row}
+use Rattle.lineality.specs.Steps.{list_without}
+use Rattle.lineality.specs.Without.{marks, open_count, without, with_zeros}
+use Rattle.log_rules.specs.Live.{State, state, rows_in_use, cut_row, lines}
 use Rattle.lp_form.specs.Programs.{side_total, nonzero_vectors, generators, named_system, feasible_system, benson_system, choice_of, value_of, share_of}
 use Rattle.licence.specs.Steps.{operation, IsNumbered, IsProductStep, value_steps, pair_steps, exchange_row, exchange_steps}
 use Rattle.licence.specs.Base.{IsSolutionOff, AreMultipliersOff, AreFirstMultipliersOff, IsRayOff, IsBaseChoice, IsBaseRay, IsBaseRow, IsBaseWeight, IsBaseCut, IsBaseNormal, IsBaseStart, IsConeDirection, IsGeneratorOf, IsLiveAfter, trail_normals, image_of}
@@ -84,14 +86,18 @@ pub record IsProgramStep (holds : ℚ → Bool) (s : Setting) (program : Program
   pub pivot : row ≤ equation_count (system_in s program) → at dictionary row col ≢ zero_ℚ
 
 -- ---- eliminations
+-- for each objective whether it stands at the place of a line of the trail
+abbrev pub line_marks : Setting → List Bool
+line_marks s = marks s.file.objs (lines s.trail)
+
 -- rows of this width that may be eliminated: the normals of all cuts of the trail; row 0 and as
--- many cuts of the trail as there are objectives, with independent normals; some vectors of the
--- ordering cone; base rows
+-- many cuts of the trail as there are entries outside the places of its lines, with independent
+-- normals, all without these places; some vectors of the ordering cone; base rows
 pub data AreElimRows (s : Setting) (rows : List (List ℚ)) : ℕ → Type 0 where
   of_normals : rows ≡ trail_normals s.file.objs s.trail → AreElimRows s rows s.file.objs
-  of_image : (cuts : List ℕ) → All (λ k. (1 ≤ k) × (k ≤ length (standing s).cuts)) cuts → length cuts ≡ s.file.objs →
-      HasFullRank s.file.objs (map (row_of (trail_normals s.file.objs s.trail)) cuts) → rows ≡ level s.file.objs ∷ map (cut_row (standing s)) cuts →
-      AreElimRows s rows (suc s.file.objs)
+  of_image : (cuts : List ℕ) → All (λ k. (1 ≤ k) × (k ≤ length (standing s).cuts)) cuts → length cuts + length (lines s.trail) ≡ s.file.objs →
+      HasFullRank (open_count (line_marks s)) (map (without (line_marks s)) (map (row_of (trail_normals s.file.objs s.trail)) cuts)) →
+      rows ≡ map (without (line_marks s)) (level s.file.objs ∷ map (cut_row (standing s)) cuts) → AreElimRows s rows (suc (open_count (line_marks s)))
   of_cone : All (Contains (cone_vectors s.file.cone)) rows → AreElimRows s rows s.file.objs
   of_base : (c : List ℚ) → Knows s c → All (IsBaseRow s.file c) rows → AreElimRows s rows (suc s.file.objs)
 
@@ -146,10 +152,11 @@ pub record IsMadeOver (n : ℕ) (rows : List (List ℚ)) (list : LiveList) : Typ
   pub same : list ≡ steps first (starting 1 vectors) more
 
 -- the rows before one that is added, with the live generators over them: row 0 and the trail's cuts
--- in use, and a cut of the trail; base rows; or vectors of the ordering cone that are not 0
+-- in use, and a cut of the trail, all without the places of the trail's lines; base rows; or
+-- vectors of the ordering cone that are not 0
 pub data IsAddition (s : Setting) (before : List (List ℚ)) (last : List ℚ) (list : LiveList) : Family → Type 0 where
-  of_image : (cut : ℕ) → 1 ≤ cut → cut ≤ length (standing s).cuts → before ≡ rows_in_use s.file.objs (standing s) →
-      last ≡ cut_row (standing s) cut → list ≡ (standing s).list → IsAddition s before last list Image
+  of_image : (cut : ℕ) → 1 ≤ cut → cut ≤ length (standing s).cuts → before ≡ map (without (line_marks s)) (rows_in_use s.file.objs (standing s)) →
+      last ≡ without (line_marks s) (cut_row (standing s) cut) → list ≡ list_without (line_marks s) (standing s).list → IsAddition s before last list Image
   of_base : (c : List ℚ) → Knows s c → All (IsBaseRow s.file c) before → IsBaseRow s.file c last → IsMadeOver (suc s.file.objs) before list →
       IsAddition s before last list Exchanged
   of_cone : All (Contains (nonzero_vectors s.file.cone)) before → Contains (nonzero_vectors s.file.cone) last → IsMadeOver s.file.objs before list →
@@ -239,13 +246,20 @@ pub data AreBaseShares (s : Setting) (m : List ℚ) : Type 0 where
       AreBaseShares s m
   mu : IsMuOff s.file (length (generators s.file.cone)) m → AtLeastZero m → AreBaseShares s m
 
+-- a generator over the rows of a family, with all its entries: one of the image has zeros again at
+-- the places of the trail's lines
+abbrev pub filled : Setting → Family → List ℚ → List ℚ
+filled s Image v = with_zeros (line_marks s) v
+filled s Exchanged v = v
+filled s ConeRows v = v
+
 -- a generator: live after the trail, or live over rows that an addition has, without the last or
 -- with it
 abbrev pub IsGenerator : Setting → List ℚ → Type 0
 IsGenerator s v =
     ((g : Numbered) × IsLiveAfter s.file.objs s.trail g × (v ≡ g.vector))
     ⊎ ((before : List (List ℚ)) × (last : List ℚ) × (family : Family) × (list : LiveList) × (g : Numbered) × IsAddition s before last list family
-    × (Contains list.live g ⊎ Contains (step before list last).live g) × (v ≡ g.vector))
+    × (Contains list.live g ⊎ Contains (step before list last).live g) × (v ≡ filled s family g.vector))
 
 -- what a vector of the ordering cone is multiplied by: f, c, a w, or the y of a generator
 pub data IsBesideCone (s : Setting) (y : List ℚ) : Type 0 where

@@ -1,6 +1,6 @@
 -- Base trails: entries of a log that meet their rules as far as they go, and whose numbers are read
 -- off dictionaries that the file and the duality vector fix.
-use Rattle.std.specs.Prelude.{ℕ, ◌≤◌, true, false, Bool, ⊤, List, [], ◌∷◌, ◌++◌, ◌≡◌, length, replicate, take, drop, All, Option, None, Some}
+use Rattle.std.specs.Prelude.{ℕ, ◌≤◌, true, false, Bool, ⊤, List, [], ◌∷◌, ◌++◌, ◌≡◌, length, replicate, take, drop, Option, None, Some}
 use Rattle.exact_field.specs.Rational.{ℚ, one_ℚ, inverse_ℚ}
 use Rattle.exact_field.specs.Vector.{entry}
 use Rattle.frac128.specs.declared.vectors.Spot.{Spot}
@@ -18,7 +18,7 @@ use Rattle.deriv_log.specs.declared.entry.Entry.TheVariants.{Version, Duality, C
 use Rattle.log_rules.specs.Live.{y_of}
 use Rattle.log_rules.specs.Proves.{AllMeet}
 use Rattle.lp_form.specs.Programs.{side_total, generators, feasible_system, benson_system, interior_system, choice_of, value_of, share_of, full_share_of}
-use Rattle.licence.specs.Base.{IsSolutionOff, AreMultipliersOff, AreFirstMultipliersOff, IsRayOff, IsBaseChoice, IsBaseRay, IsBaseCut, IsBaseNormal, IsConeDirection, IsSide, IsLiveAfter, image_of}
+use Rattle.licence.specs.Base.{IsSolutionOff, AreMultipliersOff, AreFirstMultipliersOff, IsRayOff, IsBaseChoice, IsBaseRay, IsBaseCut, IsConeDirection, IsSide, IsLiveAfter, trail_normals, image_of}
 
 -- ---- the duality entry
 -- f divided by its last entry
@@ -83,12 +83,10 @@ pub record IsBaseWhole (file : Problem) (c : List ℚ) (ray m : List Spot) : Typ
   pub choice : dense file.cols ray ≡ divided_by (value_of multipliers) (choice_of file multipliers)
   pub share : dense (length (generators file.cone)) m ≡ divided_by (value_of multipliers) (share_of file file.cone multipliers)
 
--- the parts of `line`: d is a side of some base cuts, x is a base choice, and the others are
+-- the parts of `line`: d is a side of the cuts before it, x is a base choice, and the others are
 -- pre-images of d and of its negative
-pub record IsBaseLine (file : Problem) (c weights d : List ℚ) (x ray m back n : List Spot) : Type 0 where
-  pub normals : List (List ℚ)
-  pub base : All (IsBaseNormal file c) normals
-  pub side : IsSide file.objs normals d
+pub record IsBaseLine (file : Problem) (c weights : List ℚ) (before : List Entry) (d : List ℚ) (x ray m back n : List Spot) : Type 0 where
+  pub side : IsSide file.objs (trail_normals file.objs before) d
   pub chosen : IsBaseChoice file (dense file.cols x)
   pub read_forth : IsBaseDirection file c weights d ray m
   pub read_back : IsBaseDirection file c weights (negated d) back n
@@ -108,7 +106,7 @@ IsBaseEntry file c weights before (Point k x m) = (y : List ℚ) × IsLiveAt fil
 IsBaseEntry file c weights before (Ray k x m) = (d : List ℚ) × IsLiveAt file.objs before k d × IsBaseDirection file c weights d x m
 IsBaseEntry file c weights before (Farkas u) = IsRayOff (feasible_system file) (dense (side_total file) u)
 IsBaseEntry file c weights before (Whole x ray m) = IsBaseChoice file (dense file.cols x) × IsBaseWhole file c ray m
-IsBaseEntry file c weights before (Line d x ray m back n) = IsBaseLine file c weights d x ray m back n
+IsBaseEntry file c weights before (Line d x ray m back n) = IsBaseLine file c weights before d x ray m back n
 IsBaseEntry file c weights before (Version n) = ⊤
 IsBaseEntry file c weights before (Start cuts point directions) = ⊤
 IsBaseEntry file c weights before (Add cut pairs) = ⊤

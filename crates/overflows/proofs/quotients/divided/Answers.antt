@@ -1,4 +1,4 @@
-use Rattle.std.proofs.Common.{List, map, ap, sym, subst, ◌∙◌, arith}
+use Rattle.std.proofs.Common.{List, map, ap, sym, subst, arith}
 use Rattle.exact_field.specs.Rational.{ℚ}
 use Rattle.deriv_log.specs.declared.entry.Entry.{Entry}
 use Rattle.licence.specs.Operands.{IsDivisor}

@@ -1,4 +1,4 @@
-use Rattle.std.proofs.Common.{◌≡◌, [], ◌∷◌, ◌++◌, ap, ◌∙◌, not}
+use Rattle.std.proofs.Common.{ap, ◌∙◌, not}
 use Rattle.frac128.specs.Sparse.{is_zero}
 use Rattle.lp_form.proofs.Steps.{not_nought}
 use Rattle.overflows.proofs.Sparse.{AreKept, kept_more, on_ok}
