@@ -1,13 +1,16 @@
 //! What the entries of a log gave.
 ghost use Rattle.std.specs.Prelude.{◌≡◌, List, [], ◌∷◌, ◌++◌, IfOk, OnOk};
-ghost use Rattle.cert_check.specs.Keeping.{next_scale, next_farkas, next_whole, next_line, next_end};
+ghost use Rattle.cert_check.specs.Keeping.{next_scale, next_farkas, next_whole, line_of, next_lines, next_ways, next_end};
 ghost use Rattle.cert_check.specs.Standing.{HasFound};
 ghost use Rattle.deriv_log.specs.declared.entry.Entry.{Entry};
+ghost use Rattle.vlp_reader.specs.declared.problem.Dir.{Dir};
 
 use deriv_log::{EndKind, Entry};
 use frac128::{Sparse, Vector};
+use log_rules::LineGen;
 use src_sink::{Items, NoMemory};
 use std::alloc::Global;
+use vlp_reader::Dir;
 
 /// A feasible point, and a direction along which the image is everything.
 #[derive(Debug, Drop)]
@@ -16,21 +19,13 @@ pub struct FoundWhole {
     pub ray: Sparse,
 }
 
-/// A feasible point, a line of the image, and the pre-images of both its directions.
-#[derive(Debug, Drop)]
-pub struct FoundLine {
-    pub d: Vector,
-    pub x: Sparse,
-    pub ray: Sparse,
-    pub back: Sparse,
-}
-
-/// What the answers but a solved one need of the entries before.
+/// What the answers need of the entries before, besides what stands of a solved log.
 #[derive(Debug, Drop)]
 pub struct Found {
     pub farkas: Option<Sparse>,
     pub whole: Option<FoundWhole>,
-    pub line: Option<FoundLine>,
+    /// The lines, in the coordinates of the file.
+    pub lines: Items<LineGen>,
     pub ended: Option<EndKind>,
 }
 
@@ -76,24 +71,50 @@ fn keep_whole(alloc: Global, whole: &mut Option<FoundWhole>, entry: &Entry) -> R
     Ok(())
 }
 
-/// Keeps the line of the entry, if it is a `line`.
-fn keep_line(alloc: Global, line: &mut Option<FoundLine>, entry: &Entry) -> Result<(), NoMemory>
-    ensures { OnOk result (line.new ≡ next_line line.old entry.now) }
+/// A line with its pre-images, which change places where the file maximises.
+fn line_gen(
+    alloc: Global,
+    dir: Dir,
+    d: &Vector,
+    ray: &Sparse,
+    back: &Sparse,
+) -> Result<LineGen, NoMemory>
+    ensures { IfOk result (λ line. line ≡ line_of dir d.now ray.now back.now) }
 {
-    if let Entry::Line {
-        d,
-        x,
-        ray,
-        back,
-        ..
-    } = entry
-    {
-        *line = Some(FoundLine {
-            d: copied(alloc, d)?,
-            x: copied(alloc, x)?,
-            ray: copied(alloc, ray)?,
-            back: copied(alloc, back)?,
-        });
+    let d = copied(alloc, d)?;
+    let ray = copied(alloc, ray)?;
+    let back = copied(alloc, back)?;
+    match dir {
+        Dir::Min => Ok(LineGen { d, ray, back }),
+        Dir::Max => Ok(LineGen {
+            d,
+            ray: back,
+            back: ray,
+        }),
+    }
+}
+
+/// Keeps the line of the entry, if it is a `line`.
+fn keep_line(
+    alloc: Global,
+    dir: Dir,
+    lines: &mut Items<LineGen>,
+    entry: &Entry,
+) -> Result<(), NoMemory>
+    ensures { OnOk result (lines.new ≡ next_lines dir lines.old entry.now) }
+{
+    if let Entry::Line { d, ray, back, .. } = entry {
+        lines.push(line_gen(alloc, dir, d, ray, back)?)?;
+    }
+    Ok(())
+}
+
+/// Keeps the vector of the entry, if it is a `line`.
+pub fn keep_way(alloc: Global, lines: &mut Items<Vector>, entry: &Entry) -> Result<(), NoMemory>
+    ensures { OnOk result (lines.new ≡ next_ways lines.old entry.now) }
+{
+    if let Entry::Line { d, .. } = entry {
+        lines.push(copied(alloc, d)?)?;
     }
     Ok(())
 }
@@ -109,24 +130,24 @@ fn keep_end(ended: &mut Option<EndKind>, entry: &Entry)
 
 impl Found {
     /// Where there is no entry.
-    pub fn none() -> Found
-        ensures { HasFound [] result }
+    pub fn none(alloc: Global) -> Found
+        ensures { (dir : Dir) → HasFound dir [] result }
     {
         Found {
             farkas: None,
             whole: None,
-            line: None,
+            lines: Items::new(alloc),
             ended: None,
         }
     }
 
     /// With one entry more.
-    pub fn keep(&mut self, alloc: Global, entry: &Entry) -> Result<(), NoMemory>
-        ensures { (before : List Entry) → HasFound before self.old → OnOk result (HasFound (before ++ entry.now ∷ []) self.new) }
+    pub fn keep(&mut self, alloc: Global, dir: Dir, entry: &Entry) -> Result<(), NoMemory>
+        ensures { (before : List Entry) → HasFound dir before self.old → OnOk result (HasFound dir (before ++ entry.now ∷ []) self.new) }
     {
         keep_farkas(alloc, &mut self.farkas, entry)?;
         keep_whole(alloc, &mut self.whole, entry)?;
-        keep_line(alloc, &mut self.line, entry)?;
+        keep_line(alloc, dir, &mut self.lines, entry)?;
         keep_end(&mut self.ended, entry);
         Ok(())
     }

@@ -5,7 +5,7 @@ ghost use Rattle.log_rules.specs.Order.{kind, in_order};
 ghost use Rattle.cert_check.specs.Standing.{IsKnown, FitsScale};
 ghost use Rattle.vlp_reader.specs.declared.problem.Problem.{Problem};
 
-use crate::found::keep_scale;
+use crate::found::{keep_scale, keep_way};
 use crate::kinds::Kinds;
 use deriv_log::Entry;
 use frac128::Vector;
@@ -14,12 +14,14 @@ use std::alloc::Global;
 use vlp_matrices::Sheet;
 use vlp_reader::Problem;
 
-/// The problem by rows and columns, the kinds of the entries before, and the duality vector.
+/// The problem by rows and columns, the kinds of the entries before, the duality vector, and the
+/// lines.
 #[derive(Debug, Drop)]
 pub struct Known {
     pub sheet: Sheet,
     pub kinds: Kinds,
     pub c: Vector,
+    pub lines: Items<Vector>,
 }
 
 impl Known {
@@ -31,6 +33,7 @@ impl Known {
             sheet: Sheet::of(alloc, problem)?,
             kinds: Kinds::none(),
             c: Items::new(alloc),
+            lines: Items::new(alloc),
         })
     }
 
@@ -40,6 +43,7 @@ impl Known {
             → OnOk result (IsKnown file (before ++ entry.now ∷ []) self.new) }
     {
         keep_scale(alloc, &mut self.c, entry)?;
+        keep_way(alloc, &mut self.lines, entry)?;
         self.kinds = self.kinds.with(entry);
         Ok(())
     }

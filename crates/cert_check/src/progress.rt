@@ -8,26 +8,25 @@ ghost use Rattle.log_rules.specs.Order.{kind, in_order};
 ghost use Rattle.log_rules.specs.Proves.{Proves};
 ghost use Rattle.log_rules.specs.Runs.{Runs, steps};
 ghost use Rattle.log_rules.specs.declared.answer.Answer.TheVariants.{Whole};
-ghost use Rattle.cert_check.specs.Standing.{IsAt, IsKnown, HasFound, FitsScale, line_answer};
+ghost use Rattle.cert_check.specs.Standing.{IsAt, IsKnown, HasFound, FitsScale};
 ghost use Rattle.vlp_reader.specs.declared.problem.Problem.{Problem};
 
-use crate::found::{Found, FoundLine, FoundWhole};
+use crate::found::{Found, FoundWhole};
 use crate::known::Known;
 use crate::testing::take_entry;
 use deriv_log::{EndKind, Entry};
-use exact_field::Field;
 use frac128::Vector;
 use log_answer::solved_answer;
-use log_rules::{Answer, Facet, Rule, Stop};
+use log_rules::{Answer, Rule, Stop};
 use log_solved::Solving;
-use log_tests::{Cut, pass};
-use src_sink::{Items, NoMemory};
+use log_tests::pass;
+use src_sink::NoMemory;
 use std::alloc::Global;
 use vlp_reader::{Dir, Problem};
 
 /// What is known of a log's entries so far, none of whose events fails. Behind an error of `take` the value is of no use. It
-/// takes memory for the cuts and for the live generators with their tight sets and pre-images, and none for what is live no
-/// more.
+/// takes memory for the cuts, the lines, and the live generators with their tight sets and pre-images, and none for what is
+/// live no more.
 ///
 /// Each entry costs what its tests and operations cost, and what it gives is copied: `duality` the entries of the cone's
 /// vectors, and for a cone by generators the cube of the number of objectives; `cut` the entries of the sides and of the
@@ -51,27 +50,6 @@ fn whole_answer(c: Vector, found: FoundWhole) -> Answer
     Answer::Whole { c, x, ray }
 }
 
-/// The answer of a line and the first cut, in the coordinates of a file of this direction.
-fn line_answer(alloc: Global, dir: Dir, c: Vector, found: FoundLine, first: Cut) -> Answer
-    ensures { result ≡ line_answer dir c found first }
-{
-    let FoundLine { d, x, ray, back } = found;
-    let Cut { w, gamma, u } = first;
-    let (gamma, ray, back) = match dir {
-        Dir::Min => (gamma, ray, back),
-        Dir::Max => (gamma.neg(), back, ray),
-    };
-    let tight = Items::new(alloc);
-    Answer::NoVertex {
-        c,
-        x,
-        d,
-        ray,
-        back,
-        cut: Facet { w, gamma, u, tight },
-    }
-}
-
 impl Progress {
     /// Where there is no entry.
     pub fn new(alloc: Global, problem: &Problem) -> Result<Progress, NoMemory>
@@ -79,20 +57,20 @@ impl Progress {
     {
         Ok(Progress {
             known: Known::new(alloc, problem)?,
-            found: Found::none(),
+            found: Found::none(alloc),
             solving: Solving::new(alloc),
         })
     }
 
     /// Keeps what the entry gives for the tests of further ones and for the answers.
-    fn keep(&mut self, alloc: Global, entry: &Entry) -> Result<(), NoMemory>
+    fn keep(&mut self, alloc: Global, dir: Dir, entry: &Entry) -> Result<(), NoMemory>
         ensures known { (file : Problem) (before : List Entry) → IsKnown file before self.old.known → IsTrue (in_order before (kind entry.now)) → FitsScale file entry.now
             → OnOk result (IsKnown file (before ++ entry.now ∷ []) self.new.known) }
-        ensures found { (before : List Entry) → HasFound before self.old.found → OnOk result (HasFound (before ++ entry.now ∷ []) self.new.found) }
+        ensures found { (before : List Entry) → HasFound dir before self.old.found → OnOk result (HasFound dir (before ++ entry.now ∷ []) self.new.found) }
         ensures solving { self.new.solving ≡ self.old.solving }
     {
         self.known.keep(alloc, entry)?;
-        self.found.keep(alloc, entry)?;
+        self.found.keep(alloc, dir, entry)?;
         Ok(())
     }
 
@@ -104,7 +82,7 @@ impl Progress {
     {
         pass(Rule::Order, self.known.kinds.in_order(entry))?;
         take_entry(alloc, problem, &self.known, &mut self.solving, entry)?;
-        match self.keep(alloc, entry) {
+        match self.keep(alloc, problem.dir, entry) {
             Ok(()) => Ok(()),
             Err(NoMemory) => Err(Stop::NoMemory),
         }
@@ -122,7 +100,7 @@ impl Progress {
         } = self;
         let Known { c, .. } = known;
         let Solving {
-            mut cuts,
+            cuts,
             uses,
             live,
             named,
@@ -131,7 +109,7 @@ impl Progress {
         let Found {
             farkas,
             whole,
-            line,
+            lines,
             ended,
         } = found;
         match ended {
@@ -144,17 +122,12 @@ impl Progress {
                     Some(found) => Ok(whole_answer(c, found)),
                     None => unreachable!(),
                 },
-                EndKind::NoVertex => match line {
-                    Some(found) => {
-                        let first = cuts.swap_remove(0);
-                        Ok(line_answer(alloc, problem.dir, c, found, first))
-                    }
-                    None => unreachable!(),
-                },
+                EndKind::NoVertex => unreachable!(),
                 EndKind::Solved => solved_answer(
                     alloc,
                     problem.dir,
                     c,
+                    lines,
                     live.generators,
                     cuts,
                     uses.list.as_slice(),

@@ -19,7 +19,8 @@ use Rattle.vlp_reader.specs.declared.problem.Dir.{Dir}
 use Rattle.vlp_reader.specs.declared.problem.Problem.{Problem}
 use Rattle.deriv_log.specs.declared.entry.Entry.{Entry}
 use Rattle.log_rules.specs.Live.{Stated, State, state, rows_in_use, cut_row, inequality, cut_at, named}
-use Rattle.log_rules.specs.Proves.{Proves, IsSorting, facet_of, named_facets}
+use Rattle.log_rules.specs.declared.answer.LineGen.{LineGen}
+use Rattle.log_rules.specs.Proves.{Proves, IsSorting, facet_of, named_facets, shown_lines}
 use Rattle.log_rules.specs.Right.{key, places_from, tight_numbers}
 use Rattle.log_rules.specs.Right as right
 use Rattle.log_rules.specs.declared.answer.Answer.TheVariants.{Solved}
@@ -297,16 +298,17 @@ module _ (file : Problem) (entries : List Entry) (dir : Dir) (c : List ℚ) (gen
           omega (arith, a, same))))
 
       -- ---- the answer
-      pub given : (fs : List Facet) → IsSorting (λ (m : Member). m.y) (points_of dir generators) points →
+      pub given : (ls : List LineGen) → ls ≡ shown_lines file entries → (fs : List Facet) → IsSorting (λ (m : Member). m.y) (points_of dir generators) points →
           IsSorting (λ (m : Member). m.y) (directions_of dir generators) directions → IsSorting (λ f. key (right.stated f)) found fs →
-          Proves file entries (Solved c (map shown_of points) (map shown_of directions) fs)
-      given fs a b f = record {
+          Proves file entries (Solved c ls (map shown_of points) (map shown_of directions) fs)
+      given ls told fs a b f = record {
         log = h.log;
         meet = h.meet;
         gives = (
           h.ended,
           record {
             c_given = h.scale;
+            lines_are = told;
             points_are = subst (λ (gs : List Gen). IsSorting (λ (g : Gen). g.y) gs (map shown_of points)) (sym (points_found file entries dir c generators cuts used facets h)) (shown_sorting (points_of dir generators) points a);
             directions_are = subst (λ (gs : List Gen). IsSorting (λ (g : Gen). g.y) gs (map shown_of directions)) (sym (directions_found file entries dir c generators cuts used facets h)) (shown_sorting (directions_of dir generators) directions b);
             facets_are = subst (λ (vs : List (List ℚ)). IsSorting (λ f. key (right.stated f)) (named_facets file entries vs (map (λ (g : Gen). g.y) (map shown_of directions))) fs) (sym (shown-ys points))
@@ -320,15 +322,15 @@ module _ (file : Problem) (entries : List Entry) (dir : Dir) (c : List ℚ) (gen
 
 -- the answer of what was found and sorted
 pub answer_given : (file : Problem) (entries : List Entry) (dir : Dir) (c : List ℚ) (generators : List Generator) (cuts : List Cut) (used facets : List ℕ) →
-    Supplies file entries dir c generators cuts used facets → (points directions : List Member) (places : List ℕ) (made fs : List Facet) →
+    Supplies file entries dir c generators cuts used facets → (ls : List LineGen) → ls ≡ shown_lines file entries → (points directions : List Member) (places : List ℕ) (made fs : List Facet) →
     IsSorting (λ (m : Member). m.y) (points_of dir generators) points → IsSorting (λ (m : Member). m.y) (directions_of dir generators) directions →
     AreFacetPlaces used facets (length cuts) places → made ≡ facets_at dir points directions cuts places →
     ((width : ℕ) → All (λ f. length f.w ≡ width) made → AllPairs (λ f g. key (right.stated f) ≢ key (right.stated g)) made → IsSorting (λ f. key (right.stated f)) made fs) →
-    Proves file entries (Solved c (map shown_of points) (map shown_of directions) fs)
-answer_given file entries dir c generators cuts used facets h points directions places made fs p d are e sort =
+    Proves file entries (Solved c ls (map shown_of points) (map shown_of directions) fs)
+answer_given file entries dir c generators cuts used facets h ls told points directions places made fs p d are e sort =
     let from_points : (m : Member) → Contains points m → Contains (points_of dir generators) m = λ m a. (p.same m).1 a in
     let from_directions : (m : Member) → Contains directions m → Contains (directions_of dir generators) m = λ m a. (d.same m).1 a in
-    given file entries dir c generators cuts used facets h places are points directions from_points from_directions fs p d
+    given file entries dir c generators cuts used facets h places are points directions from_points from_directions ls told fs p d
     (subst (λ (gs : List Facet). IsSorting (λ f. key (right.stated f)) gs fs) e
     (sort file.objs
     (subst (λ (gs : List Facet). All (λ f. length f.w ≡ file.objs) gs) (sym e)

@@ -16,13 +16,13 @@ use Rattle.vlp_reader.specs.declared.problem.Dir.{Dir}
 use Rattle.vlp_reader.specs.declared.problem.Problem.{Problem}
 use Rattle.deriv_log.specs.declared.entry.Entry.{Entry}
 use Rattle.log_rules.specs.Laws.{Stands}
-use Rattle.log_rules.specs.Live.{Stated, State, state, in_use, y_of, t_of, preimages}
+use Rattle.log_rules.specs.Live.{Stated, State, lines, state, y_of, t_of, preimages}
 use Rattle.log_rules.specs.Meets.{MeetsSolved}
 use Rattle.log_rules.specs.Order.{has}
 use Rattle.log_rules.specs.Order as order
 use Rattle.log_rules.specs.Proves.{shown}
 use Rattle.log_rules.proofs.KeepsDescription.{IsKept, kept, rules_keep_description}
-use Rattle.log_rules.proofs.NormedMembers.{IsPoint, IsNormedWay, one_of, one_not_zero}
+use Rattle.log_rules.proofs.NormedMembers.{IsPoint, IsNormedWay, one_standing, one_not_zero}
 use Rattle.log_rules.proofs.SolvedIsSolved.{solved_met}
 use Rattle.log_tests.specs.Cuts.{stated}
 use Rattle.log_tests.specs.declared.corner.Cut.{Cut}
@@ -49,10 +49,10 @@ module _ (file : Problem) (entries : List Entry) (dir : Dir) (c : List ℚ) (gen
   pub met : MeetsSolved file entries s
   met = solved_met file entries h.meet h.log.ends h.ended
 
-  pub stands : Stands file s
+  pub stands : Stands file (lines entries) s
   stands = rules_keep_description file entries h.meet met.started
 
-  pub holds : IsKept file s (has order.start entries)
+  pub holds : IsKept file (lines entries) s (has order.start entries)
   holds = kept file entries h.meet
 
   pub is_live : (g : Generator) → Contains generators g → Contains s.list.live (numbered_of g)
@@ -60,11 +60,11 @@ module _ (file : Problem) (entries : List Entry) (dir : Dir) (c : List ℚ) (gen
 
   -- a kept generator is (y, 1) or (y, 0)
   pub kind_of : (g : Generator) → Contains generators g → IsPoint file.objs (numbered_of g) ⊎ IsNormedWay file.objs (numbered_of g)
-  kind_of g m = one_of file.objs (in_use s) s.list stands.is_live (numbered_of g) (is_live g m)
+  kind_of g m = one_standing file (lines entries) s stands (numbered_of g) (is_live g m)
 
   -- with an entry for each objective and one more
   pub wide_of : (g : Generator) → Contains generators g → length g.vector ≡ suc file.objs
-  wide_of g m = member_of (λ (v : List ℚ). length v ≡ suc file.objs) (map (λ (x : Numbered). x.vector) s.list.live) g.vector stands.described.generators_wide.wide
+  wide_of g m = member_of (λ (v : List ℚ). length v ≡ suc file.objs) (map (λ (x : Numbered). x.vector) s.list.live) g.vector stands.wide.wide
       (Contains-map (λ (x : Numbered). x.vector) s.list.live (numbered_of g) (is_live g m))
 
   pub front_of : (g : Generator) → Contains generators g → front g.vector ≡ y_of file.objs (numbered_of g)

@@ -1,5 +1,5 @@
 -- What stands after the events of an `add` entry.
-use Rattle.std.proofs.Common.{◌≡◌, ℕ, suc, ◌+◌, ◌<◌, ◌≤◌, List, [], ◌∷◌, ◌++◌, refl, sym, ap, ap₂, ◌∙◌, subst, arith, length, map, All, slice_index_or}
+use Rattle.std.proofs.Common.{◌≡◌, ℕ, ◌+◌, ◌<◌, ◌≤◌, List, [], ◌∷◌, ◌++◌, refl, sym, ap, ap₂, ◌∙◌, subst, arith, length, map, All, slice_index_or}
 use Rattle.std.specs.List.{flat_map}
 use Rattle.std.proofs.lemmas.List.{length-map, map-append}
 use Rattle.std.proofs.lemmas.List.Elements.{All-append, All-weaker}
@@ -7,7 +7,6 @@ use Rattle.exact_field.specs.Rational.{ℚ, neg_ℚ}
 use Rattle.exact_field.specs.Vector.{dot}
 use Rattle.polyhedra.specs.Exactness.{homogenised, level, row_of}
 use Rattle.polyhedra.specs.LiveList.{Numbered, numbered, new_vectors, live_pairs, step, staying, vectors}
-use Rattle.polyhedra.specs.TightSets.{IsDoubleDescriptionPair}
 use Rattle.polyhedra.proofs.Homogenised.{length-homogenised}
 use Rattle.polyhedra.proofs.Lists.{all_from_map}
 use Rattle.polyhedra.proofs.LiveList.{numbered_within}
@@ -20,7 +19,7 @@ use Rattle.log_rules.specs.Events as events
 use Rattle.log_rules.specs.Events.Event.{test}
 use Rattle.log_rules.specs.Live.{State, after, cut_at, cut_row, in_use, inequality, required_pairs, rows_in_use}
 use Rattle.log_rules.specs.declared.rule.Rule.TheVariants as rule
-use Rattle.log_live.specs.Adding.{AreAtRow, AreGenerators, AreNew, IsAddition, IsChange, added_events, all_value_events, all_values, kept_of, pair_named}
+use Rattle.log_live.specs.Adding.{AreAtRow, AreDescribed, AreGenerators, AreNew, IsAddition, IsChange, added_events, all_value_events, all_values, kept_of, pair_named}
 use Rattle.log_live.specs.Adding as adding
 use Rattle.log_live.specs.Live.{AreLive, HasPreimage, HasPreimages, HasTightSet, IsListOf, listed, live_of, numbered_of}
 use Rattle.log_live.specs.declared.generator.Generator.{Generator}
@@ -57,7 +56,7 @@ module _ (file : Problem) (s : State) (cut : ℕ) (w : List ℚ) (gamma : ℚ) (
   pub at_row : (values : List ℚ) → values ≡ all_values w gamma live.generators.items → AreAtRow (length w) (rows_in_use file.objs s) (cut_row s cut) live.generators.items values
   at_row values e = record {
     few = narrow;
-    described = subst (λ (q : ℕ). IsDoubleDescriptionPair (suc q) (rows_in_use file.objs s) (vectors (live_of live.generators.items))) (sym h.wide) (described file s live h.before);
+    described = subst (λ (q : ℕ). AreDescribed q (rows_in_use file.objs s) (vectors (live_of live.generators.items))) (sym h.wide) (described file s live h.before);
     rises = rises file s live h.before;
     kinds = kinds_at;
     tight = h.before.list.tight;

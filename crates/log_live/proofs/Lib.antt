@@ -4,7 +4,6 @@ pub mod OneMore
 pub mod ValuesAt
 pub mod ListItems
 pub mod PairMatches
-pub mod NotZero
 pub mod NewVectors
 pub mod NewSets
 pub mod KeptGenerators

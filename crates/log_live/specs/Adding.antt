@@ -8,6 +8,9 @@ use Rattle.frac128.specs.Sparse.{is_zero}
 use Rattle.polyhedra.specs.DoubleDescription.{covers, normed, meeting}
 use Rattle.polyhedra.specs.DoubleDescription as double
 use Rattle.polyhedra.specs.TightSets.{IsDoubleDescriptionPair}
+use Rattle.polyhedra.specs.Vectors.{AreWide}
+use Rattle.lineality.specs.Without.{without}
+use Rattle.lineality.specs.Steps.{IsClear}
 use Rattle.polyhedra.specs.Exactness.{homogenised}
 use Rattle.polyhedra.specs.LiveList.{Numbered, LivePair, vectors, numbered, new_vectors, is_uncovered_live}
 use Rattle.log_live.specs.Live.{numbered_of, live_of, HasTightSet, StandsFor}
@@ -116,10 +119,21 @@ pub record IsAddition (file : Problem) (s : State) (cut : ℕ) (w : List ℚ) (g
   pub bound : (cut_at s.cuts cut).gamma ≡ gamma
 
 -- ---- its parts
+-- generators that are 0 at the marked places, and without these places describe the cone of the
+-- rows
+pub record AreDescribed (q : ℕ) (rows gens : List (List ℚ)) : Type 0 where
+  pub marks : List Bool
+  pub open_places : ℕ
+  pub many : length marks ≡ q
+  pub wide : AreWide (suc (length marks)) gens
+  pub clear : All (IsClear marks) gens
+  pub described : IsDoubleDescriptionPair open_places (map (without marks) rows)
+      (map (without marks) gens)
+
 -- generators that describe the cone of the rows, with their tight sets and their values at a new row
 pub record AreAtRow (q : ℕ) (rows : List (List ℚ)) (row : List ℚ) (gens : List Generator) (values : List ℚ) : Type 0 where
   pub few : q ≤ 100000
-  pub described : IsDoubleDescriptionPair (suc q) rows (vectors (live_of gens))
+  pub described : AreDescribed q rows (vectors (live_of gens))
   pub rises : AllPairs (λ g h. g.number < h.number) gens
   pub kinds : AreGenerators q gens
   pub tight : All (HasTightSet rows) gens

@@ -117,30 +117,34 @@ impl Live {
         }
     }
 
-    /// The generators of a `start` entry that meets its rules: its point and its `q` directions. No product is computed.
+    /// The generators of a `start` entry that meets its rules: its point and the direction of each of
+    /// its `count` cuts. No product is computed.
     pub fn start(
         alloc: Global,
         q: u32,
+        count: u32,
         point: &[Frac],
         directions: &[Frac],
     ) -> Result<Live, NoMemory>
         requires few { q ≤ 100000 }
-        requires entries { length directions.now ≡ q * q }
-        ensures list { (file : Problem) (s : State) (cuts : List ℕ) → file.objs ≡ q → MeetsStart file s cuts point.now directions.now
+        requires many { count ≤ 100000 }
+        requires entries { length directions.now ≡ count * q }
+        ensures list { (file : Problem) (before : List Entry) (s : State) (cuts : List ℕ) → file.objs ≡ q → length cuts ≡ count
+            → MeetsStart file before s cuts point.now directions.now
             → IfOk result (IsListOf file.objs (after file.objs s (Start cuts point.now directions.now))) }
         ensures preimages { (before : List Entry) → ((k : ℕ) → 1 ≤ k → preimages before k ≡ []) → IfOk result (HasPreimages before) }
     {
         let mut generators = Vec::new(alloc);
-        generators.push(start_point(alloc, q, point)?)?;
-        let count = q as usize;
-        for a in 0..count {
-            let from = a * count;
-            let direction = &directions[from..from + count];
-            generators.push(start_direction(alloc, q, a as u32, direction)?)?;
+        generators.push(start_point(alloc, count, point)?)?;
+        let width = q as usize;
+        for a in 0..count as usize {
+            let from = a * width;
+            let direction = &directions[from..from + width];
+            generators.push(start_direction(alloc, count, a as u32, direction)?)?;
         }
         Ok(Live {
             generators,
-            next: q + 2,
+            next: count + 2,
         })
     }
 

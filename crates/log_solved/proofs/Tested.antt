@@ -12,7 +12,7 @@ use Rattle.vlp_reader.specs.declared.problem.Problem.{Problem}
 use Rattle.deriv_log.specs.declared.entry.Entry.{Entry}
 use Rattle.log_rules.specs.Events.{Event, first_failure, kind_events}
 use Rattle.log_rules.specs.Events.Event.{test}
-use Rattle.log_rules.specs.Live.{Stated, State, state, cut_at, in_use}
+use Rattle.log_rules.specs.Live.{Stated, State, state, cut_at, lines}
 use Rattle.log_rules.specs.Meets.{Meets}
 use Rattle.log_rules.specs.Order.{Kind, kind, in_order, has}
 use Rattle.log_rules.specs.Order as order
@@ -26,7 +26,7 @@ use Rattle.log_rules.proofs.Entries.{along}
 use Rattle.log_rules.proofs.Failures.{runs-then, stops-then}
 use Rattle.log_rules.proofs.KeepsDescription.{kept, rules_keep_description}
 use Rattle.log_rules.proofs.LogMeets.{IsWide, entry-meets, next_wide}
-use Rattle.log_rules.proofs.NormedMembers.{one_of}
+use Rattle.log_rules.proofs.NormedMembers.{one_standing}
 use Rattle.log_tests.specs.Cuts as cuts
 use Rattle.log_tests.specs.declared.corner.Cut as held
 use Rattle.log_live.specs.Live.{StandsFor, numbered_of}
@@ -66,7 +66,7 @@ module _ (file : Problem) (before : List Entry) (k : Kind) (s : Solving) (h : St
       (subst (λ (cs : List Stated). All (λ (c : Stated). length c.w ≡ file.objs) cs) (sym h.solving.cuts) (kept file before h.meet).wide)
 
   pub stands_for : IsTrue (has order.start before) → StandsFor file (state file.objs before) s.live
-  stands_for started = record { stands = rules_keep_description file before h.meet started; list = h.solving.live }
+  stands_for started = record { lines = lines before; stands = rules_keep_description file before h.meet started; list = h.solving.live }
 
 -- the cut of a number
 pub cut_is : (items : List held.Cut) (all : List Stated) (k : ℕ) (c : held.Cut) → map cuts.stated items ≡ all → 1 ≤ k → k ≤ length items → c ≡ get_or items (k - 1) c →
@@ -85,7 +85,7 @@ module _ (file : Problem) (s : State) (live : Live) (h : StandsFor file s live) 
   y_wide place g l is =
       let there : Contains live.generators.items g = subst (λ (x : Generator). Contains live.generators.items x) (sym is) (Contains-get_or live.generators.items place g l) in
       let c : Contains s.list.live (numbered_of g) = subst (λ (ns : List Numbered). Contains ns (numbered_of g)) h.list.live (Contains-map numbered_of live.generators.items g there) in
-      elim (one_of file.objs (in_use s) s.list h.stands.is_live (numbered_of g) c) [ inl a ↦ a.wide | inr a ↦ a.wide ]
+      elim (one_standing file h.lines s h.stands (numbered_of g) c) [ inl a ↦ a.wide | inr a ↦ a.wide ]
 
   pub y_room : (place : ℕ) (g : Generator) → place < length live.generators.items → g ≡ get_or live.generators.items place g → file.objs ≤ length g.vector
   y_room place g l is =

@@ -11,7 +11,7 @@ ghost use Rattle.deriv_log.specs.declared.entry.EndKind.TheVariants as end;
 ghost use Rattle.vlp_reader.specs.Sides.{numbers_from};
 ghost use Rattle.vlp_reader.specs.declared.problem.Problem.{Problem};
 ghost use Rattle.log_rules.specs.Events.{add_events, end_events, facet_events, is_accounted, is_largest, is_taken, point_events, ray_events, start_events};
-ghost use Rattle.log_rules.specs.Live.{contains, cut_row, named, preimages, state};
+ghost use Rattle.log_rules.specs.Live.{contains, cut_row, lines as lines_of, named, preimages, state};
 ghost use Rattle.log_rules.specs.Meets.{Meets};
 ghost use Rattle.log_rules.specs.Order as order;
 ghost use Rattle.log_rules.specs.Runs.{Runs, steps};
@@ -27,7 +27,7 @@ ghost use Rattle.log_solved.specs.Uses.{AreUses};
 use crate::shown::{shows_point, shows_ray};
 use crate::uses::Uses;
 use deriv_log::LogPair;
-use frac128::{Frac, Spot};
+use frac128::{Frac, Spot, Vector};
 use log_live::{Live, TightSets};
 use log_rules::{Rule, Stop};
 use log_tests::{Cut, check_start, pass};
@@ -129,7 +129,8 @@ impl Solving {
         directions: &[Frac],
     ) -> Result<(), NoMemory>
         requires few { objs ≤ 100000 }
-        requires entries { length directions.now ≡ objs * objs }
+        requires many { length named.now ≤ 100000 }
+        requires entries { length directions.now ≡ length named.now * objs }
         requires within { All (λ k. (1 ≤ k) × (k ≤ length self.old.cuts.items)) named.now }
         requires rise { AllPairs (λ k j. k < j) named.now }
         ensures { (file : Problem) (before : List Entry) → file.objs ≡ objs → StandsBefore file before order.start self.old
@@ -137,27 +138,35 @@ impl Solving {
             → OnOk result (IsSolving file (before ++ entry.Start named.now point.now directions.now ∷ []) self.new) }
     {
         self.uses = Uses::of(alloc, self.cuts.len(), named)?;
-        self.live = Live::start(alloc, objs, point, directions)?;
+        self.live = Live::start(alloc, objs, named.len() as u32, point, directions)?;
         self.sets = None;
         Ok(())
     }
 
-    /// The events of a `start` entry.
+    /// The events of a `start` entry behind these lines.
     pub fn start(
         &mut self,
         alloc: Global,
         problem: &Problem,
+        lines: &[Vector],
         named: &[u32],
         point: &[Frac],
         directions: &[Frac],
     ) -> Result<(), Stop>
-        requires { (before : List Entry) × StandsBefore problem.now before order.start self.old }
-        ensures { (before : List Entry) → StandsBefore problem.now before order.start self.old
-            → Runs is_held (start_events problem.now (state problem.now.objs before) named.now point.now directions.now) 0
-            (steps (start_events problem.now (state problem.now.objs before) named.now point.now directions.now))
+        requires { (before : List Entry) × (StandsBefore problem.now before order.start self.old × (lines.now ≡ lines_of before)) }
+        ensures { (before : List Entry) → StandsBefore problem.now before order.start self.old → lines.now ≡ lines_of before
+            → Runs is_held (start_events problem.now lines.now (state problem.now.objs before) named.now point.now directions.now) 0
+            (steps (start_events problem.now lines.now (state problem.now.objs before) named.now point.now directions.now))
             (λ _. IsSolving problem.now (before ++ entry.Start named.now point.now directions.now ∷ []) self.new) result }
     {
-        check_start(problem, self.cuts.as_slice(), named, point, directions)?;
+        check_start(
+            problem,
+            self.cuts.as_slice(),
+            lines,
+            named,
+            point,
+            directions,
+        )?;
         match self.begin(alloc, problem.objs, named, point, directions) {
             Ok(()) => Ok(()),
             Err(NoMemory) => Err(Stop::NoMemory),

@@ -1,11 +1,14 @@
-//! The entry `start`: the first generators, those of the cone of as many cuts as there are objectives.
-ghost use Rattle.std.specs.Prelude.{◌≡◌, ⊤, ℕ, Bool, true, if◌then◌else◌, ◌+◌, ◌*◌, ◌^◌, ◌<◌, ◌≤◌, ◌&&◌, ◌==◌, length, map, All, [], ◌∷◌, ◌++◌};
+//! The entry `start`: the first generators, those of the cone of as many cuts as there are objectives
+//! beside the lines.
+ghost use Rattle.std.specs.Prelude.{◌≡◌, ⊤, ℕ, nat_le, Bool, true, if◌then◌else◌, ◌+◌, ◌*◌, ◌^◌, ◌<◌, ◌≤◌, ◌&&◌, ◌==◌, length, map, All, [], ◌∷◌, ◌++◌};
 ghost use Rattle.std.specs.List.{list_all};
 ghost use Rattle.exact_field.specs.Order.{same_ℚ};
 ghost use Rattle.exact_field.specs.Rational.{zero_ℚ, one_ℚ, lt_ℚ};
+ghost use Rattle.exact_field.specs.Vector.{entry};
 ghost use Rattle.frac128.specs.Held.{is_held};
 ghost use Rattle.frac128.specs.Sparse.{is_zero as is_number_zero};
-ghost use Rattle.log_rules.specs.Events.{start_events, corner as corner_of, rises as numbers_rise, all_within as numbers_within};
+ghost use Rattle.lineality.specs.Lines.{leading_place};
+ghost use Rattle.log_rules.specs.Events.{start_events, all_reduced, corner as corner_of, rises as numbers_rise, all_within as numbers_within};
 ghost use Rattle.log_rules.specs.Live.{State, cut_at};
 ghost use Rattle.log_rules.specs.Runs.{Runs, steps};
 ghost use Rattle.log_tests.specs.Cuts.{stated, named_from};
@@ -13,7 +16,7 @@ ghost use Rattle.log_tests.specs.Parts.{tight_events, tights_events, corner_even
 ghost use Rattle.polyhedra.specs.DoubleDescription.{magnitude, leading};
 ghost use Rattle.upper_image.specs.Spots.{pieces};
 
-use crate::line::leading;
+use crate::line::{is_reduced, leading};
 use crate::numbers::are_picks;
 use crate::steps::{Steps, is_nonnegative, is_positive, pass};
 use exact_field::Field;
@@ -47,13 +50,47 @@ fn is_normed(v: &[Frac]) -> bool
     magnitude(leading(v)) == Frac::from(1)
 }
 
-/// Whether the first entry that is not 0 of each row of `objs` numbers is 1 or -1.
-fn are_normed(objs: usize, directions: &[Frac]) -> bool
+/// Whether each of so many rows of `objs` numbers is 0 at the place of each line.
+fn rows_reduced(lines: &[Vector], count: usize, objs: usize, directions: &[Frac]) -> bool
     requires few { objs ≤ 100000 }
-    requires entries { length directions.now ≡ objs * objs }
-    ensures { result ≡ list_all (λ d. same_ℚ (magnitude (leading d)) one_ℚ) (pieces objs objs directions.now) }
+    requires many { count ≤ 100000 }
+    requires entries { length directions.now ≡ count * objs }
+    ensures { result ≡ all_reduced lines.now (pieces count objs directions.now) }
 {
-    for a in 0..objs {
+    for a in 0..count {
+        let from = a * objs;
+        if !is_reduced(lines, &directions[from..from + objs]) {
+            return false;
+        }
+    }
+    true
+}
+
+/// Whether the point and each of the directions, so many rows of `objs` numbers, are 0 at the place
+/// of each line.
+fn are_reduced(
+    lines: &[Vector],
+    count: usize,
+    objs: usize,
+    point: &[Frac],
+    directions: &[Frac],
+) -> bool
+    requires few { objs ≤ 100000 }
+    requires many { count ≤ 100000 }
+    requires entries { length directions.now ≡ count * objs }
+    ensures { result ≡ all_reduced lines.now (point.now ∷ pieces count objs directions.now) }
+{
+    is_reduced(lines, point) && rows_reduced(lines, count, objs, directions)
+}
+
+/// Whether the first entry that is not 0 of each of so many rows of `objs` numbers is 1 or -1.
+fn are_normed(count: usize, objs: usize, directions: &[Frac]) -> bool
+    requires few { objs ≤ 100000 }
+    requires many { count ≤ 100000 }
+    requires entries { length directions.now ≡ count * objs }
+    ensures { result ≡ list_all (λ d. same_ℚ (magnitude (leading d)) one_ℚ) (pieces count objs directions.now) }
+{
+    for a in 0..count {
         let from = a * objs;
         if !is_normed(&directions[from..from + objs]) {
             return false;
@@ -115,18 +152,20 @@ fn meets_direction(
 /// The same for each of the directions, rows of `objs` numbers.
 fn meets_directions(
     counter: &mut Steps,
+    count: usize,
     objs: usize,
     directions: &[Frac],
     w: &[Frac],
     number: usize,
 ) -> Result<(), Stop>
     requires few { objs ≤ 100000 }
-    requires entries { length directions.now ≡ objs * objs }
+    requires many { count ≤ 100000 }
+    requires entries { length directions.now ≡ count * objs }
     requires width { length w.now ≡ objs }
-    requires room { counter.old.taken + steps (corners_events (pieces objs objs directions.now) w.now number) < 2 ^ 63 }
-    ensures { Runs is_held (corners_events (pieces objs objs directions.now) w.now number) counter.old.taken counter.new.taken (λ _. ⊤) result }
+    requires room { counter.old.taken + steps (corners_events (pieces count objs directions.now) w.now number) < 2 ^ 63 }
+    ensures { Runs is_held (corners_events (pieces count objs directions.now) w.now number) counter.old.taken counter.new.taken (λ _. ⊤) result }
 {
-    for a in 0..objs {
+    for a in 0..count {
         let from = a * objs;
         meets_direction(counter, w, a + 1 == number, &directions[from..from + objs])?;
     }
@@ -136,56 +175,70 @@ fn meets_directions(
 /// The same for each of the named cuts.
 fn meet_directions(
     counter: &mut Steps,
+    count: usize,
     objs: usize,
     cuts: &[Cut],
     named: &[u32],
     directions: &[Frac],
 ) -> Result<(), Stop>
     requires few { objs ≤ 100000 }
-    requires entries { length directions.now ≡ objs * objs }
+    requires many { count ≤ 100000 }
+    requires entries { length directions.now ≡ count * objs }
     requires widths { All (λ cut. length cut.w ≡ objs) cuts.now }
     requires named { numbers_within (length cuts.now) named.now ≡ true }
-    requires room { counter.old.taken + steps (all_corners (pieces objs objs directions.now) (named_from (map stated cuts.now) named.now)) < 2 ^ 63 }
-    ensures { Runs is_held (all_corners (pieces objs objs directions.now) (named_from (map stated cuts.now) named.now)) counter.old.taken counter.new.taken (λ _. ⊤) result }
+    requires room { counter.old.taken + steps (all_corners (pieces count objs directions.now) (named_from (map stated cuts.now) named.now)) < 2 ^ 63 }
+    ensures { Runs is_held (all_corners (pieces count objs directions.now) (named_from (map stated cuts.now) named.now)) counter.old.taken counter.new.taken (λ _. ⊤) result }
 {
     for k in 0..named.len() {
         let cut = &cuts[named[k] as usize - 1];
-        meets_directions(counter, objs, directions, cut.w.as_slice(), k + 1)?;
+        meets_directions(counter, count, objs, directions, cut.w.as_slice(), k + 1)?;
     }
     Ok(())
 }
 
-/// Whether the lists of a `start` entry have their lengths.
-fn lists_fit(objs: u32, named: &[u32], point: &[Frac], directions: &[Frac]) -> bool
-    ensures { result ≡ (length named.now == objs && length point.now == objs && length directions.now == objs * objs) }
+/// Whether the lists of a `start` entry have their lengths, where there are so many lines.
+fn lists_fit(objs: u32, lines: usize, named: &[u32], point: &[Frac], directions: &[Frac]) -> bool
+    requires few { objs ≤ 100000 }
+    requires many { lines < 2 ^ 62 }
+    ensures { result ≡ (length named.now + lines == objs && nat_le 1 (length named.now)
+        && length point.now == objs && length directions.now == length named.now * objs) }
 {
-    named.len() == objs as usize
+    let count = named.len();
+    count + lines == objs as usize
+        && 1 <= count
         && point.len() == objs as usize
-        && directions.len() as u64 == u64::from(objs) * u64::from(objs)
+        && directions.len() == count * objs as usize
 }
 
-/// The tests of a `start` entry, where these cuts stand: the named ones meet in `point`, and each has its direction,
-/// along which it rises and the others stay. It costs twice the cube of the number of objectives.
+/// The tests of a `start` entry, where these cuts and lines stand: the point and the directions are 0
+/// at the places of the lines, the named cuts meet in the point, and each has its direction, along
+/// which it rises and the others stay. It costs twice the cube of the number of objectives.
 pub fn check_start(
     problem: &Problem,
     cuts: &[Cut],
+    lines: &[Vector],
     named: &[u32],
     point: &[Frac],
     directions: &[Frac],
 ) -> Result<(), Stop>
     requires widths { All (λ cut. length cut.w ≡ problem.now.objs) cuts.now }
     ensures { (s : State) → s.cuts ≡ map stated cuts.now
-        → Runs is_held (start_events problem.now s named.now point.now directions.now) 0
-        (steps (start_events problem.now s named.now point.now directions.now)) (λ _. ⊤) result }
+        → Runs is_held (start_events problem.now lines.now s named.now point.now directions.now) 0
+        (steps (start_events problem.now lines.now s named.now point.now directions.now)) (λ _. ⊤) result }
 {
     let mut counter = Steps { taken: 0 };
     let objs = problem.objs as usize;
+    let count = named.len();
     pass(
         Rule::Length,
-        lists_fit(problem.objs, named, point, directions),
+        lists_fit(problem.objs, lines.len(), named, point, directions),
     )?;
     pass(Rule::Index, are_picks(cuts.len(), named))?;
-    pass(Rule::Corner, are_normed(objs, directions))?;
+    pass(
+        Rule::Corner,
+        are_reduced(lines, count, objs, point, directions),
+    )?;
+    pass(Rule::Corner, are_normed(count, objs, directions))?;
     are_tight(&mut counter, cuts, named, point)?;
-    meet_directions(&mut counter, objs, cuts, named, directions)
+    meet_directions(&mut counter, count, objs, cuts, named, directions)
 }
