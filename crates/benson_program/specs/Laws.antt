@@ -1,10 +1,8 @@
 -- What an end of the linear programs `Feasible` and `Benson` of a file shows of the file, and which answers exclude each other.
-use Rattle.std.specs.Prelude.{ℕ, Bool, true, false, List, ◌≡◌, map, length, All, if◌then◌else◌}
+use Rattle.std.specs.Prelude.{ℕ, Bool, true, false, List, ◌≡◌, map, length, if◌then◌else◌}
 use Rattle.exact_field.specs.Rational.{ℚ, zero_ℚ, neg_ℚ, ◌-ℚ◌, ◌≤ℚ◌, ◌<ℚ◌}
 use Rattle.exact_field.specs.Vector.{dot}
 use Rattle.frac128.specs.declared.vectors.Spot.{Spot}
-use Rattle.polyhedra.specs.Cone.{HasFullRank}
-use Rattle.polyhedra.specs.Vectors.{zeros}
 use Rattle.tableaux.specs.Simplex.{IsOptimal, IsInfeasible, IsUnbounded}
 use Rattle.vlp_reader.specs.Sides.{side_bounds, IsFeasible, IsRecession}
 use Rattle.vlp_reader.specs.declared.problem.Problem.{Problem}
@@ -12,7 +10,6 @@ use Rattle.upper_image.specs.Laws.{InfeasibleIsEmpty}
 use Rattle.upper_image.specs.OrderingCone.{IsInteriorToCone, Fits}
 use Rattle.upper_image.specs.Shows.{ShowsFitting, ShowsRecession, ShowsAbove, ShowsCut}
 use Rattle.upper_image.specs.Spots.{dense, product, IsVector}
-use Rattle.upper_image.specs.UpperImage.{IsWorkingDirection}
 use Rattle.upper_image.specs.Witnesses.{IsWhole}
 use Rattle.upper_image.specs.Witnesses as witnesses
 use Rattle.log_rules.specs.Meets.{MeetsFarkas}
@@ -86,10 +83,8 @@ pub record BensonBounded : Type 0 where
 abbrev pub IsCutNormal : Problem → (c w : List ℚ) → Type 0
 IsCutNormal file c w = (gamma : ℚ) × (u v : List Spot) × ShowsCut file c w gamma u v
 
--- no file has two of: multipliers that show it infeasible, and a feasible point; witnesses that its image is everything, and a cut; a
--- line in its image, and cuts whose normals have full rank
+-- no file has both multipliers that show it infeasible and a feasible point, or both witnesses that
+-- its image is everything and a cut
 pub record AnswersExclude : Type 0 where
   pub infeasible : InfeasibleIsEmpty
   pub whole : (file : Problem) (c w : List ℚ) (x ray : List Spot) → IsWhole file c x ray → IsCutNormal file c w → ⊥
-  pub line : (file : Problem) (c d : List ℚ) (normals : List (List ℚ)) → IsWorkingDirection file d → IsWorkingDirection file (map neg_ℚ d) →
-      (d ≡ zeros file.objs → ⊥) → All (IsCutNormal file c) normals → HasFullRank file.objs normals → ⊥
