@@ -3,13 +3,17 @@ pub mod AfterStart
 pub mod Beginning
 pub mod Built
 pub mod Corner
+pub mod FacetsWithout
 pub mod Fronts
 pub mod Growing
+pub mod Lifted
 pub mod LineEntries
 pub mod NamedFacets
 pub mod Numbers
 pub mod Outer
 pub mod Pieces
 pub mod Pushed
+pub mod Reading
+pub mod RowsOfCuts
 pub mod Turned
 pub mod Used

@@ -1,21 +1,26 @@
 -- Facets that are named behind an outer trail, and the end behind them.
-use Rattle.std.proofs.Common.{◌≡◌, ◌≢◌, ℕ, suc, ◌+◌, ◌-◌, ◌<◌, ◌≤◌, List, [], ◌∷◌, ◌++◌, map, length, All, AllPairs, Contains, true, false, true≢false, not, IsTrue, fold, refl, sym, ap, ap₂, ◌∙◌, subst, slice_index_or, append_assoc, append-nil, arith}
+use Rattle.std.proofs.Common.{◌≡◌, ◌≢◌, ℕ, suc, ◌+◌, ◌-◌, ◌<◌, ◌≤◌, List, [], ◌∷◌, ◌++◌, map, length, All, AllPairs, Contains, true, false, true≢false, not, IsTrue, fold, refl, sym, ap, ap₂, ◌∙◌, subst, slice_index_or, append_assoc, append-nil, arith, Bool}
 use Rattle.std.specs.List.{filter_map, range_with_len}
 use Rattle.std.proofs.lemmas.Bool.{not-true}
 use Rattle.std.proofs.lemmas.List.{map-append, length-map}
-use Rattle.std.proofs.lemmas.List.Elements.{All-append, All-cons, All-head, All-map, All-nil, All-push, All-tail, All-weaker, Contains-append_right, filter_map-append}
+use Rattle.std.proofs.lemmas.List.Elements.{All-append, All-head, All-map, All-push, All-tail, All-weaker, Contains-append_right, filter_map-append}
 use Rattle.std.proofs.lemmas.List.Folds.{list_any_none}
 use Rattle.std.proofs.lemmas.List.FromFn.{get_or-map-range_with_len, get_or-range_with_len, length-range_with_len}
 use Rattle.std.proofs.lemmas.List.Sums.{fold-append}
-use Rattle.exact_field.specs.Rational.{zero_ℚ}
-use Rattle.polyhedra.specs.Exactness.{IsAccounted, IsNamed, TightLiesIn, row_of, rows_of}
+use Rattle.exact_field.specs.Rational.{ℚ, zero_ℚ}
+use Rattle.exact_field.specs.Vector.{dot}
+use Rattle.polyhedra.specs.Exactness.{IsAccounted, IsNamed, TightLiesIn, row_of}
 use Rattle.polyhedra.specs.FirstNamed.{named_first}
 use Rattle.polyhedra.specs.Inequality.{Inequality}
-use Rattle.polyhedra.specs.LiveList.{LiveList, vectors}
+use Rattle.polyhedra.specs.LiveList.{LiveList, Numbered, vectors}
 use Rattle.polyhedra.proofs.FirstNamed.{first_account}
-use Rattle.polyhedra.proofs.Lists.{Contains-here, all_from_map}
-use Rattle.polyhedra.proofs.Members.{member_of, pairs-head, pairs-tail}
+use Rattle.polyhedra.proofs.Lists.{Contains-here, HasWidth, all_from_map}
+use Rattle.polyhedra.proofs.Members.{member_of}
 use Rattle.polyhedra.proofs.Tests.{both_hold, true-list_all}
+use Rattle.lineality.specs.Steps.{IsClear, numbered_without}
+use Rattle.lineality.specs.Without.{without}
+use Rattle.lineality.proofs.Marks.{length-marks}
+use Rattle.lineality.proofs.StepsWithout.{same_dot}
 use Rattle.deriv_log.specs.Formed.{is_end, is_formed, is_short}
 use Rattle.deriv_log.specs.declared.entry.EndKind.TheVariants as kind
 use Rattle.deriv_log.specs.declared.entry.Entry.{Entry}
@@ -24,8 +29,8 @@ use Rattle.deriv_log.proofs.Lines.{ends_once-push}
 use Rattle.double_descr.specs.State.{State as Description}
 use Rattle.geo_duality.specs.Facets.{facet_rows}
 use Rattle.geo_duality.specs.Facets as geo
-use Rattle.geo_duality.proofs.FacetRows.{facets_within}
-use Rattle.log_rules.specs.Live.{State, after, cut_at, cut_row, in_use, inequality, live_vectors, named, named_in, nothing, preimage_in, preimages, state}
+use Rattle.geo_duality.proofs.FacetRows.{facets_within, named_are}
+use Rattle.log_rules.specs.Live.{State, after, cut_at, cut_row, in_use, inequality, lines, live_vectors, named, named_in, nothing, preimage_in, preimages, rows_in_use, state}
 use Rattle.log_rules.specs.Meets.{Meets, MeetsFacet, MeetsSolved}
 use Rattle.log_rules.specs.Order.{has, in_order}
 use Rattle.log_rules.specs.Order as order
@@ -34,8 +39,12 @@ use Rattle.log_rules.proofs.Entries.{has_more}
 use Rattle.log_rules.proofs.LiveNumbers.{pairs_from_map}
 use Rattle.licence.specs.Trails.{IsBaseTrail}
 use Rattle.licence.proofs.Growing.{grows}
+use Rattle.outer_approx.specs.Lines.{line_places}
 use Rattle.outer_approx.specs.Standing.{IsEnded, IsOpenTrail, IsOuter}
 use Rattle.outer_approx.specs.Task.{Task}
+use Rattle.outer_approx.proofs.FacetsWithout.{facets_same}
+use Rattle.outer_approx.proofs.Growing.{open_stands}
+use Rattle.outer_approx.proofs.LineEntries.{earlier}
 
 -- the entries that name these cuts
 abbrev pub naming : List ℕ → List Entry
@@ -45,13 +54,6 @@ naming ks = map (λ k. Facet k) ks
 map_all : {X Y : Type 0} (f g : X → Y) (xs : List X) → All (λ x. f x ≡ g x) xs → map f xs ≡ map g xs
 map_all f g [] h = refl
 map_all f g (x ∷ xs) h = ap₂ (λ a b. a ∷ b) (All-head (λ x. f x ≡ g x) x xs h) (map_all f g xs (All-tail (λ x. f x ≡ g x) x xs h))
-
--- each earlier element is related to one among others
-earlier : {X : Type 0} (R : X → X → Type 0) (before : List X) (x : X) (rest : List X) → AllPairs R (before ++ x ∷ rest) → All (λ y. R y x) before
-earlier R [] x rest h = All-nil (λ y. R y x)
-earlier R (y ∷ before) x rest h = All-cons (λ z. R z x) y before
-    (member_of (R y) (before ++ x ∷ rest) x (pairs-head R y (before ++ x ∷ rest) h) (Contains-append_right before (x ∷ rest) x (Contains-here x rest x refl)))
-    (earlier R before x rest (pairs-tail R y (before ++ x ∷ rest) h))
 
 -- each number from 1 to n is listed
 in_range : (n k : ℕ) → 1 ≤ k → k ≤ n → Contains (range_with_len 1 n) k
@@ -187,42 +189,63 @@ module _ (task : Task) (trail : List Entry) (o : IsOpenTrail task trail) (starte
 
 -- ---- the facets of a double description of the cuts in use
 module _ (task : Task) (trail : List Entry) (dd : Description) (o : IsOuter task trail dd) (facets : List ℕ)
-    (are : facets ≡ facet_rows (vectors dd.list.live) dd.rows)
-    (named_are : (n : ℕ) (cuts : List Inequality) → dd.rows ≡ rows_of n cuts → map (geo.cut_at cuts) facets ≡ named_first n cuts (vectors dd.list.live)) where
+    (are : facets ≡ facet_rows (vectors dd.list.live) dd.rows) where
+  abbrev q : ℕ
+  q = task.file.objs
+
+  abbrev s : State
+  s = state q trail
+
+  abbrev bs : List Bool
+  bs = line_places task trail
+
+  -- the products stay without the entries at the places of the lines
+  same_value : (r v : List ℚ) → Contains (live_vectors s) v → dot (without bs r) (without bs v) ≡ dot r v
+  same_value r v c =
+      let stands = open_stands task trail o.open_trail o.started in
+      same_dot bs r v (record {
+        wide = member_of (HasWidth (suc q)) (live_vectors s) v stands.wide.wide c ∙ ap suc (sym (length-marks q (lines trail)));
+        clear = member_of (IsClear bs) (live_vectors s) v stands.clear c;
+      })
+
+  vectors_without : (live : List Numbered) → vectors (map (numbered_without bs) live) ≡ map (without bs) (vectors live)
+  vectors_without [] = refl
+  vectors_without (g ∷ live) = ap (λ (vs : List (List ℚ)). without bs g.vector ∷ vs) (vectors_without live)
+
+  -- so the facets are those of the trail's rows and generators
+  full_are : facets ≡ facet_rows (live_vectors s) (rows_in_use q s)
+  full_are = are
+      ∙ ap₂ facet_rows (ap (λ (l : LiveList). vectors l.live) o.list ∙ vectors_without s.list.live) o.rows
+      ∙ facets_same bs (live_vectors s) same_value (rows_in_use q s)
+
   -- the cut of a row is that of its number
-  same_cut : (k : ℕ) → 1 ≤ k → k ≤ length (state task.file.objs trail).cuts →
-      inequality (cut_at (state task.file.objs trail).cuts k) ≡ geo.cut_at (in_use (state task.file.objs trail)) k
+  same_cut : (k : ℕ) → 1 ≤ k → k ≤ length s.cuts → inequality (cut_at s.cuts k) ≡ geo.cut_at (in_use s) k
   same_cut k a b =
-      let s : State = state task.file.objs trail in
       let f : ℕ → Inequality = λ j. inequality (cut_at s.cuts j) in
       let nought : Inequality = record { normal = []; bound = zero_ℚ } in
       sym (ap (λ (ks : List ℕ). slice_index_or (map f ks) (k - 1) nought) o.all_used
       ∙ get_or-map-range_with_len f 1 (length s.cuts) (k - 1) k nought (omega (arith, a, b)) (omega (arith, a)))
 
-  within : All (λ k. (1 ≤ k) × (k ≤ length (state task.file.objs trail).cuts)) facets
+  within : All (λ k. (1 ≤ k) × (k ≤ length s.cuts)) facets
   within =
-      let s : State = state task.file.objs trail in
       let f : ℕ → Inequality = λ j. inequality (cut_at s.cuts j) in
-      let many : length dd.rows ≡ suc (length s.cuts) = ap length o.rows ∙ ap suc (length-map (in_use s) row_of
+      let many : length (rows_in_use q s) ≡ suc (length s.cuts) = ap suc (length-map (in_use s) row_of
       ∙ length-map s.used f ∙ ap length o.all_used ∙ length-range_with_len 1 (length s.cuts)) in
-      subst (λ (ks : List ℕ). All (λ k. (1 ≤ k) × (k ≤ length s.cuts)) ks) (sym are)
-      (All-weaker (λ k. (1 ≤ k) × (k < length dd.rows)) (λ k. (1 ≤ k) × (k ≤ length s.cuts)) (λ k h. lower k h.0 h.1 many)
-      (facet_rows (vectors dd.list.live) dd.rows) (facets_within (vectors dd.list.live) dd.rows))
+      subst (λ (ks : List ℕ). All (λ k. (1 ≤ k) × (k ≤ length s.cuts)) ks) (sym full_are)
+      (All-weaker (λ k. (1 ≤ k) × (k < length (rows_in_use q s))) (λ k. (1 ≤ k) × (k ≤ length s.cuts)) (λ k h. lower k h.0 h.1 many)
+      (facet_rows (live_vectors s) (rows_in_use q s)) (facets_within (live_vectors s) (rows_in_use q s)))
     where
-      lower : (k : ℕ) → 1 ≤ k → k < length dd.rows → length dd.rows ≡ suc (length (state task.file.objs trail).cuts) →
-          (1 ≤ k) × (k ≤ length (state task.file.objs trail).cuts)
+      lower : (k : ℕ) → 1 ≤ k → k < length (rows_in_use q s) → length (rows_in_use q s) ≡ suc (length s.cuts) →
+          (1 ≤ k) × (k ≤ length s.cuts)
       lower k a b many = (a, omega (arith, b, many))
 
-  are_facets : AreFacets task.file.objs (state task.file.objs trail) facets
+  are_facets : AreFacets q s facets
   are_facets =
-      let s : State = state task.file.objs trail in
-      let q : ℕ = task.file.objs in
       let f : ℕ → Inequality = λ j. inequality (cut_at s.cuts j) in
-      let gens : vectors dd.list.live ≡ live_vectors s = ap (λ l. vectors l.live) o.list in
       let first : stated s.cuts facets ≡ named_first q (in_use s) (live_vectors s) =
       map_all f (geo.cut_at (in_use s)) facets
       (All-weaker (λ k. (1 ≤ k) × (k ≤ length s.cuts)) (λ k. f k ≡ geo.cut_at (in_use s) k) (λ k h. same_cut k h.0 h.1) facets within)
-      ∙ named_are q (in_use s) o.rows ∙ ap (named_first q (in_use s)) gens in
+      ∙ ap (map (geo.cut_at (in_use s))) full_are ∙ named_are q (in_use s) (live_vectors s) in
       let account = first_account q (in_use s) (live_vectors s) in
       record {
         used = subst (λ (ks : List ℕ). All (Contains ks) facets) (sym o.all_used)
@@ -239,4 +262,5 @@ module _ (task : Task) (trail : List Entry) (dd : Description) (o : IsOuter task
       IsEnded task ((trail ++ naming facets) ++ End kind.Solved ∷ [])
   solved_ended short reached =
       ended task trail o.open_trail o.started facets short are_facets
-      (subst (λ (l : LiveList). All (λ g. preimages trail g.number ≢ []) l.live) o.list reached)
+      (all_from_map (λ (g : Numbered). preimages trail g.number ≢ []) (numbered_without bs) s.list.live
+      (subst (λ (l : LiveList). All (λ g. preimages trail g.number ≢ []) l.live) o.list reached))

@@ -1,18 +1,24 @@
 -- An outer trail and its double description after one more cut.
-use Rattle.std.proofs.Common.{◌≡◌, ℕ, List, [], ◌∷◌, ◌++◌, length, refl, sym, ap, ◌∙◌, subst, false, true≢false, not, IsTrue, Bool}
+use Rattle.std.proofs.Common.{◌≡◌, ℕ, suc, List, [], ◌∷◌, ◌++◌, map, length, refl, sym, ap, ap₂, ◌∙◌, subst, false, true≢false, not, IsTrue, Bool}
 use Rattle.std.specs.List.{range_with_len}
+use Rattle.std.proofs.lemmas.List.{length-map, map-append}
 use Rattle.exact_field.specs.Rational.{ℚ}
 use Rattle.polyhedra.specs.Exactness.{row_of}
 use Rattle.polyhedra.specs.Inequality.{Inequality}
 use Rattle.polyhedra.specs.LiveList.{LiveList, step}
+use Rattle.polyhedra.specs.Vectors.{AreWide}
 use Rattle.polyhedra.proofs.Tests.{both_hold}
+use Rattle.lineality.specs.Steps.{IsStepWithout, list_without}
+use Rattle.lineality.specs.Without.{marks, open_count, without}
+use Rattle.lineality.proofs.Marks.{length-marks}
+use Rattle.lineality.proofs.StepsWithout.{steps_without}
 use Rattle.deriv_log.specs.Formed.{is_formed}
 use Rattle.deriv_log.specs.declared.entry.Entry.{Entry}
 use Rattle.deriv_log.specs.declared.entry.Entry.TheVariants.{Add}
 use Rattle.deriv_log.specs.declared.entry.LogPair.{LogPair}
 use Rattle.deriv_log.specs.declared.licence.Family.TheVariants.{Image}
 use Rattle.double_descr.specs.State.{State as Description}
-use Rattle.log_rules.specs.Live.{State, state, after, rows_in_use, preimages, required_pairs}
+use Rattle.log_rules.specs.Live.{State, state, after, rows_in_use, lines, live_vectors, log_pair, preimages, required_pairs}
 use Rattle.log_rules.specs.Order.{has, in_order}
 use Rattle.log_rules.specs.Order as order
 use Rattle.log_rules.proofs.Entries.{state-push}
@@ -20,9 +26,13 @@ use Rattle.licence.specs.Operands.{IsAddition}
 use Rattle.overflows.specs.Faults.{OnLicence}
 use Rattle.overflows.specs.declared.fault.SolveFault.{SolveFault}
 use Rattle.overflows.specs.declared.fault.SolveFault.TheVariants.{Left, NoMemory}
-use Rattle.outer_approx.specs.Standing.{HasCutMore, IsOpenTrail, IsOuter, StandForSame}
+use Rattle.benson_program.specs.declared.cut.Cut.{Cut as CutOf}
+use Rattle.outer_approx.specs.Cuts.{said_by}
+use Rattle.outer_approx.specs.Lines.{line_places}
+use Rattle.outer_approx.specs.Standing.{HasCutMore, IsOpenTrail, IsOuter, StandForSame, rows_of_trail}
 use Rattle.outer_approx.specs.Task.{Task, behind}
-use Rattle.outer_approx.proofs.Growing.{grows, has_same, preimages_stay}
+use Rattle.outer_approx.proofs.Growing.{grows, has_same, lines_stay, open_stands, preimages_stay, same_for}
+use Rattle.outer_approx.proofs.RowsOfCuts.{length-row}
 use Rattle.outer_approx.proofs.Turned.{IsBehind, meets_add, new_exists, new_row, next_list, next_rows, next_used, rows_stay}
 
 add_in_order : (trail : List Entry) → IsTrue (has order.duality trail) → IsTrue (has order.start trail) → has order.facet trail ≡ false →
@@ -47,31 +57,46 @@ module _ (task : Task) (old mid : List Entry) (e : Inequality) (dd : Description
   abbrev t : State
   t = state q mid
 
+  abbrev bs : List Bool
+  bs = line_places task old
+
   is_behind : IsBehind s t e
   is_behind = record { all_used = h.all_used; cuts = m.cuts; used = m.used; list = m.list }
 
   numbered : k ≡ length (rows_in_use q s)
-  numbered = number ∙ ap (λ (rows : List (List ℚ)). length rows) h.rows
+  numbered = number ∙ ap (λ (rows : List (List ℚ)). length rows) h.rows ∙ length-map (rows_in_use q s) (without bs)
+
+  -- the cut is not in use yet, so the trail stands for the same cuts as the double description before
+  still : StandForSame task mid dd
+  still = same_for task old mid dd m.lines_stay (rows_stay q s t e is_behind) m.list h.same
+
+  pub stand_still : (new : Description) → new ≡ dd → StandForSame task mid new
+  stand_still new kept = subst (λ (d : Description). StandForSame task mid d) (sym kept) still
 
   -- the cut is one that may be added
-  pub is_addition : (row : List ℚ) → row ≡ row_of e → IsAddition (behind task mid) dd.rows row dd.list Image
+  pub is_addition : (row : List ℚ) → row ≡ without bs (row_of e) → IsAddition (behind task mid) dd.rows row dd.list Image
   is_addition row is =
       let exists = new_exists q s t e is_behind k numbered in
-      IsAddition.of_image k exists.0 exists.1 (h.rows ∙ sym (rows_stay q s t e is_behind)) (is ∙ sym (new_row q s t e is_behind k numbered))
-      (h.list ∙ sym m.list)
+      IsAddition.of_image k exists.0 exists.1 still.rows
+      (is ∙ ap₂ (λ (ls : List (List ℚ)) (r : List ℚ). without (marks q ls) r) (sym m.lines_stay) (sym (new_row q s t e is_behind k numbered)))
+      still.list
 
-  -- it is not in use yet, so the trail stands for the same cuts as the double description before
-  pub stand_still : (new : Description) → new ≡ dd → StandForSame task mid new
-  stand_still new kept = subst (λ (d : Description). StandForSame task mid d) (sym kept)
-      (record { width = h.width; rows = h.rows ∙ sym (rows_stay q s t e is_behind); list = h.list ∙ sym m.list })
+  -- the step of the live generators of the trail, and that without the places of the lines
+  both_steps : IsStepWithout bs (rows_in_use q s) s.list (row_of e)
+  both_steps =
+      let stands = open_stands task old h.open_trail h.started in
+      steps_without bs (rows_in_use q s) s.list (row_of e)
+      (subst (λ (n : ℕ). AreWide (suc n) (live_vectors s)) (sym (length-marks q (lines old))) stands.wide) stands.clear
 
-  module _ (pairs : List LogPair) (paired : pairs ≡ required_pairs dd.rows dd.list.live (row_of e)) (written : IsTrue (is_formed (Add k pairs))) where
+  module _ (pairs : List LogPair) (paired : pairs ≡ required_pairs dd.rows dd.list.live (without bs (row_of e)))
+      (written : IsTrue (is_formed (Add k pairs))) where
     started : IsTrue (has order.start mid)
     started = m.started ∙ h.started
 
     required : pairs ≡ required_pairs (rows_in_use q s) s.list.live (row_of e)
-    required = paired ∙ ap (λ (rows : List (List ℚ)). required_pairs rows dd.list.live (row_of e)) h.rows
-        ∙ ap (λ (list : LiveList). required_pairs (rows_in_use q s) list.live (row_of e)) h.list
+    required = paired
+        ∙ ap₂ (λ (rows : List (List ℚ)) (list : LiveList). required_pairs rows list.live (without bs (row_of e))) h.rows h.list
+        ∙ ap (map log_pair) (sym both_steps.same_pairs)
 
     -- the trail stays open
     pub turned_open : IsOpenTrail task (mid ++ Add k pairs ∷ [])
@@ -81,25 +106,47 @@ module _ (task : Task) (old mid : List Entry) (e : Inequality) (dd : Description
           rules = meets_add q s t e is_behind k numbered task.file pairs refl required;
         }) tt written refl refl
 
-    -- and stands beside the double description with the row
-    pub turned : (row : List ℚ) → row ≡ row_of e → (new : Description) →
+    stands : state q (mid ++ Add k pairs ∷ []) ≡ after q t (Add k pairs)
+    stands = state-push q mid (Add k pairs)
+
+    pub turned_lines : lines (mid ++ Add k pairs ∷ []) ≡ lines old
+    turned_lines = lines_stay mid (Add k pairs) refl ∙ m.lines_stay
+
+    -- one more row is in use
+    pub turned_rows : rows_of_trail task (mid ++ Add k pairs ∷ []) ≡ rows_of_trail task old ++ row_of e ∷ []
+    turned_rows = ap (λ (a : State). rows_in_use q a) stands ∙ next_rows q s t e is_behind k numbered pairs
+
+    turned_list : (state q (mid ++ Add k pairs ∷ [])).list ≡ step (rows_in_use q s) s.list (row_of e)
+    turned_list = ap (λ (a : State). a.list) stands ∙ next_list q s t e is_behind k numbered pairs
+
+    -- and the trail stands beside the double description with the row
+    pub turned : (row : List ℚ) → row ≡ without bs (row_of e) → (new : Description) →
         new ≡ record { width = dd.width; rows = dd.rows ++ row ∷ []; list = step dd.rows dd.list row } → IsOuter task (mid ++ Add k pairs ∷ []) new
     turned row is new grown = subst (λ (d : Description). IsOuter task (mid ++ Add k pairs ∷ []) d) (sym grown) (record {
       open_trail = turned_open;
       started = has_same order.start mid (Add k pairs) refl ∙ started;
       all_used = subst (λ (a : State). a.used ≡ range_with_len 1 (length a.cuts)) (sym stands) (next_used q s t e is_behind k numbered pairs);
       same = record {
-        width = h.width;
-        rows = ap (λ (rows : List (List ℚ)). rows ++ row ∷ []) h.rows ∙ ap (λ (r : List ℚ). rows_in_use q s ++ r ∷ []) is
-            ∙ sym (next_rows q s t e is_behind k numbered pairs) ∙ ap (λ (a : State). rows_in_use q a) (sym stands);
-        list = ap (λ (rows : List (List ℚ)). step rows dd.list row) h.rows ∙ ap (λ (list : LiveList). step (rows_in_use q s) list row) h.list
-            ∙ ap (λ (r : List ℚ). step (rows_in_use q s) s.list r) is ∙ sym (next_list q s t e is_behind k numbered pairs)
-            ∙ ap (λ (a : State). a.list) (sym stands);
+        width = h.width ∙ ap (λ (ls : List (List ℚ)). suc (open_count (marks q ls))) (sym turned_lines);
+        rows = ap₂ (λ (rows : List (List ℚ)) (r : List ℚ). rows ++ r ∷ []) h.rows is
+            ∙ sym (map-append (without bs) (rows_in_use q s) (row_of e ∷ []))
+            ∙ ap₂ (λ (ls rows : List (List ℚ)). map (without (marks q ls)) rows) (sym turned_lines) (sym turned_rows);
+        list = ap₂ (λ (rows : List (List ℚ)) (list : LiveList). step rows list row) h.rows h.list
+            ∙ ap (step (map (without bs) (rows_in_use q s)) (list_without bs s.list)) is
+            ∙ sym both_steps.same
+            ∙ ap₂ (λ (ls : List (List ℚ)) (list : LiveList). list_without (marks q ls) list) (sym turned_lines) (sym turned_list);
       };
     })
-      where
-        stands : state q (mid ++ Add k pairs ∷ []) ≡ after q t (Add k pairs)
-        stands = state-push q mid (Add k pairs)
 
     pub turned_preimages : (j : ℕ) → preimages (mid ++ Add k pairs ∷ []) j ≡ preimages old j
     turned_preimages j = preimages_stay mid (Add k pairs) j refl ∙ m.preimages_stay j
+
+-- the row of a cut without the entries at the places of the lines may be added
+pub row_wide : {F : Type 0} (value : F → ℚ) (task : Task) (trail : List Entry) (dd : Description) → IsOuter task trail dd → (places : List Bool) →
+    places ≡ line_places task trail → (cut : CutOf F) → length cut.w ≡ task.file.objs → (row slice : List F) → slice ≡ row →
+    map value row ≡ without places (row_of (said_by value cut)) → length slice ≡ dd.width
+row_wide {F} value task trail dd h places is cut wide row slice same row_is =
+    ap (λ (xs : List F). length xs) same ∙ sym (length-map row value) ∙ ap (λ (v : List ℚ). length v) row_is
+    ∙ length-row places (said_by value cut)
+    (length-map cut.w value ∙ wide ∙ sym (ap (λ (bs : List Bool). length bs) is ∙ length-marks task.file.objs (lines trail)))
+    ∙ ap (λ (bs : List Bool). suc (open_count bs)) is ∙ sym h.width

@@ -18,7 +18,7 @@ use Rattle.deriv_log.specs.Formed.{is_formed, is_formed_part, is_short, is_end}
 use Rattle.deriv_log.specs.LogText.{sparse, vector}
 use Rattle.deriv_log.specs.declared.entry.Entry.{Entry}
 use Rattle.deriv_log.specs.declared.entry.Entry.TheVariants.{Version, Duality, Cut, Point, Ray}
-use Rattle.log_rules.specs.Live.{State, state, after, inequality, y_of, preimage_in, preimages}
+use Rattle.log_rules.specs.Live.{State, state, after, inequality, y_of, line_in, preimage_in, preimages}
 use Rattle.log_rules.specs.Meets.{IsOpen}
 use Rattle.log_rules.specs.Order.{has, in_order}
 use Rattle.log_rules.specs.Order as order
@@ -35,7 +35,7 @@ use Rattle.outer_approx.specs.Cuts.{IsCutFor, SaysCut, said_by}
 use Rattle.outer_approx.specs.Preimages.{IsReached}
 use Rattle.outer_approx.specs.Standing.{IsOpenTrail, IsBegun, HasCutMore, HasPreimageMore}
 use Rattle.outer_approx.specs.Task.{Task}
-use Rattle.outer_approx.proofs.Growing.{has_same, preimages_more, preimages_stay, grows, live_parts}
+use Rattle.outer_approx.proofs.Growing.{has_same, lines_stay, preimages_more, preimages_stay, grows, live_parts}
 
 -- ---- entries that can be written
 pub cut_written : (w : List ℚ) (gamma : ℚ) (u v : List Spot) → is_formed_part (vector w) ≡ true → is_held gamma ≡ true →
@@ -92,6 +92,7 @@ module _ {F : Type 0} (value : F → ℚ) (task : Task) (cut : CutOf F) (trail :
     used = ap (λ (s : State). s.used) stands;
     list = ap (λ (s : State). s.list) stands;
     started = has_same order.start trail said refl;
+    lines_stay = lines_stay trail said refl;
     preimages_stay = λ k. preimages_stay trail said k refl;
   })
 
@@ -164,22 +165,23 @@ module _ {F : Type 0} (value : F → ℚ) (task : Task) (trail : List Entry) (g 
 module _ (task : Task) (trail : List Entry) (g : ℕ) (x m : List Spot) where
   -- an entry that gives the number g a pre-image
   more_by : (e : Entry) → after task.file.objs (state task.file.objs trail) e ≡ state task.file.objs trail →
-      has order.start (trail ++ e ∷ []) ≡ has order.start trail → preimages (e ∷ []) g ≢ [] → ((k : ℕ) → k ≢ g → preimage_in k e ≡ None) →
+      has order.start (trail ++ e ∷ []) ≡ has order.start trail → line_in e ≡ None → preimages (e ∷ []) g ≢ [] → ((k : ℕ) → k ≢ g → preimage_in k e ≡ None) →
       preimages trail g ≡ [] → HasPreimageMore task g trail (trail ++ e ∷ [])
-  more_by e same started here elsewhere fresh = record {
+  more_by e same started no_line here elsewhere fresh = record {
     stands = state-push task.file.objs trail e ∙ same;
     started = started;
+    lines_stay = lines_stay trail e no_line;
     here = λ none. here (ap (λ (xs : List (List Spot)). xs ++ preimages (e ∷ []) g) (sym fresh) ∙ sym (preimages_more trail (e ∷ []) g) ∙ none);
     others = λ k other. preimages_stay trail e k (elsewhere k other);
   }
 
   pub point_more : preimages trail g ≡ [] → HasPreimageMore task g trail (trail ++ Point g x m ∷ [])
   point_more fresh =
-      more_by (Point g x m) refl (has_same order.start trail (Point g x m) refl) (given_here g x) (λ k other. given_elsewhere g k x other) fresh
+      more_by (Point g x m) refl (has_same order.start trail (Point g x m) refl) refl (given_here g x) (λ k other. given_elsewhere g k x other) fresh
 
   pub ray_more : preimages trail g ≡ [] → HasPreimageMore task g trail (trail ++ Ray g x m ∷ [])
   ray_more fresh =
-      more_by (Ray g x m) refl (has_same order.start trail (Ray g x m) refl) (given_here g x) (λ k other. given_elsewhere g k x other) fresh
+      more_by (Ray g x m) refl (has_same order.start trail (Ray g x m) refl) refl (given_here g x) (λ k other. given_elsewhere g k x other) fresh
 
 -- ---- the opening
 -- the entry is no end
@@ -188,10 +190,10 @@ going e = IsTrue (not (is_end e))
 
 pub opened_open : (task : Task) (opening : Entry) (picks : List ℕ) (inverse : List ℚ) → opening ≡ Duality task.c task.weights picks inverse →
     ShowsFitting task.file task.c task.weights picks inverse → IsBaseDuality task.file task.file.cone task.file.duality task.c task.weights →
-    (trail : List Entry) → trail ≡ Version 1 ∷ opening ∷ [] → All (λ (e : Entry). IsTrue (is_formed e)) trail → IsBegun task [] trail
+    (trail : List Entry) → trail ≡ Version 1 ∷ opening ∷ [] → All (λ (e : Entry). IsTrue (is_formed e)) trail → IsBegun task [] [] trail
 opened_open task opening picks inverse is fits base trail same written =
     let whole : trail ≡ first_two task.c task.weights picks inverse = same ∙ ap (λ (e : Entry). Version 1 ∷ e ∷ []) is in
-    subst (λ (es : List Entry). IsBegun task [] es) (sym whole) (record {
+    subst (λ (es : List Entry). IsBegun task [] [] es) (sym whole) (record {
       open_trail = record {
         base = trail_laws.opened task.file task.c task.weights picks inverse fits base;
         written = subst (λ (es : List Entry). All (λ (e : Entry). IsTrue (is_formed e)) es) whole written;
@@ -202,6 +204,7 @@ opened_open task opening picks inverse is fits base trail same written =
       };
       unstarted = refl;
       cuts_are = refl;
+      lines_are = refl;
     })
 
 -- nothing of a fresh log has a pre-image
@@ -211,17 +214,18 @@ opened_unreached trail opening c weights picks inverse same is k =
     ap (λ (es : List Entry). preimages es k) (same ∙ ap (λ (e : Entry). Version 1 ∷ e ∷ []) is)
 
 -- ---- one more cut of a log that has none in use
-pub begun_more : (task : Task) (cuts : List Inequality) (cut : Inequality) (old new : List Entry) → IsBegun task cuts old →
-    IsOpenTrail task new → HasCutMore task cut old new → IsBegun task (cuts ++ cut ∷ []) new
-begun_more task cuts cut old new h o more = record {
+pub begun_more : (task : Task) (ls : List (List ℚ)) (cuts : List Inequality) (cut : Inequality) (old new : List Entry) → IsBegun task ls cuts old →
+    IsOpenTrail task new → HasCutMore task cut old new → IsBegun task ls (cuts ++ cut ∷ []) new
+begun_more task ls cuts cut old new h o more = record {
   open_trail = o;
   unstarted = more.started ∙ h.unstarted;
   cuts_are = more.cuts ∙ ap (λ (es : List Inequality). es ++ cut ∷ []) h.cuts_are;
+  lines_are = more.lines_stay ∙ h.lines_are;
 }
 
--- the cuts are those of a list, none in use, and nothing has a pre-image
+-- the cuts are those of a list, none in use, there is no line, and nothing has a pre-image
 pub record IsFilled {F : Type 0} (value : F → ℚ) (task : Task) (cuts : List (CutOf F)) (trail : List Entry) : Type 0 where
-  pub begun : IsBegun task (map (said_by value) cuts) trail
+  pub begun : IsBegun task [] (map (said_by value) cuts) trail
   pub unreached : (k : ℕ) → preimages trail k ≡ []
 
 pub filled_more : {F : Type 0} (value : F → ℚ) (task : Task) (cuts longer : List (CutOf F)) (cut : CutOf F) (old new : List Entry) →
@@ -229,7 +233,7 @@ pub filled_more : {F : Type 0} (value : F → ℚ) (task : Task) (cuts longer : 
     IsFilled value task longer new
 filled_more {F} value task cuts longer cut old new same h o more =
     subst (λ (all : List (CutOf F)). IsFilled value task all new) (sym same) (record {
-      begun = subst (λ (es : List Inequality). IsBegun task es new) (sym (map-append (said_by value) cuts (cut ∷ [])))
-          (begun_more task (map (said_by value) cuts) (said_by value cut) old new h.begun o more);
+      begun = subst (λ (es : List Inequality). IsBegun task [] es new) (sym (map-append (said_by value) cuts (cut ∷ [])))
+          (begun_more task [] (map (said_by value) cuts) (said_by value cut) old new h.begun o more);
       unreached = λ k. more.preimages_stay k ∙ h.unreached k;
     })

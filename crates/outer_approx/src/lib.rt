@@ -4,12 +4,14 @@
 
 mod ends;
 mod log;
+mod places;
 mod start;
 mod turn;
 mod unstarted;
 
-pub use ends::{line_log, solved};
-pub use log::{Line, begun, cut_row, push_cut, push_cut_entry, push_preimage};
+pub use ends::solved;
+pub use log::{Line, begun, push_cut, push_cut_entry, push_preimage};
+pub use places::{cut_row, filled, places_of};
 pub use start::started;
 pub use turn::{take, try_take};
 pub use unstarted::{infeasible_log, whole_log};

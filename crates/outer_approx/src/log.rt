@@ -1,11 +1,15 @@
 //! The log of an outer approximation as it grows by cuts and pre-images beside its double description.
-ghost use Rattle.std.specs.Prelude.{◌≡◌, IfOk, map, ◌++◌, ◌∷◌, [], ℕ, List, All, IsTrue, OnOk, OnErr};
+ghost use Rattle.std.specs.Prelude.{◌≡◌, ◌≤◌, IfOk, map, ◌++◌, ◌∷◌, [], ℕ, List, All, IsTrue, OnOk, OnErr, length};
+ghost use Rattle.benson_program.specs.Sparse.{IsSparseOf};
 ghost use Rattle.outer_approx.specs.Cuts.{said_by, IsCutFor, SaysCut};
-ghost use Rattle.polyhedra.specs.Exactness.{row_of};
-ghost use Rattle.deriv_log.specs.Formed.{is_formed};
+ghost use Rattle.outer_approx.specs.Lined.{SaysLine};
+ghost use Rattle.outer_approx.specs.Lines.{AreLinesFor, told_by};
+ghost use Rattle.deriv_log.specs.Formed.{is_formed, is_formed_part};
+ghost use Rattle.deriv_log.specs.LogText as part;
 ghost use Rattle.deriv_log.specs.declared.entry.Entry.{Entry as EntryOf};
 ghost use Rattle.deriv_log.specs.declared.entry.Entry.TheVariants as entry_of;
 ghost use Rattle.exact_field.specs.Rational.{ℚ};
+ghost use Rattle.licence.specs.Base.{IsBaseChoice};
 ghost use Rattle.licence.specs.Trails.{IsBaseDuality};
 ghost use Rattle.log_rules.specs.Live.{preimages};
 ghost use Rattle.log_rules.specs.Order.{has};
@@ -18,7 +22,7 @@ ghost use Rattle.upper_image.specs.Shows.{ShowsFitting};
 use benson_program::{Cut, Preimage};
 use deriv_log::{Entries, Entry};
 use exact_field::Field;
-use frac128::frac_of;
+use frac128::{Sparse, Vector, frac_of};
 use overflows::{
     duality_is_written, fractions, fractions_are_written, spots_are_written, spots_of,
 };
@@ -28,26 +32,12 @@ use std::alloc::Global;
 /// A line of the image, by a direction `d` of it, with what shows that `d` and its negative are directions.
 #[derive(Debug, Drop)]
 pub struct Line<F: Drop> {
-    /// A cut of the image.
-    pub cut: Cut<F>,
     /// The direction: a number for each objective, of which the first that is not 0 is 1.
     pub d: Items<F>,
-    /// A feasible point.
-    pub x: Items<F>,
     /// A pre-image of the direction.
     pub forth: Preimage<F>,
     /// A pre-image of its negative.
     pub back: Preimage<F>,
-}
-
-/// The row of a cut: its w, and then its bound negated.
-pub fn cut_row<F: Field>(alloc: Global, cut: &Cut<F>) -> Result<Items<F>, NoMemory>
-    ensures { IfOk result (λ row. map F.value row ≡ row_of (said_by F.value cut.now)) }
-{
-    let mut row = Items::new(alloc);
-    row.append(cut.w.as_slice())?;
-    row.push(cut.gamma.neg())?;
-    Ok(row)
 }
 
 /// Appends the entry of a cut to any list of entries.
@@ -121,17 +111,86 @@ fn opened(alloc: Global, opening: Entry) -> Result<Entries, NoMemory>
     Ok(entries)
 }
 
+/// A list of numbers as fractions, which can be written.
+fn written_vector<F: Field>(alloc: Global, list: &[F]) -> Result<Vector, NoMemory>
+    ensures same { IfOk result (λ vector. vector ≡ map F.value list.now) }
+    ensures written { IfOk result (λ vector. IsTrue (is_formed_part (part.vector vector))) }
+{
+    let vector = fractions(alloc, list)?;
+    fractions_are_written(vector.as_slice());
+    Ok(vector)
+}
+
+/// The sparse vector of a list of numbers, which can be written.
+fn written_spots<F: Field>(alloc: Global, list: &[F]) -> Result<Sparse, NoMemory>
+    requires { length list.now ≤ 4294967294 }
+    ensures same { IfOk result (IsSparseOf F.value list.now) }
+    ensures written { IfOk result (λ spots. IsTrue (is_formed_part (part.sparse spots))) }
+{
+    let spots = spots_of(alloc, list)?;
+    spots_are_written(spots.as_slice());
+    Ok(spots)
+}
+
+/// Appends the entry of a line, with a feasible point x.
+fn push_line<F: Field>(
+    alloc: Global,
+    trail: &mut Entries,
+    x: &Items<F>,
+    line: &Line<F>,
+) -> Result<(), NoMemory>
+    ensures { OnOk result ((e : EntryOf) × SaysLine F.value x.now line.now e × (trail.new ≡ trail.old ++ e ∷ [])) }
+{
+    let d = written_vector(alloc, line.d.as_slice())?;
+    let x = written_spots(alloc, x.as_slice())?;
+    let ray = written_spots(alloc, line.forth.x.as_slice())?;
+    let m = written_spots(alloc, line.forth.m.as_slice())?;
+    let back = written_spots(alloc, line.back.x.as_slice())?;
+    let n = written_spots(alloc, line.back.m.as_slice())?;
+    trail.push(Entry::Line {
+        d,
+        x,
+        ray,
+        m,
+        back,
+        n,
+    })
+}
+
 /// The entries of a log that begins with a duality entry and has these cuts.
-pub fn begun<F: Field>(alloc: Global, opening: Entry, cuts: &[Cut<F>]) -> Result<Entries, NoMemory>
+fn with_cuts<F: Field>(alloc: Global, opening: Entry, cuts: &[Cut<F>]) -> Result<Entries, NoMemory>
     ghost task: { Task }
     requires opening { (picks : List ℕ) × (inverse : List ℚ) × (opening ≡ entry_of.Duality task.c task.weights picks inverse) × ShowsFitting task.file task.c task.weights picks inverse × IsBaseDuality task.file task.file.cone task.file.duality task.c task.weights }
     requires cuts { All (IsCutFor F.value task) cuts.now }
-    ensures begun { IfOk result (IsBegun task (map (said_by F.value) cuts.now)) }
+    ensures begun { IfOk result (IsBegun task [] (map (said_by F.value) cuts.now)) }
     ensures unreached { IfOk result (λ trail. (k : ℕ) → preimages trail k ≡ []) }
 {
     let mut trail = opened(alloc, opening)?;
     for i in 0..cuts.len() {
         push_cut(alloc, &mut trail, &cuts[i])?;
+    }
+    Ok(trail)
+}
+
+/// The entries of a log that begins with a duality entry, and has these cuts and then these lines, each with the feasible point x.
+pub fn begun<F: Field>(
+    alloc: Global,
+    opening: Entry,
+    x: &Items<F>,
+    lines: &[Line<F>],
+    cuts: &[Cut<F>],
+) -> Result<Entries, NoMemory>
+    ghost task: { Task }
+    requires opening { (picks : List ℕ) × (inverse : List ℚ) × (opening ≡ entry_of.Duality task.c task.weights picks inverse) × ShowsFitting task.file task.c task.weights picks inverse × IsBaseDuality task.file task.file.cone task.file.duality task.c task.weights }
+    requires cuts { All (IsCutFor F.value task) cuts.now }
+    requires choice { IsBaseChoice task.file (map F.value x.now) }
+    requires lines { AreLinesFor F.value task (map (λ cut. map F.value cut.w) cuts.now) lines.now }
+    ensures begun { IfOk result (IsBegun task (map (told_by F.value) lines.now) (map (said_by F.value) cuts.now)) }
+    ensures unreached { IfOk result (λ trail. (k : ℕ) → preimages trail k ≡ []) }
+{
+    let mut trail = with_cuts(alloc, opening, cuts)?;
+    for i in 0..lines.len() {
+        push_line(alloc, &mut trail, x, &lines[i])?;
     }
     Ok(trail)
 }

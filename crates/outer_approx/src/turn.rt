@@ -4,14 +4,16 @@ ghost use Rattle.deriv_log.specs.Formed.{is_formed_pair, is_formed_part, is_form
 ghost use Rattle.deriv_log.specs.LogText.{pairs as pairs_part};
 ghost use Rattle.outer_approx.specs.Pairs.{named};
 ghost use Rattle.deriv_log.specs.declared.entry.Entry.TheVariants as entry_of;
-ghost use Rattle.log_rules.specs.Live.{preimages};
+ghost use Rattle.log_rules.specs.Live.{lines, preimages};
 ghost use Rattle.outer_approx.specs.Cuts.{IsCutFor, said_by};
-ghost use Rattle.outer_approx.specs.Standing.{IsOpenTrail, IsOuter, StandForSame};
+ghost use Rattle.outer_approx.specs.Lines.{line_places};
+ghost use Rattle.outer_approx.specs.Standing.{IsOpenTrail, IsOuter, StandForSame, rows_of_trail};
 ghost use Rattle.outer_approx.specs.Task.{Task, behind};
 ghost use Rattle.overflows.specs.Faults.{OnLicence, Overflows};
 ghost use Rattle.polyhedra.specs.Exactness.{row_of};
 
-use crate::log::{cut_row, push_cut};
+use crate::log::push_cut;
+use crate::places::cut_row;
 use benson_program::Cut;
 use deriv_log::{Entries, Entry, Family, LogPair};
 use double_descr::{Dd, DdFault, Pair};
@@ -54,25 +56,28 @@ fn push_add(alloc: Global, trail: &mut Entries, cut: u32, pairs: &[Pair]) -> Res
     trail.push(Entry::Add { cut, pairs })
 }
 
-/// Brings one more cut into use. After an overflow it stands behind the others and is not in use. After want of memory the double
+/// Brings one more cut into use, where the double description has no entries at the places of lines. After an overflow it stands behind the others and is not in use. After want of memory the double
 /// description may have its row where the trail does not have it in use.
 pub fn take<F: Field>(
     alloc: Global,
+    places: &[bool],
     trail: &mut Entries,
     dd: &mut Dd<F>,
     cut: &Cut<F>,
 ) -> Result<(), SolveFault>
     ghost task: { Task }
     requires outer { IsOuter task trail.old dd.old }
+    requires places { places.now ≡ line_places task trail.old }
     requires cut { IsCutFor F.value task cut.now }
     ensures ok { OnOk result (IsOuter task trail.new dd.new) }
-    ensures rows { OnOk result (dd.new.rows ≡ dd.old.rows ++ row_of (said_by F.value cut.now) ∷ []) }
+    ensures rows { OnOk result (rows_of_trail task trail.new ≡ rows_of_trail task trail.old ++ row_of (said_by F.value cut.now) ∷ []) }
+    ensures lines { lines trail.new ≡ lines trail.old }
     ensures preimages { OnOk result ((k : ℕ) → preimages trail.new k ≡ preimages trail.old k) }
     ensures trail { IsOpenTrail task trail.new }
     ensures same { IfErr result (λ fault. OnLicence fault (λ licence. StandForSame task trail.new dd.new)) }
     ensures left { IfErr result (Overflows F.holds (behind task trail.new) []) }
 {
-    let row = cut_row(alloc, cut)?;
+    let row = cut_row(alloc, places, cut)?;
     let number = dd.row_count();
     push_cut(alloc, trail, cut)?;
     match dd.add(row.as_slice()) {
@@ -84,20 +89,23 @@ pub fn take<F: Field>(
 /// Brings one more cut into use, if its addition does not overflow, and answers whether it did: else all is as before.
 pub fn try_take<F: Field>(
     alloc: Global,
+    places: &[bool],
     trail: &mut Entries,
     dd: &mut Dd<F>,
     cut: &Cut<F>,
 ) -> Result<bool, NoMemory>
     ghost task: { Task }
     requires outer { IsOuter task trail.old dd.old }
+    requires places { places.now ≡ line_places task trail.old }
     requires cut { IsCutFor F.value task cut.now }
     ensures ok { OnOk result (IsOuter task trail.new dd.new) }
-    ensures rows { IfOk result (λ taken. IsTrue taken → dd.new.rows ≡ dd.old.rows ++ row_of (said_by F.value cut.now) ∷ []) }
+    ensures rows { IfOk result (λ taken. IsTrue taken → rows_of_trail task trail.new ≡ rows_of_trail task trail.old ++ row_of (said_by F.value cut.now) ∷ []) }
+    ensures lines { lines trail.new ≡ lines trail.old }
     ensures preimages { OnOk result ((k : ℕ) → preimages trail.new k ≡ preimages trail.old k) }
     ensures as_before { IfOk result (λ taken. taken ≡ false → (trail.new ≡ trail.old) × (dd.new ≡ dd.old)) }
     ensures trail { IsOpenTrail task trail.new }
 {
-    let row = cut_row(alloc, cut)?;
+    let row = cut_row(alloc, places, cut)?;
     let cut_number = dd.row_count();
     match dd.add(row.as_slice()) {
         Ok(change) => {

@@ -15,7 +15,7 @@ returns g c =
     let short : All (λ k. IsTrue (is_short k)) facets =
     subst (λ (ks : List ℕ). All (λ k. IsTrue (is_short k)) ks) c.as_slice.ensures.items c.naturals_are_written.ensures in
     let whole : IsEnded g.task ((trail ++ naming facets) ++ End Solved ∷ []) =
-    solved_ended g.task trail c.args.dd.now c.requires.1.0 facets c.in_ok-facets.ensures.rows c.in_ok-facets.ensures.named short c.requires.1.1 in
+    solved_ended g.task trail c.args.dd.now c.requires.1.0 facets c.in_ok-facets.ensures.rows short c.requires.1.1 in
     let named : c.push_facets.new.trail ≡ trail ++ naming facets = c.in_ok-push_facets.ensures ∙ ap (λ ks. trail ++ naming ks) c.as_slice-2.ensures.items in
     on_ok c.push.result (c.push.new.self ≡ c.push_facets.new.trail ++ End Solved ∷ []) (IsEnded g.task c.push.new.self)
     (λ same. subst (λ (es : List Entry). IsEnded g.task es) (sym (same ∙ ap (λ es. es ++ End Solved ∷ []) named)) whole) c.push.ensures.ok

@@ -1,34 +1,46 @@
-use Rattle.std.proofs.Common.{◌+◌, rules, [], ◌∷◌, ◌++◌, sym, ap, ◌∙◌, subst, take}
-use Rattle.std.proofs.lemmas.List.{take_more}
+use Rattle.std.proofs.Common.{◌≡◌, ◌+◌, List, [], ◌∷◌, ◌++◌, map, take, drop, sym, ap, ◌∙◌, subst}
+use Rattle.std.proofs.lemmas.List.{take-append-drop, take_all, take_more}
 use Rattle.benson_program.specs.declared.cut.Cut.{Cut}
-use Rattle.outer_approx.specs.Cuts.{IsCutFor}
-use Rattle.outer_approx.proofs.Pushed.{filled_more, opened_open, opened_unreached}
+use Rattle.deriv_log.specs.declared.entry.Entry.{Entry as EntryOf}
+use Rattle.log_rules.specs.Live.{preimages}
+use Rattle.outer_approx.specs.Cuts.{said_by}
+use Rattle.outer_approx.specs.Lines.{AreLinesFor, told_by}
+use Rattle.outer_approx.specs.Standing.{IsBegun}
+use Rattle.outer_approx.specs.declared.log.Line.{Line}
+use Rattle.outer_approx.proofs.LineEntries.{line_begun, line_unreached}
+use Rattle.outer_approx.proofs.Reading.{rest_is}
 use Rattle.outer_approx.proofs.log.begun.Goals as goal
-
-pub loop-i-init : goal.loop-i-init
-loop-i-init g c =
-    let task = g.task in
-    let h = c.requires.1.0 in
-    let trail = c.in_ok-trail.trail in
-    record {
-      begun = opened_open task c.args.opening h.0 h.1 h.2 h.3 h.4 trail c.in_ok-trail.ensures.entries (c.in_ok-trail.ensures.written task.c task.weights h.0 h.1 h.2);
-      unreached = λ k. opened_unreached trail c.args.opening task.c task.weights h.0 h.1 c.in_ok-trail.ensures.entries h.2 k;
-    }
-
-pub push_cut-requires : goal.push_cut-requires
-push_cut-requires g c κs within = (
-  search rules,
-  (
-    c.loop-i.invariant.begun.open_trail,
-    subst (λ (x : Cut g.row.F.Denot). IsCutFor g.F.Field.value g.task x) (sym c.index-cuts-i.is)
-        (c.requires.1.1 c.loop-i.i c.index-cuts-i.result c.loop-i-test.true),
-  ),
-)
 
 pub loop-i-preserved : goal.loop-i-preserved
 loop-i-preserved g c =
+    let F = g.row.F.Denot in
+    let value = g.F.Field.value in
+    let task = g.task in
+    let ls = c.args.lines.now in
     let cuts = c.args.cuts.now in
     let i = c.loop-i.i in
-    filled_more g.F.Field.value g.task (take i cuts) (take (i + 1) cuts) c.index-cuts-i.result c.loop-i.trail c.push_cut.new.trail
-    (take_more cuts i c.index-cuts-i.result c.loop-i-test.true ∙ ap (λ x. take i cuts ++ x ∷ []) (sym c.index-cuts-i.is))
-    c.loop-i.invariant c.in_ok-push_cut.ensures.trail c.in_ok-push_cut.ensures.more
+    let line = c.index-lines-i.result in
+    let old = c.loop-i.trail in
+    let new = c.push_line.new.trail in
+    let entry = c.in_ok-push_line.ensures in
+    let parted : ls ≡ take i ls ++ line ∷ drop (i + 1) ls =
+    sym (take-append-drop i ls) ∙ ap (λ (rest : List (Line F)). take i ls ++ rest) (rest_is ls i line c.loop-i-test.true c.index-lines-i.is) in
+    let are : AreLinesFor value task (map (λ (cut : Cut F). map value cut.w) cuts) (take i ls ++ line ∷ drop (i + 1) ls) =
+    subst (λ (all : List (Line F)). AreLinesFor value task (map (λ (cut : Cut F). map value cut.w) cuts) all) parted c.requires.1.1.1.1 in
+    let longer : take (i + 1) ls ≡ take i ls ++ line ∷ [] =
+    take_more ls i line c.loop-i-test.true ∙ ap (λ (x : Line F). take i ls ++ x ∷ []) (sym c.index-lines-i.is) in
+    record {
+      begun = subst (λ (all : List (Line F)). IsBegun task (map (told_by value) all) (map (said_by value) cuts) new) (sym longer)
+          (subst (λ (es : List EntryOf). IsBegun task (map (told_by value) (take i ls ++ line ∷ [])) (map (said_by value) cuts) es) (sym entry.2)
+          (line_begun value task c.args.x.now c.requires.1.1.1.0 cuts (take i ls) (drop (i + 1) ls) line are old c.loop-i.invariant.begun entry.0 entry.1));
+      unreached = λ k. ap (λ (es : List EntryOf). preimages es k) entry.2
+          ∙ line_unreached value task c.args.x.now c.requires.1.1.1.0 cuts (take i ls) (drop (i + 1) ls) line are old c.loop-i.invariant.begun entry.0 entry.1 k
+          ∙ c.loop-i.invariant.unreached k;
+    }
+
+pub returns-clause-begun : goal.returns-clause-begun
+returns-clause-begun g c =
+    let F = g.row.F.Denot in
+    let value = g.F.Field.value in
+    subst (λ (all : List (Line F)). IsBegun g.task (map (told_by value) all) (map (said_by value) c.args.cuts.now) c.loop-i.trail)
+    (take_all c.loop-i.i c.args.lines.now c.loop-i-test.false) c.loop-i.invariant.begun

@@ -1,9 +1,15 @@
-use Rattle.std.proofs.Common.{take}
-use Rattle.outer_approx.proofs.Pushed.{IsFilled}
+use Rattle.std.proofs.Common.{◌≡◌, ℕ, [], map, take}
+use Rattle.log_rules.specs.Live.{preimages}
+use Rattle.outer_approx.specs.Cuts.{said_by}
+use Rattle.outer_approx.specs.Lines.{told_by}
+use Rattle.outer_approx.specs.Standing.{IsBegun}
 use Rattle.outer_approx.proofs.log.begun.Given as goal
 
-abbrev pub ghost-push_cut : goal.ghost-push_cut
-ghost-push_cut g a = g.task
+abbrev pub ghost-with_cuts : goal.ghost-with_cuts
+ghost-with_cuts g a = g.task
 
 abbrev pub invariant-loop-i : goal.invariant-loop-i
-invariant-loop-i g l = IsFilled g.F.Field.value g.task (take l.i l.cuts) l.trail
+invariant-loop-i g l = record {
+  begun : IsBegun g.task (map (told_by g.F.Field.value) (take l.i l.lines)) (map (said_by g.F.Field.value) l.cuts) l.trail;
+  unreached : (k : ℕ) → preimages l.trail k ≡ [];
+}

@@ -1,26 +1,34 @@
-use Rattle.std.proofs.Common.{◌≡◌, List, ap, sym, ◌∙◌, arith, length, min, subst, suc, take}
+use Rattle.std.proofs.Common.{◌≡◌, List, ap, sym, ◌∙◌, arith, length, map, min, suc, subst, take}
 use Rattle.std.specs.Prelude.{IfOk}
-use Rattle.std.proofs.lemmas.List.{length-take, take-map}
+use Rattle.std.proofs.lemmas.List.{length-map, length-take, take-map}
 use Rattle.exact_field.specs.Rational.{ℚ}
-use Rattle.outer_approx.proofs.Fronts.{entries_are, entries_long, number_listed}
+use Rattle.lineality.specs.Without.{open_count, with_zeros}
+use Rattle.outer_approx.proofs.Fronts.{entries_are, length-more, number_listed, wide_here}
 use Rattle.outer_approx.proofs.start.front_of.Goals as goal
 
-pub generator-entries-requires : goal.generator-entries-requires
-generator-entries-requires g c = number_listed c.args.q c.args.dd.now.list c.requires.first c.args.g c.requires.low c.requires.high
+pub generator-requires : goal.generator-requires
+generator-requires g c = number_listed (open_count c.args.places.now) c.args.dd.now.list c.requires.first c.args.g c.requires.low c.requires.high
 
 pub slice_bounds-fractions-end : goal.slice_bounds-fractions-end
 slice_bounds-fractions-end g c =
-    let entries = c.generator-entries.result.now in
-    let long : length entries ≡ suc c.args.q =
-    entries_long c.args.q c.args.dd.now.list c.requires.first c.args.g c.requires.low c.requires.high g.F.Field.value entries c.generator-entries.ensures.only in
-    let cut : length (take c.args.q entries) ≡ min c.args.q (length entries) = length-take c.args.q entries in
+    let value = g.F.Field.value in
+    let bs = c.args.places.now in
+    let entries = c.as_slice-entries.result.now in
+    let count = open_count bs in
+    let full_is : map value entries ≡ with_zeros bs (map value c.generator.result.now) = ap (map value) c.as_slice-entries.ensures.items ∙ c.in_ok-full.ensures in
+    let is = entries_are count c.args.dd.now.list c.requires.first c.args.g c.requires.low c.requires.high value c.generator.result.now c.generator.ensures.only in
+    let long : length entries ≡ suc (length bs) =
+    sym (length-map entries value) ∙ ap (λ (v : List ℚ). length v) (full_is ∙ ap (with_zeros bs) is)
+    ∙ length-more bs _ (wide_here count c.args.dd.now.list c.requires.first c.args.g c.requires.low c.requires.high) in
+    let cut : length (take (length bs) entries) ≡ min (length bs) (length entries) = length-take (length bs) entries in
     omega (arith, cut, long)
 
 pub returns : goal.returns
 returns g c =
     let value = g.F.Field.value in
-    let entries = c.generator-entries.result.now in
+    let bs = c.args.places.now in
+    let entries = c.as_slice-entries.result.now in
+    let full_is : map value entries ≡ with_zeros bs (map value c.generator.result.now) = ap (map value) c.as_slice-entries.ensures.items ∙ c.in_ok-full.ensures in
+    let is = entries_are (open_count bs) c.args.dd.now.list c.requires.first c.args.g c.requires.low c.requires.high value c.generator.result.now c.generator.ensures.only in
     subst (λ (x : List ℚ). IfOk c.fractions.result (λ front. front ≡ x))
-    (sym (take-map value c.args.q entries)
-    ∙ ap (take c.args.q) (entries_are c.args.q c.args.dd.now.list c.requires.first c.args.g c.requires.low c.requires.high value entries c.generator-entries.ensures.only))
-    c.fractions.ensures.same
+    (sym (take-map value (length bs) entries) ∙ ap (take (length bs)) (full_is ∙ ap (with_zeros bs) is)) c.fractions.ensures.same

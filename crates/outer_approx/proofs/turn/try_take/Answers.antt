@@ -1,27 +1,40 @@
-use Rattle.std.proofs.Common.{◌≡◌, List, map, ap, sym, subst, ◌∙◌}
+use Rattle.std.proofs.Common.{◌≡◌, List, Bool, length, map, ap, sym, subst, ◌∙◌}
+use Rattle.lineality.specs.Without.{without}
+use Rattle.lineality.proofs.Marks.{length-marks}
 use Rattle.polyhedra.specs.Exactness.{row_of}
 use Rattle.deriv_log.specs.declared.entry.Entry.{Entry}
-use Rattle.double_descr.specs.State.{State as Description}
-use Rattle.log_rules.specs.Live.{preimages}
+use Rattle.log_rules.specs.Live.{lines, preimages}
 use Rattle.outer_approx.specs.Cuts.{said_by}
-use Rattle.outer_approx.specs.Standing.{IsOuter}
+use Rattle.outer_approx.specs.Lines.{line_places}
+use Rattle.outer_approx.specs.Standing.{IsOuter, rows_of_trail}
 use Rattle.outer_approx.specs.Pairs.{named}
 use Rattle.outer_approx.proofs.Added.{named_required}
-use Rattle.outer_approx.proofs.Outer.{turned, turned_preimages}
+use Rattle.outer_approx.proofs.Outer.{row_wide, turned, turned_lines, turned_preimages, turned_rows}
 use Rattle.outer_approx.proofs.turn.try_take.Goals as goal
+
+pub cut_row-requires : goal.cut_row-requires
+cut_row-requires g c =
+    ap (λ (marks : List Bool). length marks) c.requires.1.1.0 ∙ length-marks g.task.file.objs (lines c.args.trail.now) ∙ sym c.requires.1.1.1.wide
+
+pub add-requires : goal.add-requires
+add-requires g c =
+    row_wide g.F.Field.value g.task c.args.trail.now c.args.dd.now c.requires.1.0 c.args.places.now c.requires.1.1.0 c.args.cut.now c.requires.1.1.1.wide
+    c.in_ok-row.row c.as_slice.result.now c.as_slice.ensures.items c.in_ok-row.ensures
 
 pub returns-in-Ok-clause-ok : goal.returns-in-Ok-clause-ok
 returns-in-Ok-clause-ok g c =
     let value = g.F.Field.value in
     let dd = c.args.dd.now in
     let e = said_by value c.args.cut.now in
+    let bs = line_places g.task c.args.trail.now in
     let row = map value c.as_slice.result.now in
-    let row_is : row ≡ row_of e = ap (map value) c.as_slice.ensures.items ∙ c.in_ok-row.ensures in
+    let row_is : row ≡ without bs (row_of e) =
+    ap (map value) c.as_slice.ensures.items ∙ c.in_ok-row.ensures ∙ ap (λ (marks : List Bool). without marks (row_of e)) c.requires.1.1.0 in
     let pairs = map named c.as_slice-in-Ok.result.now in
     subst (λ (es : List Entry). IsOuter g.task es c.add.new.self) (sym c.in_ok-push_add-in-Ok.ensures.ok)
     (turned g.task c.args.trail.now c.push_cut.new.trail e dd c.requires.1.0 c.in_ok-push_cut-in-Ok.ensures.trail c.in_ok-push_cut-in-Ok.ensures.more c.row_count-cut_number.result
     c.row_count-cut_number.ensures pairs
-    (named_required dd.rows dd.list row (row_of e) c.in-Ok.change c.as_slice-in-Ok.result.now c.as_slice-in-Ok.ensures.items c.in-Ok.ensures.change row_is)
+    (named_required dd.rows dd.list row (without bs (row_of e)) c.in-Ok.change c.as_slice-in-Ok.result.now c.as_slice-in-Ok.ensures.items c.in-Ok.ensures.change row_is)
     c.in_ok-push_add-in-Ok.ensures.written row row_is c.add.new.self c.in-Ok.ensures.ok)
 
 pub returns-in-Ok-clause-preimages : goal.returns-in-Ok-clause-preimages
@@ -29,14 +42,48 @@ returns-in-Ok-clause-preimages g c = λ k.
     let value = g.F.Field.value in
     let dd = c.args.dd.now in
     let e = said_by value c.args.cut.now in
+    let bs = line_places g.task c.args.trail.now in
     let row = map value c.as_slice.result.now in
-    let row_is : row ≡ row_of e = ap (map value) c.as_slice.ensures.items ∙ c.in_ok-row.ensures in
+    let row_is : row ≡ without bs (row_of e) =
+    ap (map value) c.as_slice.ensures.items ∙ c.in_ok-row.ensures ∙ ap (λ (marks : List Bool). without marks (row_of e)) c.requires.1.1.0 in
     let pairs = map named c.as_slice-in-Ok.result.now in
     ap (λ (es : List Entry). preimages es k) c.in_ok-push_add-in-Ok.ensures.ok
     ∙ turned_preimages g.task c.args.trail.now c.push_cut.new.trail e dd c.requires.1.0 c.in_ok-push_cut-in-Ok.ensures.trail c.in_ok-push_cut-in-Ok.ensures.more
     c.row_count-cut_number.result c.row_count-cut_number.ensures pairs
-    (named_required dd.rows dd.list row (row_of e) c.in-Ok.change c.as_slice-in-Ok.result.now c.as_slice-in-Ok.ensures.items c.in-Ok.ensures.change row_is)
+    (named_required dd.rows dd.list row (without bs (row_of e)) c.in-Ok.change c.as_slice-in-Ok.result.now c.as_slice-in-Ok.ensures.items c.in-Ok.ensures.change row_is)
     c.in_ok-push_add-in-Ok.ensures.written k
+
+pub returns-in-Ok-clause-rows : goal.returns-in-Ok-clause-rows
+returns-in-Ok-clause-rows g c = λ yes.
+    let value = g.F.Field.value in
+    let dd = c.args.dd.now in
+    let e = said_by value c.args.cut.now in
+    let bs = line_places g.task c.args.trail.now in
+    let row = map value c.as_slice.result.now in
+    let row_is : row ≡ without bs (row_of e) =
+    ap (map value) c.as_slice.ensures.items ∙ c.in_ok-row.ensures ∙ ap (λ (marks : List Bool). without marks (row_of e)) c.requires.1.1.0 in
+    let pairs = map named c.as_slice-in-Ok.result.now in
+    ap (rows_of_trail g.task) c.in_ok-push_add-in-Ok.ensures.ok
+    ∙ turned_rows g.task c.args.trail.now c.push_cut.new.trail e dd c.requires.1.0 c.in_ok-push_cut-in-Ok.ensures.trail c.in_ok-push_cut-in-Ok.ensures.more
+    c.row_count-cut_number.result c.row_count-cut_number.ensures pairs
+    (named_required dd.rows dd.list row (without bs (row_of e)) c.in-Ok.change c.as_slice-in-Ok.result.now c.as_slice-in-Ok.ensures.items c.in-Ok.ensures.change row_is)
+    c.in_ok-push_add-in-Ok.ensures.written
+
+pub returns-in-Ok-clause-lines : goal.returns-in-Ok-clause-lines
+returns-in-Ok-clause-lines g c =
+    let value = g.F.Field.value in
+    let dd = c.args.dd.now in
+    let e = said_by value c.args.cut.now in
+    let bs = line_places g.task c.args.trail.now in
+    let row = map value c.as_slice.result.now in
+    let row_is : row ≡ without bs (row_of e) =
+    ap (map value) c.as_slice.ensures.items ∙ c.in_ok-row.ensures ∙ ap (λ (marks : List Bool). without marks (row_of e)) c.requires.1.1.0 in
+    let pairs = map named c.as_slice-in-Ok.result.now in
+    ap lines c.in_ok-push_add-in-Ok.ensures.ok
+    ∙ turned_lines g.task c.args.trail.now c.push_cut.new.trail e dd c.requires.1.0 c.in_ok-push_cut-in-Ok.ensures.trail c.in_ok-push_cut-in-Ok.ensures.more
+    c.row_count-cut_number.result c.row_count-cut_number.ensures pairs
+    (named_required dd.rows dd.list row (without bs (row_of e)) c.in-Ok.change c.as_slice-in-Ok.result.now c.as_slice-in-Ok.ensures.items c.in-Ok.ensures.change row_is)
+    c.in_ok-push_add-in-Ok.ensures.written
 
 pub returns-in-Ok-clause-trail : goal.returns-in-Ok-clause-trail
 returns-in-Ok-clause-trail g c = (returns-in-Ok-clause-ok g c).open_trail

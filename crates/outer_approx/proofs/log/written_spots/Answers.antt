@@ -1,5 +1,5 @@
 use Rattle.overflows.proofs.Formed.{sparse_written}
-use Rattle.outer_approx.proofs.ends.written_spots.Goals as goal
+use Rattle.outer_approx.proofs.log.written_spots.Goals as goal
 
 pub returns-clause-same : goal.returns-clause-same
 returns-clause-same g c = record { vector = c.in_ok-spots.ensures.vector; same = c.in_ok-spots.ensures.numbers }

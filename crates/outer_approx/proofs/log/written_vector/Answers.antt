@@ -1,5 +1,5 @@
 use Rattle.overflows.proofs.Formed.{vector_written}
-use Rattle.outer_approx.proofs.ends.written_vector.Goals as goal
+use Rattle.outer_approx.proofs.log.written_vector.Goals as goal
 
 pub returns-clause-same : goal.returns-clause-same
 returns-clause-same g c = c.in_ok-vector.ensures.same

@@ -1,0 +1,34 @@
+use Rattle.std.proofs.Common.{◌+◌, rules, [], ◌∷◌, ◌++◌, sym, ap, ◌∙◌, subst, take}
+use Rattle.std.proofs.lemmas.List.{take_more}
+use Rattle.benson_program.specs.declared.cut.Cut.{Cut}
+use Rattle.outer_approx.specs.Cuts.{IsCutFor}
+use Rattle.outer_approx.proofs.Pushed.{filled_more, opened_open, opened_unreached}
+use Rattle.outer_approx.proofs.log.with_cuts.Goals as goal
+
+pub loop-i-init : goal.loop-i-init
+loop-i-init g c =
+    let task = g.task in
+    let h = c.requires.1.0 in
+    let trail = c.in_ok-trail.trail in
+    record {
+      begun = opened_open task c.args.opening h.0 h.1 h.2 h.3 h.4 trail c.in_ok-trail.ensures.entries (c.in_ok-trail.ensures.written task.c task.weights h.0 h.1 h.2);
+      unreached = λ k. opened_unreached trail c.args.opening task.c task.weights h.0 h.1 c.in_ok-trail.ensures.entries h.2 k;
+    }
+
+pub push_cut-requires : goal.push_cut-requires
+push_cut-requires g c κs within = (
+  search rules,
+  (
+    c.loop-i.invariant.begun.open_trail,
+    subst (λ (x : Cut g.row.F.Denot). IsCutFor g.F.Field.value g.task x) (sym c.index-cuts-i.is)
+        (c.requires.1.1 c.loop-i.i c.index-cuts-i.result c.loop-i-test.true),
+  ),
+)
+
+pub loop-i-preserved : goal.loop-i-preserved
+loop-i-preserved g c =
+    let cuts = c.args.cuts.now in
+    let i = c.loop-i.i in
+    filled_more g.F.Field.value g.task (take i cuts) (take (i + 1) cuts) c.index-cuts-i.result c.loop-i.trail c.push_cut.new.trail
+    (take_more cuts i c.index-cuts-i.result c.loop-i-test.true ∙ ap (λ x. take i cuts ++ x ∷ []) (sym c.index-cuts-i.is))
+    c.loop-i.invariant c.in_ok-push_cut.ensures.trail c.in_ok-push_cut.ensures.more
