@@ -1,6 +1,7 @@
 -- What is found at a direction across the normals of some cuts.
 use Rattle.std.proofs.Common.{◌≡◌, ℕ, List, map, length, All, refl, sym, ap, ◌∙◌, subst, Bool, false}
 use Rattle.std.proofs.lemmas.List.{length-map}
+use Rattle.std.proofs.lemmas.List.Elements.{All-cons}
 use Rattle.exact_field.specs.Rational.{ℚ, neg_ℚ}
 use Rattle.polyhedra.specs.Negatives.{negated}
 use Rattle.polyhedra.proofs.Algebra.{neg_zero}
@@ -8,31 +9,31 @@ use Rattle.polyhedra.proofs.Members.{all_of_members, member_of}
 use Rattle.polyhedra.proofs.Negatives.{dot-negated}
 use Rattle.deriv_log.specs.declared.entry.Entry.{Entry}
 use Rattle.licence.specs.Base.{IsBaseStart, IsSide, trail_normals}
-use Rattle.tableaux.specs.Elimination.{IsSpanning}
 use Rattle.benson_program.specs.Preimages.{IsPreimageOf}
 use Rattle.benson_program.specs.declared.cut.Cut.{Cut as CutOf}
 use Rattle.benson_program.specs.declared.preimage.Preimage.{Preimage}
 use Rattle.outer_approx.specs.Cuts.{IsCutFor}
 use Rattle.outer_approx.specs.Task.{Task, IsFitting}
+use Rattle.outer_approx.specs.Lines.{RunsBothWays, told_by}
+use Rattle.outer_approx.specs.declared.log.Line.{Line as LineOf}
 use Rattle.recession.specs.Asking.{IsAsked, IsAskedCut}
-use Rattle.recession.specs.Further.{IsNext, normals_of}
+use Rattle.recession.specs.Further.{IsNext, IsNextSide, normals_of}
 use Rattle.recession.specs.declared.asking.Asked.{Asked}
 use Rattle.recession.specs.declared.asking.Asked.TheVariants.{Cut, Reached}
 use Rattle.recession.specs.declared.further.Next.TheVariants as next
 use Rattle.recession.proofs.Asking_ends.{c_long, off}
-use Rattle.recession.proofs.Side.{side_of}
 
 module _ {F : Type 0} (value : F → ℚ) (holds : ℚ → Bool) (task : Task) (fitting : IsFitting holds task) where
   -- a cut that d does not meet is one more
-  pub cut_at : (d : List ℚ) (cuts : List (CutOf F)) (cut : CutOf F) → IsSide task.file.objs (normals_of value cuts) d → IsAskedCut value task d false cut →
-      IsNext value task cuts (next.Cut cut)
-  cut_at d cuts cut side h =
+  pub cut_at : (d : List ℚ) (cuts : List (CutOf F)) (ls : List (LineOf F)) (cut : CutOf F) → IsSide task.file.objs (normals_of value cuts) d → IsAskedCut value task d false cut →
+      IsNext value task cuts ls (next.Cut cut)
+  cut_at d cuts ls cut side h =
       (h.is, record { d = d; wide = side.flat.wide; across = side.flat.across; off = off value task cut d h (c_long holds task fitting) side.flat.wide })
 
   -- and so is one that its negative does not meet
-  pub cut_opposite : (d : List ℚ) (cuts : List (CutOf F)) (cut : CutOf F) → IsSide task.file.objs (normals_of value cuts) d →
-      IsAskedCut value task (negated d) false cut → IsNext value task cuts (next.Cut cut)
-  cut_opposite d cuts cut side h =
+  pub cut_opposite : (d : List ℚ) (cuts : List (CutOf F)) (ls : List (LineOf F)) (cut : CutOf F) → IsSide task.file.objs (normals_of value cuts) d →
+      IsAskedCut value task (negated d) false cut → IsNext value task cuts ls (next.Cut cut)
+  cut_opposite d cuts ls cut side h =
       let wide : length (negated d) ≡ task.file.objs = length-map d neg_ℚ ∙ side.flat.wide in (
         h.is,
         record {
@@ -42,6 +43,11 @@ module _ {F : Type 0} (value : F → ℚ) (holds : ℚ → Bool) (task : Task) (
           off = λ e. off value task cut (negated d) h (c_long holds task fitting) wide (dot-negated (map value cut.w) d ∙ ap neg_ℚ e ∙ neg_zero);
         },
       )
+
+  -- a direction that runs both ways is one more line
+  pub line_at : (cuts : List (CutOf F)) (ls : List (LineOf F)) (line : LineOf F) → All (RunsBothWays value task) ls →
+      IsNextSide task.file.objs (normals_of value cuts) (map (told_by value) ls) (map value line.d) → RunsBothWays value task line → IsNext value task cuts ls (next.Line line)
+  line_at cuts ls line both side h = record { both_ways = All-cons (RunsBothWays value task) line ls h both; tail = side.tail }
 
   -- the answer, as it was read to be, at a vector as it was read
   module _ (asked : Asked F) (v d : List ℚ) (same : v ≡ d) (h : IsAsked value task v false asked) where
@@ -60,10 +66,6 @@ side_start q trail v d same side = IsBaseStart.side (subst (IsSide q (trail_norm
 
 pub opposite_start : (q : ℕ) (trail : List Entry) (v d : List ℚ) → v ≡ negated d → IsSide q (trail_normals q trail) d → IsBaseStart q trail v false
 opposite_start q trail v d same side = IsBaseStart.other_side d side same refl
-
--- the vector that is found is a side
-pub found_side : (q n : ℕ) (normals : List (List ℚ)) (d : List ℚ) → n ≡ q → IsSpanning n normals d → IsSide q normals d
-found_side q n normals d same h = side_of q normals d (subst (λ (m : ℕ). IsSpanning m normals d) same h)
 
 pub wide_cuts : {F : Type 0} (value : F → ℚ) (task : Task) (n : ℕ) (cuts : List (CutOf F)) → n ≡ task.file.objs → All (IsCutFor value task) cuts →
     All (λ cut. length cut.w ≡ n) cuts

@@ -40,7 +40,7 @@ free-none = record { free = go }
     go [] l e = All-nil (λ m. m ≡ zero_ℚ)
     go (m ∷ ms) l e = absurd (omega arith)
 
-values_across : (vs : List (List ℚ)) (ms d : List ℚ) → All (λ v. dot v d ≡ zero_ℚ) vs → dot ms (values vs d) ≡ zero_ℚ
+pub values_across : (vs : List (List ℚ)) (ms d : List ℚ) → All (λ v. dot v d ≡ zero_ℚ) vs → dot ms (values vs d) ≡ zero_ℚ
 values_across [] ms d h = dot-nil ms
 values_across (v ∷ vs) [] d h = refl
 values_across (v ∷ vs) (m ∷ ms) d h =
@@ -80,7 +80,7 @@ free-rank n vs wide many f z long across =
             ∙ ap zeros long
 
 -- ---- two lists
-all_front : {X : Type 0} (P : X → Type 0) (xs ys : List X) → All P (xs ++ ys) → All P xs
+pub all_front : {X : Type 0} (P : X → Type 0) (xs ys : List X) → All P (xs ++ ys) → All P xs
 all_front P [] ys h = All-nil P
 all_front P (x ∷ xs) ys h = All-cons P x xs (All-head P x (xs ++ ys) h) (all_front P xs ys (All-tail P x (xs ++ ys) h))
 

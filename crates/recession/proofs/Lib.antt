@@ -4,7 +4,7 @@ pub mod Behind
 pub mod Excluded
 pub mod Free
 pub mod Grown
-pub mod Null
-pub mod Side
+pub mod Tail
 pub mod Trails
+pub mod Whole
 pub mod Written

@@ -1,16 +1,17 @@
-//! A vector at which the normals of some cuts are 0.
-ghost use Rattle.std.specs.Prelude.{◌≡◌, ◌<◌, [], map, length, All, IfOk, IfErr};
+//! A vector at which the normals of some cuts are 0, before those of the lines.
+ghost use Rattle.std.specs.Prelude.{◌≡◌, ◌+◌, ◌<◌, [], map, length, reverse, All, IfOk, IfErr};
 ghost use Rattle.licence.specs.Base.{trail_normals};
 ghost use Rattle.licence.specs.Operands.{Setting};
-ghost use Rattle.lin_rows.specs.Answers.{IsIndep};
+ghost use Rattle.lin_rows.specs.Complement.{AreComplement};
 ghost use Rattle.lin_rows.specs.Read.{numbers};
+ghost use Rattle.outer_approx.specs.Lines.{told_by};
 ghost use Rattle.overflows.specs.Faults.{Overflows};
-ghost use Rattle.recession.specs.Further.{normals_of};
-ghost use Rattle.tableaux.specs.Elimination.{IsSpanning};
+ghost use Rattle.recession.specs.Further.{AreTail, IsNextSide, normals_of};
 
 use benson_program::Cut;
 use exact_field::Field;
-use lin_rows::{Indep, Rows, independent};
+use lin_rows::{Rows, complement};
+use outer_approx::Line;
 use overflows::{SolveFault, elimination_fault};
 use src_sink::{Items, NoMemory};
 use std::alloc::Global;
@@ -28,34 +29,43 @@ fn normals<F: Field>(alloc: Global, q: u32, cuts: &[Cut<F>]) -> Result<Rows<F>, 
     Ok(rows)
 }
 
-/// As many independent normals of cuts as they have entries, or a vector at which all are 0.
-fn independence<F: Field>(alloc: Global, q: u32, cuts: &[Cut<F>]) -> Result<Indep<F>, SolveFault>
+/// The vectors at which the normal of each cut is 0, in reduced echelon form.
+fn level_vectors<F: Field>(alloc: Global, q: u32, cuts: &[Cut<F>]) -> Result<Rows<F>, SolveFault>
     requires { All (λ cut. length cut.w ≡ q) cuts.now }
-    ensures ok { IfOk result (IsIndep F.value q (normals_of F.value cuts.now)) }
-    ensures left { (s : Setting) → s.file.objs ≡ q → trail_normals s.file.objs s.trail ≡ normals_of F.value cuts.now → IfErr result (Overflows F.holds s []) }
+    ensures ok { IfOk result (λ rows.
+        AreComplement q (normals_of F.value cuts.now) (numbers F.value rows.list)) }
+    ensures left { (s : Setting) → s.file.objs ≡ q
+        → trail_normals s.file.objs s.trail ≡ normals_of F.value cuts.now
+        → IfErr result (Overflows F.holds s []) }
 {
     let rows = normals(alloc, q, cuts)?;
-    match independent(alloc, &rows, q) {
-        Ok(found) => Ok(found),
+    match complement(alloc, &rows, q) {
+        Ok(vectors) => Ok(vectors),
         Err(fault) => Err(elimination_fault(alloc, &rows, fault, Items::new(alloc))),
     }
 }
 
-/// A vector at which the normal of each cut is 0, where there are fewer cuts than entries. It spans all that are 0 there and before its
-/// first entry.
+/// Of the vectors at which the normal of each cut is 0, in reduced echelon form, the one before the
+/// last ones, which are those of the lines from the last to the first. There is one, since cuts and
+/// lines are fewer than there are entries.
 pub(crate) fn across<F: Field>(
     alloc: Global,
     q: u32,
     cuts: &[Cut<F>],
+    lines: &[Line<F>],
 ) -> Result<Items<F>, SolveFault>
-    requires few { length cuts.now < q }
+    requires tail { AreTail q (normals_of F.value cuts.now)
+        (map (told_by F.value) (reverse lines.now)) }
+    requires few { length cuts.now + length lines.now < q }
     requires wide { All (λ cut. length cut.w ≡ q) cuts.now }
-    ensures ok { IfOk result (λ d. IsSpanning q (normals_of F.value cuts.now) (map F.value d)) }
-    ensures left { (s : Setting) → s.file.objs ≡ q → trail_normals s.file.objs s.trail ≡ normals_of F.value cuts.now → IfErr result (Overflows F.holds s []) }
+    ensures ok { IfOk result (λ d. IsNextSide q (normals_of F.value cuts.now)
+        (map (told_by F.value) (reverse lines.now)) (map F.value d)) }
+    ensures left { (s : Setting) → s.file.objs ≡ q
+        → trail_normals s.file.objs s.trail ≡ normals_of F.value cuts.now
+        → IfErr result (Overflows F.holds s []) }
 {
-    let found = independence(alloc, q, cuts)?;
-    match found {
-        Indep::Orthogonal(d) => Ok(d),
-        Indep::Basis(_) => unreachable!(),
-    }
+    let vectors = level_vectors(alloc, q, cuts)?;
+    let mut d = Items::new(alloc);
+    d.append(vectors.row(vectors.count() - lines.len() as u32))?;
+    Ok(d)
 }

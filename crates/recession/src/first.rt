@@ -1,18 +1,16 @@
-//! The first cuts of an image, or what shows that it has none.
-ghost use Rattle.std.specs.Prelude.{◌≡◌, ◌≤◌, [], map, length, All, IfOk, IfErr};
+//! The lines and first cuts of an image, or what shows that it has none.
+ghost use Rattle.std.specs.Prelude.{◌≡◌, map, reverse, IfOk, IfErr};
 ghost use Rattle.licence.specs.Base.{IsBaseChoice};
 ghost use Rattle.licence.specs.Licence.{Licensed};
 ghost use Rattle.lp_form.specs.Data.{IsDataOf};
 ghost use Rattle.outer_approx.specs.Cuts.{IsCutFor};
-ghost use Rattle.outer_approx.specs.Lines.{IsLineFor};
 ghost use Rattle.outer_approx.specs.Task.{IsFitting, Task};
 ghost use Rattle.overflows.specs.Faults.{OnLicence};
 ghost use Rattle.recession.specs.First.{IsFirst};
-ghost use Rattle.recession.specs.Further.{IsLineAcross, normals_of};
 
 use crate::further::{Next, next_of};
 use benson_program::{
-    BensonEnd, Cut, FeasibleEnd, Preimage, WholeParts, benson_end, cut_of, feasible_end, whole_of,
+    BensonEnd, Cut, FeasibleEnd, WholeParts, benson_end, cut_of, feasible_end, whole_of,
 };
 use exact_field::Field;
 use exact_simplex::Kept;
@@ -37,41 +35,29 @@ pub enum First<F: Drop> {
         /// What shows it.
         parts: WholeParts<F>,
     },
-    /// The image has a line.
-    Line(Line<F>),
-    /// As many cuts as there are objectives, with independent normals.
-    Cuts(Items<Cut<F>>),
+    /// The image is neither.
+    Cuts {
+        /// A feasible point.
+        x: Items<F>,
+        /// The lines of the image, each with what shows it.
+        lines: Items<Line<F>>,
+        /// Cuts, with the lines as many as there are objectives. Without the entries at the places of
+        /// the lines their normals are independent.
+        cuts: Items<Cut<F>>,
+    },
 }
 
-/// A line that is found behind cuts, with one of them. x is a feasible point.
-fn line_of<F: Field>(
-    cuts: Items<Cut<F>>,
-    x: Items<F>,
-    d: Items<F>,
-    forth: Preimage<F>,
-    back: Preimage<F>,
-) -> Line<F>
-    ghost task: { Task }
-    requires each { All (IsCutFor F.value task) cuts }
-    requires some { 1 ≤ length cuts }
-    requires choice { IsBaseChoice task.file (map F.value x) }
-    requires line { IsLineAcross F.value task (normals_of F.value cuts) d forth back }
-    ensures { IsLineFor F.value task result }
+/// A list from its end.
+fn reversed<T: Drop>(list: Items<T>) -> Items<T>
+    ensures { result ≡ reverse list }
 {
-    let mut cuts = cuts.into_vec();
-    match cuts.pop() {
-        Some(cut) => Line {
-            cut,
-            d,
-            x,
-            forth,
-            back,
-        },
-        None => unreachable!(),
-    }
+    let mut list = list.into_vec();
+    list.reverse();
+    Items::from_vec(list)
 }
 
-/// The first cuts of an image, of which this is one, or its line. x is a feasible point.
+/// The lines and first cuts of an image, of which this is one. x is a feasible point. The lines are
+/// found from the last to the first.
 fn described<F: Field>(
     alloc: Global,
     form: &Data<F>,
@@ -92,17 +78,28 @@ fn described<F: Field>(
     ensures left { IfErr result (λ fault. OnLicence fault (Licensed F.holds task.file task.c)) }
 {
     let mut cuts = Items::new(alloc);
+    let mut lines = Items::new(alloc);
     cuts.push(first)?;
-    while cuts.len() < form.p.len() {
-        let next = next_of(alloc, form, c, weights, cuts.as_slice(), kept)?;
+    while cuts.len() + lines.len() < form.p.len() {
+        let next = next_of(
+            alloc,
+            form,
+            c,
+            weights,
+            cuts.as_slice(),
+            lines.as_slice(),
+            kept,
+        )?;
         match next {
             Next::Cut(cut) => cuts.push(cut)?,
-            Next::Line { d, forth, back } => {
-                return Ok(First::Line(line_of(cuts, x, d, forth, back)));
-            }
+            Next::Line(line) => lines.push(line)?,
         }
     }
-    Ok(First::Cuts(cuts))
+    Ok(First::Cuts {
+        x,
+        lines: reversed(lines),
+        cuts,
+    })
 }
 
 /// How the description begins of an image that is not empty. x is a feasible point.
@@ -137,7 +134,7 @@ fn solvable<F: Field>(
     }
 }
 
-/// How the description of an image begins: whether no point is feasible, whether the image is everything or has a line, and else its
+/// How the description of an image begins: whether no point is feasible, whether the image is everything, and else its lines and its
 /// first cuts. `c` is the duality vector, and the weights combine the generators of the ordering cone to it. It costs at most twice as
 /// many linear programs as there are objectives, and keeps of them what shortens the next one.
 pub fn first_cuts<F: Field>(

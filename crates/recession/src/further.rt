@@ -1,5 +1,5 @@
-//! What is found behind some cuts: one more, or a line.
-ghost use Rattle.std.specs.Prelude.{◌≡◌, ◌<◌, false, [], List, map, length, All, IfOk, IfErr};
+//! What is found behind some cuts and lines: one more cut, or one more line.
+ghost use Rattle.std.specs.Prelude.{◌≡◌, ◌+◌, ◌<◌, false, [], List, map, length, reverse, All, IfOk, IfErr};
 ghost use Rattle.benson_program.specs.Preimages.{IsPreimageOf};
 ghost use Rattle.benson_program.specs.declared.cut.Cut.{Cut as CutOf};
 ghost use Rattle.deriv_log.specs.declared.entry.Entry.{Entry};
@@ -7,10 +7,12 @@ ghost use Rattle.licence.specs.Base.{IsSide, trail_normals};
 ghost use Rattle.licence.specs.Licence.{Licensed};
 ghost use Rattle.lp_form.specs.Data.{IsDataOf};
 ghost use Rattle.outer_approx.specs.Cuts.{IsCutFor};
+ghost use Rattle.outer_approx.specs.Lines.{RunsBothWays, told_by};
 ghost use Rattle.outer_approx.specs.Task.{IsFitting, Task, behind};
+ghost use Rattle.outer_approx.specs.declared.log.Line.{Line as LineOf};
 ghost use Rattle.overflows.specs.Faults.{OnLicence, Overflows};
 ghost use Rattle.recession.specs.Asking.{IsProper};
-ghost use Rattle.recession.specs.Further.{IsNext, SayCuts, normals_of};
+ghost use Rattle.recession.specs.Further.{AreFound, IsNext, IsNextSide, SayCuts, normals_of};
 
 use crate::across::across;
 use crate::asking::{Asked, ask};
@@ -19,28 +21,21 @@ use deriv_log::Entries;
 use exact_field::Field;
 use exact_simplex::Kept;
 use lp_form::{Data, negative};
-use outer_approx::push_cut_entry;
+use outer_approx::{Line, push_cut_entry};
 use overflows::SolveFault;
 use src_sink::{Items, NoMemory};
 use std::alloc::Global;
 
-/// What is found behind some cuts.
+/// What is found behind some cuts and lines.
 #[derive(Debug, Drop)]
 pub enum Next<F: Drop> {
     /// One more cut.
     Cut(Cut<F>),
-    /// A line.
-    Line {
-        /// A direction of it.
-        d: Items<F>,
-        /// A pre-image of the direction.
-        forth: Preimage<F>,
-        /// A pre-image of its negative.
-        back: Preimage<F>,
-    },
+    /// One more line.
+    Line(Line<F>),
 }
 
-/// What is found behind cuts at the negative of a direction `d` which has a pre-image, and at which their normals are 0.
+/// What is found behind cuts and lines at the negative of a direction `d` that has a pre-image.
 fn opposite<F: Field>(
     alloc: Global,
     form: &Data<F>,
@@ -58,24 +53,29 @@ fn opposite<F: Field>(
     requires some { IsProper task }
     requires wide { length d ≡ task.file.objs }
     requires forth { IsPreimageOf F.value task.file task.c task.weights (map F.value d) false forth }
-    ensures ok { (cuts : List (CutOf _)) → IsSide task.file.objs (normals_of F.value cuts) (map F.value d) → IfOk result (IsNext F.value task cuts) }
+    ensures ok { (cuts : List (CutOf _)) (ls : List (LineOf _)) → All (RunsBothWays F.value task) ls
+        → IsNextSide task.file.objs (normals_of F.value cuts) (map (told_by F.value) ls)
+        (map F.value d)
+        → IfOk result (IsNext F.value task cuts ls) }
     ensures left { (trail : List Entry) → IsSide task.file.objs (trail_normals task.file.objs trail) (map F.value d) → IfErr result (Overflows F.holds (behind task trail) []) }
 {
     let negated = negative(alloc, d.as_slice())?;
     let asked = ask(alloc, form, c, weights, negated.as_slice(), false, kept)?;
     match asked {
         Asked::Cut(cut) => Ok(Next::Cut(cut)),
-        Asked::Reached(back) => Ok(Next::Line { d, forth, back }),
+        Asked::Reached(back) => Ok(Next::Line(Line { d, forth, back })),
     }
 }
 
-/// What is found behind cuts, fewer than there are objectives.
+/// What is found behind cuts and lines, fewer than there are objectives. The lines stand in the order
+/// in which they were found.
 fn found<F: Field>(
     alloc: Global,
     form: &Data<F>,
     c: &[F],
     weights: &[F],
     cuts: &[Cut<F>],
+    lines: &[Line<F>],
     kept: &mut Kept<F>,
 ) -> Result<Next<F>, SolveFault>
     ghost task: { Task }
@@ -85,11 +85,12 @@ fn found<F: Field>(
     requires fitting { IsFitting F.holds task }
     requires some { IsProper task }
     requires each { All (IsCutFor F.value task) cuts.now }
-    requires few { length cuts.now < task.file.objs }
-    ensures ok { IfOk result (IsNext F.value task cuts.now) }
+    requires found { AreFound F.value task (normals_of F.value cuts.now) (reverse lines.now) }
+    requires few { length cuts.now + length lines.now < task.file.objs }
+    ensures ok { IfOk result (IsNext F.value task cuts.now (reverse lines.now)) }
     ensures left { (trail : List Entry) → trail_normals task.file.objs trail ≡ normals_of F.value cuts.now → IfErr result (Overflows F.holds (behind task trail) []) }
 {
-    let d = across(alloc, form.p.len() as u32, cuts)?;
+    let d = across(alloc, form.p.len() as u32, cuts, lines)?;
     let asked = ask(alloc, form, c, weights, d.as_slice(), false, kept)?;
     match asked {
         Asked::Cut(cut) => Ok(Next::Cut(cut)),
@@ -108,13 +109,15 @@ fn entries_of<F: Field>(alloc: Global, cuts: &[Cut<F>]) -> Result<Entries, NoMem
     Ok(entries)
 }
 
-/// What is found behind cuts, fewer than there are objectives. Where an operation overflows, its trail has the cuts.
+/// What is found behind cuts and lines, fewer than there are objectives. The lines stand in the order
+/// in which they were found. Where an operation overflows, its trail has the cuts.
 pub(crate) fn next_of<F: Field>(
     alloc: Global,
     form: &Data<F>,
     c: &[F],
     weights: &[F],
     cuts: &[Cut<F>],
+    lines: &[Line<F>],
     kept: &mut Kept<F>,
 ) -> Result<Next<F>, SolveFault>
     ghost task: { Task }
@@ -124,11 +127,12 @@ pub(crate) fn next_of<F: Field>(
     requires fitting { IsFitting F.holds task }
     requires some { IsProper task }
     requires each { All (IsCutFor F.value task) cuts.now }
-    requires few { length cuts.now < task.file.objs }
-    ensures ok { IfOk result (IsNext F.value task cuts.now) }
+    requires found { AreFound F.value task (normals_of F.value cuts.now) (reverse lines.now) }
+    requires few { length cuts.now + length lines.now < task.file.objs }
+    ensures ok { IfOk result (IsNext F.value task cuts.now (reverse lines.now)) }
     ensures left { IfErr result (λ fault. OnLicence fault (Licensed F.holds task.file task.c)) }
 {
-    match found(alloc, form, c, weights, cuts, kept) {
+    match found(alloc, form, c, weights, cuts, lines, kept) {
         Ok(next) => Ok(next),
         Err(fault) => {
             let entries = entries_of(alloc, cuts)?;

@@ -1,4 +1,4 @@
-//! How the description of an image begins: its first cuts, or what shows that it has none.
+//! How the description of an image begins: its lines and first cuts, or what shows that it has none.
 #![tactic(auto)]
 
 mod across;

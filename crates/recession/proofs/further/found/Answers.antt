@@ -1,19 +1,27 @@
-use Rattle.std.proofs.Common.{map, length, sym, ap, ◌∙◌, [], subst, ◌<◌, List, ℕ}
+use Rattle.std.proofs.Common.{map, length, reverse, sym, ap, ◌∙◌, [], subst, List, ℕ, arith}
 use Rattle.std.proofs.lemmas.List.{length-map}
 use Rattle.exact_field.specs.Rational.{ℚ}
 use Rattle.lin_rows.proofs.Errors.{err_holds}
 use Rattle.licence.specs.Base.{IsSide}
 use Rattle.lp_form.proofs.Figures.{objective_number}
+use Rattle.outer_approx.specs.Lines.{told_by}
 use Rattle.outer_approx.specs.Task.{behind}
 use Rattle.overflows.specs.Faults.{Overflows}
-use Rattle.recession.specs.Further.{normals_of}
-use Rattle.recession.proofs.Behind.{asked_is, cut_at, found_side, reached_is, side_start, wide_cuts}
+use Rattle.recession.specs.Further.{AreTail, IsNextSide, normals_of}
+use Rattle.recession.proofs.Behind.{asked_is, cut_at, reached_is, side_start, wide_cuts}
 use Rattle.recession.proofs.further.found.Goals as goal
+
+pub across-requires-clause-tail : goal.across-requires-clause-tail
+across-requires-clause-tail g c =
+    let value = g.F.Field.value in
+    let q_is = c.len.ensures.value ∙ objective_number value g.task.file c.args.form.now c.requires.1.0 in
+    subst (λ (n : ℕ). AreTail n (normals_of value c.args.cuts.now) (map (told_by value) (reverse c.args.lines.now))) (sym q_is) c.requires.1.1.1.1.1.1.1.0.tail
 
 pub across-requires-clause-few : goal.across-requires-clause-few
 across-requires-clause-few g c =
     let q_is = c.len.ensures.value ∙ objective_number g.F.Field.value g.task.file c.args.form.now c.requires.1.0 in
-    subst (λ (n : ℕ). length c.args.cuts.now < n) (sym q_is) c.requires.1.1.1.1.1.1.1
+    let few = c.requires.1.1.1.1.1.1.1.1 in
+    omega (arith, few, q_is)
 
 pub across-requires-clause-wide : goal.across-requires-clause-wide
 across-requires-clause-wide g c =
@@ -31,7 +39,8 @@ pub ask-requires : goal.ask-requires
 ask-requires g c κs within =
     let value = g.F.Field.value in
     let q_is = c.len.ensures.value ∙ objective_number value g.task.file c.args.form.now c.requires.1.0 in
-    let side = found_side g.task.file.objs c.len.result (normals_of value c.args.cuts.now) (map value c.in_ok-d.d) q_is c.in_ok-d.ensures.ok in (
+    let next = subst (λ (n : ℕ). IsNextSide n (normals_of value c.args.cuts.now) (map (told_by value) (reverse c.args.lines.now)) (map value c.in_ok-d.d)) q_is c.in_ok-d.ensures.ok in
+    let side = next.side in (
       within,
       (
         c.requires.1.0,
@@ -58,7 +67,8 @@ returns-in_err-asked-clause-left g c = λ trail has.
     let q = g.task.file.objs in
     let d = map value c.in_ok-d.d in
     let q_is = c.len.ensures.value ∙ objective_number value g.task.file c.args.form.now c.requires.1.0 in
-    let side = found_side q c.len.result (normals_of value c.args.cuts.now) d q_is c.in_ok-d.ensures.ok in
+    let next = subst (λ (n : ℕ). IsNextSide n (normals_of value c.args.cuts.now) (map (told_by value) (reverse c.args.lines.now)) (map value c.in_ok-d.d)) q_is c.in_ok-d.ensures.ok in
+    let side = next.side in
     err_holds c.from_residual-in_err-asked.result c.in_err-asked.field-0.0 (Overflows holds (behind g.task trail) []) c.from_residual-in_err-asked.ensures.1
     (c.in_err-asked.ensures.left trail (side_start q trail (map value c.as_slice.result.now) d (ap (map value) c.as_slice.ensures.items)
     (subst (λ (ns : List (List ℚ)). IsSide q ns d) (sym has) side)))
@@ -69,8 +79,9 @@ returns-in-Cut-clause-ok g c =
     let holds = g.F.Field.holds in
     let d = map value c.in_ok-d.d in
     let q_is = c.len.ensures.value ∙ objective_number value g.task.file c.args.form.now c.requires.1.0 in
-    let side = found_side g.task.file.objs c.len.result (normals_of value c.args.cuts.now) d q_is c.in_ok-d.ensures.ok in
-    cut_at value holds g.task c.requires.1.1.1.1.0 d c.args.cuts.now c.in-Cut.cut side
+    let next = subst (λ (n : ℕ). IsNextSide n (normals_of value c.args.cuts.now) (map (told_by value) (reverse c.args.lines.now)) (map value c.in_ok-d.d)) q_is c.in_ok-d.ensures.ok in
+    let side = next.side in
+    cut_at value holds g.task c.requires.1.1.1.1.0 d c.args.cuts.now (reverse c.args.lines.now) c.in-Cut.cut side
     (asked_is value holds g.task c.requires.1.1.1.1.0 c.in_ok-asked.asked (map value c.as_slice.result.now) d (ap (map value) c.as_slice.ensures.items)
     c.in_ok-asked.ensures.ok c.in-Cut.cut c.in-Cut.is)
 
@@ -80,7 +91,8 @@ opposite-requires g c κs within =
     let holds = g.F.Field.holds in
     let d = map value c.in_ok-d.d in
     let q_is = c.len.ensures.value ∙ objective_number value g.task.file c.args.form.now c.requires.1.0 in
-    let side = found_side g.task.file.objs c.len.result (normals_of value c.args.cuts.now) d q_is c.in_ok-d.ensures.ok in (
+    let next = subst (λ (n : ℕ). IsNextSide n (normals_of value c.args.cuts.now) (map (told_by value) (reverse c.args.lines.now)) (map value c.in_ok-d.d)) q_is c.in_ok-d.ensures.ok in
+    let side = next.side in (
       within,
       (
         c.requires.1.0,
@@ -109,8 +121,9 @@ returns-in-Reached-clause-ok g c =
     let value = g.F.Field.value in
     let d = map value c.in_ok-d.d in
     let q_is = c.len.ensures.value ∙ objective_number value g.task.file c.args.form.now c.requires.1.0 in
-    let side = found_side g.task.file.objs c.len.result (normals_of value c.args.cuts.now) d q_is c.in_ok-d.ensures.ok in
-    c.opposite.ensures.ok c.args.cuts.now side
+    let next = subst (λ (n : ℕ). IsNextSide n (normals_of value c.args.cuts.now) (map (told_by value) (reverse c.args.lines.now)) (map value c.in_ok-d.d)) q_is c.in_ok-d.ensures.ok in
+    let side = next.side in
+    c.opposite.ensures.ok c.args.cuts.now (reverse c.args.lines.now) c.requires.1.1.1.1.1.1.1.0.both_ways next
 
 pub returns-in-Reached-clause-left : goal.returns-in-Reached-clause-left
 returns-in-Reached-clause-left g c = λ trail has.
@@ -118,5 +131,6 @@ returns-in-Reached-clause-left g c = λ trail has.
     let q = g.task.file.objs in
     let d = map value c.in_ok-d.d in
     let q_is = c.len.ensures.value ∙ objective_number value g.task.file c.args.form.now c.requires.1.0 in
-    let side = found_side q c.len.result (normals_of value c.args.cuts.now) d q_is c.in_ok-d.ensures.ok in
+    let next = subst (λ (n : ℕ). IsNextSide n (normals_of value c.args.cuts.now) (map (told_by value) (reverse c.args.lines.now)) (map value c.in_ok-d.d)) q_is c.in_ok-d.ensures.ok in
+    let side = next.side in
     c.opposite.ensures.left trail (subst (λ (ns : List (List ℚ)). IsSide q ns d) (sym has) side)

@@ -5,7 +5,7 @@ use Rattle.lin_rows.proofs.Errors.{err_holds}
 use Rattle.polyhedra.specs.Negatives.{negated}
 use Rattle.outer_approx.specs.Task.{behind}
 use Rattle.overflows.specs.Faults.{Overflows}
-use Rattle.recession.proofs.Behind.{asked_is, cut_opposite, opposite_start, reached_is}
+use Rattle.recession.proofs.Behind.{asked_is, cut_opposite, line_at, opposite_start, reached_is}
 use Rattle.recession.proofs.further.opposite.Goals as goal
 
 pub ask-requires : goal.ask-requires
@@ -40,23 +40,22 @@ returns-in_err-asked-clause-left g c = λ trail side.
     (c.in_err-asked.ensures.left trail (opposite_start g.task.file.objs trail (map value c.as_slice-2.result.now) (map value c.args.d) same side))
 
 pub returns-in-Cut-clause-ok : goal.returns-in-Cut-clause-ok
-returns-in-Cut-clause-ok g c = λ cuts side.
+returns-in-Cut-clause-ok g c = λ cuts ls both side.
     let value = g.F.Field.value in
     let holds = g.F.Field.holds in
     let d = map value c.args.d in
     let same = ap (map value) c.as_slice-2.ensures.items ∙ c.in_ok-negated.ensures ∙ ap (λ l. negated (map value l)) c.as_slice.ensures.items in
-    cut_opposite value holds g.task c.requires.1.1.1.1.0 d cuts c.in-Cut.cut side
+    cut_opposite value holds g.task c.requires.1.1.1.1.0 d cuts ls c.in-Cut.cut side.side
     (asked_is value holds g.task c.requires.1.1.1.1.0 c.in_ok-asked.asked (map value c.as_slice-2.result.now) (negated d) same c.in_ok-asked.ensures.ok
     c.in-Cut.cut c.in-Cut.is)
 
 pub returns-in-Reached-clause-ok : goal.returns-in-Reached-clause-ok
-returns-in-Reached-clause-ok g c = λ cuts side.
+returns-in-Reached-clause-ok g c = λ cuts ls both side.
     let value = g.F.Field.value in
     let holds = g.F.Field.holds in
     let d = map value c.args.d in
     let same = ap (map value) c.as_slice-2.ensures.items ∙ c.in_ok-negated.ensures ∙ ap (λ l. negated (map value l)) c.as_slice.ensures.items in
-    record {
-      side = side;
+    line_at value holds g.task c.requires.1.1.1.1.0 cuts ls (record { d = c.args.d; forth = c.args.forth; back = c.in-Reached.back }) both side record {
       forth_is = c.requires.1.1.1.1.1.1.1;
       back_is = reached_is value holds g.task c.requires.1.1.1.1.0 c.in_ok-asked.asked (map value c.as_slice-2.result.now) (negated d) same
           c.in_ok-asked.ensures.ok c.in-Reached.back c.in-Reached.is;

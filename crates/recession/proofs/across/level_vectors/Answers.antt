@@ -2,10 +2,10 @@ use Rattle.std.proofs.Common.{List, refl, sym, ◌∙◌, subst}
 use Rattle.exact_field.specs.Rational.{ℚ}
 use Rattle.deriv_log.specs.declared.entry.Entry.{Entry}
 use Rattle.licence.specs.Operands.{AreElimRows, IsElimTable}
-use Rattle.lin_rows.specs.Answers.{IsIndep}
+use Rattle.lin_rows.specs.Complement.{AreComplement}
 use Rattle.lin_rows.specs.Read.{numbers}
 use Rattle.overflows.specs.Faults.{Overflows}
-use Rattle.recession.proofs.across.independence.Goals as goal
+use Rattle.recession.proofs.across.level_vectors.Goals as goal
 
 pub returns-clause-left : goal.returns-clause-left
 returns-clause-left g c = λ s q_is has.
@@ -18,4 +18,5 @@ returns-clause-left g c = λ s q_is has.
 
 pub returns-in-Ok-clause-ok : goal.returns-in-Ok-clause-ok
 returns-in-Ok-clause-ok g c =
-    subst (λ (rows : List (List ℚ)). IsIndep g.F.Field.value c.args.q rows c.in-Ok.found) c.in_ok-rows.ensures.rows c.in-Ok.ensures.ok
+    let value = g.F.Field.value in
+    subst (λ (rows : List (List ℚ)). AreComplement c.args.q rows (numbers value c.in-Ok.vectors.list)) c.in_ok-rows.ensures.rows c.in-Ok.ensures.ok
