@@ -1,13 +1,14 @@
 -- What is asked at a live generator.
-use Rattle.std.proofs.Common.{◌≡◌, ◌≢◌, ◌↔◌, ℕ, zero, suc, Bool, true, false, List, [], ◌∷◌, map, take, length, All, Contains, IsTrue, refl, sym, ap, ◌∙◌, subst, true≢false}
+use Rattle.std.proofs.Common.{◌≡◌, ◌≢◌, ◌↔◌, ℕ, zero, suc, Bool, true, false, List, [], ◌∷◌, map, take, length, All, Contains, IsTrue, refl, sym, ap, ◌∙◌, subst, arith, true≢false}
 use Rattle.std.proofs.lemmas.List.{length-map}
-use Rattle.exact_field.specs.Rational.{ℚ, zero_ℚ, ◌≤ℚ◌, ◌<ℚ◌}
+use Rattle.exact_field.specs.Rational.{ℚ, zero_ℚ, neg_ℚ, ◌≤ℚ◌, ◌<ℚ◌}
 use Rattle.exact_field.specs.Vector.{dot, entry}
 use Rattle.polyhedra.specs.Exactness.{homogenised, row_of}
-use Rattle.polyhedra.specs.LiveList.{Numbered, LiveList}
+use Rattle.lineality.specs.Without.{open_count, with_zeros, without}
+use Rattle.lineality.proofs.Marks.{length-marks}
 use Rattle.deriv_log.specs.declared.entry.Entry.{Entry}
 use Rattle.double_descr.specs.State.{State as Description}
-use Rattle.log_rules.specs.Live.{preimages}
+use Rattle.log_rules.specs.Live.{lines, preimages}
 use Rattle.log_rules.proofs.NormedMembers.{front-homogenised, last-homogenised, one_not_zero}
 use Rattle.licence.specs.Base.{IsBaseStart, IsLiveAfter, last_of}
 use Rattle.licence.proofs.CutTurns.{optimum_turns, read_at_origin}
@@ -15,13 +16,14 @@ use Rattle.benson_program.specs.Preimages.{IsPreimageOf}
 use Rattle.benson_program.specs.declared.cut.Cut.{Cut}
 use Rattle.benson_program.specs.declared.preimage.Preimage.{Preimage}
 use Rattle.outer_approx.specs.Cuts.{said_by}
+use Rattle.outer_approx.specs.Lines.{line_places}
 use Rattle.outer_approx.specs.Preimages.{IsReached}
-use Rattle.outer_approx.specs.Standing.{IsOuter}
+use Rattle.outer_approx.specs.Standing.{IsOuter, rows_of_trail}
 use Rattle.outer_approx.specs.Task.{Task, IsFitting}
 use Rattle.outer_approx.proofs.Growing.{live_generator}
 use Rattle.recession.specs.Asking.{IsAskedCut}
 use Rattle.lp_form.specs.declared.data.Data.{Data}
-use Rattle.benson_primal.specs.Search.{IsKnown, IsNextCut}
+use Rattle.benson_primal.specs.Search.{IsKnown, IsLiveVector, IsNextCut}
 
 -- the front of a mapped list
 pub map-take : {F : Type 0} (value : F → ℚ) (n : ℕ) (xs : List F) → map value (take n xs) ≡ take n (map value xs)
@@ -34,87 +36,118 @@ pub width_known : {F : Type 0} (value : F → ℚ) (holds : ℚ → Bool) (task 
     length c ≡ task.file.objs
 width_known value holds task form c weights k = sym (length-map c value) ∙ ap length k.c_is ∙ k.fitting.fits.lengths
 
-module _ {F : Type 0} (value : F → ℚ) (task : Task) (trail : List Entry) (dd : Description) (outer : IsOuter task trail dd) (g : ℕ) (generator : List F)
-    (listed : Contains dd.list.live (record { number = g; vector = map value generator })) where
-  abbrev own : Numbered
-  own = record { number = g; vector = map value generator }
+-- ---- without the entries at the places of lines, and with zeros there
+length-homogenised : (v : List ℚ) (t : ℚ) → length (homogenised v t) ≡ suc (length v)
+length-homogenised [] t = refl
+length-homogenised (x ∷ v) t = ap suc (length-homogenised v t)
 
-  abbrev parts : (v : List ℚ) × (t : Bool) × (own.vector ≡ homogenised v (last_of t)) × (length v ≡ task.file.objs)
-      × All (λ (row : List ℚ). zero_ℚ ≤ℚ dot row own.vector) dd.rows
-  parts = live_generator task trail dd outer own listed
+-- there is a place for each objective
+pub places_many : (task : Task) (trail : List Entry) → length (line_places task trail) ≡ task.file.objs
+places_many task trail = length-marks task.file.objs (lines trail)
 
-  live_here : IsLiveAfter task.file.objs trail own
-  live_here = subst (λ (l : LiveList). Contains l.live own) outer.list listed
+-- what is one longer than the places with zeros at the marked ones, is one longer than the open ones without
+short_long : (bs : List Bool) (z : List ℚ) → length (with_zeros bs z) ≡ suc (length bs) → length z ≡ suc (open_count bs)
+short_long [] z h = h
+short_long (true ∷ bs) z h = short_long bs z (omega arith)
+short_long (false ∷ bs) [] h = absurd (omega arith)
+short_long (false ∷ bs) (x ∷ z) h = ap suc (short_long bs z (omega arith))
 
+without_long : (bs : List Bool) (v : List ℚ) → length v ≡ suc (length bs) → length (without bs v) ≡ suc (open_count bs)
+without_long [] v h = h
+without_long (b ∷ bs) [] h = absurd (omega arith)
+without_long (true ∷ bs) (x ∷ v) h = without_long bs v (omega arith)
+without_long (false ∷ bs) (x ∷ v) h = ap suc (without_long bs v (omega arith))
+
+-- so it is of the row of a cut
+pub row_long : {F : Type 0} (value : F → ℚ) (cut : Cut F) (bs : List Bool) → length bs ≡ length cut.w →
+    length (without bs (row_of (said_by value cut))) ≡ suc (open_count bs)
+row_long value cut bs same =
+    without_long bs (row_of (said_by value cut))
+    (length-homogenised (map value cut.w) (neg_ℚ (value cut.gamma)) ∙ ap suc (length-map cut.w value ∙ sym same))
+
+module _ (task : Task) (trail : List Entry) (dd : Description) (outer : IsOuter task trail dd) (g : ℕ) (short : List ℚ)
+    (listed : Contains dd.list.live (record { number = g; vector = short })) where
+  pub live_vector : IsLiveVector task trail g (with_zeros (line_places task trail) short)
+  live_vector =
+      let parts = live_generator task trail dd outer (record { number = g; vector = short }) listed in
+      record { v = parts.0; t = parts.1; is = parts.2; wide = parts.3; live = parts.4; within = parts.5 }
+
+  pub short_wide : length short ≡ suc (open_count (line_places task trail))
+  short_wide =
+      let h = live_vector in
+      short_long (line_places task trail) short
+      (ap length h.is ∙ length-homogenised h.v (last_of h.t) ∙ ap suc (h.wide ∙ sym (places_many task trail)))
+
+-- ---- at the vector of a live generator
+pub live_at : {F : Type 0} (value : F → ℚ) (task : Task) (trail : List Entry) (g : ℕ) (full seen : List F) → seen ≡ full →
+    IsLiveVector task trail g (map value full) → IsLiveVector task trail g (map value seen)
+live_at value task trail g full seen same h = subst (λ xs. IsLiveVector task trail g (map value xs)) (sym same) h
+
+module _ {F : Type 0} (value : F → ℚ) (task : Task) (trail : List Entry) (g : ℕ) (full : List F) (h : IsLiveVector task trail g (map value full)) where
   -- it has one entry more than there are objectives
-  pub long : length generator ≡ suc task.file.objs
-  long = sym (length-map generator value) ∙ ap length parts.2 ∙ sums parts.0 (last_of parts.1) ∙ ap suc parts.3
-    where
-      sums : (v : List ℚ) (t : ℚ) → length (homogenised v t) ≡ suc (length v)
-      sums [] t = refl
-      sums (x ∷ v) t = ap suc (sums v t)
+  pub long : length full ≡ suc task.file.objs
+  long = sym (length-map full value) ∙ ap length h.is ∙ length-homogenised h.v (last_of h.t) ∙ ap suc h.wide
 
-  last_is : entry (map value generator) (length generator) ≡ last_of parts.1
-  last_is = ap (entry (map value generator)) long ∙ ap (λ v. entry v (suc task.file.objs)) parts.2
-      ∙ last-homogenised task.file.objs parts.0 (last_of parts.1) parts.3
+  last_is : entry (map value full) (length full) ≡ last_of h.t
+  last_is = ap (entry (map value full)) long ∙ ap (λ v. entry v (suc task.file.objs)) h.is ∙ last-homogenised task.file.objs h.v (last_of h.t) h.wide
 
-  module _ (t : Bool) (point : IsTrue t ↔ (entry (map value generator) (length generator) ≢ zero_ℚ)) where
+  module _ (t : Bool) (point : IsTrue t ↔ (entry (map value full) (length full) ≢ zero_ℚ)) where
     -- it is a point where its last entry is not 0
-    same_kind : t ≡ parts.1
-    same_kind = go t parts.1 point last_is
+    same_kind : t ≡ h.t
+    same_kind = go t h.t point last_is
       where
-        go : (t s : Bool) → IsTrue t ↔ (entry (map value generator) (length generator) ≢ zero_ℚ) → entry (map value generator) (length generator) ≡ last_of s → t ≡ s
+        go : (t s : Bool) → IsTrue t ↔ (entry (map value full) (length full) ≢ zero_ℚ) → entry (map value full) (length full) ≡ last_of s → t ≡ s
         go true true p e = refl
         go false false p e = refl
         go true false p e = absurd (p.0 refl e)
         go false true p e = absurd (true≢false (sym (p.1 (λ z. one_not_zero (sym e ∙ z)))))
 
-    module _ (n : ℕ) (n_is : n ≡ task.file.objs) (seen : List F) (seen_is : seen ≡ take n generator) where
-      start_is : map value seen ≡ parts.0
-      start_is = ap (map value) seen_is ∙ map-take value n generator ∙ ap (λ k. take k (map value generator)) n_is
-          ∙ ap (take task.file.objs) parts.2 ∙ front-homogenised task.file.objs parts.0 (last_of parts.1) parts.3
+    module _ (n : ℕ) (n_is : n ≡ task.file.objs) (seen : List F) (seen_is : seen ≡ take n full) where
+      start_is : map value seen ≡ h.v
+      start_is = ap (map value) seen_is ∙ map-take value n full ∙ ap (λ k. take k (map value full)) n_is
+          ∙ ap (take task.file.objs) h.is ∙ front-homogenised task.file.objs h.v (last_of h.t) h.wide
 
-      vector_is : map value generator ≡ homogenised (map value seen) (last_of t)
-      vector_is = parts.2 ∙ ap (λ v. homogenised v (last_of parts.1)) (sym start_is) ∙ ap (λ s. homogenised (map value seen) (last_of s)) (sym same_kind)
+      vector_is : map value full ≡ homogenised (map value seen) (last_of t)
+      vector_is = h.is ∙ ap (λ v. homogenised v (last_of h.t)) (sym start_is) ∙ ap (λ s. homogenised (map value seen) (last_of s)) (sym same_kind)
 
       pub start_long : length seen ≡ task.file.objs
-      start_long = sym (length-map seen value) ∙ ap length start_is ∙ parts.3
+      start_long = sym (length-map seen value) ∙ ap length start_is ∙ h.wide
 
       pub base_start : IsBaseStart task.file.objs trail (map value seen) t
-      base_start = IsBaseStart.live own live_here vector_is
+      base_start = IsBaseStart.live (record { number = g; vector = map value full }) h.live vector_is
 
       pub is_reached : (preimage : Preimage F) → preimages trail g ≡ [] → IsPreimageOf value task.file task.c task.weights (map value seen) t preimage →
           IsReached value task trail g t preimage
       is_reached preimage fresh is = record {
         v = map value seen;
-        live = subst (λ (v : List ℚ). IsLiveAfter task.file.objs trail (record { number = g; vector = v })) vector_is live_here;
+        live = subst (λ (v : List ℚ). IsLiveAfter task.file.objs trail (record { number = g; vector = v })) vector_is h.live;
         fresh = fresh;
         parts_are = is;
       }
 
-      pub next_cut_is : (holds : ℚ → Bool) → IsFitting holds task → (cut : Cut F) → IsAskedCut value task (map value seen) t cut → IsNextCut value task dd cut
-      next_cut_is holds fitting cut h = record {
-        z = h.z;
-        turn = optimum_turns task.file task.c (map value seen) t h.z h.multipliers h.basis h.optimum.dictionary dd.rows fitting.fits.lengths
-            (length-map seen value ∙ start_long) h.optimum.optimal h.optimum.read h.positive
-            (subst (λ (v : List ℚ). All (λ (row : List ℚ). zero_ℚ ≤ℚ dot row v) dd.rows) vector_is parts.4);
-        says = h.says;
-        is = h.is;
+      pub next_cut_is : (holds : ℚ → Bool) → IsFitting holds task → (cut : Cut F) → IsAskedCut value task (map value seen) t cut → IsNextCut value task trail cut
+      next_cut_is holds fitting cut a = record {
+        z = a.z;
+        turn = optimum_turns task.file task.c (map value seen) t a.z a.multipliers a.basis a.optimum.dictionary (rows_of_trail task trail) fitting.fits.lengths
+            (length-map seen value ∙ start_long) a.optimum.optimal a.optimum.read a.positive
+            (subst (λ (v : List ℚ). All (λ (row : List ℚ). zero_ℚ ≤ℚ dot row v) (rows_of_trail task trail)) vector_is h.within);
+        says = a.says;
+        is = a.is;
       }
 
   -- a cut that was asked at another vector, and that the generator violates
   pub near_cut_is : (holds : ℚ → Bool) → IsFitting holds task → (near : List F) (t : Bool) → length near ≡ task.file.objs → (cut : Cut F) →
-      IsAskedCut value task (map value near) t cut → dot (row_of (said_by value cut)) (map value generator) <ℚ zero_ℚ → IsNextCut value task dd cut
-  near_cut_is holds fitting near t near_long cut h below = record {
-    z = h.z;
+      IsAskedCut value task (map value near) t cut → dot (row_of (said_by value cut)) (map value full) <ℚ zero_ℚ → IsNextCut value task trail cut
+  near_cut_is holds fitting near t near_long cut a below = record {
+    z = a.z;
     turn = record {
       c_wide = fitting.fits.lengths;
-      solution = read_at_origin task.file task.c (map value near) t h.z h.multipliers h.basis h.optimum.dictionary fitting.fits.lengths
-          (length-map near value ∙ near_long) h.optimum.read;
-      point = map value generator;
-      holds = parts.4;
-      violated = subst (λ (row : List ℚ). dot row (map value generator) <ℚ zero_ℚ) h.says below;
+      solution = read_at_origin task.file task.c (map value near) t a.z a.multipliers a.basis a.optimum.dictionary fitting.fits.lengths
+          (length-map near value ∙ near_long) a.optimum.read;
+      point = map value full;
+      holds = h.within;
+      violated = subst (λ (row : List ℚ). dot row (map value full) <ℚ zero_ℚ) a.says below;
     };
-    says = h.says;
-    is = h.is;
+    says = a.says;
+    is = a.is;
   }

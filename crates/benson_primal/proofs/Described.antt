@@ -1,12 +1,12 @@
 -- Logs and licences of the task of a file.
-use Rattle.std.proofs.Common.{◌≡◌, ℕ, List, map, length, refl, sym, ap, ◌∙◌, subst, arith, Bool, Result, Ok, Err}
+use Rattle.std.proofs.Common.{◌≡◌, ℕ, List, map, length, refl, sym, ap, ◌∙◌, subst, Bool, Result, Ok, Err}
 use Rattle.std.specs.Prelude.{IfOk}
 use Rattle.std.proofs.lemmas.List.{length-map}
 use Rattle.frac128.specs.declared.vectors.Spot.{Spot}
 use Rattle.vlp_reader.specs.Sides.{IsFeasible}
 use Rattle.upper_image.specs.Shows.{ShowsFitting}
 use Rattle.upper_image.specs.Spots.{dense, IsVector}
-use Rattle.deriv_log.specs.declared.entry.Entry.TheVariants.{Duality as Line}
+use Rattle.deriv_log.specs.declared.entry.Entry.TheVariants.{Duality as Opening}
 use Rattle.log_rules.specs.Meets.{MeetsFarkas}
 use Rattle.log_rules.proofs.SomeAnswer.{some_answer}
 use Rattle.lp_form.specs.Programs.{side_total, feasible_system}
@@ -30,6 +30,7 @@ use Rattle.cone_dual.specs.Fitting.{IsDualityOf}
 use Rattle.cone_dual.specs.declared.duality.Duality.{Duality}
 use Rattle.outer_approx.specs.Standing.{IsEnded, IsOpenTrail}
 use Rattle.outer_approx.specs.Task.{Task, IsFitting, behind}
+use Rattle.outer_approx.specs.declared.log.Line.{Line}
 use Rattle.lp_form.specs.Data.{IsDataOf}
 use Rattle.lp_form.specs.declared.data.Data.{Data}
 use Rattle.recession.specs.First.{AreFirstCuts}
@@ -51,8 +52,8 @@ module _ {F : Type 0} (value : F → ℚ) (holds : ℚ → Bool) (file : Problem
   pub handed : (P : List ℚ → List ℚ → Type 0) → P task.c task.weights → P (map value d.c) (map value d.weights)
   handed P k = subst (λ (l : List F). P (map value d.c) (map value l)) weights_is (subst (λ (l : List F). P (map value l) (map value weights)) c_is k)
 
-  pub opens : d.entry ≡ Line (map value c) (map value weights) h.picks h.inverse
-  opens = at (λ c' weights'. d.entry ≡ Line c' weights' h.picks h.inverse) h.entry_is
+  pub opens : d.entry ≡ Opening (map value c) (map value weights) h.picks h.inverse
+  opens = at (λ c' weights'. d.entry ≡ Opening c' weights' h.picks h.inverse) h.entry_is
 
   pub fits : ShowsFitting file (map value c) (map value weights) h.picks h.inverse
   fits = at (λ c' weights'. ShowsFitting file c' weights' h.picks h.inverse) h.fits
@@ -73,13 +74,14 @@ module _ {F : Type 0} (value : F → ℚ) (holds : ℚ → Bool) (file : Problem
   pub task_is : task_of file d.entry ≡ task
   task_is = ap (task_of file) opens
 
-  pub known : (form : Data F) → IsDataOf value file form → (cuts : List (Cut F)) → AreFirstCuts value task cuts → IsKnown value holds task form c weights
-  known form stands cuts first = record {
+  pub known : (form : Data F) → IsDataOf value file form → (x : List F) (ls : List (Line F)) (cuts : List (Cut F)) → AreFirstCuts value task x ls cuts →
+      IsKnown value holds task form c weights
+  known form stands x ls cuts first = record {
     stands = stands;
     c_is = refl;
     weights_is = refl;
     fitting = fitting;
-    proper = proper_of value task cuts first.feasible.0 first.each (omega (arith, first.many, file.some_objective)) first.feasible.1;
+    proper = proper_of value task cuts (map value x) first.each first.some first.choice.feasible;
   }
 
 pub possible : (holds : ℚ → Bool) (task : Task) → IsFitting holds task → IsPossible holds task.file task.c task.weights
@@ -128,7 +130,7 @@ module _ (file : Problem) (u : List ℚ) (spots : List Spot) (h : IsContradictio
 
 -- what shows that the image is everything, as the parts of a log
 module _ {F : Type 0} (value : F → ℚ) (task : Task) (opening : Entry) (picks : List ℕ) (inverse : List ℚ)
-    (opens : opening ≡ Line task.c task.weights picks inverse) (fits : ShowsFitting task.file task.c task.weights picks inverse)
+    (opens : opening ≡ Opening task.c task.weights picks inverse) (fits : ShowsFitting task.file task.c task.weights picks inverse)
     (base : IsBaseDuality task.file task.file.cone task.file.duality task.c task.weights) (list : List F) (choice : IsBaseChoice task.file (map value list))
     (parts : WholeParts F) (w : IsWholeOf value task.file task.c parts) (x ray m : List Spot) (x_is : IsSparseOf value list x)
     (ray_is : IsSparseOf value parts.ray ray) (m_is : IsSparseOf value parts.m m) where

@@ -1,5 +1,5 @@
 -- The set of the numbers that have a pre-image.
-use Rattle.std.proofs.Common.{◌≡◌, ◌≢◌, ◌≤◌, ◌<◌, ◌+◌, ◌-◌, ℕ, Bool, true, false, List, [], ◌||◌, nat_eq, map, length, Contains, refl, sym, ap, ◌∙◌, subst, arith, true≢false, ◌⊎◌, inl, inr, slice_index_or}
+use Rattle.std.proofs.Common.{◌≡◌, ◌≢◌, ◌≤◌, ◌<◌, ◌+◌, ◌-◌, ℕ, Bool, List, [], ◌||◌, nat_eq, map, length, Contains, sym, ap, ◌∙◌, subst, arith, true≢false, inl, inr, slice_index_or}
 use Rattle.std.proofs.lemmas.List.{get_or-map, length-map}
 use Rattle.std.proofs.lemmas.List.Elements.{Contains-get_or}
 use Rattle.exact_field.specs.Rational.{ℚ}

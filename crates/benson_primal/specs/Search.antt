@@ -1,19 +1,21 @@
 -- The search for the cuts of an image.
 use Rattle.std.specs.Prelude.{◌≡◌, ◌≢◌, ⊤, ℕ, Bool, List, [], ◌∷◌, ◌++◌, map, length, All, Contains}
-use Rattle.exact_field.specs.Rational.{ℚ, zero_ℚ}
-use Rattle.exact_field.specs.Vector.{entry}
-use Rattle.polyhedra.specs.Exactness.{row_of}
+use Rattle.exact_field.specs.Rational.{ℚ, zero_ℚ, ◌≤ℚ◌}
+use Rattle.exact_field.specs.Vector.{dot, entry}
+use Rattle.polyhedra.specs.Exactness.{homogenised, row_of}
 use Rattle.polyhedra.specs.LiveList.{numbers}
 use Rattle.deriv_log.specs.declared.entry.Entry.{Entry}
 use Rattle.double_descr.specs.State.{State as Description}
 use Rattle.log_rules.specs.Live.{preimages}
 use Rattle.lp_form.specs.Data.{IsDataOf}
 use Rattle.lp_form.specs.declared.data.Data.{Data}
+use Rattle.licence.specs.Base.{IsLiveAfter, last_of}
 use Rattle.licence.specs.Turns.{IsCutTurn, said_row}
 use Rattle.benson_program.specs.declared.cut.Cut.{Cut}
 use Rattle.outer_approx.specs.Cuts.{IsCutFor, said_by}
 use Rattle.outer_approx.specs.Preimages.{AreMarks}
-use Rattle.outer_approx.specs.Standing.{IsOpenTrail, IsOuter, StandForSame}
+use Rattle.outer_approx.specs.Lines.{line_places}
+use Rattle.outer_approx.specs.Standing.{IsOpenTrail, IsOuter, StandForSame, rows_of_trail}
 use Rattle.outer_approx.specs.Task.{Task, IsFitting, behind}
 use Rattle.overflows.specs.Faults.{OnLicence, Overflows}
 use Rattle.overflows.specs.declared.fault.SolveFault.{SolveFault}
@@ -34,10 +36,12 @@ pub record IsKnown {F : Type 0} (value : F → ℚ) (holds : ℚ → Bool) (task
   pub proper : IsProper task
 
 -- a search stands: its data are those of the task, its trail and its double description stand for
--- the same cuts, and its marks are those of the generators that have a pre-image
+-- the same cuts, its places are those of the trail's lines, and its marks are those of the
+-- generators that have a pre-image
 pub record IsSearching {F : Type 0} (value : F → ℚ) (holds : ℚ → Bool) (task : Task) (s : Search F) : Type 0 where
   pub known : IsKnown value holds task s.form.now s.c.now s.weights.now
   pub outer : IsOuter task s.trail s.dd
+  pub places_are : s.places ≡ line_places task s.trail
   pub marks : AreMarks s.trail s.reached
 
 -- a search stopped at a fault: no entry ends its trail, which after an overflow stands for the same
@@ -47,18 +51,28 @@ pub record Stopped {F : Type 0} (holds : ℚ → Bool) (task : Task) (s : Search
   pub same : OnLicence fault (λ licence. StandForSame task s.trail s.dd)
   pub left : Overflows holds (behind task s.trail) [] fault
 
--- a base cut that some point violates at which each row is at least 0: so no row says it yet
-pub record IsNextCut {F : Type 0} (value : F → ℚ) (task : Task) (dd : Description) (cut : Cut F) : Type 0 where
+-- the live generator of this number, as the trail has it: a point or a direction at which each row
+-- in use is at least 0
+pub record IsLiveVector (task : Task) (trail : List Entry) (g : ℕ) (full : List ℚ) : Type 0 where
+  pub v : List ℚ
+  pub t : Bool
+  pub is : full ≡ homogenised v (last_of t)
+  pub wide : length v ≡ task.file.objs
+  pub live : IsLiveAfter task.file.objs trail (record { number = g; vector = full })
+  pub within : All (λ row. zero_ℚ ≤ℚ dot row full) (rows_of_trail task trail)
+
+-- a base cut that some point violates at which each row in use is at least 0: so no row says it yet
+pub record IsNextCut {F : Type 0} (value : F → ℚ) (task : Task) (trail : List Entry) (cut : Cut F) : Type 0 where
   pub z : List ℚ
-  pub turn : IsCutTurn task.file task.c dd.rows z
+  pub turn : IsCutTurn task.file task.c (rows_of_trail task trail) z
   pub says : row_of (said_by value cut) ≡ said_row task.file z
   pub is : IsCutFor value task cut
 
 -- one more row stands, which says such a cut
-pub record HasGrown {F : Type 0} (value : F → ℚ) (task : Task) (old new : Description) : Type 0 where
+pub record HasGrown {F : Type 0} (value : F → ℚ) (task : Task) (old new : List Entry) : Type 0 where
   pub cut : Cut F
   pub next : IsNextCut value task old cut
-  pub rows : new.rows ≡ old.rows ++ row_of (said_by value cut) ∷ []
+  pub rows : rows_of_trail task new ≡ rows_of_trail task old ++ row_of (said_by value cut) ∷ []
 
 -- a generator is asked: points and directions alike, or directions alone, whose last entry is 0
 abbrev pub IsInScope : Scope → List ℚ → Type 0
@@ -82,13 +96,18 @@ abbrev pub AreAllReached : List Entry → Description → Type 0
 AreAllReached trail dd = All (λ g. preimages trail g.number ≢ []) dd.list.live
 
 -- a cut that a live generator violates
-pub record IsFound {F : Type 0} (value : F → ℚ) (task : Task) (dd : Description) (found : Found F) : Type 0 where
-  pub listed : Contains (numbers dd.list.live) found.generator
-  pub next : IsNextCut value task dd found.cut
+pub record IsFound {F : Type 0} (value : F → ℚ) (task : Task) (s : Search F) (found : Found F) : Type 0 where
+  pub listed : Contains (numbers s.dd.list.live) found.generator
+  pub next : IsNextCut value task s.trail found.cut
 
--- a round from this double description to a search ends so: one more cut stands; or all is as before,
--- and a live generator violates this cut; or each live generator that is asked has a pre-image
-abbrev pub IsRound : {F : Type 0} → (F → ℚ) → Task → Scope → Description → Search F → Round F → Type 0
-IsRound value task scope old s round.Grown = HasGrown value task old s.dd
-IsRound value task scope old s (round.Overflowed found) = (s.dd ≡ old) × IsFound value task s.dd found
-IsRound value task scope old s round.Reached = AreReached scope s.trail s.dd
+-- no cut more is in use: the double description and the rows in use are as before
+pub record HasSameRows {F : Type 0} (task : Task) (old new : Search F) : Type 0 where
+  pub dd_same : new.dd ≡ old.dd
+  pub rows_same : rows_of_trail task new.trail ≡ rows_of_trail task old.trail
+
+-- a round ends so: one more cut stands; or all is as before, and a live generator violates this cut;
+-- or each live generator that is asked has a pre-image
+abbrev pub IsRound : {F : Type 0} → (F → ℚ) → Task → Scope → Search F → Search F → Round F → Type 0
+IsRound value task scope old new round.Grown = HasGrown value task old.trail new.trail
+IsRound value task scope old new (round.Overflowed found) = HasSameRows task old new × IsFound value task new found
+IsRound value task scope old new round.Reached = AreReached scope new.trail new.dd

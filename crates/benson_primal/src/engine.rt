@@ -28,7 +28,7 @@ use exact_field::Field;
 use exact_simplex::Kept;
 use incid_sets::Marks;
 use lp_form::Data;
-use outer_approx::{begun, infeasible_log, line_log, solved, started, whole_log};
+use outer_approx::{Line, begun, infeasible_log, places_of, solved, started, whole_log};
 use overflows::{SolveFault, spots_of};
 use recession::{First, first_cuts};
 use src_sink::{Items, NoMemory};
@@ -83,7 +83,7 @@ fn describe<F: Field>(search: &mut Search<'_, F>) -> Result<(), SolveFault>
     Ok(())
 }
 
-/// The log of an image with a vertex, from the first state of its search on.
+/// The log of an image, from the first state of its search on.
 fn searched<F: Field>(search: Search<'_, F>) -> Result<Entries, SolveFault>
     ghost task: { Task }
     requires { IsSearching F.value F.holds task search }
@@ -99,25 +99,28 @@ fn searched<F: Field>(search: Search<'_, F>) -> Result<Entries, SolveFault>
     }
 }
 
-/// The log of an image with a vertex, from its first cuts on.
+/// The log of an image, from its lines and first cuts on. x is a feasible point.
 fn described<F: Field>(
     alloc: Global,
     form: &Data<F>,
     c: &[F],
     weights: &[F],
     opening: Entry,
+    x: &Items<F>,
+    lines: &[Line<F>],
     cuts: &[Cut<F>],
     kept: &mut Kept<F>,
 ) -> Result<Entries, SolveFault>
     ghost task: { Task }
     requires known { IsKnown F.value F.holds task form.now c.now weights.now }
     requires opening { (picks : List ℕ) × (inverse : List ℚ) × (opening ≡ entry_of.Duality task.c task.weights picks inverse) × ShowsFitting task.file task.c task.weights picks inverse × IsBaseDuality task.file task.file.cone task.file.duality task.c task.weights }
-    requires first { AreFirstCuts F.value task cuts.now }
+    requires first { AreFirstCuts F.value task x.now lines.now cuts.now }
     ensures ok { IfOk result (IsEnded task) }
     ensures left { IfErr result (λ fault. OnLicence fault (Licensed F.holds task.file task.c)) }
 {
-    let mut trail = begun(alloc, opening, cuts)?;
-    match started(alloc, form.p.len() as u32, &mut trail, cuts) {
+    let mut trail = begun(alloc, opening, x, lines, cuts)?;
+    let places = places_of(alloc, form.p.len() as u32, lines)?;
+    match started(alloc, places.as_slice(), &mut trail, cuts) {
         Err(fault) => Err(fault.behind(trail)),
         Ok(dd) => {
             let reached = Marks::new(alloc, 0)?;
@@ -127,6 +130,7 @@ fn described<F: Field>(
                 form,
                 c,
                 weights,
+                places,
                 trail,
                 dd,
                 reached,
@@ -156,13 +160,16 @@ fn primal_with<F: Field>(
     match first_cuts(alloc, form, c, weights, kept)? {
         First::Infeasible { u } => Ok(contradiction_log(alloc, u.as_slice())?),
         First::Whole { x, parts } => Ok(everything_log(alloc, entry, x.as_slice(), &parts)?),
-        First::Line(line) => Ok(line_log(alloc, entry, &line)?),
-        First::Cuts(cuts) => { described(alloc, form, c, weights, entry, cuts.as_slice(), kept) }
+        First::Cuts { x, lines, cuts } => {
+            let lines = lines.as_slice();
+            let cuts = cuts.as_slice();
+            described(alloc, form, c, weights, entry, &x, lines, cuts, kept)
+        }
     }
 }
 
-/// The log that describes the image of a problem: that it is infeasible, that its image is everything
-/// or has a line, or its vertices, extreme directions and facets, found by Benson's outer approximation
+/// The log that describes the image of a problem: that it is infeasible, that its image is everything,
+/// or its lines, vertices, extreme directions and facets, found by Benson's outer approximation
 /// (Benson 1998; Löhne 2011) in the image space. It differs from the textbook at two places. A generator
 /// of the outer polyhedron with long entries is asked at a vector with short ones near by first, since
 /// the cut that a linear program gives is valid whoever asks. And where the addition of a cut overflows,

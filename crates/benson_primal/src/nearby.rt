@@ -2,12 +2,13 @@
 ghost use Rattle.std.specs.Prelude.{◌≡◌, ◌≢◌, ◌≤◌, ◌↔◌, ◌+◌, IfOk, IfSome, IsTrue, length, map};
 ghost use Rattle.exact_field.specs.Rational.{zero_ℚ, ◌<ℚ◌};
 ghost use Rattle.exact_field.specs.Vector.{dot, entry};
+ghost use Rattle.lineality.specs.Without.{open_count, with_zeros};
 ghost use Rattle.outer_approx.specs.Cuts.{said_by};
 ghost use Rattle.polyhedra.specs.Exactness.{row_of};
 
 use benson_program::Cut;
 use exact_field::Field;
-use lin_rows::cells::is_zero;
+use lin_rows::cells::{is_negative, is_zero};
 use lin_rows::dot;
 use outer_approx::cut_row;
 use src_sink::{Items, NoMemory};
@@ -64,18 +65,23 @@ pub(crate) fn vector_nearby<F: Field>(alloc: Global, v: &[F]) -> Result<Option<I
     Ok(Some(near))
 }
 
-/// Whether a generator is seen to violate a cut: not where the product with its row is not held.
+/// Whether a generator, without its entries at the places of lines, is seen to violate a cut: not
+/// where the product with its row is not held.
 pub(crate) fn violates<F: Field>(
     alloc: Global,
+    places: &[bool],
     generator: &[F],
     cut: &Cut<F>,
 ) -> Result<bool, NoMemory>
-    requires { length generator.now ≡ length cut.now.w + 1 }
-    ensures { IfOk result (λ b. IsTrue b → dot (row_of (said_by F.value cut.now)) (map F.value generator.now) <ℚ zero_ℚ) }
+    requires places { length places.now ≡ length cut.now.w }
+    requires generator { length generator.now ≡ open_count places.now + 1 }
+    ensures { IfOk result (λ b. IsTrue b →
+        dot (row_of (said_by F.value cut.now)) (with_zeros places.now (map F.value generator.now))
+        <ℚ zero_ℚ) }
 {
-    let row = cut_row(alloc, cut)?;
+    let row = cut_row(alloc, places, cut)?;
     match dot(row.as_slice(), generator) {
-        Ok(product) => Ok(product < F::zero()),
+        Ok(product) => Ok(is_negative(product)),
         Err(_) => Ok(false),
     }
 }

@@ -1,11 +1,13 @@
 //! The search for cuts: each live generator is asked for a cut that it violates, until all have a pre-image.
-ghost use Rattle.std.specs.Prelude.{◌≡◌, ◌≢◌, ◌≤◌, ◌||◌, [], ℕ, false, IfErr, IfNone, IfOk, IfSome, IsTrue, OnOk, length, map, nat_eq, Contains};
+ghost use Rattle.std.specs.Prelude.{◌≡◌, ◌≢◌, ◌≤◌, ◌||◌, [], ℕ, List, false, IfErr, IfNone, IfOk, IfSome, IsTrue, OnOk, length, map, nat_eq, Contains};
 ghost use Rattle.incid_sets.specs.Marks.{has};
 ghost use Rattle.log_rules.specs.Live.{preimages};
 ghost use Rattle.polyhedra.specs.LiveList.{numbers};
 ghost use Rattle.outer_approx.specs.Standing.{IsOpenTrail};
 ghost use Rattle.outer_approx.specs.Task.{Task};
-ghost use Rattle.benson_primal.specs.Search.{AreDirectionsReached, AreReached, HasGrown, IsDone, IsFound, IsInScope, IsNextCut, IsRound, IsSearching, Stopped};
+ghost use Rattle.exact_field.specs.Rational.{ℚ};
+ghost use Rattle.lineality.specs.Without.{with_zeros};
+ghost use Rattle.benson_primal.specs.Search.{AreDirectionsReached, AreReached, HasGrown, HasSameRows, IsDone, IsFound, IsInScope, IsLiveVector, IsNextCut, IsRound, IsSearching, Stopped};
 
 use crate::nearby::{is_point, vector_nearby, violates};
 use benson_program::Cut;
@@ -15,10 +17,10 @@ use exact_field::Field;
 use exact_simplex::Kept;
 use incid_sets::Marks;
 use lp_form::Data;
-use outer_approx::{push_preimage, take, try_take};
+use outer_approx::{filled, push_preimage, take, try_take};
 use overflows::SolveFault;
 use recession::{Asked, ask};
-use src_sink::NoMemory;
+use src_sink::{Items, NoMemory};
 use std::alloc::Global;
 
 /// Which live generators are asked.
@@ -88,7 +90,10 @@ pub(crate) struct Search<'a, F: Field> {
     pub(crate) c: &'a [F],
     /// What combines the generators of the ordering cone to it.
     pub(crate) weights: &'a [F],
+    /// For each objective whether it stands at the place of a line.
+    pub(crate) places: Items<bool>,
     pub(crate) trail: Entries,
+    /// The rows and generators, without their entries at the places of lines.
     pub(crate) dd: Dd<F>,
     /// The numbers of the generators that have a pre-image.
     pub(crate) reached: Marks,
@@ -106,23 +111,36 @@ impl<'a, F: Field> Search<'a, F> {
         self.trail
     }
 
-    /// Asks at the live generator `g`, which has no pre-image yet: a cut that it violates, or
-    /// none, and then its pre-image stands in the log.
-    fn own_cut(&mut self, g: u32) -> Result<Option<Cut<F>>, SolveFault>
+    /// The live generator `g`, with zeros at the places of lines.
+    fn vector(&self, g: u32) -> Result<Items<F>, NoMemory>
+        ghost task: { Task }
+        requires searching { IsSearching F.value F.holds task self.now }
+        requires listed { Contains (numbers self.now.dd.list.live) g }
+        ensures live { IfOk result (λ full. IsLiveVector task self.now.trail g (map F.value full)) }
+        ensures only { IfOk result (λ full. (v : List ℚ) →
+            Contains self.now.dd.list.live (record { number = g; vector = v }) →
+            map F.value full ≡ with_zeros self.now.places v) }
+    {
+        filled(self.alloc, self.places.as_slice(), self.dd.generator(g))
+    }
+
+    /// Asks at the vector of the live generator `g`, which has no pre-image yet: a cut that it
+    /// violates, or none, and then its pre-image stands in the log.
+    fn ask_at(&mut self, g: u32, full: &[F]) -> Result<Option<Cut<F>>, SolveFault>
         ghost task: { Task }
         requires searching { IsSearching F.value F.holds task self.old }
-        requires listed { Contains (numbers self.old.dd.list.live) g }
+        requires live { IsLiveVector task self.old.trail g (map F.value full.now) }
         requires fresh { preimages self.old.trail g ≡ [] }
         ensures searching { OnOk result (IsSearching F.value F.holds task self.new) }
-        ensures dd { self.new.dd ≡ self.old.dd }
-        ensures cut { IfOk result (λ r. IfSome r (IsNextCut F.value task self.new.dd)) }
+        ensures rows { HasSameRows task self.old self.new }
+        ensures cut { IfOk result (λ r. IfSome r (IsNextCut F.value task self.new.trail)) }
         ensures reached { IfOk result (λ r. IfNone r (preimages self.new.trail g ≢ [])) }
-        ensures stay { OnOk result ((k : ℕ) → preimages self.old.trail k ≢ [] → preimages self.new.trail k ≢ []) }
+        ensures stay { OnOk result ((k : ℕ) →
+            preimages self.old.trail k ≢ [] → preimages self.new.trail k ≢ []) }
         ensures stopped { IfErr result (Stopped F.holds task self.new) }
     {
-        let generator = self.dd.generator(g);
-        let t = is_point(generator);
-        let v = &generator[..self.c.len()];
+        let t = is_point(full);
+        let v = &full[..self.c.len()];
         match ask(
             self.alloc,
             self.form,
@@ -141,23 +159,43 @@ impl<'a, F: Field> Search<'a, F> {
         }
     }
 
-    /// A cut that the live generator `g` violates, asked at a vector with short entries near by,
-    /// if `g` has long ones and there is such a cut: each cut of Benson's program is valid,
-    /// whoever asked for it. An overflow is dropped there, as no licence names such a vector.
-    fn near_cut(&mut self, g: u32) -> Result<Option<Cut<F>>, NoMemory>
+    /// Asks at the live generator `g`, which has no pre-image yet: a cut that it violates, or
+    /// none, and then its pre-image stands in the log.
+    fn own_cut(&mut self, g: u32) -> Result<Option<Cut<F>>, SolveFault>
         ghost task: { Task }
         requires searching { IsSearching F.value F.holds task self.old }
         requires listed { Contains (numbers self.old.dd.list.live) g }
+        requires fresh { preimages self.old.trail g ≡ [] }
+        ensures searching { OnOk result (IsSearching F.value F.holds task self.new) }
+        ensures rows { HasSameRows task self.old self.new }
+        ensures cut { IfOk result (λ r. IfSome r (IsNextCut F.value task self.new.trail)) }
+        ensures reached { IfOk result (λ r. IfNone r (preimages self.new.trail g ≢ [])) }
+        ensures stay { OnOk result ((k : ℕ) →
+            preimages self.old.trail k ≢ [] → preimages self.new.trail k ≢ []) }
+        ensures stopped { IfErr result (Stopped F.holds task self.new) }
+    {
+        let full = self.vector(g)?;
+        self.ask_at(g, full.as_slice())
+    }
+
+    /// A cut that the live generator `g` violates, asked near its vector.
+    fn ask_near(&mut self, g: u32, full: &[F]) -> Result<Option<Cut<F>>, NoMemory>
+        ghost task: { Task }
+        requires searching { IsSearching F.value F.holds task self.old }
+        requires listed { Contains (numbers self.old.dd.list.live) g }
+        requires live { IsLiveVector task self.old.trail g (map F.value full.now) }
+        requires only { (v : List ℚ) →
+            Contains self.old.dd.list.live (record { number = g; vector = v }) →
+            map F.value full.now ≡ with_zeros self.old.places v }
         ensures searching { IsSearching F.value F.holds task self.new }
         ensures trail { self.new.trail ≡ self.old.trail }
-        ensures dd { self.new.dd ≡ self.old.dd }
-        ensures cut { IfOk result (λ r. IfSome r (IsNextCut F.value task self.new.dd)) }
+        ensures rows { HasSameRows task self.old self.new }
+        ensures cut { IfOk result (λ r. IfSome r (IsNextCut F.value task self.new.trail)) }
     {
-        let generator = self.dd.generator(g);
-        let Some(near) = vector_nearby(self.alloc, &generator[..self.c.len()])? else {
+        let Some(near) = vector_nearby(self.alloc, &full[..self.c.len()])? else {
             return Ok(None);
         };
-        let t = is_point(generator);
+        let t = is_point(full);
         let near = near.as_slice();
         match ask(
             self.alloc,
@@ -169,7 +207,9 @@ impl<'a, F: Field> Search<'a, F> {
             &mut self.kept,
         ) {
             Ok(Asked::Cut(cut)) => {
-                if violates(self.alloc, generator, &cut)? {
+                let places = self.places.as_slice();
+                let short = self.dd.generator(g);
+                if violates(self.alloc, places, short, &cut)? {
                     Ok(Some(cut))
                 } else {
                     Ok(None)
@@ -181,6 +221,22 @@ impl<'a, F: Field> Search<'a, F> {
         }
     }
 
+    /// A cut that the live generator `g` violates, asked at a vector with short entries near by,
+    /// if `g` has long ones and there is such a cut: each cut of Benson's program is valid,
+    /// whoever asked for it. An overflow is dropped there, as no licence names such a vector.
+    fn near_cut(&mut self, g: u32) -> Result<Option<Cut<F>>, NoMemory>
+        ghost task: { Task }
+        requires searching { IsSearching F.value F.holds task self.old }
+        requires listed { Contains (numbers self.old.dd.list.live) g }
+        ensures searching { IsSearching F.value F.holds task self.new }
+        ensures trail { self.new.trail ≡ self.old.trail }
+        ensures rows { HasSameRows task self.old self.new }
+        ensures cut { IfOk result (λ r. IfSome r (IsNextCut F.value task self.new.trail)) }
+    {
+        let full = self.vector(g)?;
+        self.ask_near(g, full.as_slice())
+    }
+
     /// A cut that the live generator `g` violates, or none, and then it is not asked or has a
     /// pre-image. One with long entries is asked at a vector near by first.
     fn reach(&mut self, scope: Scope, g: u32) -> Result<Option<Found<F>>, SolveFault>
@@ -188,10 +244,11 @@ impl<'a, F: Field> Search<'a, F> {
         requires searching { IsSearching F.value F.holds task self.old }
         requires listed { Contains (numbers self.old.dd.list.live) g }
         ensures searching { OnOk result (IsSearching F.value F.holds task self.new) }
-        ensures dd { self.new.dd ≡ self.old.dd }
-        ensures found { IfOk result (λ r. IfSome r (IsFound F.value task self.new.dd)) }
+        ensures rows { HasSameRows task self.old self.new }
+        ensures found { IfOk result (λ r. IfSome r (IsFound F.value task self.new)) }
         ensures done { IfOk result (λ r. IfNone r (IsDone scope self.new.trail self.new.dd g)) }
-        ensures stay { OnOk result ((k : ℕ) → preimages self.old.trail k ≢ [] → preimages self.new.trail k ≢ []) }
+        ensures stay { OnOk result ((k : ℕ) →
+            preimages self.old.trail k ≢ [] → preimages self.new.trail k ≢ []) }
         ensures stopped { IfErr result (Stopped F.holds task self.new) }
     {
         if self.reached.has(g) {
@@ -221,13 +278,21 @@ impl<'a, F: Field> Search<'a, F> {
     fn try_cut(&mut self, cut: &Cut<F>) -> Result<bool, NoMemory>
         ghost task: { Task }
         requires searching { IsSearching F.value F.holds task self.old }
-        requires next { IsNextCut F.value task self.old.dd cut.now }
+        requires next { IsNextCut F.value task self.old.trail cut.now }
         ensures searching { OnOk result (IsSearching F.value F.holds task self.new) }
-        ensures grown { IfOk result (λ taken. IsTrue taken → HasGrown F.value task self.old.dd self.new.dd) }
-        ensures as_before { IfOk result (λ taken. taken ≡ false → self.new.dd ≡ self.old.dd) }
+        ensures grown { IfOk result (λ taken. IsTrue taken →
+            HasGrown F.value task self.old.trail self.new.trail) }
+        ensures as_before { IfOk result (λ taken. taken ≡ false →
+            HasSameRows task self.old self.new) }
         ensures trail { IsOpenTrail task self.new.trail }
     {
-        if try_take(self.alloc, &mut self.trail, &mut self.dd, cut)? {
+        if try_take(
+            self.alloc,
+            self.places.as_slice(),
+            &mut self.trail,
+            &mut self.dd,
+            cut,
+        )? {
             return Ok(true);
         }
         self.failed = self.failed.saturating_add(1);
@@ -247,7 +312,7 @@ impl<'a, F: Field> Search<'a, F> {
         ghost task: { Task }
         requires { IsSearching F.value F.holds task self.old }
         ensures searching { OnOk result (IsSearching F.value F.holds task self.new) }
-        ensures round { IfOk result (IsRound F.value task scope self.old.dd self.new) }
+        ensures round { IfOk result (IsRound F.value task scope self.old self.new) }
         ensures stopped { IfErr result (Stopped F.holds task self.new) }
     {
         let count = self.dd.live().len();
@@ -275,10 +340,10 @@ impl<'a, F: Field> Search<'a, F> {
     fn kept_cut(&mut self, found: Found<F>) -> Result<Cut<F>, SolveFault>
         ghost task: { Task }
         requires searching { IsSearching F.value F.holds task self.old }
-        requires found { IsFound F.value task self.old.dd found }
+        requires found { IsFound F.value task self.old found }
         ensures searching { OnOk result (IsSearching F.value F.holds task self.new) }
-        ensures dd { self.new.dd ≡ self.old.dd }
-        ensures cut { IfOk result (IsNextCut F.value task self.new.dd) }
+        ensures rows { HasSameRows task self.old self.new }
+        ensures cut { IfOk result (IsNextCut F.value task self.new.trail) }
         ensures stopped { IfErr result (Stopped F.holds task self.new) }
     {
         let Found {
@@ -304,13 +369,19 @@ impl<'a, F: Field> Search<'a, F> {
     fn settle(&mut self, found: Found<F>) -> Result<(), SolveFault>
         ghost task: { Task }
         requires searching { IsSearching F.value F.holds task self.old }
-        requires found { IsFound F.value task self.old.dd found }
+        requires found { IsFound F.value task self.old found }
         ensures searching { OnOk result (IsSearching F.value F.holds task self.new) }
-        ensures grown { OnOk result (HasGrown F.value task self.old.dd self.new.dd) }
+        ensures grown { OnOk result (HasGrown F.value task self.old.trail self.new.trail) }
         ensures stopped { IfErr result (Stopped F.holds task self.new) }
     {
         let cut = self.kept_cut(found)?;
-        take(self.alloc, &mut self.trail, &mut self.dd, &cut)
+        take(
+            self.alloc,
+            self.places.as_slice(),
+            &mut self.trail,
+            &mut self.dd,
+            &cut,
+        )
     }
 
     /// Brings a cut into use that a live generator violates, and answers whether there is one: if
@@ -319,7 +390,8 @@ impl<'a, F: Field> Search<'a, F> {
         ghost task: { Task }
         requires { IsSearching F.value F.holds task self.old }
         ensures searching { OnOk result (IsSearching F.value F.holds task self.new) }
-        ensures grown { IfOk result (λ more. IsTrue more → HasGrown F.value task self.old.dd self.new.dd) }
+        ensures grown { IfOk result (λ more. IsTrue more →
+            HasGrown F.value task self.old.trail self.new.trail) }
         ensures reached { IfOk result (λ more. more ≡ false → AreReached scope self.new.trail self.new.dd) }
         ensures stopped { IfErr result (Stopped F.holds task self.new) }
     {

@@ -35,21 +35,6 @@ returns-in-Whole-clause-ok g c =
     (subst (λ t. IsEnded t log) (task_is value holds g.file d h cs ws c.as_slice-c.ensures.items c.as_slice-weights.ensures.items)
     c.in_ok-everything_log-in-Whole.ensures))
 
-pub returns-in-Line-clause-ok : goal.returns-in-Line-clause-ok
-returns-in-Line-clause-ok g c =
-    let value = g.F.Field.value in
-    let holds = g.F.Field.holds in
-    let d = c.args.duality in
-    let h = c.requires.1.1 in
-    let cs = c.as_slice-c.result.now in
-    let ws = c.as_slice-weights.result.now in
-    let log = c.in_ok-line_log-in-Line.field-0 in
-    handed value holds g.file d h cs ws c.as_slice-c.ensures.items c.as_slice-weights.ensures.items (λ c' weights'. IsOwnLog holds g.file c' weights' log)
-    (own_log holds (task value holds g.file d h cs ws c.as_slice-c.ensures.items c.as_slice-weights.ensures.items)
-    (fitting value holds g.file d h cs ws c.as_slice-c.ensures.items c.as_slice-weights.ensures.items) log
-    (subst (λ t. IsEnded t log) (task_is value holds g.file d h cs ws c.as_slice-c.ensures.items c.as_slice-weights.ensures.items)
-    c.in_ok-line_log-in-Line.ensures))
-
 pub described-requires : goal.described-requires
 described-requires g c κs within =
     let value = g.F.Field.value in
@@ -58,12 +43,16 @@ described-requires g c κs within =
     let h = c.requires.1.1 in
     let cs = c.as_slice-c.result.now in
     let ws = c.as_slice-weights.result.now in
+    let ls = c.as_slice-lines.result.now in
+    let cuts = c.as_slice-cuts.result.now in
     let t = task value holds g.file d h cs ws c.as_slice-c.ensures.items c.as_slice-weights.ensures.items in
-    let first : AreFirstCuts value t c.as_slice-in-Cuts.result.now =
-    subst (λ l. AreFirstCuts value t l) (sym c.as_slice-in-Cuts.ensures.items) (subst (λ f. IsFirst value t f) c.in-Cuts.is c.in_ok-u.ensures.ok) in (
+    let first : AreFirstCuts value t c.in-Cuts.x ls cuts =
+    subst (λ l. AreFirstCuts value t c.in-Cuts.x l cuts) (sym c.as_slice-lines.ensures.items)
+    (subst (λ l. AreFirstCuts value t c.in-Cuts.x c.in-Cuts.lines l) (sym c.as_slice-cuts.ensures.items)
+    (subst (λ f. IsFirst value t f) c.in-Cuts.is c.in_ok-u.ensures.ok)) in (
       search rules,
       (
-        known value holds g.file d h cs ws c.as_slice-c.ensures.items c.as_slice-weights.ensures.items c.args.form.now c.requires.1.0 c.as_slice-in-Cuts.result.now first,
+        known value holds g.file d h cs ws c.as_slice-c.ensures.items c.as_slice-weights.ensures.items c.args.form.now c.requires.1.0 c.in-Cuts.x ls cuts first,
         (
           (
             h.picks,

@@ -3,5 +3,4 @@ use Rattle.benson_primal.proofs.search.Search.approximate.Goals as goal
 
 pub loop-smaller : goal.loop-smaller
 loop-smaller g c =
-    let grown = c.in_ok-turn.ensures.grown c.if-branch.true in
-    turn_falls g.F.Field.value g.task c.loop.self.dd c.turn.new.self.dd grown.cut grown.next grown.rows
+    turn_falls g.F.Field.value g.task c.loop.self.trail c.turn.new.self.trail (c.in_ok-turn.ensures.grown c.if-branch.true)

@@ -1,14 +1,17 @@
-use Rattle.std.proofs.Common.{◌≢◌, [], List, subst, sym, arith}
+use Rattle.std.proofs.Common.{◌≢◌, [], List, map, subst, sym, ◌∙◌, arith}
+use Rattle.std.proofs.lemmas.List.{length-map}
 use Rattle.deriv_log.specs.declared.entry.Entry.{Entry}
 use Rattle.log_rules.specs.Live.{preimages}
-use Rattle.benson_primal.proofs.Asked.{long}
+use Rattle.benson_primal.proofs.Asked.{short_wide}
 use Rattle.benson_primal.proofs.Marked.{done_left_out}
 use Rattle.benson_primal.proofs.search.Search.reach.Goals as goal
 
 pub is_left_out-requires : goal.is_left_out-requires
 is_left_out-requires g c =
     let s = c.args.self.now in
-    let l = long g.F.Field.value g.task s.trail s.dd c.requires.1.0.outer c.args.g c.generator.result.now c.generator.ensures.listed in
+    let value = g.F.Field.value in
+    let short = c.generator.result.now in
+    let l = sym (length-map short value) ∙ short_wide g.task s.trail s.dd c.requires.1.0.outer c.args.g (map value short) c.generator.ensures.listed in
     omega (arith, l)
 
 pub returns-then-is_left_out-clause-done : goal.returns-then-is_left_out-clause-done
