@@ -1,7 +1,9 @@
--- Where the feasible set is bounded and not empty and the cone is the orthant, the image has vertices.
+-- Where the feasible set is bounded and not empty and the cone is the orthant, the image is no whole
+-- space and has no line.
 use Rattle.std.proofs.Common.{◌≡◌, ℕ, zero, suc, ◌-◌, List, [], ◌∷◌, map, length, slice_index_or, refl, sym, ap, ap₂, ◌∙◌, subst, arith, IsTrue}
 use Rattle.std.proofs.lemmas.Bool.{cond_both}
 use Rattle.std.proofs.lemmas.List.{length-map}
+use Rattle.std.proofs.lemmas.List.Elements.{All-head}
 use Rattle.exact_field.specs.Rational.{ℚ, zero_ℚ, one_ℚ, ◌+ℚ◌, neg_ℚ, le_ℚ, ◌≤ℚ◌}
 use Rattle.exact_field.proofs.Inequalities.{zero_between, lt-not-le, lt-not-same, zero-lt-one, neg-le}
 use Rattle.exact_field.proofs.Rationals.{add-zero_ℚ, neg-zero_ℚ, neg-neg_ℚ}
@@ -16,10 +18,12 @@ use Rattle.vlp_reader.specs.declared.problem.Dir.{Dir}
 use Rattle.vlp_reader.specs.declared.problem.Dir.TheVariants.{Min, Max}
 use Rattle.upper_image.specs.OrderingCone.{IsNonnegative, IsIn, IsInOrderingCone}
 use Rattle.upper_image.specs.Spots.{dense}
+use Rattle.upper_image.specs.Witnesses.{IsShownLine}
 use Rattle.upper_image.specs.UpperImage.{objectives, rest, signed, turned, IsDirectionPreimage}
 use Rattle.upper_image.proofs.Coordinates.{length-turned}
 use Rattle.upper_image.proofs.WorkingImage.{objectives_many, infeasible_is_empty}
-use Rattle.log_rules.specs.declared.answer.Answer.TheVariants.{Infeasible, Whole, NoVertex, Solved}
+use Rattle.log_rules.specs.declared.answer.Answer.TheVariants.{Infeasible, Whole, Solved}
+use Rattle.log_rules.specs.declared.answer.LineGen.{LineGen}
 use Rattle.sample_file.specs.Laws.{BoundedAreSolved, IsBounded}
 
 -- ---- numbers
@@ -70,6 +74,13 @@ direction_in file d x cone bounded h =
     (in_orthant file y cone
     (subst (IsInOrderingCone file) (rest_there file y x (length-turned file.dir d ∙ h.wide) (bounded x h.recedes)) h.above)).entries
 
+-- no vector with 1 as its first entry is there with its negative
+no_line : (file : Problem) (l : LineGen) → file.cone ≡ Orthant → IsBounded file → IsShownLine file l.d l.ray l.back → leading l.d ≡ one_ℚ → ⊥
+no_line file l cone bounded h e =
+    lt-not-same zero_ℚ one_ℚ zero-lt-one
+    (sym (no_leading file.dir l.d (direction_in file l.d (dense file.cols l.ray) cone bounded h.forth.shown)
+    (direction_in file (map neg_ℚ l.d) (dense file.cols l.back) cone bounded h.back_too.shown)) ∙ e)
+
 pub bounded_are_solved : BoundedAreSolved
 bounded_are_solved file x (Infeasible u) cone feasible bounded right = absurd (infeasible_is_empty file u right x feasible)
 bounded_are_solved file x (Whole c point ray) cone feasible bounded right =
@@ -77,10 +88,9 @@ bounded_are_solved file x (Whole c point ray) cone feasible bounded right =
     let minus : List ℚ = map neg_ℚ c in
     let there = rest_there file minus (dense file.cols ray) (length-map c neg_ℚ ∙ wide) (bounded (dense file.cols ray) right.recedes) in
     absurd (against_one c (file.objs - 1) (in_orthant file minus cone (subst (IsInOrderingCone file) there right.against)).entries right.fits.last)
-bounded_are_solved file x (NoVertex c point d ray back cut) cone feasible bounded right =
-    let line = right.0 in
-    absurd (lt-not-same zero_ℚ one_ℚ zero-lt-one
-    (sym (no_leading file.dir d (direction_in file d (dense file.cols ray) cone bounded line.forth.shown)
-    (direction_in file (map neg_ℚ d) (dense file.cols back) cone bounded line.back_too.shown)) ∙ line.leading_one))
-bounded_are_solved file x (Solved c points directions facets) cone feasible bounded right =
+bounded_are_solved file x (Solved c [] points directions facets) cone feasible bounded right =
     record { c = c; points = points; directions = directions; facets = facets; same = refl }
+bounded_are_solved file x (Solved c (l ∷ ls) points directions facets) cone feasible bounded right =
+    absurd (no_line file l cone bounded
+    (All-head (λ (k : LineGen). IsShownLine file k.d k.ray k.back) l ls right.lines_shown)
+    (All-head (λ (d : List ℚ). leading d ≡ one_ℚ) l.d (map (λ (k : LineGen). k.d) ls) right.lines_are.leading_one))

@@ -20,7 +20,8 @@ SamplesRead = (number : ℕ) (file : Problem) → IsSample number file → Reads
 abbrev pub IsBounded : Problem → Type 0
 IsBounded file = (x : List ℚ) → IsRecession file x → x ≡ zeros file.cols
 
--- the right answer of a file with a bounded feasible set that is not empty, and the orthant as ordering cone, lists its image
+-- the right answer of a file with a bounded feasible set that is not empty, and the orthant as
+-- ordering cone, lists its image, which has no line
 abbrev pub BoundedAreSolved : Type 0
 BoundedAreSolved = (file : Problem) (x : List ℚ) (answer : Answer) → file.cone ≡ Orthant → IsFeasible file x → IsBounded file →
     IsRight file answer → IsSolved answer

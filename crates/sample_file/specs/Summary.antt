@@ -8,13 +8,13 @@ use Rattle.log_rules.specs.declared.answer.Facet.{Facet}
 use Rattle.log_rules.specs.declared.answer.Gen.{Gen}
 use Rattle.exact_field.specs.Rational.{ℚ}
 
--- an answer that lists the vertices, extreme directions and facets of the image
+-- an answer that lists the vertices, extreme directions and facets of an image without a line
 pub record IsSolved (answer : Answer) : Type 0 where
   pub c : List ℚ
   pub points : List Gen
   pub directions : List Gen
   pub facets : List Facet
-  pub same : answer ≡ Solved c points directions facets
+  pub same : answer ≡ Solved c [] points directions facets
 
 -- five lines: the number of the sample, that it is solved, and how many points, directions and facets there are
 abbrev pub summary_lines : (number points directions facets : ℕ) → List (List (List ℕ))

@@ -1,5 +1,5 @@
 -- A report tells its answer.
-use Rattle.std.proofs.Common.{◌≡◌, refl, sym, ap, ◌∙◌, arith, ℕ, zero, suc, ◌-◌, ◌==◌, ◌<◌, Bool, true, ◌&&◌, IsTrue, nat_lt, List, [], ◌∷◌, ◌++◌, length, map, take, drop, replicate, count_by, codes, decimal, append_assoc, append-nil}
+use Rattle.std.proofs.Common.{◌≡◌, refl, sym, ap, ◌∙◌, arith, ℕ, zero, suc, ◌-◌, ◌==◌, Bool, true, List, [], ◌∷◌, ◌++◌, length, map, take, drop, replicate, count_by, codes, decimal, append_assoc, append-nil}
 use Rattle.std.specs.List.{list_all, flat_map, slice_split, join_with_byte, AllByRecursion}
 use Rattle.std.proofs.lemmas.Bool.{and_parts, and_from}
 use Rattle.std.proofs.lemmas.List.{same_from_push, length-map}
@@ -22,13 +22,13 @@ use Rattle.deriv_log.proofs.Cutting.{Lacks, Lacks-join, slice_split-join}
 use Rattle.deriv_log.proofs.Entries.{IsPrinted, Printed, printed_natural, printed_number, printed_letters, printed_append, printed_short, printed_each, printed_map, printed_spot, no_blanks, no_feeds}
 use Rattle.deriv_log.proofs.Forms.{Words}
 use Rattle.deriv_log.proofs.OneEntry.{same_short, told_spot, told_list}
-use Rattle.log_rules.specs.Report.{vector_line, sparse_line, facet_line, dual_line, downward, dual_direction_line, incidence_line, section, answer_name, head_lines, image_lines, witness_lines, report_lines, report_text}
-use Rattle.log_rules.specs.Right.{IsRight}
+use Rattle.log_rules.specs.Report.{vector_line, sparse_line, line_lines, facet_line, dual_line, downward, dual_direction_line, incidence_line, section, answer_name, head_lines, image_lines, witness_lines, report_lines}
 use Rattle.log_rules.specs.declared.answer.Answer.{Answer}
-use Rattle.log_rules.specs.declared.answer.Answer.TheVariants.{Infeasible, Whole, NoVertex, Solved}
+use Rattle.log_rules.specs.declared.answer.Answer.TheVariants.{Infeasible, Whole, Solved}
 use Rattle.log_rules.specs.declared.answer.Facet.{Facet}
 use Rattle.log_rules.specs.declared.answer.Gen.{Gen}
-use Rattle.sol_writer.specs.OneReport.{shown, is_short_list, is_held_sparse, is_held_gen, is_held_cut, is_held_facet, is_held_answer, OneAnswerToAReport}
+use Rattle.log_rules.specs.declared.answer.LineGen.{LineGen}
+use Rattle.sol_writer.specs.OneReport.{is_short_list, is_held_sparse, is_held_line, is_held_gen, is_held_facet, is_held_answer, OneAnswerToAReport}
 
 -- ---- lines of a text
 -- a line has a word, and no word of it is empty or has a blank or a line feed
@@ -104,17 +104,26 @@ word_1 = printed_letters (codes "1") (omega arith) refl
 word_0 : IsPrinted (codes "0")
 word_0 = printed_letters (codes "0") (omega arith) refl
 
-facet_is_line : (f : Facet) → is_held_cut f ≡ true → IsLine (facet_line f)
-facet_is_line f h =
-    let p = and_parts (list_all is_held f.w) _ h in
-    let q = and_parts (is_held f.gamma) (is_held_sparse f.u) p.1 in
-    vector_is_line (codes "f") (f.w ++ f.gamma ∷ []) (printed_letters (codes "f") (omega arith) refl) (held_push f.w f.gamma p.0 q.0)
+record FacetParts (f : Facet) : Type 0 where
+  pub w_held : list_all is_held f.w ≡ true
+  pub gamma_held : is_held f.gamma ≡ true
+  pub u_held : is_held_sparse f.u ≡ true
+  pub tight_held : is_short_list is_short f.tight ≡ true
 
-dual_is_line : (n : ℕ) (f : Facet) → is_held_cut f ≡ true → IsLine (dual_line n f)
-dual_is_line n f h =
+facet_parts : (f : Facet) → is_held_facet f ≡ true → FacetParts f
+facet_parts f h =
     let p = and_parts (list_all is_held f.w) _ h in
-    let q = and_parts (is_held f.gamma) (is_held_sparse f.u) p.1 in
-    vector_is_line (codes "1") (take (n - 1) f.w ++ f.gamma ∷ []) word_1 (held_push (take (n - 1) f.w) f.gamma (held_front (n - 1) f.w p.0) q.0)
+    let q = and_parts (is_held f.gamma) _ p.1 in
+    let r = and_parts (is_held_sparse f.u) (is_short_list is_short f.tight) q.1 in
+    record { w_held = p.0; gamma_held = q.0; u_held = r.0; tight_held = r.1 }
+
+facet_is_line : (f : Facet) → FacetParts f → IsLine (facet_line f)
+facet_is_line f p =
+    vector_is_line (codes "f") (f.w ++ f.gamma ∷ []) (printed_letters (codes "f") (omega arith) refl) (held_push f.w f.gamma p.w_held p.gamma_held)
+
+dual_is_line : (n : ℕ) (f : Facet) → FacetParts f → IsLine (dual_line n f)
+dual_is_line n f p =
+    vector_is_line (codes "1") (take (n - 1) f.w ++ f.gamma ∷ []) word_1 (held_push (take (n - 1) f.w) f.gamma (held_front (n - 1) f.w p.w_held) p.gamma_held)
 
 printed_zeros : (n : ℕ) → Printed (replicate n (codes "0"))
 printed_zeros zero = tt
@@ -138,20 +147,24 @@ section_is_lines name line good n g xs h =
     let p = and_parts (is_short (length xs)) (list_all good xs) h in
     ((n, (printed_short (length xs) p.0, tt)), lines_map line good g xs p.1)
 
-facet_parts : (f : Facet) → is_held_facet f ≡ true → (is_held_cut f ≡ true) × (is_short_list is_short f.tight ≡ true)
-facet_parts f h = and_parts (is_held_cut f) (is_short_list is_short f.tight) h
-
 gen_parts : (g : Gen) → is_held_gen g ≡ true → (list_all is_held g.y ≡ true) × (is_held_sparse g.pre ≡ true)
 gen_parts g h = and_parts (list_all is_held g.y) (is_held_sparse g.pre) h
 
-cut_sparse : (f : Facet) → is_held_cut f ≡ true → is_held_sparse f.u ≡ true
-cut_sparse f h = (and_parts (is_held f.gamma) (is_held_sparse f.u) (and_parts (list_all is_held f.w) (is_held f.gamma && is_held_sparse f.u) h).1).1
+record LineParts (l : LineGen) : Type 0 where
+  pub d_held : list_all is_held l.d ≡ true
+  pub ray_held : is_held_sparse l.ray ≡ true
+  pub back_held : is_held_sparse l.back ≡ true
+
+line_parts : (l : LineGen) → is_held_line l ≡ true → LineParts l
+line_parts l h =
+    let p = and_parts (list_all is_held l.d) _ h in
+    let q = and_parts (is_held_sparse l.ray) (is_held_sparse l.back) p.1 in
+    record { d_held = p.0; ray_held = q.0; back_held = q.1 }
 
 name_is_word : (a : Answer) → IsPrinted (answer_name a)
 name_is_word (Infeasible u) = printed_letters (codes "infeasible") (omega arith) refl
 name_is_word (Whole c x ray) = printed_letters (codes "whole") (omega arith) refl
-name_is_word (NoVertex c x d ray back cut) = printed_letters (codes "novertex") (omega arith) refl
-name_is_word (Solved c points directions facets) = printed_letters (codes "solved") (omega arith) refl
+name_is_word (Solved c ls points directions facets) = printed_letters (codes "solved") (omega arith) refl
 
 head_is_lines : (f : Problem) (a : Answer) → AllByRecursion IsLine (head_lines f a)
 head_is_lines f a = (
@@ -171,76 +184,93 @@ head_is_lines f a = (
   ),
 )
 
-record SolvedParts (c : List ℚ) (points directions : List Gen) (facets : List Facet) : Type 0 where
+record SolvedParts (c : List ℚ) (ls : List LineGen) (points directions : List Gen) (facets : List Facet) : Type 0 where
   pub c_held : list_all is_held c ≡ true
+  pub lines_held : is_short_list is_held_line ls ≡ true
   pub points_held : is_short_list is_held_gen points ≡ true
   pub directions_held : is_short_list is_held_gen directions ≡ true
   pub facets_held : is_short_list is_held_facet facets ≡ true
 
-solved_parts : (c : List ℚ) (points directions : List Gen) (facets : List Facet) → is_held_answer (Solved c points directions facets) ≡ true → SolvedParts c points directions facets
-solved_parts c points directions facets h =
-    let p = and_parts (list_all is_held c) _ h in
+solved_parts : (c : List ℚ) (ls : List LineGen) (points directions : List Gen) (facets : List Facet) → is_held_answer (Solved c ls points directions facets) ≡ true →
+    SolvedParts c ls points directions facets
+solved_parts c ls points directions facets h =
+    let o = and_parts (list_all is_held c) _ h in
+    let p = and_parts (is_short_list is_held_line ls) _ o.1 in
     let q = and_parts (is_short_list is_held_gen points) _ p.1 in
     let r = and_parts (is_short_list is_held_gen directions) (is_short_list is_held_facet facets) q.1 in
-    record { c_held = p.0; points_held = q.0; directions_held = r.0; facets_held = r.1 }
+    record { c_held = o.0; lines_held = p.0; points_held = q.0; directions_held = r.0; facets_held = r.1 }
 
 all_of : {X : Type 0} (good : X → Bool) (xs : List X) → is_short_list good xs ≡ true → list_all good xs ≡ true
 all_of good xs h = (and_parts (is_short (length xs)) (list_all good xs) h).1
 
+-- the line of a line, and those of its two pre-images
+abbrev line_of : LineGen → Words
+line_of l = vector_line (codes "l") l.d
+
+abbrev ways : LineGen → List Words
+ways l = sparse_line (codes "r") l.ray ∷ sparse_line (codes "r") l.back ∷ []
+
+word_r : IsPrinted (codes "r")
+word_r = printed_letters (codes "r") (omega arith) refl
+
+lines_are_lines : (ls : List LineGen) → is_short_list is_held_line ls ≡ true → AllByRecursion IsLine (line_lines ls)
+lines_are_lines [] h = tt
+lines_are_lines (l ∷ ls) h = section_is_lines (codes "lines") line_of is_held_line (printed_letters (codes "lines") (omega arith) refl)
+    (λ k g. vector_is_line (codes "l") k.d (printed_letters (codes "l") (omega arith) refl) (line_parts k g).d_held) (l ∷ ls) h
+
+ways_are_lines : (ls : List LineGen) → list_all is_held_line ls ≡ true → AllByRecursion IsLine (flat_map ways ls)
+ways_are_lines [] h = tt
+ways_are_lines (l ∷ ls) h =
+    let p = and_parts (is_held_line l) (list_all is_held_line ls) h in
+    let parts = line_parts l p.0 in
+    (sparse_is_line (codes "r") l.ray word_r parts.ray_held, (sparse_is_line (codes "r") l.back word_r parts.back_held, ways_are_lines ls p.1))
+
 image_is_lines : (f : Problem) (a : Answer) → is_held_answer a ≡ true → AllByRecursion IsLine (image_lines f a)
 image_is_lines f (Infeasible u) h = tt
 image_is_lines f (Whole c x ray) h = (vector_is_line (codes "c") c (printed_letters (codes "c") (omega arith) refl) (and_parts (list_all is_held c) _ h).0, tt)
-image_is_lines f (NoVertex c x d ray back cut) h = (vector_is_line (codes "c") c (printed_letters (codes "c") (omega arith) refl) (and_parts (list_all is_held c) _ h).0, tt)
-image_is_lines f (Solved c points directions facets) h =
-    let p = solved_parts c points directions facets h in
+image_is_lines f (Solved c ls points directions facets) h =
+    let p = solved_parts c ls points directions facets h in
     let c_line = vector_is_line (codes "c") c (printed_letters (codes "c") (omega arith) refl) p.c_held in
     let one = section_is_lines (codes "points") (λ g. vector_line (codes "1") g.y) is_held_gen (printed_letters (codes "points") (omega arith) refl)
     (λ g k. vector_is_line (codes "1") g.y word_1 (gen_parts g k).0) points p.points_held in
     let two = section_is_lines (codes "directions") (λ g. vector_line (codes "0") g.y) is_held_gen (printed_letters (codes "directions") (omega arith) refl)
     (λ g k. vector_is_line (codes "0") g.y word_0 (gen_parts g k).0) directions p.directions_held in
     let three = section_is_lines (codes "facets") facet_line is_held_facet (printed_letters (codes "facets") (omega arith) refl)
-    (λ x k. facet_is_line x (facet_parts x k).0) facets p.facets_held in
+    (λ x k. facet_is_line x (facet_parts x k)) facets p.facets_held in
     let four = section_is_lines (codes "dual") (dual_line f.objs) is_held_facet (printed_letters (codes "dual") (omega arith) refl)
-    (λ x k. dual_is_line f.objs x (facet_parts x k).0) facets p.facets_held in
+    (λ x k. dual_is_line f.objs x (facet_parts x k)) facets p.facets_held in
     let five = section_is_lines (codes "incidence") incidence_line is_held_facet (printed_letters (codes "incidence") (omega arith) refl)
-    (λ x k. incidence_is_line x (facet_parts x k).1) facets p.facets_held in
-    let first : AllByRecursion IsLine (vector_line (codes "c") c ∷ section (codes "points") (λ g. vector_line (codes "1") g.y) points) = (c_line, one) in
+    (λ x k. incidence_is_line x (facet_parts x k).tight_held) facets p.facets_held in
+    let first : AllByRecursion IsLine (vector_line (codes "c") c ∷ line_lines ls) = (c_line, lines_are_lines ls p.lines_held) in
     let last : AllByRecursion IsLine (dual_direction_line f ∷ section (codes "incidence") incidence_line facets) = (direction_is_line f, five) in
-    let a : List Words = vector_line (codes "c") c ∷ section (codes "points") (λ g. vector_line (codes "1") g.y) points in
+    let k : List Words = vector_line (codes "c") c ∷ line_lines ls in
+    let a : List Words = section (codes "points") (λ g. vector_line (codes "1") g.y) points in
     let b : List Words = section (codes "directions") (λ g. vector_line (codes "0") g.y) directions in
     let e : List Words = section (codes "facets") facet_line facets in
     let d : List Words = section (codes "dual") (dual_line f.objs) facets in
     let z : List Words = dual_direction_line f ∷ section (codes "incidence") incidence_line facets in
-    lines_append (((a ++ b) ++ e) ++ d) z (lines_append ((a ++ b) ++ e) d (lines_append (a ++ b) e (lines_append a b first two) three) four) last
+    lines_append ((((k ++ a) ++ b) ++ e) ++ d) z
+    (lines_append (((k ++ a) ++ b) ++ e) d (lines_append ((k ++ a) ++ b) e (lines_append (k ++ a) b (lines_append k a first one) two) three) four) last
 
 witness_is_lines : (a : Answer) → is_held_answer a ≡ true → AllByRecursion IsLine (witness_lines a)
 witness_is_lines (Infeasible u) h = (sparse_is_line (codes "u") u (printed_letters (codes "u") (omega arith) refl) h, tt)
 witness_is_lines (Whole c x ray) h =
     let p = and_parts (list_all is_held c) _ h in
     let q = and_parts (is_held_sparse x) (is_held_sparse ray) p.1 in
-    (sparse_is_line (codes "x") x (printed_letters (codes "x") (omega arith) refl) q.0, (sparse_is_line (codes "r") ray (printed_letters (codes "r") (omega arith) refl) q.1, tt))
-witness_is_lines (NoVertex c x d ray back cut) h =
-    let p = and_parts (list_all is_held c) _ h in
-    let q = and_parts (is_held_sparse x) _ p.1 in
-    let r = and_parts (list_all is_held d) _ q.1 in
-    let s = and_parts (is_held_sparse ray) _ r.1 in
-    let t = and_parts (is_held_sparse back) (is_held_cut cut) s.1 in
-    let u_line = sparse_is_line (codes "u") cut.u (printed_letters (codes "u") (omega arith) refl) (cut_sparse cut t.1) in
-    let back_line = sparse_is_line (codes "r") back (printed_letters (codes "r") (omega arith) refl) t.0 in
-    let ray_line = sparse_is_line (codes "r") ray (printed_letters (codes "r") (omega arith) refl) s.0 in
-    let d_line = vector_is_line (codes "l") d (printed_letters (codes "l") (omega arith) refl) r.0 in
-    (sparse_is_line (codes "x") x (printed_letters (codes "x") (omega arith) refl) q.0, (d_line, (ray_line, (back_line, (facet_is_line cut t.1, (u_line, tt))))))
-witness_is_lines (Solved c points directions facets) h =
-    let p = solved_parts c points directions facets h in
+    (sparse_is_line (codes "x") x (printed_letters (codes "x") (omega arith) refl) q.0, (sparse_is_line (codes "r") ray word_r q.1, tt))
+witness_is_lines (Solved c ls points directions facets) h =
+    let p = solved_parts c ls points directions facets h in
     let one = lines_map (λ g. sparse_line (codes "x") g.pre) is_held_gen (λ g k. sparse_is_line (codes "x") g.pre (printed_letters (codes "x") (omega arith) refl) (gen_parts g k).1) points
     (all_of is_held_gen points p.points_held) in
-    let two = lines_map (λ g. sparse_line (codes "r") g.pre) is_held_gen (λ g k. sparse_is_line (codes "r") g.pre (printed_letters (codes "r") (omega arith) refl) (gen_parts g k).1) directions
+    let two = lines_map (λ g. sparse_line (codes "r") g.pre) is_held_gen (λ g k. sparse_is_line (codes "r") g.pre word_r (gen_parts g k).1) directions
     (all_of is_held_gen directions p.directions_held) in
-    let three = lines_map (λ x. sparse_line (codes "u") x.u) is_held_facet (λ x k. sparse_is_line (codes "u") x.u (printed_letters (codes "u") (omega arith) refl) (cut_sparse x (facet_parts x k).0)) facets
+    let three = lines_map (λ x. sparse_line (codes "u") x.u) is_held_facet (λ x k. sparse_is_line (codes "u") x.u (printed_letters (codes "u") (omega arith) refl) (facet_parts x k).u_held) facets
     (all_of is_held_facet facets p.facets_held) in
+    let k : List Words = flat_map ways ls in
     let a : List Words = map (λ g. sparse_line (codes "x") g.pre) points in
     let b : List Words = map (λ g. sparse_line (codes "r") g.pre) directions in
-    lines_append (a ++ b) (map (λ x. sparse_line (codes "u") x.u) facets) (lines_append a b one two) three
+    lines_append ((k ++ a) ++ b) (map (λ x. sparse_line (codes "u") x.u) facets)
+    (lines_append (k ++ a) b (lines_append k a (ways_are_lines ls (all_of is_held_line ls p.lines_held)) one) two) three
 
 report_is_lines : (f : Problem) (a : Answer) → is_held_answer a ≡ true → AllByRecursion IsLine (report_lines f a)
 report_is_lines f a h =
@@ -276,14 +306,10 @@ same_sparse first first' u v h k e =
     (told_list spot_words is_formed_spot told_spot u v [] [] p.0 q.0 p.1 q.1
     (ap (λ ws. decimal (length u) ∷ ws) (append-nil (flat_map spot_words u)) ∙ words ∙ ap (λ ws. decimal (length v) ∷ ws) (sym (append-nil (flat_map spot_words v))))).0
 
-same_facet_line : (f g : Facet) → is_held_cut f ≡ true → is_held_cut g ≡ true → facet_line f ≡ facet_line g → (f.w ≡ g.w) × (f.gamma ≡ g.gamma)
-same_facet_line f g h k e =
-    let p = and_parts (list_all is_held f.w) _ h in
-    let q = and_parts (is_held f.gamma) (is_held_sparse f.u) p.1 in
-    let r = and_parts (list_all is_held g.w) _ k in
-    let s = and_parts (is_held g.gamma) (is_held_sparse g.u) r.1 in
+same_facet_line : (f g : Facet) → FacetParts f → FacetParts g → facet_line f ≡ facet_line g → (f.w ≡ g.w) × (f.gamma ≡ g.gamma)
+same_facet_line f g p q e =
     same_from_push f.w g.w f.gamma g.gamma
-    (same_vector (codes "f") (codes "f") (f.w ++ f.gamma ∷ []) (g.w ++ g.gamma ∷ []) (held_push f.w f.gamma p.0 q.0) (held_push g.w g.gamma r.0 s.0) e)
+    (same_vector (codes "f") (codes "f") (f.w ++ f.gamma ∷ []) (g.w ++ g.gamma ∷ []) (held_push f.w f.gamma p.w_held p.gamma_held) (held_push g.w g.gamma q.w_held q.gamma_held) e)
 
 same_incidence : (f g : Facet) → is_short_list is_short f.tight ≡ true → is_short_list is_short g.tight ≡ true → incidence_line f ≡ incidence_line g → f.tight ≡ g.tight
 same_incidence f g h k e =
@@ -359,53 +385,98 @@ same_facets (x ∷ xs) (y ∷ ys) h k e d c =
     let duals : map (λ f. sparse_line (codes "u") f.u) xs ≡ map (λ f. sparse_line (codes "u") f.u) ys = cc in
     let one = facet_parts x p.0 in
     let two = facet_parts y q.0 in
-    let stated = same_facet_line x y one.0 two.0 line in
+    let stated = same_facet_line x y one two line in
     let heads = same_facet x y stated.0 stated.1
-    (same_sparse (codes "u") (codes "u") x.u y.u (cut_sparse x one.0) (cut_sparse y two.0) dual)
-    (same_incidence x y one.1 two.1 incidence) in
+    (same_sparse (codes "u") (codes "u") x.u y.u one.u_held two.u_held dual)
+    (same_incidence x y one.tight_held two.tight_held incidence) in
     let tails = same_facets xs ys p.1 q.1 lines incidences duals in
     λ i. heads i ∷ tails i
 
--- ---- what a report tells
-nested : {X : Type 0} (a b c d e w : List X) (x : X) → ((((a ++ b) ++ c) ++ d) ++ (x ∷ e)) ++ w ≡ a ++ (b ++ (c ++ (d ++ (x ∷ (e ++ w)))))
-nested a b c d e w x =
-    append_assoc (((a ++ b) ++ c) ++ d) (x ∷ e) w
-    ∙ append_assoc ((a ++ b) ++ c) d (x ∷ (e ++ w))
-    ∙ append_assoc (a ++ b) c (d ++ (x ∷ (e ++ w)))
-    ∙ append_assoc a b (c ++ (d ++ (x ∷ (e ++ w))))
+-- the lines of an image, of which there may be none, before a line with another first word
+same_line_lines : (ls ls' : List LineGen) (name name' : Words) (r s : List Words) → is_short_list is_held_line ls ≡ true → is_short_list is_held_line ls' ≡ true →
+    line_lines ls ++ ((codes "points" ∷ name) ∷ r) ≡ line_lines ls' ++ ((codes "points" ∷ name') ∷ s) →
+    SameSection line_of line_of ls ls' ((codes "points" ∷ name) ∷ r) ((codes "points" ∷ name') ∷ s)
+same_line_lines [] [] name name' r s h k e = record { count = refl; lines = refl; rest = e }
+same_line_lines [] (l ∷ ls) name name' r s h k e = cc
+same_line_lines (l ∷ ls) [] name name' r s h k e = cc
+same_line_lines (l ∷ ls) (m ∷ ms) name name' r s h k e = same_section (codes "lines") line_of line_of is_held_line (l ∷ ls) (m ∷ ms) _ _ h k e
 
--- the lines of a solution from its first section on
-abbrev solution_lines : Problem → List Gen → List Gen → List Facet → List Words
-solution_lines f points directions facets =
-    section (codes "points") (λ g. vector_line (codes "1") g.y) points
+same_gen_of_line : (l m : LineGen) → l.d ≡ m.d → l.ray ≡ m.ray → l.back ≡ m.back → l ≡ m
+same_gen_of_line l m d ray back = λ i. record { d = d i; ray = ray i; back = back i }
+
+same_ways : (ls ls' : List LineGen) (r s : List Words) → list_all is_held_line ls ≡ true → list_all is_held_line ls' ≡ true → map line_of ls ≡ map line_of ls' →
+    flat_map ways ls ++ r ≡ flat_map ways ls' ++ s → (ls ≡ ls') × (r ≡ s)
+same_ways [] [] r s h k e d = (refl, d)
+same_ways [] (m ∷ ms) r s h k e d = cc
+same_ways (l ∷ ls) [] r s h k e d = cc
+same_ways (l ∷ ls) (m ∷ ms) r s h k e d =
+    let p = and_parts (is_held_line l) (list_all is_held_line ls) h in
+    let q = and_parts (is_held_line m) (list_all is_held_line ms) k in
+    let one = line_parts l p.0 in
+    let two = line_parts m q.0 in
+    let both : sparse_line (codes "r") l.ray ∷ (sparse_line (codes "r") l.back ∷ (flat_map ways ls ++ r)) ≡ sparse_line (codes "r") m.ray ∷ (sparse_line (codes "r") m.back ∷ (flat_map ways ms ++ s)) = d in
+    let line : line_of l ≡ line_of m = cc in
+    let lines : map line_of ls ≡ map line_of ms = cc in
+    let ray : sparse_line (codes "r") l.ray ≡ sparse_line (codes "r") m.ray = cc in
+    let back : sparse_line (codes "r") l.back ≡ sparse_line (codes "r") m.back = cc in
+    let behind : flat_map ways ls ++ r ≡ flat_map ways ms ++ s = cc in
+    let heads = same_gen_of_line l m
+    (same_vector (codes "l") (codes "l") l.d m.d one.d_held two.d_held line)
+    (same_sparse (codes "r") (codes "r") l.ray m.ray one.ray_held two.ray_held ray)
+    (same_sparse (codes "r") (codes "r") l.back m.back one.back_held two.back_held back) in
+    let tails = same_ways ls ms r s p.1 q.1 lines behind in
+    ((λ i. heads i ∷ tails.0 i), tails.1)
+
+-- ---- what a report tells
+nested : {X : Type 0} (k a b c d e w : List X) (x : X) →
+    (((((k ++ a) ++ b) ++ c) ++ d) ++ (x ∷ e)) ++ w ≡ k ++ (a ++ (b ++ (c ++ (d ++ (x ∷ (e ++ w))))))
+nested k a b c d e w x =
+    append_assoc ((((k ++ a) ++ b) ++ c) ++ d) (x ∷ e) w
+    ∙ append_assoc (((k ++ a) ++ b) ++ c) d (x ∷ (e ++ w))
+    ∙ append_assoc ((k ++ a) ++ b) c (d ++ (x ∷ (e ++ w)))
+    ∙ append_assoc (k ++ a) b (c ++ (d ++ (x ∷ (e ++ w))))
+    ∙ append_assoc k a (b ++ (c ++ (d ++ (x ∷ (e ++ w)))))
+
+nested_four : {X : Type 0} (k a b c : List X) → ((k ++ a) ++ b) ++ c ≡ k ++ (a ++ (b ++ c))
+nested_four k a b c = append_assoc (k ++ a) b c ∙ append_assoc k a (b ++ c)
+
+-- the lines of a solution behind that of c
+abbrev solution_lines : Problem → List LineGen → List Gen → List Gen → List Facet → List Words
+solution_lines f ls points directions facets =
+    line_lines ls
+    ++ (section (codes "points") (λ g. vector_line (codes "1") g.y) points
     ++ (section (codes "directions") (λ g. vector_line (codes "0") g.y) directions
     ++ (section (codes "facets") facet_line facets
     ++ (section (codes "dual") (dual_line f.objs) facets
     ++ (dual_direction_line f
     ∷ (section (codes "incidence") incidence_line facets
-    ++ ((codes "witnesses" ∷ []) ∷ witness_lines (Solved [] points directions facets)))))))
+    ++ ((codes "witnesses" ∷ []) ∷ witness_lines (Solved [] ls points directions facets))))))))
 
-record SameSolution (points points' directions directions' : List Gen) (facets facets' : List Facet) : Type 0 where
+record SameSolution (ls ls' : List LineGen) (points points' directions directions' : List Gen) (facets facets' : List Facet) : Type 0 where
+  pub lines_same : ls ≡ ls'
   pub points_same : points ≡ points'
   pub directions_same : directions ≡ directions'
   pub facets_same : facets ≡ facets'
 
-same_solution : (f g : Problem) (c c' : List ℚ) (points points' directions directions' : List Gen) (facets facets' : List Facet) →
-    SolvedParts c points directions facets → SolvedParts c' points' directions' facets' →
-    solution_lines f points directions facets ≡ solution_lines g points' directions' facets' → SameSolution points points' directions directions' facets facets'
-same_solution f g c c' points points' directions directions' facets facets' p q e =
-    let one = same_section (codes "points") (λ x. vector_line (codes "1") x.y) (λ x. vector_line (codes "1") x.y) is_held_gen points points' _ _ p.points_held q.points_held e in
+same_solution : (f g : Problem) (c c' : List ℚ) (ls ls' : List LineGen) (points points' directions directions' : List Gen) (facets facets' : List Facet) →
+    SolvedParts c ls points directions facets → SolvedParts c' ls' points' directions' facets' →
+    solution_lines f ls points directions facets ≡ solution_lines g ls' points' directions' facets' → SameSolution ls ls' points points' directions directions' facets facets'
+same_solution f g c c' ls ls' points points' directions directions' facets facets' p q e =
+    let zero = same_line_lines ls ls' _ _ _ _ p.lines_held q.lines_held e in
+    let one = same_section (codes "points") (λ x. vector_line (codes "1") x.y) (λ x. vector_line (codes "1") x.y) is_held_gen points points' _ _ p.points_held q.points_held zero.rest in
     let two = same_section (codes "directions") (λ x. vector_line (codes "0") x.y) (λ x. vector_line (codes "0") x.y) is_held_gen directions directions' _ _ p.directions_held q.directions_held one.rest in
     let three = same_section (codes "facets") facet_line facet_line is_held_facet facets facets' _ _ p.facets_held q.facets_held two.rest in
     let four = same_section (codes "dual") (dual_line f.objs) (dual_line g.objs) is_held_facet facets facets' _ _ p.facets_held q.facets_held three.rest in
     let last = tail_of _ _ _ _ four.rest in
     let five = same_section (codes "incidence") incidence_line incidence_line is_held_facet facets facets' _ _ p.facets_held q.facets_held last in
-    let witnesses = sym (append_assoc (map (λ x. sparse_line (codes "x") x.pre) points) (map (λ x. sparse_line (codes "r") x.pre) directions) (map (λ x. sparse_line (codes "u") x.u) facets))
+    let witnesses = sym (nested_four (flat_map ways ls) (map (λ x. sparse_line (codes "x") x.pre) points) (map (λ x. sparse_line (codes "r") x.pre) directions) (map (λ x. sparse_line (codes "u") x.u) facets))
     ∙ tail_of _ _ _ _ five.rest
-    ∙ append_assoc (map (λ x. sparse_line (codes "x") x.pre) points') (map (λ x. sparse_line (codes "r") x.pre) directions') (map (λ x. sparse_line (codes "u") x.u) facets') in
-    let six = same_maps (λ x. sparse_line (codes "x") x.pre) (λ x. sparse_line (codes "x") x.pre) points points' _ _ one.count witnesses in
+    ∙ nested_four (flat_map ways ls') (map (λ x. sparse_line (codes "x") x.pre) points') (map (λ x. sparse_line (codes "r") x.pre) directions') (map (λ x. sparse_line (codes "u") x.u) facets') in
+    let shown = same_ways ls ls' _ _ (all_of is_held_line ls p.lines_held) (all_of is_held_line ls' q.lines_held) zero.lines witnesses in
+    let six = same_maps (λ x. sparse_line (codes "x") x.pre) (λ x. sparse_line (codes "x") x.pre) points points' _ _ one.count shown.1 in
     let seven = same_maps (λ x. sparse_line (codes "r") x.pre) (λ x. sparse_line (codes "r") x.pre) directions directions' _ _ two.count six.1 in
     record {
+      lines_same = shown.0;
       points_same = same_gens (codes "1") (codes "1") (codes "x") (codes "x") points points' (all_of is_held_gen points p.points_held) (all_of is_held_gen points' q.points_held) one.lines six.0;
       directions_same = same_gens (codes "0") (codes "0") (codes "r") (codes "r") directions directions' (all_of is_held_gen directions p.directions_held) (all_of is_held_gen directions' q.directions_held) two.lines seven.0;
       facets_same = same_facets facets facets' (all_of is_held_facet facets p.facets_held) (all_of is_held_facet facets' q.facets_held) three.lines five.lines seven.1;
@@ -415,20 +486,19 @@ same_solution f g c c' points points' directions directions' facets facets' p q 
     tail_of v w r s e = cc
 
 -- they are what stands behind its first four lines
-solution_from : (f : Problem) (c : List ℚ) (points directions : List Gen) (facets : List Facet) →
-    drop 4 (report_lines f (Solved c points directions facets)) ≡ solution_lines f points directions facets
-solution_from f c points directions facets =
-    nested (section (codes "points") (λ g. vector_line (codes "1") g.y) points) (section (codes "directions") (λ g. vector_line (codes "0") g.y) directions)
+solution_from : (f : Problem) (c : List ℚ) (ls : List LineGen) (points directions : List Gen) (facets : List Facet) →
+    drop 4 (report_lines f (Solved c ls points directions facets)) ≡ solution_lines f ls points directions facets
+solution_from f c ls points directions facets =
+    nested (line_lines ls) (section (codes "points") (λ g. vector_line (codes "1") g.y) points) (section (codes "directions") (λ g. vector_line (codes "0") g.y) directions)
     (section (codes "facets") facet_line facets) (section (codes "dual") (dual_line f.objs) facets) (section (codes "incidence") incidence_line facets)
-    ((codes "witnesses" ∷ []) ∷ witness_lines (Solved c points directions facets)) (dual_direction_line f)
+    ((codes "witnesses" ∷ []) ∷ witness_lines (Solved c ls points directions facets)) (dual_direction_line f)
 
-same_by_lines : (f g : Problem) (a b : Answer) → is_held_answer a ≡ true → is_held_answer b ≡ true → report_lines f a ≡ report_lines g b → shown a ≡ shown b
+same_by_lines : (f g : Problem) (a b : Answer) → is_held_answer a ≡ true → is_held_answer b ≡ true → report_lines f a ≡ report_lines g b → a ≡ b
 same_by_lines f g (Infeasible u) (Infeasible v) h k e =
     let line : sparse_line (codes "u") u ≡ sparse_line (codes "u") v = cc in
     ap Infeasible (same_sparse (codes "u") (codes "u") u v h k line)
 same_by_lines f g (Infeasible u) (Whole c x ray) h k e = cc
-same_by_lines f g (Infeasible u) (NoVertex c x d ray back cut) h k e = cc
-same_by_lines f g (Infeasible u) (Solved c points directions facets) h k e = cc
+same_by_lines f g (Infeasible u) (Solved c ls points directions facets) h k e = cc
 same_by_lines f g (Whole c x ray) (Infeasible u) h k e = cc
 same_by_lines f g (Whole c x ray) (Whole c' x' ray') h k e =
     let p = and_parts (list_all is_held c) _ h in
@@ -442,69 +512,17 @@ same_by_lines f g (Whole c x ray) (Whole c' x' ray') h k e =
     let same_x = same_sparse (codes "x") (codes "x") x x' q.0 s.0 line_x in
     let same_r = same_sparse (codes "r") (codes "r") ray ray' q.1 s.1 line_r in
     λ i. Whole (same_c i) (same_x i) (same_r i)
-same_by_lines f g (Whole c x ray) (NoVertex c' x' d ray' back cut) h k e = cc
-same_by_lines f g (Whole c x ray) (Solved c' points directions facets) h k e = cc
-same_by_lines f g (NoVertex c x d ray back cut) (Infeasible u) h k e = cc
-same_by_lines f g (NoVertex c x d ray back cut) (Whole c' x' ray') h k e = cc
-same_by_lines f g (NoVertex c x d ray back cut) (NoVertex c' x' d' ray' back' cut') h k e =
-    let p1 = and_parts (list_all is_held c) _ h in
-    let p2 = and_parts (is_held_sparse x) _ p1.1 in
-    let p3 = and_parts (list_all is_held d) _ p2.1 in
-    let p4 = and_parts (is_held_sparse ray) _ p3.1 in
-    let p5 = and_parts (is_held_sparse back) (is_held_cut cut) p4.1 in
-    let q1 = and_parts (list_all is_held c') _ k in
-    let q2 = and_parts (is_held_sparse x') _ q1.1 in
-    let q3 = and_parts (list_all is_held d') _ q2.1 in
-    let q4 = and_parts (is_held_sparse ray') _ q3.1 in
-    let q5 = and_parts (is_held_sparse back') (is_held_cut cut') q4.1 in
-    let line_c : vector_line (codes "c") c ≡ vector_line (codes "c") c' = cc in
-    let line_x : sparse_line (codes "x") x ≡ sparse_line (codes "x") x' = cc in
-    let line_d : vector_line (codes "l") d ≡ vector_line (codes "l") d' = cc in
-    let line_r : sparse_line (codes "r") ray ≡ sparse_line (codes "r") ray' = cc in
-    let line_b : sparse_line (codes "r") back ≡ sparse_line (codes "r") back' = cc in
-    let line_f : facet_line cut ≡ facet_line cut' = cc in
-    let line_u : sparse_line (codes "u") cut.u ≡ sparse_line (codes "u") cut'.u = cc in
-    let same_c = same_vector (codes "c") (codes "c") c c' p1.0 q1.0 line_c in
-    let same_x = same_sparse (codes "x") (codes "x") x x' p2.0 q2.0 line_x in
-    let same_d = same_vector (codes "l") (codes "l") d d' p3.0 q3.0 line_d in
-    let same_r = same_sparse (codes "r") (codes "r") ray ray' p4.0 q4.0 line_r in
-    let same_b = same_sparse (codes "r") (codes "r") back back' p5.0 q5.0 line_b in
-    let stated = same_facet_line cut cut' p5.1 q5.1 line_f in
-    let same_u = same_sparse (codes "u") (codes "u") cut.u cut'.u (cut_sparse cut p5.1) (cut_sparse cut' q5.1) line_u in
-    λ i. NoVertex (same_c i) (same_x i) (same_d i) (same_r i) (same_b i) (record { w = stated.0 i; gamma = stated.1 i; u = same_u i; tight = [] })
-same_by_lines f g (NoVertex c x d ray back cut) (Solved c' points directions facets) h k e = cc
-same_by_lines f g (Solved c points directions facets) (Infeasible u) h k e = cc
-same_by_lines f g (Solved c points directions facets) (Whole c' x ray) h k e = cc
-same_by_lines f g (Solved c points directions facets) (NoVertex c' x d ray back cut) h k e = cc
-same_by_lines f g (Solved c points directions facets) (Solved c' points' directions' facets') h k e =
-    let p = solved_parts c points directions facets h in
-    let q = solved_parts c' points' directions' facets' k in
+same_by_lines f g (Whole c x ray) (Solved c' ls points directions facets) h k e = cc
+same_by_lines f g (Solved c ls points directions facets) (Infeasible u) h k e = cc
+same_by_lines f g (Solved c ls points directions facets) (Whole c' x ray) h k e = cc
+same_by_lines f g (Solved c ls points directions facets) (Solved c' ls' points' directions' facets') h k e =
+    let p = solved_parts c ls points directions facets h in
+    let q = solved_parts c' ls' points' directions' facets' k in
     let line_c : vector_line (codes "c") c ≡ vector_line (codes "c") c' = cc in
     let same_c = same_vector (codes "c") (codes "c") c c' p.c_held q.c_held line_c in
-    let same = same_solution f g c c' points points' directions directions' facets facets' p q
-    (sym (solution_from f c points directions facets) ∙ ap (drop 4) e ∙ solution_from g c' points' directions' facets') in
-    λ i. Solved (same_c i) (same.points_same i) (same.directions_same i) (same.facets_same i)
-
-told : (f g : Problem) (a b : Answer) → IsTrue (is_held_answer a) → IsTrue (is_held_answer b) → report_text f a ≡ report_text g b → shown a ≡ shown b
-told f g a b h k e = same_by_lines f g a b h k (same_lines (report_lines f a) (report_lines g b) (report_is_lines f a h) (report_is_lines g b k) e)
-
--- a report is that of what it shows
-shown_report : (f : Problem) (a : Answer) → report_text f a ≡ report_text f (shown a)
-shown_report f (Infeasible u) = refl
-shown_report f (Whole c x ray) = refl
-shown_report f (NoVertex c x d ray back cut) = refl
-shown_report f (Solved c points directions facets) = refl
-
--- a right answer has no more than its report shows
-right_is_shown : (f : Problem) (a : Answer) → IsRight f a → shown a ≡ a
-right_is_shown f (Infeasible u) h = refl
-right_is_shown f (Whole c x ray) h = refl
-right_is_shown f (NoVertex c x d ray back cut) h = λ i. NoVertex c x d ray back (record { w = cut.w; gamma = cut.gamma; u = cut.u; tight = sym h.1 i })
-right_is_shown f (Solved c points directions facets) h = refl
+    let same = same_solution f g c c' ls ls' points points' directions directions' facets facets' p q
+    (sym (solution_from f c ls points directions facets) ∙ ap (drop 4) e ∙ solution_from g c' ls' points' directions' facets') in
+    λ i. Solved (same_c i) (same.lines_same i) (same.points_same i) (same.directions_same i) (same.facets_same i)
 
 pub one_answer_to_a_report : OneAnswerToAReport
-one_answer_to_a_report = record {
-  told = told;
-  shows = λ f a b e. shown_report f a ∙ ap (report_text f) e ∙ sym (shown_report f b);
-  right = λ f g a b h k r s e. sym (right_is_shown f a r) ∙ told f g a b h k e ∙ right_is_shown g b s;
-}
+one_answer_to_a_report f g a b h k e = same_by_lines f g a b h k (same_lines (report_lines f a) (report_lines g b) (report_is_lines f a h) (report_is_lines g b k) e)

@@ -1,7 +1,7 @@
 //! A law of reports. The function does nothing when it runs: its contract is the law.
 ghost use Rattle.sol_writer.specs.OneReport.{OneAnswerToAReport};
 
-/// Answers have one report exactly where it shows the same of both.
+/// A report has one answer: two answers with one report are equal.
 pub fn a_report_tells_its_answer()
     ensures { OneAnswerToAReport }
 {}
