@@ -1,0 +1,3 @@
+pub mod Associated
+pub mod Laws
+pub mod Examples
