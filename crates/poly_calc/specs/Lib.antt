@@ -1,0 +1,4 @@
+pub mod Sets
+pub mod Made
+pub mod Laws
+pub mod Examples
