@@ -5,3 +5,4 @@ pub mod Extremes
 pub mod Needed
 pub mod RightProjection
 mod Examples
+mod TextExamples

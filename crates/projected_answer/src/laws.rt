@@ -2,6 +2,7 @@
 //! statement.
 ghost use Rattle.projected_answer.specs.Examples.{FoundExample};
 ghost use Rattle.projected_answer.specs.Right.{FoundIsRight};
+ghost use Rattle.projected_answer.specs.TextExamples.{WorkedTexts};
 
 /// What is found of an answer that a log proves is the projection.
 pub fn found_is_right()
@@ -11,4 +12,9 @@ pub fn found_is_right()
 /// What is found of a half line, of nothing, and which vectors meet a side, computed.
 pub fn found_example()
     ensures { FoundExample }
+{}
+
+/// The texts of a segment, of a line and of nothing, line by line.
+pub fn worked_texts()
+    ensures { WorkedTexts }
 {}
