@@ -4,7 +4,7 @@ use Rattle.exact_field.specs.Rational.{ℚ, whole}
 use Rattle.tableaux.specs.Simplex.{IsOptimal, IsInfeasible, IsUnbounded}
 use Rattle.tableaux.specs.Table.{System}
 use Rattle.lin_rows.specs.declared.system.System.{System as Program}
-use Rattle.exact_simplex.specs.Program.{system_of}
+use Rattle.lin_rows.specs.System.{system_of}
 
 -- the program of these lists
 abbrev pub program_of : ℕ → ℕ → List ℤ → List ℤ → List ℤ → Program ℚ

@@ -1,7 +1,7 @@
 //! Linear programs in whole numbers.
 
 ghost use Rattle.std.specs.Prelude.{◌≡◌, IfSome};
-ghost use Rattle.exact_simplex.specs.Program.{HasLengths};
+ghost use Rattle.lin_rows.specs.System.{HasLengths};
 ghost use Rattle.bench_calls.specs.Programs.{HasOptimum, HasNoBound, HasNoSolution, program_of};
 
 use crate::lines::line_of;

@@ -12,9 +12,9 @@ use Rattle.log_rules.specs.Live.{lines, preimages}
 use Rattle.log_rules.proofs.NormedMembers.{front-homogenised, last-homogenised, one_not_zero}
 use Rattle.licence.specs.Base.{IsBaseStart, IsLiveAfter, last_of}
 use Rattle.licence.proofs.CutTurns.{optimum_turns, read_at_origin}
-use Rattle.benson_program.specs.Preimages.{IsPreimageOf}
-use Rattle.benson_program.specs.declared.cut.Cut.{Cut}
-use Rattle.benson_program.specs.declared.preimage.Preimage.{Preimage}
+use Rattle.licence.specs.Preimages.{IsPreimageOf}
+use Rattle.lp_form.specs.declared.shown.Cut.{Cut}
+use Rattle.lp_form.specs.declared.shown.Preimage.{Preimage}
 use Rattle.outer_approx.specs.Cuts.{said_by}
 use Rattle.outer_approx.specs.Lines.{line_places}
 use Rattle.outer_approx.specs.Preimages.{IsReached}

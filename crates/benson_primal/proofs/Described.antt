@@ -13,7 +13,7 @@ use Rattle.lp_form.specs.Programs.{side_total, feasible_system}
 use Rattle.licence.specs.Base.{IsBaseChoice, IsRayOff}
 use Rattle.licence.specs.Trails.{IsBaseDuality}
 use Rattle.benson_program.specs.Ends.{IsContradiction}
-use Rattle.benson_program.specs.Sparse.{IsSparseOf}
+use Rattle.lp_form.specs.Sparse.{IsSparseOf}
 use Rattle.benson_program.specs.Wholes.{IsWholeOf}
 use Rattle.benson_program.specs.declared.whole.WholeParts.{WholeParts}
 use Rattle.outer_approx.specs.Unstarted.{IsReadWhole, ShowsWhole}
@@ -35,7 +35,7 @@ use Rattle.lp_form.specs.Data.{IsDataOf}
 use Rattle.lp_form.specs.declared.data.Data.{Data}
 use Rattle.recession.specs.First.{AreFirstCuts}
 use Rattle.recession.proofs.Grown.{proper_of}
-use Rattle.benson_program.specs.declared.cut.Cut.{Cut}
+use Rattle.lp_form.specs.declared.shown.Cut.{Cut}
 use Rattle.benson_primal.specs.Logs.{IsOwnLog, task_of}
 use Rattle.benson_primal.specs.Search.{IsKnown}
 

@@ -13,7 +13,7 @@ use Rattle.log_rules.specs.Live.{State, lines, preimages, rows_in_use}
 use Rattle.polyhedra.specs.Exactness.{row_of}
 use Rattle.polyhedra.specs.LiveList.{numbers}
 use Rattle.licence.specs.Turns.{IsCutTurn}
-use Rattle.benson_program.specs.declared.cut.Cut.{Cut}
+use Rattle.lp_form.specs.declared.shown.Cut.{Cut}
 use Rattle.outer_approx.specs.Cuts.{said_by}
 use Rattle.outer_approx.specs.Lines.{line_places}
 use Rattle.overflows.specs.Faults.{OnLicence, Overflows}

@@ -11,7 +11,7 @@ use Rattle.lp_form.specs.Data.{IsDataOf}
 use Rattle.lp_form.specs.declared.data.Data.{Data}
 use Rattle.licence.specs.Base.{IsLiveAfter, last_of}
 use Rattle.licence.specs.Turns.{IsCutTurn, said_row}
-use Rattle.benson_program.specs.declared.cut.Cut.{Cut}
+use Rattle.lp_form.specs.declared.shown.Cut.{Cut}
 use Rattle.outer_approx.specs.Cuts.{IsCutFor, said_by}
 use Rattle.outer_approx.specs.Preimages.{AreMarks}
 use Rattle.outer_approx.specs.Lines.{line_places}

@@ -21,7 +21,7 @@ use Rattle.licence.specs.Trails.{divided_by}
 use Rattle.benson_program.proofs.AsPreimage.{multipliers_long}
 use Rattle.benson_program.proofs.AsWhole.{benson_whole}
 use Rattle.benson_program.proofs.Counted.{generators_few, magnitude_below}
-use Rattle.benson_program.specs.Sparse.{IsSparseOf}
+use Rattle.lp_form.specs.Sparse.{IsSparseOf}
 use Rattle.benson_program.specs.Wholes.{AreEmptyAtOrigin, IsWholeOf}
 use Rattle.benson_program.specs.declared.whole.WholeParts.{WholeParts}
 

@@ -17,8 +17,8 @@ use Rattle.benson_program.proofs.Solved.{u_long}
 use Rattle.benson_program.proofs.Read.{z_long, base}
 use Rattle.benson_program.specs.Cuts.{IsCutOf}
 use Rattle.benson_program.specs.Ends.{IsOptimumAt}
-use Rattle.benson_program.specs.Sparse.{IsSparseOf}
-use Rattle.benson_program.specs.declared.cut.Cut.{Cut}
+use Rattle.lp_form.specs.Sparse.{IsSparseOf}
+use Rattle.lp_form.specs.declared.shown.Cut.{Cut}
 
 module _ {F : Type 0} (value : F → ℚ) (file : Problem) (c v : List ℚ) (t : Bool) (basis : List ℕ) (z y : List ℚ) (c_long : length c ≡ file.objs)
     (v_long : length v ≡ file.objs) (h : IsOptimumAt (benson_system file c v t) basis z y) (cut : Cut F) (u_read : map value cut.u ≡ u_of file z)

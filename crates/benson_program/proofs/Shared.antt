@@ -18,9 +18,10 @@ use Rattle.licence.specs.Operands.{AreBensonMultipliers, Knows, Setting}
 use Rattle.benson_program.proofs.AsPreimage.{benson_preimage, multipliers_long}
 use Rattle.benson_program.proofs.Counted.{generators_few}
 use Rattle.benson_program.proofs.Divided.{length-share}
-use Rattle.benson_program.specs.Preimages.{AreLowMultipliers, IsPreimageOf, ShowsChosen}
-use Rattle.benson_program.specs.Sparse.{IsSparseOf}
-use Rattle.benson_program.specs.declared.preimage.Preimage.{Preimage}
+use Rattle.benson_program.specs.Preimages.{AreLowMultipliers}
+use Rattle.licence.specs.Preimages.{IsPreimageOf, ShowsChosen}
+use Rattle.lp_form.specs.Sparse.{IsSparseOf}
+use Rattle.lp_form.specs.declared.shown.Preimage.{Preimage}
 
 module _ (file : Problem) (c v : List ℚ) (t : Bool) (y : List ℚ) (h : AreLowMultipliers file c v t y) where
   pub low_long : length y ≡ suc (file.cols + dual_equations file.objs file.cone)

@@ -8,8 +8,8 @@ use Rattle.vlp_reader.specs.declared.problem.Problem.{Problem}
 use Rattle.upper_image.specs.Shows.{ShowsCut}
 use Rattle.lp_form.specs.Programs.{u_of, w_of, v_of}
 use Rattle.licence.specs.Base.{IsBaseCut}
-use Rattle.benson_program.specs.Sparse.{IsSparseOf}
-use Rattle.benson_program.specs.declared.cut.Cut.{Cut}
+use Rattle.lp_form.specs.Sparse.{IsSparseOf}
+use Rattle.lp_form.specs.declared.shown.Cut.{Cut}
 
 -- the parts of a cut are read off z, and gamma is the bound that u proves; with its u and v as sparse vectors it is shown, and is a
 -- base cut

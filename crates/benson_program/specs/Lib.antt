@@ -2,5 +2,4 @@ pub mod Cuts
 pub mod Ends
 pub mod Laws
 pub mod Preimages
-pub mod Sparse
 pub mod Wholes

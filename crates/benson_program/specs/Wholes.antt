@@ -12,7 +12,7 @@ use Rattle.upper_image.specs.Witnesses.{IsWhole}
 use Rattle.lp_form.specs.Programs.{generators, benson_system}
 use Rattle.licence.specs.Trails.{IsBaseWhole}
 use Rattle.benson_program.specs.Ends.{IsEmptyAt}
-use Rattle.benson_program.specs.Sparse.{IsSparseOf}
+use Rattle.lp_form.specs.Sparse.{IsSparseOf}
 use Rattle.benson_program.specs.declared.whole.WholeParts.{WholeParts}
 
 -- y are the multipliers that show that Benson's program for c at the origin, as a point, has no solution

@@ -13,21 +13,10 @@ ghost use Rattle.vlp_reader.specs.declared.problem.Problem.{Problem as File};
 
 use crate::solving::benson_name;
 use exact_field::Field;
-use lp_form::{Data, SideOf, parts};
+use lp_form::{Cut, Data, SideOf, parts};
 use overflows::{SolveFault, sum_of_products, term_fault};
 use src_sink::{Items, NoMemory};
 use std::alloc::Global;
-
-/// A cut `w . y >= gamma` of the image, with what shows it.
-#[derive(Debug, Drop)]
-pub struct Cut<F: Drop> {
-    pub w: Items<F>,
-    pub gamma: F,
-    /// A multiplier of at least 0 for each side.
-    pub u: Items<F>,
-    /// Where the ordering cone is in dual form, the multipliers that combine its vectors to w.
-    pub v: Items<F>,
-}
 
 /// The bounds of the sides.
 fn bounds<F: Field>(alloc: Global, sides: &[SideOf<F>]) -> Result<Items<F>, NoMemory>

@@ -8,11 +8,11 @@ mod preimage;
 mod solving;
 mod whole;
 
-pub use cut::{Cut, cut_of};
+pub use cut::cut_of;
 pub use ends::{BensonEnd, FeasibleEnd};
 pub use laws::{
     answers_exclude, benson_bounded, benson_cut, benson_preimage, benson_whole, feasible_ends,
 };
-pub use preimage::{Preimage, preimage_of};
+pub use preimage::preimage_of;
 pub use solving::{benson_end, feasible_end};
 pub use whole::{WholeParts, whole_of};

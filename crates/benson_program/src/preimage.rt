@@ -1,7 +1,8 @@
 //! Pre-images that are read off Benson's program.
 ghost use Rattle.std.specs.Prelude.{◌≡◌, ◌≤◌, ◌+◌, ℕ, Bool, List, [], map, take, length, IfOk, IfErr};
 ghost use Rattle.exact_field.specs.Rational.{ℚ, ◌<ℚ◌, neg_ℚ, zero_ℚ};
-ghost use Rattle.benson_program.specs.Preimages.{AreLowMultipliers, IsPreimageOf};
+ghost use Rattle.benson_program.specs.Preimages.{AreLowMultipliers};
+ghost use Rattle.licence.specs.Preimages.{IsPreimageOf};
 ghost use Rattle.licence.specs.Base.{IsBaseStart};
 ghost use Rattle.licence.specs.Operands.{AreBensonMultipliers, Knows, Setting};
 ghost use Rattle.lp_form.specs.Data.{IsDataOf, cone_of};
@@ -15,19 +16,10 @@ use crate::whole::generator_count;
 use exact_field::Field;
 use lin_rows::cells::is_negative;
 use lin_rows::{Rows, combine};
-use lp_form::{Data, negative};
+use lp_form::{Data, Preimage, negative};
 use overflows::{SolveFault, elimination_fault};
 use src_sink::{Items, NoMemory};
 use std::alloc::Global;
-
-/// What shows that a vector is in the image, or a direction in its recession cone.
-#[derive(Debug, Drop)]
-pub struct Preimage<F: Drop> {
-    /// A feasible point, or a direction of the feasible set: a number for each variable.
-    pub x: Items<F>,
-    /// A multiplier for each generator of the ordering cone, or none where it is given otherwise.
-    pub m: Items<F>,
-}
 
 /// The first entries of a list.
 fn front<F: Field>(alloc: Global, list: &[F], count: usize) -> Result<Items<F>, NoMemory>

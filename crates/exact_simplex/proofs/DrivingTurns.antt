@@ -16,7 +16,8 @@ use Rattle.lin_rows.proofs.ManyLines.{length-lines}
 use Rattle.lin_rows.proofs.Pivoted.{at_is}
 use Rattle.exact_simplex.specs.Driving.{IsIdleTo, IsSupport}
 use Rattle.exact_simplex.specs.Ends.{IsSystemFault}
-use Rattle.exact_simplex.specs.Program.{HasLengths, IsFeasible, IsIdle, system_of, table_in}
+use Rattle.exact_simplex.specs.Program.{IsFeasible, IsIdle, table_in}
+use Rattle.lin_rows.specs.System.{HasLengths, system_of}
 use Rattle.exact_simplex.proofs.Driven.{driven_feasible, driven_idle}
 use Rattle.exact_simplex.proofs.Pivots.{rows_many, basis_many, pivot_fault, pivot_entry, table_after, held_after}
 use Rattle.exact_simplex.proofs.Programs.{system_ok, equation_count_is, unknown_count_is}

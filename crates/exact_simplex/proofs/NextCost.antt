@@ -22,7 +22,8 @@ use Rattle.lin_rows.specs.declared.tableau.Tableau.{Tableau}
 use Rattle.lin_rows.proofs.ManyLines.{length-lines}
 use Rattle.lin_rows.proofs.Pivoted.{dense_is, row_is}
 use Rattle.exact_simplex.specs.GoingOn.{CanGoOn, HasSameEquations, IsCostLine, second_row}
-use Rattle.exact_simplex.specs.Program.{HasLengths, IsFeasible, IsIdle, IsTableauOf, system_of, table_in}
+use Rattle.exact_simplex.specs.Program.{IsFeasible, IsIdle, IsTableauOf, table_in}
+use Rattle.lin_rows.specs.System.{HasLengths, system_of}
 use Rattle.exact_simplex.proofs.AnotherCost.{other, other_width, other_wide, other_feasible, other_idle}
 use Rattle.exact_simplex.proofs.ClearingCost.{entry_dense}
 use Rattle.exact_simplex.proofs.Pivots.{rows_many}

@@ -8,7 +8,8 @@ use Rattle.lin_rows.specs.declared.tableau.Tableau.{Tableau}
 use Rattle.lin_rows.specs.Lines.{lines}
 use Rattle.lin_rows.specs.Pivot.{AreTableau, IsPivotFault, table_of}
 use Rattle.exact_simplex.specs.Ends.{IsSystemFault}
-use Rattle.exact_simplex.specs.Program.{HasLengths, IsPrimal, IsTableauOf, IsUnopened, system_of, table_in}
+use Rattle.exact_simplex.specs.Program.{IsPrimal, IsTableauOf, IsUnopened, table_in}
+use Rattle.lin_rows.specs.System.{HasLengths, system_of}
 use Rattle.exact_simplex.proofs.Opened.{IsOpened, opened_none, opening_pivot, opened_more}
 use Rattle.exact_simplex.proofs.Pivots.{rows_many, basis_many, pivot_fault, pivot_entry, table_after, held_after}
 use Rattle.exact_simplex.proofs.Programs.{system_ok, equation_count_is, unknown_count_is, right_column_is}

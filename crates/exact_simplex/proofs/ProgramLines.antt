@@ -11,7 +11,7 @@ use Rattle.lin_rows.specs.Clear.{Writes}
 use Rattle.lin_rows.specs.Lines.{entries}
 use Rattle.lin_rows.specs.Read.{IsLineOf}
 use Rattle.lin_rows.proofs.CellLists.{entries_push}
-use Rattle.exact_simplex.specs.Program.{HasLengths, coefficients_of, system_of}
+use Rattle.lin_rows.specs.System.{HasLengths, coefficients_of, system_of}
 use Rattle.exact_simplex.proofs.Programs.{system_ok, equation_count_is, unknown_count_is, right_column_is, length-coefficients, equation-row}
 use Rattle.exact_simplex.proofs.SystemLines.{IsLineTo, line_none, line_behind, line_whole, line_front, row_long, equation_front, equation_none, equation_sign, equation_last, first_none, first_one, first_last, second_cost_at, second_none}
 

@@ -6,7 +6,7 @@ use Rattle.exact_field.specs.Rational.{ℚ}
 use Rattle.tableaux.specs.Table.{IsSystem, row_of, equation_count, unknown_count, right_column}
 use Rattle.tableaux.proofs.Places.{length-list_from, list_from-place, listed-place}
 use Rattle.lin_rows.specs.declared.system.System.{System as Program}
-use Rattle.exact_simplex.specs.Program.{HasLengths, coefficients_of, system_of}
+use Rattle.lin_rows.specs.System.{HasLengths, coefficients_of, system_of}
 
 module _ {F : Type 0} (value : F → ℚ) (p : Program F) (h : HasLengths p) where
   abbrev rows_of : ℕ → List ℚ

@@ -21,7 +21,8 @@ use Rattle.lin_rows.proofs.ManyLines.{length-lines}
 use Rattle.lin_rows.proofs.Pivoted.{at_is}
 use Rattle.exact_simplex.specs.Ends.{IsSystemFault}
 use Rattle.exact_simplex.specs.Phase.{IsGivenUp}
-use Rattle.exact_simplex.specs.Program.{HasLengths, IsTableauOf, system_of, table_in}
+use Rattle.exact_simplex.specs.Program.{IsTableauOf, table_in}
+use Rattle.lin_rows.specs.System.{HasLengths, system_of}
 use Rattle.exact_simplex.proofs.Pivots.{rows_many}
 use Rattle.exact_simplex.proofs.Programs.{system_ok, equation_count_is, unknown_count_is, right_column_is}
 use Rattle.exact_simplex.proofs.Testing.{own, rises}

@@ -11,7 +11,8 @@ use Rattle.lin_rows.specs.Lines.{lines}
 use Rattle.lin_rows.specs.Read.{IsLineOf}
 use Rattle.lin_rows.proofs.Building.{table_is}
 use Rattle.lin_rows.proofs.ManyLines.{length-lines}
-use Rattle.exact_simplex.specs.Program.{HasLengths, IsUnopened, system_of, table_in}
+use Rattle.exact_simplex.specs.Program.{IsUnopened, table_in}
+use Rattle.lin_rows.specs.System.{HasLengths, system_of}
 use Rattle.exact_simplex.proofs.Programs.{system_ok, equation_count_is, right_column_is}
 use Rattle.exact_simplex.proofs.SystemLines.{row_long}
 

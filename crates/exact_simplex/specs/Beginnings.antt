@@ -8,7 +8,7 @@ use Rattle.exact_simplex.specs.declared.solve.Begun.TheVariants.{At, Ended}
 use Rattle.exact_simplex.specs.Ends.{IsCertified, IsReadOff}
 use Rattle.exact_simplex.specs.Hint.{IsBestAt}
 use Rattle.exact_simplex.specs.GoingOn.{CanGoOn}
-use Rattle.exact_simplex.specs.Program.{system_of}
+use Rattle.lin_rows.specs.System.{system_of}
 
 -- phase two can go on, or the program has ended
 abbrev pub IsBegun : {F : Type 0} → (F → ℚ) → Program F → Begun F → Type 0

@@ -7,7 +7,8 @@ use Rattle.tableaux.specs.Dictionary.{IsChanged, basic_column}
 use Rattle.lin_rows.specs.Lines.{Rises, sum_at}
 use Rattle.lin_rows.specs.declared.system.System.{System as Program}
 use Rattle.lin_rows.specs.declared.tableau.Tableau.{Tableau}
-use Rattle.exact_simplex.specs.Program.{HasLengths, IsFeasible, IsIdle, system_of}
+use Rattle.exact_simplex.specs.Program.{IsFeasible, IsIdle}
+use Rattle.lin_rows.specs.System.{HasLengths, system_of}
 
 -- two programs differ in their cost alone
 pub record HasSameEquations {F : Type 0} (one other : Program F) : Type 0 where

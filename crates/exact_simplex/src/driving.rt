@@ -4,7 +4,9 @@ ghost use Rattle.std.specs.Prelude.{◌≡◌, ◌≢◌, ◌+◌, ◌<◌, ◌�
 ghost use Rattle.lin_rows.specs.Lines.{Rises, entries};
 ghost use Rattle.exact_simplex.specs.Driving.{IsIdleTo, IsSupport};
 ghost use Rattle.exact_simplex.specs.Ends.{IsSystemFault};
-ghost use Rattle.exact_simplex.specs.Program.{HasLengths, IsFeasible, IsIdle, system_of};
+ghost use Rattle.exact_simplex.specs.Program.{IsFeasible, IsIdle};
+
+ghost use Rattle.lin_rows.specs.System.{HasLengths, system_of};
 
 use exact_field::Field;
 use lin_rows::cells::{Cell, is_zero};

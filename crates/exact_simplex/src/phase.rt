@@ -6,7 +6,9 @@ ghost use Rattle.lin_rows.specs.Pivot.{AreTableau, table_of};
 ghost use Rattle.tableaux.specs.Table.{equation_count, right_column, unknown_count};
 ghost use Rattle.exact_simplex.specs.Ends.{IsSystemFault};
 ghost use Rattle.exact_simplex.specs.Phase.{IsGivenUp, IsMoved, IsPhaseEnd, IsPhaseFault, IsStart, IsTurn};
-ghost use Rattle.exact_simplex.specs.Program.{HasLengths, IsIdle, IsPrimal, IsTableauOf, system_of, table_in};
+ghost use Rattle.exact_simplex.specs.Program.{IsIdle, IsPrimal, IsTableauOf, table_in};
+
+ghost use Rattle.lin_rows.specs.System.{HasLengths, system_of};
 
 use crate::measure::magnitudes;
 use crate::ratio::{entering, leaving};

@@ -7,7 +7,9 @@ ghost use Rattle.tableaux.specs.Simplex.{IsBest};
 ghost use Rattle.tableaux.specs.Table.{artificial_sign, at, equation_count, first_cost, right_column, second_cost, unknown_count};
 ghost use Rattle.exact_simplex.specs.Ends.{IsCertified, IsReadOff, IsSystemFault};
 ghost use Rattle.exact_simplex.specs.Hint.{IsOptimalEnd};
-ghost use Rattle.exact_simplex.specs.Program.{HasLengths, IsFeasible, IsIdle, IsPrimal, IsTableauOf, system_of, table_in};
+ghost use Rattle.exact_simplex.specs.Program.{IsFeasible, IsIdle, IsPrimal, IsTableauOf, table_in};
+
+ghost use Rattle.lin_rows.specs.System.{HasLengths, system_of};
 
 use crate::answer::LpEnd;
 use crate::opening::artificial_column;

@@ -8,7 +8,9 @@ ghost use Rattle.exact_simplex.specs.Ends.{IsCertified, IsLpFault, IsReadOff, Is
 ghost use Rattle.exact_simplex.specs.Beginnings.{IsBegun, IsBegunBest};
 ghost use Rattle.exact_simplex.specs.GoingOn.{CanGoOn};
 ghost use Rattle.exact_simplex.specs.Hint.{IsBestBasis, IsOptimalEnd, NameSame};
-ghost use Rattle.exact_simplex.specs.Program.{HasLengths, IsFeasible, IsIdle, IsPrimal, system_of, table_in};
+ghost use Rattle.exact_simplex.specs.Program.{IsFeasible, IsIdle, IsPrimal, table_in};
+
+ghost use Rattle.lin_rows.specs.System.{HasLengths, system_of};
 
 use crate::answer::{LpEnd, LpFault, lp_fault};
 use crate::driving::drive_out;

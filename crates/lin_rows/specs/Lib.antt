@@ -7,4 +7,5 @@ pub mod Lines
 pub mod Pivot
 pub mod Read
 pub mod Sums
+pub mod System
 pub mod Widths

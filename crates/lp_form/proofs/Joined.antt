@@ -13,7 +13,7 @@ use Rattle.lin_rows.proofs.Lists.{listed-push}
 use Rattle.tableaux.proofs.Found.{list_from-same}
 use Rattle.vlp_reader.proofs.Pieces.{flat_map-one}
 use Rattle.lin_rows.specs.declared.system.System.{System as Program}
-use Rattle.exact_simplex.specs.Program.{coefficients_of}
+use Rattle.lin_rows.specs.System.{coefficients_of}
 use Rattle.polyhedra.specs.Negatives.{negated}
 use Rattle.lp_form.specs.Programs.{on_parts}
 use Rattle.lp_form.specs.Building.{joined, IsWritten}

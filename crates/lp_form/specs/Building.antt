@@ -4,7 +4,7 @@ use Rattle.std.specs.List.{flat_map}
 use Rattle.exact_field.specs.Rational.{ℚ}
 use Rattle.tableaux.specs.Table.{Table, System}
 use Rattle.lin_rows.specs.declared.system.System.{System as Program}
-use Rattle.exact_simplex.specs.Program.{HasLengths, system_of}
+use Rattle.lin_rows.specs.System.{HasLengths, system_of}
 
 -- the rows of a table, one behind the other
 abbrev pub joined : Table → List ℚ

@@ -1,4 +1,4 @@
--- The subject: Programs, with Examples; Data and Names (data and names in a field), with Shapes; Reading (what is read off);
+-- The subject: Programs, with Examples; Data and Names (data and names in a field), with Shapes; Reading and Sparse (what is read off);
 -- Building (what a program in a field is).
 pub mod Building
 pub mod Data
@@ -7,3 +7,4 @@ pub mod Names
 pub mod Programs
 pub mod Reading
 pub mod Shapes
+pub mod Sparse

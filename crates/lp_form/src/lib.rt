@@ -11,6 +11,7 @@ mod numbers;
 mod pieces;
 mod programs;
 mod reading;
+mod shown;
 
 pub use cone::{interior, is_zero_vector, pointed, push_ones};
 pub use data::{At, ConeOf, Data, DataFault, SideOf};
@@ -18,3 +19,4 @@ pub use name::{LpName, Parts};
 pub use pieces::{column, negative, unit, zeros};
 pub use programs::program;
 pub use reading::{choice, difference, parts};
+pub use shown::{Cut, Preimage};

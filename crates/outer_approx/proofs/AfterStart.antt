@@ -26,7 +26,7 @@ use Rattle.log_rules.specs.Order as order
 use Rattle.log_rules.proofs.Entries.{has_last, state-push}
 use Rattle.log_rules.proofs.KeepsDescription.{rules_keep_lines}
 use Rattle.licence.specs.Operands.{AreElimRows}
-use Rattle.benson_program.specs.declared.cut.Cut.{Cut as CutOf}
+use Rattle.lp_form.specs.declared.shown.Cut.{Cut as CutOf}
 use Rattle.outer_approx.specs.Cuts.{said_by}
 use Rattle.outer_approx.specs.Lines.{line_places}
 use Rattle.outer_approx.specs.Standing.{IsBegun, IsOpenTrail, IsOuter, StandForSame}

@@ -25,8 +25,8 @@ use Rattle.log_rules.specs.Order as order
 use Rattle.log_rules.proofs.Entries.{state-push}
 use Rattle.licence.specs.Base.{IsBaseChoice, IsSide, trail_normals}
 use Rattle.licence.specs.Trails.{IsBaseDirection, IsBaseLine}
-use Rattle.benson_program.specs.Sparse.{IsSparseOf}
-use Rattle.benson_program.specs.declared.cut.Cut.{Cut as CutOf}
+use Rattle.lp_form.specs.Sparse.{IsSparseOf}
+use Rattle.lp_form.specs.declared.shown.Cut.{Cut as CutOf}
 use Rattle.outer_approx.specs.Cuts.{said_by}
 use Rattle.outer_approx.specs.Lines.{AreLinesFor, RunsBothWays, told_by}
 use Rattle.outer_approx.specs.Standing.{IsBegun}

@@ -26,7 +26,7 @@ use Rattle.licence.specs.Operands.{IsAddition}
 use Rattle.overflows.specs.Faults.{OnLicence}
 use Rattle.overflows.specs.declared.fault.SolveFault.{SolveFault}
 use Rattle.overflows.specs.declared.fault.SolveFault.TheVariants.{Left, NoMemory}
-use Rattle.benson_program.specs.declared.cut.Cut.{Cut as CutOf}
+use Rattle.lp_form.specs.declared.shown.Cut.{Cut as CutOf}
 use Rattle.outer_approx.specs.Cuts.{said_by}
 use Rattle.outer_approx.specs.Lines.{line_places}
 use Rattle.outer_approx.specs.Standing.{HasCutMore, IsOpenTrail, IsOuter, StandForSame, rows_of_trail}

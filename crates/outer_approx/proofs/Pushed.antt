@@ -28,9 +28,9 @@ use Rattle.licence.specs.Base.{last_of}
 use Rattle.licence.specs.Trails.{IsBaseDuality, IsBasePoint, IsBaseDirection, IsLiveAt}
 use Rattle.licence.specs.Licence.{opening as first_two}
 use Rattle.licence.proofs.Growing.{trail_laws}
-use Rattle.benson_program.specs.Sparse.{IsSparseOf}
-use Rattle.benson_program.specs.declared.cut.Cut.{Cut as CutOf}
-use Rattle.benson_program.specs.declared.preimage.Preimage.{Preimage}
+use Rattle.lp_form.specs.Sparse.{IsSparseOf}
+use Rattle.lp_form.specs.declared.shown.Cut.{Cut as CutOf}
+use Rattle.lp_form.specs.declared.shown.Preimage.{Preimage}
 use Rattle.outer_approx.specs.Cuts.{IsCutFor, SaysCut, said_by}
 use Rattle.outer_approx.specs.Preimages.{IsReached}
 use Rattle.outer_approx.specs.Standing.{IsOpenTrail, IsBegun, HasCutMore, HasPreimageMore}

@@ -8,8 +8,8 @@ use Rattle.deriv_log.specs.Formed.{is_formed}
 use Rattle.deriv_log.specs.declared.entry.Entry.{Entry}
 use Rattle.deriv_log.specs.declared.entry.Entry.TheVariants as line
 use Rattle.licence.specs.Base.{IsBaseCut}
-use Rattle.benson_program.specs.Sparse.{IsSparseOf}
-use Rattle.benson_program.specs.declared.cut.Cut.{Cut}
+use Rattle.lp_form.specs.Sparse.{IsSparseOf}
+use Rattle.lp_form.specs.declared.shown.Cut.{Cut}
 use Rattle.outer_approx.specs.Task.{Task}
 
 -- the inequality that a cut says

@@ -5,7 +5,7 @@ use Rattle.frac128.specs.declared.vectors.Spot.{Spot}
 use Rattle.deriv_log.specs.Formed.{is_formed}
 use Rattle.deriv_log.specs.declared.entry.Entry.{Entry}
 use Rattle.deriv_log.specs.declared.entry.Entry.TheVariants as entry
-use Rattle.benson_program.specs.Sparse.{IsSparseOf}
+use Rattle.lp_form.specs.Sparse.{IsSparseOf}
 use Rattle.outer_approx.specs.Lines.{told_by}
 use Rattle.outer_approx.specs.declared.log.Line.{Line}
 

@@ -7,7 +7,7 @@ use Rattle.lineality.specs.Without.{marks}
 use Rattle.deriv_log.specs.declared.entry.Entry.{Entry}
 use Rattle.log_rules.specs.Live.{lines}
 use Rattle.licence.specs.Base.{IsSide}
-use Rattle.benson_program.specs.Preimages.{IsPreimageOf}
+use Rattle.licence.specs.Preimages.{IsPreimageOf}
 use Rattle.outer_approx.specs.Task.{Task}
 use Rattle.outer_approx.specs.declared.log.Line.{Line}
 

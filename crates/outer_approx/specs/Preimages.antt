@@ -6,8 +6,8 @@ use Rattle.incid_sets.specs.Marks.{has}
 use Rattle.deriv_log.specs.declared.entry.Entry.{Entry}
 use Rattle.log_rules.specs.Live.{preimages}
 use Rattle.licence.specs.Base.{IsLiveAfter, last_of}
-use Rattle.benson_program.specs.Preimages.{IsPreimageOf}
-use Rattle.benson_program.specs.declared.preimage.Preimage.{Preimage}
+use Rattle.licence.specs.Preimages.{IsPreimageOf}
+use Rattle.lp_form.specs.declared.shown.Preimage.{Preimage}
 use Rattle.outer_approx.specs.Task.{Task}
 
 -- g is the number of the live generator v, a point where t and else a direction, which has no pre-image, and the parts are one

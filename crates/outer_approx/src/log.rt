@@ -1,6 +1,6 @@
 //! The log of an outer approximation as it grows by cuts and pre-images beside its double description.
 ghost use Rattle.std.specs.Prelude.{◌≡◌, ◌≤◌, IfOk, map, ◌++◌, ◌∷◌, [], ℕ, List, All, IsTrue, OnOk, OnErr, length};
-ghost use Rattle.benson_program.specs.Sparse.{IsSparseOf};
+ghost use Rattle.lp_form.specs.Sparse.{IsSparseOf};
 ghost use Rattle.outer_approx.specs.Cuts.{said_by, IsCutFor, SaysCut};
 ghost use Rattle.outer_approx.specs.Lined.{SaysLine};
 ghost use Rattle.outer_approx.specs.Lines.{AreLinesFor, told_by};
@@ -19,7 +19,7 @@ ghost use Rattle.outer_approx.specs.Standing.{HasCutMore, HasPreimageMore, IsBeg
 ghost use Rattle.outer_approx.specs.Task.{Task};
 ghost use Rattle.upper_image.specs.Shows.{ShowsFitting};
 
-use benson_program::{Cut, Preimage};
+use lp_form::{Cut, Preimage};
 use deriv_log::{Entries, Entry};
 use exact_field::Field;
 use frac128::{Sparse, Vector, frac_of};

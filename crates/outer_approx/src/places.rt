@@ -8,7 +8,7 @@ ghost use Rattle.polyhedra.specs.DoubleDescription.{is_zero};
 ghost use Rattle.polyhedra.specs.Exactness.{row_of};
 
 use crate::log::Line;
-use benson_program::Cut;
+use lp_form::Cut;
 use exact_field::Field;
 use src_sink::{Items, NoMemory};
 use std::alloc::Global;

@@ -16,7 +16,7 @@ ghost use Rattle.overflows.specs.Faults.{Overflows};
 ghost use Rattle.polyhedra.specs.Cone.{HasFullRank};
 
 use crate::places::{cut_row, filled, open_places};
-use benson_program::Cut;
+use lp_form::Cut;
 use deriv_log::{Entries, Entry};
 use double_descr::Dd;
 use exact_field::Field;

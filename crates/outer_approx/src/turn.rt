@@ -14,7 +14,7 @@ ghost use Rattle.polyhedra.specs.Exactness.{row_of};
 
 use crate::log::push_cut;
 use crate::places::cut_row;
-use benson_program::Cut;
+use lp_form::Cut;
 use deriv_log::{Entries, Entry, Family, LogPair};
 use double_descr::{Dd, DdFault, Pair};
 use exact_field::Field;

@@ -15,12 +15,6 @@ use Rattle.vlp_reader.specs.declared.problem.Cone.TheVariants.{Orthant}
 use Rattle.vlp_reader.specs.declared.problem.Dir.TheVariants.{Min}
 use Rattle.vlp_reader.specs.declared.problem.Problem.{Problem}
 
--- at most a thousand rows, columns and objectives, as each problem that a file gives
-pub record IsWithinLimits (file : Problem) : Type 0 where
-  pub rows : file.rows ≤ 1000
-  pub cols : file.cols ≤ 1000
-  pub objs : file.objs ≤ 1000
-
 -- ---- parts of a matrix
 -- cells so many rows and columns further on
 abbrev pub moved : ℕ → ℕ → List Cell → List Cell

@@ -1,7 +1,8 @@
 //! The closed convex hull of two feasible sets that are not empty.
 ghost use Rattle.std.specs.Prelude.{◌≡◌, ◌+◌, ◌≤◌, ◌++◌, length, IfOk, OnOk};
 ghost use Rattle.vlp_reader.specs.Sides.{sides};
-ghost use Rattle.poly_calc.specs.Made.{weights_row, join_cells, join_row_bounds, join_col_bounds, IsJoin, IsWithinLimits};
+ghost use Rattle.poly_calc.specs.Made.{weights_row, join_cells, join_row_bounds, join_col_bounds, IsJoin};
+ghost use Rattle.vlp_reader.specs.FileSizes.{HasFileSizes};
 ghost use Rattle.poly_calc.specs.Sets.{HasFeasible, IsInJoin, ProjectsTo};
 
 use crate::cells::push_bounds;
@@ -42,8 +43,8 @@ fn push_weights(cells: &mut Items<Cell>, count: u32) -> Result<(), NoMemory>
 
 /// The matrix of the problem for a join.
 fn join_matrix(alloc: Global, a: &Problem, b: &Problem) -> Result<Joined, NoMemory>
-    requires first { IsWithinLimits a.now }
-    requires second { IsWithinLimits b.now }
+    requires first { HasFileSizes a.now }
+    requires second { HasFileSizes b.now }
     ensures cells { IfOk result (λ joined. joined.cells ≡ join_cells a.now b.now) }
     ensures first { IfOk result (λ joined. joined.first_sides ≡ length (sides a.now)) }
     ensures second { IfOk result (λ joined. joined.second_sides ≡ length (sides b.now)) }
@@ -93,8 +94,8 @@ fn join_bounds(alloc: Global, count: u32, first: u32, second: u32) -> Result<Bou
 /// A problem whose feasible vectors begin with those of the closed convex hull of both sets, that is
 /// with all means of a feasible vector of each, to which directions of each are added.
 pub fn join_file(alloc: Global, a: &Problem, b: &Problem) -> Result<Problem, NoMemory>
-    requires first { IsWithinLimits a.now }
-    requires second { IsWithinLimits b.now }
+    requires first { HasFileSizes a.now }
+    requires second { HasFileSizes b.now }
     requires columns { a.now.cols ≡ b.now.cols }
     requires some_first { HasFeasible a.now }
     requires some_second { HasFeasible b.now }

@@ -2,7 +2,8 @@
 ghost use Rattle.std.specs.Prelude.{◌≡◌, ◌++◌, IfOk, OnOk, replicate};
 ghost use Rattle.exact_field.specs.Rational.{zero_ℚ};
 ghost use Rattle.vlp_reader.specs.declared.problem.Bound.TheVariants as bound;
-ghost use Rattle.poly_calc.specs.Made.{value_row, map_cells, IsMap, IsWithinLimits};
+ghost use Rattle.poly_calc.specs.Made.{value_row, map_cells, IsMap};
+ghost use Rattle.vlp_reader.specs.FileSizes.{HasFileSizes};
 ghost use Rattle.poly_calc.specs.Sets.{IsInMap, ProjectsTo};
 
 use crate::cells::{push_bounds, push_moved, push_negatives};
@@ -14,7 +15,7 @@ use vlp_reader::{Bound, Cell, Problem};
 
 /// Appends row number `row` of `z - P x`.
 fn push_value_row(cells: &mut Items<Cell>, a: &Problem, row: u32) -> Result<(), NoMemory>
-    requires limits { IsWithinLimits a.now }
+    requires limits { HasFileSizes a.now }
     ensures { OnOk result (cells.new ≡ cells.old ++ value_row a.now row) }
 {
     cells.push(Cell {
@@ -27,7 +28,7 @@ fn push_value_row(cells: &mut Items<Cell>, a: &Problem, row: u32) -> Result<(), 
 
 /// The matrix of the problem for an image.
 fn map_matrix(alloc: Global, a: &Problem) -> Result<Items<Cell>, NoMemory>
-    requires limits { IsWithinLimits a.now }
+    requires limits { HasFileSizes a.now }
     ensures { IfOk result (λ cells. cells ≡ map_cells a.now) }
 {
     let mut cells = Items::new(alloc);
@@ -56,7 +57,7 @@ fn map_bounds(alloc: Global, a: &Problem) -> Result<Bounds, NoMemory>
 
 /// A problem whose feasible vectors begin with the objectives' values at those of `a`.
 pub fn map_file(alloc: Global, a: &Problem) -> Result<Problem, NoMemory>
-    requires limits { IsWithinLimits a.now }
+    requires limits { HasFileSizes a.now }
     ensures layout { IfOk result (IsMap a.now) }
     ensures set { IfOk result (λ made. ProjectsTo made a.now.objs (IsInMap a.now)) }
 {

@@ -1,6 +1,7 @@
 //! What is feasible for two problems.
 ghost use Rattle.std.specs.Prelude.{◌≡◌, ◌++◌, IfOk};
-ghost use Rattle.poly_calc.specs.Made.{meet_cells, IsMeet, IsWithinLimits};
+ghost use Rattle.poly_calc.specs.Made.{meet_cells, IsMeet};
+ghost use Rattle.vlp_reader.specs.FileSizes.{HasFileSizes};
 ghost use Rattle.poly_calc.specs.Sets.{IsInBoth, ProjectsTo};
 
 use crate::cells::{push_moved, push_units};
@@ -11,8 +12,8 @@ use vlp_reader::{Cell, Problem};
 
 /// The matrix of the problem for both.
 fn meet_matrix(alloc: Global, a: &Problem, b: &Problem) -> Result<Items<Cell>, NoMemory>
-    requires first { IsWithinLimits a.now }
-    requires second { IsWithinLimits b.now }
+    requires first { HasFileSizes a.now }
+    requires second { HasFileSizes b.now }
     ensures { IfOk result (λ cells. cells ≡ meet_cells a.now b.now) }
 {
     let mut cells = Items::new(alloc);
@@ -39,8 +40,8 @@ fn meet_bounds(alloc: Global, a: &Problem, b: &Problem) -> Result<Bounds, NoMemo
 
 /// A problem whose feasible vectors are those that are feasible for both.
 pub fn meet_file(alloc: Global, a: &Problem, b: &Problem) -> Result<Problem, NoMemory>
-    requires first { IsWithinLimits a.now }
-    requires second { IsWithinLimits b.now }
+    requires first { HasFileSizes a.now }
+    requires second { HasFileSizes b.now }
     requires columns { a.now.cols ≡ b.now.cols }
     ensures layout { IfOk result (IsMeet a.now b.now) }
     ensures set { IfOk result (λ made. ProjectsTo made a.now.cols (IsInBoth a.now b.now)) }

@@ -2,7 +2,8 @@
 ghost use Rattle.std.specs.Prelude.{◌≡◌, ◌+◌, ◌≤◌, ◌==◌, ◌++◌, ◌∷◌, [], map, length, if◌then◌else◌, IfOk, OnOk};
 ghost use Rattle.exact_field.specs.Rational.{zero_ℚ, one_ℚ, neg_ℚ};
 ghost use Rattle.vlp_reader.specs.Sides.{row_vector, unit, at_least, sides, sides_of, sides_from};
-ghost use Rattle.poly_calc.specs.Made.{row_cells, side_row, side_rows, IsWithinLimits};
+ghost use Rattle.poly_calc.specs.Made.{row_cells, side_row, side_rows};
+ghost use Rattle.vlp_reader.specs.FileSizes.{HasFileSizes};
 
 use exact_field::Field;
 use frac128::{Frac, Vector, is_zero};
@@ -149,7 +150,7 @@ fn push_row_sides(
     columns: Columns,
     problem: &Problem,
 ) -> Result<u32, NoMemory>
-    requires limits { IsWithinLimits problem.now }
+    requires limits { HasFileSizes problem.now }
     requires from { from ≤ 50000 }
     ensures cells { OnOk result (cells.new ≡ cells.old
         ++ side_rows from columns.first columns.multiplier
@@ -175,7 +176,7 @@ fn push_col_sides(
     columns: Columns,
     problem: &Problem,
 ) -> Result<u32, NoMemory>
-    requires limits { IsWithinLimits problem.now }
+    requires limits { HasFileSizes problem.now }
     requires from { from ≤ 50000 }
     ensures cells { OnOk result (cells.new ≡ cells.old
         ++ side_rows from columns.first columns.multiplier
@@ -201,7 +202,7 @@ pub(crate) fn push_sides(
     columns: Columns,
     problem: &Problem,
 ) -> Result<u32, NoMemory>
-    requires limits { IsWithinLimits problem.now }
+    requires limits { HasFileSizes problem.now }
     requires from { from ≤ 10000 }
     ensures cells { OnOk result (cells.new ≡ cells.old
         ++ side_rows from columns.first columns.multiplier (sides problem.now)) }

@@ -4,7 +4,8 @@ ghost use Rattle.std.specs.List.{flat_map};
 ghost use Rattle.exact_field.specs.Rational.{zero_ℚ};
 ghost use Rattle.vlp_reader.specs.Sides.{numbers_from};
 ghost use Rattle.vlp_reader.specs.declared.problem.Bound.TheVariants as bound;
-ghost use Rattle.poly_calc.specs.Made.{sum_row, sum_cells, IsSum, IsWithinLimits};
+ghost use Rattle.poly_calc.specs.Made.{sum_row, sum_cells, IsSum};
+ghost use Rattle.vlp_reader.specs.FileSizes.{HasFileSizes};
 ghost use Rattle.poly_calc.specs.Sets.{IsInSum, ProjectsTo};
 
 use crate::cells::{push_bounds, push_moved};
@@ -54,7 +55,7 @@ pub(crate) fn push_sum_rows(cells: &mut Items<Cell>, count: u32) -> Result<(), N
 
 /// The matrix of the problem for a sum.
 fn sum_matrix(alloc: Global, a: &Problem, b: &Problem) -> Result<Items<Cell>, NoMemory>
-    requires first { IsWithinLimits a.now }
+    requires first { HasFileSizes a.now }
     ensures { IfOk result (λ cells. cells ≡ sum_cells a.now b.now) }
 {
     let mut cells = Items::new(alloc);
@@ -84,8 +85,8 @@ fn sum_bounds(alloc: Global, a: &Problem, b: &Problem) -> Result<Bounds, NoMemor
 
 /// A problem whose feasible vectors begin with the sums of a feasible vector of each.
 pub fn sum_file(alloc: Global, a: &Problem, b: &Problem) -> Result<Problem, NoMemory>
-    requires first { IsWithinLimits a.now }
-    requires second { IsWithinLimits b.now }
+    requires first { HasFileSizes a.now }
+    requires second { HasFileSizes b.now }
     requires columns { a.now.cols ≡ b.now.cols }
     ensures layout { IfOk result (IsSum a.now b.now) }
     ensures set { IfOk result (λ made. ProjectsTo made a.now.cols (IsInSum a.now b.now)) }

@@ -39,8 +39,8 @@ use Rattle.benson_program.specs.Wholes.{AreEmptyAtOrigin}
 use Rattle.benson_program.specs.declared.ends.BensonEnd.{BensonEnd}
 use Rattle.benson_program.specs.declared.ends.BensonEnd.TheVariants.{Optimal, Empty}
 use Rattle.benson_program.proofs.Counted.{last_is, some_last}
-use Rattle.benson_program.specs.Sparse.{IsSparseOf}
-use Rattle.benson_program.specs.declared.cut.Cut.{Cut}
+use Rattle.lp_form.specs.Sparse.{IsSparseOf}
+use Rattle.lp_form.specs.declared.shown.Cut.{Cut}
 use Rattle.benson_program.proofs.Read.{parts_there}
 use Rattle.benson_program.proofs.Spread.{spots}
 use Rattle.outer_approx.specs.Cuts.{IsCutFor, said_by}

@@ -9,9 +9,9 @@ use Rattle.polyhedra.proofs.Members.{all_of_members, member_of}
 use Rattle.polyhedra.proofs.Negatives.{dot-negated}
 use Rattle.deriv_log.specs.declared.entry.Entry.{Entry}
 use Rattle.licence.specs.Base.{IsBaseStart, IsSide, trail_normals}
-use Rattle.benson_program.specs.Preimages.{IsPreimageOf}
-use Rattle.benson_program.specs.declared.cut.Cut.{Cut as CutOf}
-use Rattle.benson_program.specs.declared.preimage.Preimage.{Preimage}
+use Rattle.licence.specs.Preimages.{IsPreimageOf}
+use Rattle.lp_form.specs.declared.shown.Cut.{Cut as CutOf}
+use Rattle.lp_form.specs.declared.shown.Preimage.{Preimage}
 use Rattle.outer_approx.specs.Cuts.{IsCutFor}
 use Rattle.outer_approx.specs.Task.{Task, IsFitting}
 use Rattle.outer_approx.specs.Lines.{RunsBothWays, told_by}

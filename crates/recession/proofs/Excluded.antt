@@ -12,7 +12,7 @@ use Rattle.benson_program.specs.Laws.{IsCutNormal}
 use Rattle.benson_program.proofs.Excluded.{answers_exclude}
 use Rattle.benson_program.specs.Ends.{IsContradiction}
 use Rattle.benson_program.specs.Wholes.{IsWholeOf}
-use Rattle.benson_program.specs.declared.cut.Cut.{Cut}
+use Rattle.lp_form.specs.declared.shown.Cut.{Cut}
 use Rattle.benson_program.specs.declared.whole.WholeParts.{WholeParts}
 use Rattle.outer_approx.specs.Cuts.{IsCutFor}
 use Rattle.outer_approx.specs.Task.{Task, IsFitting}

@@ -16,9 +16,9 @@ use Rattle.upper_image.specs.UpperImage.{IsWorkingDirection}
 use Rattle.upper_image.proofs.Lines.{cuts_are_level}
 use Rattle.upper_image.proofs.WorkingImage.{ray_shown, working_image_convex}
 use Rattle.licence.specs.Base.{IsBaseChoice, IsSide}
-use Rattle.benson_program.specs.Preimages.{IsPreimageOf}
-use Rattle.benson_program.specs.declared.cut.Cut.{Cut}
-use Rattle.benson_program.specs.declared.preimage.Preimage.{Preimage}
+use Rattle.licence.specs.Preimages.{IsPreimageOf}
+use Rattle.lp_form.specs.declared.shown.Cut.{Cut}
+use Rattle.lp_form.specs.declared.shown.Preimage.{Preimage}
 use Rattle.outer_approx.specs.Cuts.{IsCutFor}
 use Rattle.outer_approx.specs.Lines.{RunsBothWays, told_by}
 use Rattle.outer_approx.specs.Task.{Task}

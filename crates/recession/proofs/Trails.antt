@@ -16,7 +16,7 @@ use Rattle.licence.proofs.Without.{licence_laws}
 use Rattle.overflows.specs.Faults.{OnLicence, Overflows}
 use Rattle.overflows.specs.declared.fault.SolveFault.{SolveFault}
 use Rattle.overflows.specs.declared.fault.SolveFault.TheVariants.{Left, NoMemory}
-use Rattle.benson_program.specs.declared.cut.Cut.{Cut}
+use Rattle.lp_form.specs.declared.shown.Cut.{Cut}
 use Rattle.outer_approx.specs.Cuts.{IsCutFor, SaysCut}
 use Rattle.outer_approx.specs.Task.{Task, IsFitting, behind}
 use Rattle.recession.specs.Further.{SayCuts, normals_of}

@@ -7,8 +7,8 @@ use Rattle.lp_form.specs.Programs.{benson_system, value_of}
 use Rattle.licence.specs.Turns.{said_row}
 use Rattle.benson_program.specs.Laws.{IsCutNormal}
 use Rattle.benson_program.specs.Ends.{IsOptimumAt}
-use Rattle.benson_program.specs.Preimages.{IsPreimageOf}
-use Rattle.benson_program.specs.declared.cut.Cut.{Cut as CutOf}
+use Rattle.licence.specs.Preimages.{IsPreimageOf}
+use Rattle.lp_form.specs.declared.shown.Cut.{Cut as CutOf}
 use Rattle.outer_approx.specs.Cuts.{IsCutFor, said_by}
 use Rattle.outer_approx.specs.Task.{Task}
 use Rattle.recession.specs.declared.asking.Asked.{Asked}

@@ -8,7 +8,7 @@ use Rattle.upper_image.specs.UpperImage.{IsWorkingDirection}
 use Rattle.licence.specs.Base.{IsBaseChoice}
 use Rattle.benson_program.specs.Ends.{IsContradiction}
 use Rattle.benson_program.specs.Wholes.{IsWholeOf}
-use Rattle.benson_program.specs.declared.cut.Cut.{Cut}
+use Rattle.lp_form.specs.declared.shown.Cut.{Cut}
 use Rattle.outer_approx.specs.Cuts.{IsCutFor}
 use Rattle.outer_approx.specs.Lines.{AreLinesFor, told_by}
 use Rattle.outer_approx.specs.Task.{Task, IsFitting}

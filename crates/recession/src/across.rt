@@ -8,7 +8,7 @@ ghost use Rattle.outer_approx.specs.Lines.{told_by};
 ghost use Rattle.overflows.specs.Faults.{Overflows};
 ghost use Rattle.recession.specs.Further.{AreTail, IsNextSide, normals_of};
 
-use benson_program::Cut;
+use lp_form::Cut;
 use exact_field::Field;
 use lin_rows::{Rows, complement};
 use outer_approx::Line;

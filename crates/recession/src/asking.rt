@@ -10,11 +10,11 @@ ghost use Rattle.outer_approx.specs.Task.{IsFitting, Task, behind};
 ghost use Rattle.overflows.specs.Faults.{Overflows};
 ghost use Rattle.recession.specs.Asking.{IsAsked, IsProper};
 
-use benson_program::{BensonEnd, Cut, Preimage, benson_end, cut_of, preimage_of};
+use benson_program::{BensonEnd, benson_end, cut_of, preimage_of};
+use lp_form::{Cut, Data, Preimage};
 use exact_field::Field;
 use exact_simplex::Kept;
 use lin_rows::cells::is_positive;
-use lp_form::Data;
 use overflows::SolveFault;
 use src_sink::Items;
 use std::alloc::Global;

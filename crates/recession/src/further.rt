@@ -1,7 +1,7 @@
 //! What is found behind some cuts and lines: one more cut, or one more line.
 ghost use Rattle.std.specs.Prelude.{◌≡◌, ◌+◌, ◌<◌, false, [], List, map, length, reverse, All, IfOk, IfErr};
-ghost use Rattle.benson_program.specs.Preimages.{IsPreimageOf};
-ghost use Rattle.benson_program.specs.declared.cut.Cut.{Cut as CutOf};
+ghost use Rattle.licence.specs.Preimages.{IsPreimageOf};
+ghost use Rattle.lp_form.specs.declared.shown.Cut.{Cut as CutOf};
 ghost use Rattle.deriv_log.specs.declared.entry.Entry.{Entry};
 ghost use Rattle.licence.specs.Base.{IsSide, trail_normals};
 ghost use Rattle.licence.specs.Licence.{Licensed};
@@ -16,11 +16,10 @@ ghost use Rattle.recession.specs.Further.{AreFound, IsNext, IsNextSide, SayCuts,
 
 use crate::across::across;
 use crate::asking::{Asked, ask};
-use benson_program::{Cut, Preimage};
+use lp_form::{Cut, Data, Preimage, negative};
 use deriv_log::Entries;
 use exact_field::Field;
 use exact_simplex::Kept;
-use lp_form::{Data, negative};
 use outer_approx::{Line, push_cut_entry};
 use overflows::SolveFault;
 use src_sink::{Items, NoMemory};

@@ -392,7 +392,7 @@ pub record WithinLimits (s : Sizes) : Type 0 where
   pub some_column : 0 < s.cols
   pub cols : s.cols ≤ 1000
   pub some_objective : 0 < s.objs
-  pub objs : s.objs ≤ 12
+  pub objs : s.objs ≤ 20
   pub some_vector : some_vector s.cone ≡ true
   pub vectors : cone_count s.cone ≤ 64
 
@@ -407,14 +407,14 @@ within_limits s h =
     let positive_too = and_parts (nat_lt 0 s.objs) (some_vector s.cone) positive.1 in
     let one = and_parts (nat_le s.rows 1000) _ (must_passes (are_within_limits s) LimitPassed both.1) in
     let two = and_parts (nat_le s.cols 1000) _ one.1 in
-    let three = and_parts (nat_le s.objs 12) _ two.1 in
+    let three = and_parts (nat_le s.objs 20) _ two.1 in
     let four = and_parts (nat_le (cone_count s.cone) 64) _ three.1 in
     record {
       rows = leb-true s.rows 1000 one.0;
       some_column = ltb-true 0 s.cols positive.0;
       cols = leb-true s.cols 1000 two.0;
       some_objective = ltb-true 0 s.objs positive_too.0;
-      objs = leb-true s.objs 12 three.0;
+      objs = leb-true s.objs 20 three.0;
       some_vector = positive_too.1;
       vectors = leb-true (cone_count s.cone) 64 four.0;
     }

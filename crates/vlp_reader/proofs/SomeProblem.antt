@@ -9,6 +9,7 @@ use Rattle.exact_field.specs.Rational.{ℚ, zero_ℚ}
 use Rattle.vlp_reader.specs.Cells.{is_within}
 use Rattle.vlp_reader.specs.Cones.{each_has, are_vectors, cone_fits, duality_fits}
 use Rattle.vlp_reader.specs.Drafts.{is_silent}
+use Rattle.vlp_reader.specs.FileSizes.{HasFileSizes}
 use Rattle.vlp_reader.specs.FirstFault.{file_lines, Passes, FirstFault, HasNoFault, Reads}
 use Rattle.vlp_reader.specs.Grammar.{first_given, given_sizes, given_entry, same_matrix, line_fault, words_fault, kind_fault, is_kind, formed, sizes_fault, statement_fault, wrong, number_value, matrix_rows, matrix_cols, value_at, bound_at, column_of, cone_of, duality_of, some_vector, cone_count, closing_fault, gives_entry, Gives}
 use Rattle.vlp_reader.specs.Lines.{words_of, letter}
@@ -213,7 +214,7 @@ problem_of statements s limits =
       some_column = limits.some_column;
       cols_bounded = up s.cols 1000 limits.cols (omega arith);
       some_objective = limits.some_objective;
-      objs_bounded = up s.objs 12 limits.objs (omega arith);
+      objs_bounded = up s.objs 20 limits.objs (omega arith);
       a_cells = built_are_cells (value_at statements Constraints) s.rows s.cols;
       o_cells = built_are_cells (value_at statements Objectives) s.objs s.cols;
       row_count = length-map (numbers_from 1 s.rows) (bound_at statements Row) ∙ length-numbers 1 s.rows;
@@ -247,3 +248,15 @@ some_problem bytes sound =
 
 pub read_or_fault : (bytes : List ℕ) → ((problem : Problem) × Reads bytes problem) ⊎ ((line : ℕ) × (kind : FileKind) × FirstFault bytes line kind)
 read_or_fault bytes = elim (fault_or_none bytes) [ inl sound ↦ inl (some_problem bytes sound) | inr fault ↦ inr fault ]
+
+-- the sizes that a file gives are those of the problem that it reads as
+pub read_within : (bytes : List ℕ) (file : Problem) → Reads bytes file → HasFileSizes file
+read_within bytes file reads =
+    let fit = fits (file_lines bytes) reads.sound in
+    let same : reads.sizes ≡ fit.0 = ap (λ o. unwrap_or o reads.sizes) (sym reads.given ∙ fit.1.given) in
+    let limits = subst WithinLimits (sym same) (within_limits fit.0 (is_none_of (sizes_fault fit.0) fit.1.sizes)) in
+    record {
+      rows = subst (λ (n : ℕ). n ≤ 1000) (sym reads.gives.rows) limits.rows;
+      cols = subst (λ (n : ℕ). n ≤ 1000) (sym reads.gives.cols) limits.cols;
+      objs = subst (λ (n : ℕ). n ≤ 20) (sym reads.gives.objs) limits.objs;
+    }

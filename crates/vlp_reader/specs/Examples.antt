@@ -93,10 +93,10 @@ pub record FaultExamples : Type 0 where
   pub no_columns : line_fault [] (codes "p vlp min 1001 0 0 1 0") ≡ Some OutOfRange
   pub no_objectives : line_fault [] (codes "p vlp min 1 1 0 0 0") ≡ Some OutOfRange
   pub no_vectors : line_fault [] (codes "p vlp min 1 1 0 1 0 cone 0 0") ≡ Some OutOfRange
-  pub most : line_fault [] (codes "p vlp min 1000 1000 50000 12 49999 cone 64 1") ≡ None
+  pub most : line_fault [] (codes "p vlp min 1000 1000 50000 20 49999 cone 64 1") ≡ None
   pub many_rows : line_fault [] (codes "p vlp min 1001 1 0 1 0") ≡ Some LimitPassed
   pub many_columns : line_fault [] (codes "p vlp min 1 1001 0 1 0") ≡ Some LimitPassed
-  pub many_objectives : line_fault [] (codes "p vlp min 1 1 0 13 0") ≡ Some LimitPassed
+  pub many_objectives : line_fault [] (codes "p vlp min 1 1 0 21 0") ≡ Some LimitPassed
   pub many_vectors : line_fault [] (codes "p vlp min 1 1 0 1 0 cone 65 0") ≡ Some LimitPassed
   pub many_entries : line_fault [] (codes "p vlp min 1 1 50000 1 50000 cone 1 1") ≡ Some LimitPassed
 

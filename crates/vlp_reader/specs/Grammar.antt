@@ -100,7 +100,7 @@ are_positive s = nat_lt 0 s.cols && (nat_lt 0 s.objs && some_vector s.cone)
 -- whether the sizes are within the limits
 abbrev pub are_within_limits : Sizes → Bool
 are_within_limits s =
-    nat_le s.rows 1000 && (nat_le s.cols 1000 && (nat_le s.objs 12 && (nat_le (cone_count s.cone) 64
+    nat_le s.rows 1000 && (nat_le s.cols 1000 && (nat_le s.objs 20 && (nat_le (cone_count s.cone) 64
     && nat_le (s.entries + s.obj_entries + cone_entries s.cone) 100000)))
 
 abbrev pub sizes_fault : Sizes → Option FileKind

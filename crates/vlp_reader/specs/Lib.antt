@@ -17,3 +17,4 @@ pub mod Statements
 pub mod Tables
 pub mod Values
 pub mod Laws
+pub mod FileSizes

@@ -128,7 +128,7 @@ impl Sizes {
             + u64::from(cone_entries);
         if self.rows > 1000
             || self.cols > 1000
-            || self.objs > 12
+            || self.objs > 20
             || self.vectors() > 64
             || entries > 100_000
         {

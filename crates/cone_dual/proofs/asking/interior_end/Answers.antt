@@ -1,7 +1,7 @@
 use Rattle.std.proofs.Common.{ℕ, List, ap, subst, ◌∙◌}
 use Rattle.deriv_log.specs.declared.entry.Entry.{Entry}
 use Rattle.deriv_log.specs.declared.licence.Program.TheVariants.{Interior}
-use Rattle.exact_simplex.specs.Program.{system_of}
+use Rattle.lin_rows.specs.System.{system_of}
 use Rattle.lp_form.specs.Data.{cone_of, duality_of}
 use Rattle.lp_form.specs.Programs.{interior_system}
 use Rattle.overflows.specs.Faults.{Overflows}

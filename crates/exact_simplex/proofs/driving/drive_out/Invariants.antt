@@ -1,5 +1,6 @@
 use Rattle.exact_simplex.specs.Driving.{IsIdleTo}
-use Rattle.exact_simplex.specs.Program.{IsFeasible, system_of}
+use Rattle.exact_simplex.specs.Program.{IsFeasible}
+use Rattle.lin_rows.specs.System.{system_of}
 use Rattle.exact_simplex.proofs.driving.drive_out.Given as goal
 
 abbrev pub invariant-loop-i : goal.invariant-loop-i

@@ -6,7 +6,8 @@ use Rattle.lin_rows.specs.Lines.{lines, entries}
 use Rattle.lin_rows.specs.Pivot.{AreTableau, IsPivotFault, table_of}
 use Rattle.exact_simplex.specs.Driving.{IsIdleTo, IsSupport}
 use Rattle.exact_simplex.specs.Ends.{IsSystemFault}
-use Rattle.exact_simplex.specs.Program.{IsFeasible, system_of}
+use Rattle.exact_simplex.specs.Program.{IsFeasible}
+use Rattle.lin_rows.specs.System.{system_of}
 use Rattle.exact_simplex.proofs.Results.{on_ok3}
 use Rattle.exact_simplex.proofs.Testing.{own, rises}
 use Rattle.exact_simplex.proofs.DrivingTurns.{row_inside, basis_inside, unknown_named, row_zero, turn_high, turn_pivot, turn_fault, turn_feasible, turn_idle}

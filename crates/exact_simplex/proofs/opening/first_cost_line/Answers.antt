@@ -2,7 +2,7 @@ use Rattle.std.proofs.Common.{sym, ap, subst, arith, ◌+◌, ◌≡◌, List}
 use Rattle.polyhedra.specs.Sparse.{Entry}
 use Rattle.lin_rows.specs.Lines.{entries}
 use Rattle.tableaux.specs.Table.{first_cost, right_column, row_of, table_of}
-use Rattle.exact_simplex.specs.Program.{system_of}
+use Rattle.lin_rows.specs.System.{system_of}
 use Rattle.exact_simplex.proofs.SystemLines.{IsLineTo}
 use Rattle.exact_simplex.proofs.ProgramLines.{first_begins, first_more, first_ends}
 use Rattle.exact_simplex.proofs.opening.first_cost_line.Goals as goal

@@ -1,7 +1,7 @@
 use Rattle.std.proofs.Common.{◌∙◌, arith}
 use Rattle.lin_rows.proofs.Errors.{err_holds}
 use Rattle.exact_simplex.specs.Ends.{IsSystemFault}
-use Rattle.exact_simplex.specs.Program.{system_of}
+use Rattle.lin_rows.specs.System.{system_of}
 use Rattle.exact_simplex.proofs.Programs.{right_column_is}
 use Rattle.exact_simplex.proofs.OpeningTurns.{opening_begins, opening_ends, turn_inside, turn_high, turn_pivot, turn_fault, turn_held, turn_opened}
 use Rattle.exact_simplex.proofs.opening.open.Goals as goal

@@ -1,6 +1,6 @@
 use Rattle.tableaux.specs.Table.{right_column, row_of, second_cost, table_of}
 use Rattle.lin_rows.specs.Lines.{entries}
-use Rattle.exact_simplex.specs.Program.{system_of}
+use Rattle.lin_rows.specs.System.{system_of}
 use Rattle.exact_simplex.proofs.SystemLines.{IsLineTo}
 use Rattle.exact_simplex.proofs.opening.second_cost_line.Given as goal
 

@@ -6,7 +6,7 @@ use Rattle.lin_rows.specs.declared.tableau.Tableau.{Tableau}
 use Rattle.lin_rows.specs.Lines.{entries}
 use Rattle.lin_rows.specs.Read.{IsLineOf}
 use Rattle.lin_rows.proofs.Building.{each_more, none_more}
-use Rattle.exact_simplex.specs.Program.{system_of}
+use Rattle.lin_rows.specs.System.{system_of}
 use Rattle.exact_simplex.proofs.Programs.{equation_count_is}
 use Rattle.exact_simplex.proofs.Tabled.{unopened_is}
 use Rattle.exact_simplex.proofs.opening.unopened.Goals as goal

@@ -2,7 +2,7 @@ use Rattle.std.proofs.Common.{length, ℕ, ◌≡◌, ◌<◌, ◌+◌, [], slic
 use Rattle.tableaux.specs.Table.{right_column, row_of, table_of}
 use Rattle.lin_rows.specs.Lines.{lines}
 use Rattle.lin_rows.specs.Read.{IsLineOf}
-use Rattle.exact_simplex.specs.Program.{system_of}
+use Rattle.lin_rows.specs.System.{system_of}
 use Rattle.exact_simplex.proofs.opening.unopened.Given as goal
 
 abbrev pub invariant-loop-i : goal.invariant-loop-i

@@ -5,7 +5,8 @@ use Rattle.lin_rows.specs.Lines.{lines}
 use Rattle.lin_rows.specs.Pivot.{table_of}
 use Rattle.exact_simplex.specs.Ends.{IsSystemFault}
 use Rattle.exact_simplex.specs.Phase.{IsMoved, IsPhaseEnd, IsPhaseFault, IsTurn}
-use Rattle.exact_simplex.specs.Program.{IsIdle, IsPrimal, system_of, table_in}
+use Rattle.exact_simplex.specs.Program.{IsIdle, IsPrimal, table_in}
+use Rattle.lin_rows.specs.System.{system_of}
 use Rattle.exact_simplex.proofs.Results.{on_ok2}
 use Rattle.exact_simplex.proofs.Pivots.{rows_many, basis_many}
 use Rattle.exact_simplex.proofs.Programs.{system_ok, equation_count_is, unknown_count_is}

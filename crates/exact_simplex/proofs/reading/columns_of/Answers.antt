@@ -1,6 +1,6 @@
 use Rattle.std.proofs.Common.{sym, arith, ap, length}
 use Rattle.std.proofs.lemmas.List.{length-take-le}
-use Rattle.exact_simplex.specs.Program.{system_of}
+use Rattle.lin_rows.specs.System.{system_of}
 use Rattle.exact_simplex.proofs.Pivots.{basis_many}
 use Rattle.exact_simplex.proofs.Programs.{system_ok, equation_count_is}
 use Rattle.exact_simplex.proofs.reading.columns_of.Goals as goal

@@ -2,7 +2,8 @@ use Rattle.std.proofs.Common.{◌≡◌, ◌∙◌, ◌+◌, ℕ, ap, ap₂, ari
 use Rattle.exact_field.specs.Rational.{◌*ℚ◌}
 use Rattle.tableaux.specs.Table.{artificial_column, at, listed, second_cost, equation_count, table_of}
 use Rattle.lin_rows.proofs.Lists.{mapped_more}
-use Rattle.exact_simplex.specs.Program.{system_of, table_in}
+use Rattle.exact_simplex.specs.Program.{table_in}
+use Rattle.lin_rows.specs.System.{system_of}
 use Rattle.exact_simplex.proofs.Programs.{equation_count_is, right_column_is}
 use Rattle.exact_simplex.proofs.Readings.{sign_is, row_there, cost_read}
 use Rattle.exact_simplex.proofs.reading.dual.Goals as goal

@@ -4,7 +4,8 @@ use Rattle.exact_field.specs.Rational.{ℚ, one_ℚ, ◌*ℚ◌, ◌-ℚ◌}
 use Rattle.tableaux.specs.Table.{artificial_column, at, listed, first_cost, equation_count, table_of}
 use Rattle.lin_rows.proofs.Lists.{mapped_more}
 use Rattle.lin_rows.proofs.ManyLines.{length-lines}
-use Rattle.exact_simplex.specs.Program.{IsTableauOf, system_of, table_in}
+use Rattle.exact_simplex.specs.Program.{IsTableauOf, table_in}
+use Rattle.lin_rows.specs.System.{system_of}
 use Rattle.exact_simplex.proofs.Programs.{equation_count_is, right_column_is}
 use Rattle.exact_simplex.proofs.Readings.{sign_is, row_there, cost_read, less_one_fault}
 use Rattle.exact_simplex.proofs.reading.farkas.Goals as goal

@@ -5,7 +5,8 @@ use Rattle.tableaux.specs.Elimination.{ray_of}
 use Rattle.tableaux.proofs.Ends.{ends_are_right}
 use Rattle.lin_rows.specs.Lines.{AreLines, lines}
 use Rattle.lin_rows.specs.Pivot.{table_of as table_of_lines}
-use Rattle.exact_simplex.specs.Program.{system_of, table_in}
+use Rattle.exact_simplex.specs.Program.{table_in}
+use Rattle.lin_rows.specs.System.{system_of}
 use Rattle.exact_simplex.proofs.Programs.{system_ok, equation_count_is, unknown_count_is}
 use Rattle.exact_simplex.proofs.EndsRead.{unbounded_read}
 use Rattle.exact_simplex.proofs.reading.unbounded.Goals as goal

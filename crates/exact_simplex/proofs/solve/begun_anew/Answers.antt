@@ -1,5 +1,6 @@
 use Rattle.tableaux.specs.Table.{at, first_cost, right_column}
-use Rattle.exact_simplex.specs.Program.{system_of, table_in}
+use Rattle.exact_simplex.specs.Program.{table_in}
+use Rattle.lin_rows.specs.System.{system_of}
 use Rattle.exact_simplex.proofs.Programs.{system_ok}
 use Rattle.exact_simplex.proofs.Testing.{not_negative}
 use Rattle.exact_simplex.proofs.SolvingEnds.{primal_feasible}

@@ -2,7 +2,7 @@ use Rattle.std.proofs.Common.{Option, subst}
 use Rattle.std.specs.Prelude.{IsSomeAnd, MatchOption, ⊤}
 use Rattle.lin_rows.specs.declared.tableau.Tableau.{Tableau}
 use Rattle.exact_simplex.specs.Hint.{AreSolved, IsBestAt, IsHinted}
-use Rattle.exact_simplex.specs.Program.{system_of}
+use Rattle.lin_rows.specs.System.{system_of}
 use Rattle.exact_simplex.proofs.Hinted.{hinted_feasible, hinted_idle}
 use Rattle.exact_simplex.proofs.solve.begun_at.Goals as goal
 

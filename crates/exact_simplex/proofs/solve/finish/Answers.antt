@@ -2,7 +2,7 @@ use Rattle.std.proofs.Common.{ℕ, List, subst, take}
 use Rattle.exact_simplex.specs.Beginnings.{IsBegun, IsBegunBest}
 use Rattle.exact_simplex.specs.GoingOn.{CanGoOn}
 use Rattle.exact_simplex.specs.Hint.{IsBestAt, NameSame}
-use Rattle.exact_simplex.specs.Program.{system_of}
+use Rattle.lin_rows.specs.System.{system_of}
 use Rattle.exact_simplex.proofs.Faults.{optimal_with}
 use Rattle.exact_simplex.proofs.Programs.{equation_count_is}
 use Rattle.exact_simplex.proofs.solve.finish.Goals as goal

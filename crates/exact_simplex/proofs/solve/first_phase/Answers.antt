@@ -3,7 +3,8 @@ use Rattle.std.specs.Prelude.{◌↔◌}
 use Rattle.exact_field.specs.Rational.{ℚ, zero_ℚ, ◌<ℚ◌}
 use Rattle.tableaux.specs.Table.{at, equation_count, first_cost, right_column, unknown_count}
 use Rattle.exact_simplex.specs.Phase.{IsPhaseEnd}
-use Rattle.exact_simplex.specs.Program.{system_of, table_in}
+use Rattle.exact_simplex.specs.Program.{table_in}
+use Rattle.lin_rows.specs.System.{system_of}
 use Rattle.exact_simplex.proofs.Programs.{system_ok, equation_count_is}
 use Rattle.exact_simplex.proofs.Readings.{row_there, read_at}
 use Rattle.exact_simplex.proofs.SolvingEnds.{phase_one_limited, phase_best}

@@ -6,7 +6,8 @@ use Rattle.lin_rows.specs.declared.tableau.Tableau.{Tableau}
 use Rattle.exact_simplex.specs.Hint.{IsOptimalEnd}
 use Rattle.exact_simplex.proofs.Results.{none_some}
 use Rattle.exact_simplex.specs.Phase.{IsPhaseEnd}
-use Rattle.exact_simplex.specs.Program.{system_of, table_in}
+use Rattle.exact_simplex.specs.Program.{table_in}
+use Rattle.lin_rows.specs.System.{system_of}
 use Rattle.exact_simplex.proofs.Programs.{system_ok, equation_count_is}
 use Rattle.exact_simplex.proofs.SolvingEnds.{phase_best, feasible_primal, idle_feasible, without_limit}
 use Rattle.exact_simplex.proofs.solve.second_phase.Goals as goal

@@ -1,4 +1,4 @@
-use Rattle.exact_simplex.specs.Program.{system_of}
+use Rattle.lin_rows.specs.System.{system_of}
 use Rattle.exact_simplex.proofs.Faults.{same_fault}
 use Rattle.exact_simplex.proofs.solve.solve_lp_next.Goals as goal
 

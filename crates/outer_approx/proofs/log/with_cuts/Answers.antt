@@ -1,6 +1,6 @@
 use Rattle.std.proofs.Common.{◌+◌, rules, [], ◌∷◌, ◌++◌, sym, ap, ◌∙◌, subst, take}
 use Rattle.std.proofs.lemmas.List.{take_more}
-use Rattle.benson_program.specs.declared.cut.Cut.{Cut}
+use Rattle.lp_form.specs.declared.shown.Cut.{Cut}
 use Rattle.outer_approx.specs.Cuts.{IsCutFor}
 use Rattle.outer_approx.proofs.Pushed.{filled_more, opened_open, opened_unreached}
 use Rattle.outer_approx.proofs.log.with_cuts.Goals as goal

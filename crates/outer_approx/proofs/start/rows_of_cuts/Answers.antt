@@ -2,7 +2,7 @@ use Rattle.std.proofs.Common.{◌≡◌, suc, ◌+◌, List, [], ◌∷◌, ◌+
 use Rattle.std.proofs.lemmas.List.{length-map, map-append, take_more}
 use Rattle.exact_field.specs.Rational.{ℚ}
 use Rattle.lineality.specs.Without.{open_count}
-use Rattle.benson_program.specs.declared.cut.Cut.{Cut}
+use Rattle.lp_form.specs.declared.shown.Cut.{Cut}
 use Rattle.outer_approx.specs.Cuts.{said_by}
 use Rattle.outer_approx.proofs.RowsOfCuts.{length-row, rows_begin, rows_more}
 use Rattle.outer_approx.proofs.start.rows_of_cuts.Goals as goal

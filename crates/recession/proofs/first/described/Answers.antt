@@ -3,7 +3,7 @@ use Rattle.std.proofs.lemmas.List.{length-reverse, reverse-append}
 use Rattle.lin_rows.proofs.Errors.{err_holds}
 use Rattle.licence.specs.Licence.{Licensed}
 use Rattle.lp_form.proofs.Figures.{objective_number}
-use Rattle.benson_program.specs.declared.cut.Cut.{Cut}
+use Rattle.lp_form.specs.declared.shown.Cut.{Cut}
 use Rattle.outer_approx.specs.Cuts.{IsCutFor}
 use Rattle.outer_approx.specs.declared.log.Line.{Line}
 use Rattle.overflows.specs.Faults.{OnLicence}

@@ -1,7 +1,7 @@
 use Rattle.std.proofs.Common.{◌++◌, ◌∷◌, [], ◌+◌, List, take, sym, ap, ◌∙◌, subst}
 use Rattle.std.proofs.lemmas.List.{take_more}
 use Rattle.deriv_log.specs.declared.entry.Entry.{Entry}
-use Rattle.benson_program.specs.declared.cut.Cut.{Cut}
+use Rattle.lp_form.specs.declared.shown.Cut.{Cut}
 use Rattle.recession.specs.Further.{SayCuts}
 use Rattle.recession.proofs.Trails.{say_more}
 use Rattle.recession.proofs.further.entries_of.Goals as goal
