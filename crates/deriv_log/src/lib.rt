@@ -20,4 +20,5 @@ pub use fault::{LogEnd, LogFault, LogKind};
 pub use licence::{Family, Licence, Place, Program};
 pub use line::read_line;
 pub use log::{one_reading, read_log};
+pub use number::fraction;
 pub use text::print_log;

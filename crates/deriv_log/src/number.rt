@@ -151,8 +151,9 @@ fn signed_word(word: &[u8]) -> (bool, &[u8])
     }
 }
 
-/// The fraction of a word.
-pub(crate) fn fraction(word: &[u8]) -> Result<Frac, LogKind>
+/// The fraction that a word writes, whole or as `NUMERATOR/DENOMINATOR` in lowest terms. Its parts have
+/// a magnitude below 2^120 (`NumberWide`); any other word is a `BadNumber`.
+pub fn fraction(word: &[u8]) -> Result<Frac, LogKind>
     ensures { MatchResult result (λ q. IsTrue (is_held q) × (word.now ≡ frac_text q))
         (λ kind. number_fault word.now ≡ Some kind) }
 {
