@@ -22,12 +22,12 @@ ghost use Rattle.benson_primal.specs.Search.{IsKnown, IsSearching};
 
 use crate::search::{Scope, Search};
 use benson_program::WholeParts;
-use lp_form::{Cut, Data};
 use cone_dual::Duality;
 use deriv_log::{Entries, Entry};
 use exact_field::Field;
 use exact_simplex::Kept;
 use incid_sets::Marks;
+use lp_form::{Cut, Data};
 use outer_approx::{Line, begun, infeasible_log, places_of, solved, started, whole_log};
 use overflows::{SolveFault, spots_of};
 use recession::{First, first_cuts};

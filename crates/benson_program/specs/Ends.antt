@@ -9,6 +9,9 @@ use Rattle.vlp_reader.specs.declared.problem.Problem.{Problem}
 use Rattle.upper_image.specs.OrderingCone.{IsInteriorToCone}
 use Rattle.upper_image.specs.Spots.{dense, IsVector}
 use Rattle.upper_image.specs.Witnesses as witnesses
+use Rattle.deriv_log.specs.declared.licence.Place.{Place}
+use Rattle.deriv_log.specs.declared.licence.Place.TheVariants.{Pivot}
+use Rattle.deriv_log.specs.declared.licence.Program.TheVariants.{Feasible}
 use Rattle.log_rules.specs.Meets.{MeetsFarkas}
 use Rattle.lp_form.specs.Data.{IsDataOf}
 use Rattle.lp_form.specs.Programs.{side_total, feasible_system, benson_system}
@@ -36,6 +39,14 @@ pub record IsContradiction (file : Problem) (u : List ℚ) : Type 0 where
 abbrev pub IsFeasibleEnd : {F : Type 0} → (F → ℚ) → Problem → FeasibleEnd F → Type 0
 IsFeasibleEnd value file (Contradiction u) = IsContradiction file (map value u)
 IsFeasibleEnd value file (Point x) = IsBaseChoice file (map value x)
+
+-- a place is a pivot of the program that asks for a feasible point
+pub record IsPivotOfFeasible (place : Place) : Type 0 where
+  pub basis : List ℕ
+  pub row : ℕ
+  pub col : ℕ
+  pub step : ℕ
+  pub is : place ≡ Pivot Feasible basis row col step
 
 -- ---- Benson's program
 -- the data stand for some file at which c is interior to the ordering cone and which, where the start vector is a point, has a feasible

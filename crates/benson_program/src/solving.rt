@@ -1,6 +1,6 @@
 //! Programs of the sides solved.
 ghost use Rattle.std.specs.Prelude.{◌≡◌, [], map, length, IfOk, IfErr};
-ghost use Rattle.benson_program.specs.Ends.{CanStart, IsBensonEnd, IsFeasibleEnd, StandForSome};
+ghost use Rattle.benson_program.specs.Ends.{CanStart, IsBensonEnd, IsFeasibleEnd, IsPivotOfFeasible, StandForSome};
 ghost use Rattle.exact_simplex.specs.Ends.{IsCertified, IsReadOff};
 ghost use Rattle.licence.specs.Base.{IsBaseStart};
 ghost use Rattle.licence.specs.Operands.{IsAllowed, Knows, Setting, system_in};
@@ -8,7 +8,7 @@ ghost use Rattle.lp_form.specs.Data.{IsDataOf};
 ghost use Rattle.lp_form.specs.Names.{HasWidths, named};
 ghost use Rattle.lp_form.specs.Programs.{named_system};
 ghost use Rattle.lp_form.specs.declared.name.LpName.TheVariants as name_of;
-ghost use Rattle.overflows.specs.Faults.{Overflows};
+ghost use Rattle.overflows.specs.Faults.{OnLicence, Overflows};
 ghost use Rattle.vlp_reader.specs.declared.problem.Problem.{Problem as File};
 
 use crate::ends::{BensonEnd, FeasibleEnd};
@@ -32,6 +32,8 @@ fn named_end<F: Field>(
     ensures certified { (file : File) → IsDataOf F.value file form.now → IfOk result (IsCertified F.value (named_system file (map F.value c.now) (named F.value name.now))) }
     ensures read_off { (file : File) → IsDataOf F.value file form.now → IfOk result (IsReadOff F.value (named_system file (map F.value c.now) (named F.value name.now))) }
     ensures left { (s : Setting) → IsDataOf F.value s.file form.now → IsAllowed s (named F.value name.now) → named_system s.file (map F.value c.now) (named F.value name.now) ≡ system_in s (named F.value name.now) → IfErr result (Overflows F.holds s []) }
+    ensures place { name.now ≡ name_of.Feasible →
+        IfErr result (λ fault. OnLicence fault (λ l. IsPivotOfFeasible l.place)) }
 {
     let system = program(alloc, form, c, name)?;
     match solve_lp_next(alloc, system, kept) {
@@ -45,6 +47,7 @@ pub fn feasible_end<F: Field>(alloc: Global, form: &Data<F>) -> Result<FeasibleE
     requires { StandForSome F.value form.now }
     ensures ok { (file : File) → IsDataOf F.value file form.now → IfOk result (IsFeasibleEnd F.value file) }
     ensures left { (s : Setting) → IsDataOf F.value s.file form.now → IfErr result (Overflows F.holds s []) }
+    ensures place { IfErr result (λ fault. OnLicence fault (λ l. IsPivotOfFeasible l.place)) }
 {
     let name = LpName::Feasible;
     let mut kept = Kept::new();

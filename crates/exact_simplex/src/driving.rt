@@ -5,7 +5,6 @@ ghost use Rattle.lin_rows.specs.Lines.{Rises, entries};
 ghost use Rattle.exact_simplex.specs.Driving.{IsIdleTo, IsSupport};
 ghost use Rattle.exact_simplex.specs.Ends.{IsSystemFault};
 ghost use Rattle.exact_simplex.specs.Program.{IsFeasible, IsIdle};
-
 ghost use Rattle.lin_rows.specs.System.{HasLengths, system_of};
 
 use exact_field::Field;

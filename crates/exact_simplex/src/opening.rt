@@ -7,7 +7,6 @@ ghost use Rattle.lin_rows.specs.Read.{IsLineOf};
 ghost use Rattle.tableaux.specs.Table.{artificial_sign, first_cost, right_column, row_of, second_cost, table_of};
 ghost use Rattle.exact_simplex.specs.Ends.{IsSystemFault};
 ghost use Rattle.exact_simplex.specs.Program.{IsPrimal, IsUnopened};
-
 ghost use Rattle.lin_rows.specs.System.{HasLengths, coefficients_of, system_of};
 
 use exact_field::Field;

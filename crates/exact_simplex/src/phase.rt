@@ -7,7 +7,6 @@ ghost use Rattle.tableaux.specs.Table.{equation_count, right_column, unknown_cou
 ghost use Rattle.exact_simplex.specs.Ends.{IsSystemFault};
 ghost use Rattle.exact_simplex.specs.Phase.{IsGivenUp, IsMoved, IsPhaseEnd, IsPhaseFault, IsStart, IsTurn};
 ghost use Rattle.exact_simplex.specs.Program.{IsIdle, IsPrimal, IsTableauOf, table_in};
-
 ghost use Rattle.lin_rows.specs.System.{HasLengths, system_of};
 
 use crate::measure::magnitudes;

@@ -8,7 +8,6 @@ ghost use Rattle.tableaux.specs.Table.{artificial_sign, at, equation_count, firs
 ghost use Rattle.exact_simplex.specs.Ends.{IsCertified, IsReadOff, IsSystemFault};
 ghost use Rattle.exact_simplex.specs.Hint.{IsOptimalEnd};
 ghost use Rattle.exact_simplex.specs.Program.{IsFeasible, IsIdle, IsPrimal, IsTableauOf, table_in};
-
 ghost use Rattle.lin_rows.specs.System.{HasLengths, system_of};
 
 use crate::answer::LpEnd;

@@ -9,7 +9,6 @@ ghost use Rattle.exact_simplex.specs.Beginnings.{IsBegun, IsBegunBest};
 ghost use Rattle.exact_simplex.specs.GoingOn.{CanGoOn};
 ghost use Rattle.exact_simplex.specs.Hint.{IsBestBasis, IsOptimalEnd, NameSame};
 ghost use Rattle.exact_simplex.specs.Program.{IsFeasible, IsIdle, IsPrimal, table_in};
-
 ghost use Rattle.lin_rows.specs.System.{HasLengths, system_of};
 
 use crate::answer::{LpEnd, LpFault, lp_fault};

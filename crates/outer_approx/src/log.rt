@@ -19,10 +19,10 @@ ghost use Rattle.outer_approx.specs.Standing.{HasCutMore, HasPreimageMore, IsBeg
 ghost use Rattle.outer_approx.specs.Task.{Task};
 ghost use Rattle.upper_image.specs.Shows.{ShowsFitting};
 
-use lp_form::{Cut, Preimage};
 use deriv_log::{Entries, Entry};
 use exact_field::Field;
 use frac128::{Sparse, Vector, frac_of};
+use lp_form::{Cut, Preimage};
 use overflows::{
     duality_is_written, fractions, fractions_are_written, spots_are_written, spots_of,
 };

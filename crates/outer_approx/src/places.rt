@@ -8,8 +8,8 @@ ghost use Rattle.polyhedra.specs.DoubleDescription.{is_zero};
 ghost use Rattle.polyhedra.specs.Exactness.{row_of};
 
 use crate::log::Line;
-use lp_form::Cut;
 use exact_field::Field;
+use lp_form::Cut;
 use src_sink::{Items, NoMemory};
 use std::alloc::Global;
 

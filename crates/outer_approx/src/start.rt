@@ -16,12 +16,12 @@ ghost use Rattle.overflows.specs.Faults.{Overflows};
 ghost use Rattle.polyhedra.specs.Cone.{HasFullRank};
 
 use crate::places::{cut_row, filled, open_places};
-use lp_form::Cut;
 use deriv_log::{Entries, Entry};
 use double_descr::Dd;
 use exact_field::Field;
 use frac128::Vector;
 use lin_rows::Rows;
+use lp_form::Cut;
 use overflows::{SolveFault, fractions, fractions_are_written, naturals_are_written, start_fault};
 use src_sink::{Items, NoMemory};
 use std::alloc::Global;

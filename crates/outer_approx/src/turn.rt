@@ -14,10 +14,10 @@ ghost use Rattle.polyhedra.specs.Exactness.{row_of};
 
 use crate::log::push_cut;
 use crate::places::cut_row;
-use lp_form::Cut;
 use deriv_log::{Entries, Entry, Family, LogPair};
 use double_descr::{Dd, DdFault, Pair};
 use exact_field::Field;
+use lp_form::Cut;
 use overflows::{SolveFault, add_fault};
 use src_sink::{Items, NoMemory};
 use std::alloc::Global;

@@ -8,9 +8,9 @@ ghost use Rattle.outer_approx.specs.Lines.{told_by};
 ghost use Rattle.overflows.specs.Faults.{Overflows};
 ghost use Rattle.recession.specs.Further.{AreTail, IsNextSide, normals_of};
 
-use lp_form::Cut;
 use exact_field::Field;
 use lin_rows::{Rows, complement};
+use lp_form::Cut;
 use outer_approx::Line;
 use overflows::{SolveFault, elimination_fault};
 use src_sink::{Items, NoMemory};

@@ -11,10 +11,10 @@ ghost use Rattle.overflows.specs.Faults.{Overflows};
 ghost use Rattle.recession.specs.Asking.{IsAsked, IsProper};
 
 use benson_program::{BensonEnd, benson_end, cut_of, preimage_of};
-use lp_form::{Cut, Data, Preimage};
 use exact_field::Field;
 use exact_simplex::Kept;
 use lin_rows::cells::is_positive;
+use lp_form::{Cut, Data, Preimage};
 use overflows::SolveFault;
 use src_sink::Items;
 use std::alloc::Global;

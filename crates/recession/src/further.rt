@@ -16,10 +16,10 @@ ghost use Rattle.recession.specs.Further.{AreFound, IsNext, IsNextSide, SayCuts,
 
 use crate::across::across;
 use crate::asking::{Asked, ask};
-use lp_form::{Cut, Data, Preimage, negative};
 use deriv_log::Entries;
 use exact_field::Field;
 use exact_simplex::Kept;
+use lp_form::{Cut, Data, Preimage, negative};
 use outer_approx::{Line, push_cut_entry};
 use overflows::SolveFault;
 use src_sink::{Items, NoMemory};
