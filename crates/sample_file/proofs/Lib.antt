@@ -1,6 +1,5 @@
 pub mod Bounded
 pub mod Drawing
-pub mod Naming
 pub mod Places
 pub mod Printed
 pub mod Samples

@@ -108,7 +108,7 @@ module _ (number : ℕ) (file : Problem) (s : IsSample number file) where
       let objs = s.objs in
       let most = few in
       and_from _ _ (le-leb file.rows 1000 (omega (arith, rows))) (and_from _ _ (le-leb file.cols 1000 (omega (arith, cols)))
-      (and_from _ _ (le-leb file.objs 12 (omega (arith, objs))) (and_from _ _ (le-leb (cone_count (printed_cone file.cone)) 64 (omega (arith, no_vectors)))
+      (and_from _ _ (le-leb file.objs 20 (omega (arith, objs))) (and_from _ _ (le-leb (cone_count (printed_cone file.cone)) 64 (omega (arith, no_vectors)))
       (le-leb (length file.a + length file.o + cone_entries (printed_cone file.cone)) 100000 (omega (arith, none, most, no_entries))))))
 
   pub reads : Reads (problem_text file) file

@@ -3,4 +3,3 @@ pub mod Draws
 pub mod Laws
 pub mod Sample
 pub mod Summary
-pub mod Words

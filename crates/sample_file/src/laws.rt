@@ -1,6 +1,5 @@
 //! Laws of sample files. Each function does nothing when it runs: its contract is the law.
 ghost use Rattle.sample_file.specs.Laws.{SamplesRead, BoundedAreSolved, SamplesAreSolved};
-ghost use Rattle.sample_file.specs.Words.{WordsOfNumbers};
 
 /// The text of a sample file reads as this file.
 pub fn samples_read()
@@ -15,9 +14,4 @@ pub fn bounded_are_solved()
 /// The right answer of a sample file lists its image.
 pub fn samples_are_solved()
     ensures { SamplesAreSolved }
-{}
-
-/// The decimal texts of the numbers from 1 to 1000 name sample files, and no other words.
-pub fn words_of_numbers()
-    ensures { WordsOfNumbers }
 {}

@@ -5,8 +5,6 @@ mod draws;
 mod file;
 pub mod laws;
 mod lines;
-mod words;
 
 pub use file::{sample_file, sample_text};
 pub use lines::summary;
-pub use words::sample_number;

@@ -8,6 +8,7 @@ pub mod PrintedText
 pub mod PrintedValues
 pub mod ReadDigits
 pub mod ReadNumbers
+pub mod ReadWords
 pub mod RoundTrip
 pub mod Short
 pub mod WordByWord

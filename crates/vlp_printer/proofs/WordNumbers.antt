@@ -86,7 +86,7 @@ fraction_decimal m k small high held =
     by_parts q j held found.1 (or_left (nat_lt (unsigned_abs (mantissa q j)) (10 ^ 36)) _ (lt-ltb (unsigned_abs (mantissa q j)) (10 ^ 36) (omega arith)))
 
 -- ---- words
-zero_decimal : is_decimal zero_ℚ ≡ true
+pub zero_decimal : is_decimal zero_ℚ ≡ true
 unfolding whole
 zero_decimal = refl
 
@@ -162,7 +162,7 @@ no_word q h w = false≢true (sym h ∙ word_decimal w.0 q w.1)
 abbrev wide : ℚ → Bool
 wide q = not (is_decimal q)
 
-own_word : (q : ℚ) → is_decimal q ≡ true → HasWord q
+pub own_word : (q : ℚ) → is_decimal q ≡ true → HasWord q
 own_word q h = (number_text q, number_back q h)
 
 -- none without a decimal form is among them

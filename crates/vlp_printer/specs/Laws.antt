@@ -1,5 +1,5 @@
 -- The laws of printing and reading.
-use Rattle.std.specs.Prelude.{◌≡◌, true, false, Ok, All}
+use Rattle.std.specs.Prelude.{◌≡◌, ℕ, true, false, List, Ok, All}
 use Rattle.exact_field.specs.Rational.{ℚ}
 use Rattle.vlp_reader.specs.FirstFault.{Reads}
 use Rattle.vlp_reader.specs.Number.{number_of}
@@ -14,3 +14,5 @@ pub record PrintingLaws : Type 0 where
   pub no_word : (q : ℚ) → is_decimal q ≡ false → ¬ HasWord q
   -- the text of a problem within the limits, all of whose numbers have a word, reads as this problem
   pub round_trip : (problem : Problem) → All HasWord (printed_numbers problem) → IsWithinLimits problem → Reads (problem_text problem) problem
+  -- each number of a problem that was read is the value of a word
+  pub read_words : (bytes : List ℕ) (problem : Problem) → Reads bytes problem → All HasWord (printed_numbers problem)

@@ -1,11 +1,10 @@
-//! Lines and texts of what no small run has: an overflow at each kind of place, a log that is too long, and a number that no
-//! file has.
+//! Lines and texts of what no small run has: an overflow at each kind of place, and a number that no file has.
 
 use deriv_log::{Family, Licence, Place, Program};
 use exact_field::{Left, Op};
-use fault_lines::{licence_line, too_long_line};
 use frac128::Frac;
 use src_sink::{Items, NoMemory};
+use statuses::licence_line;
 use std::alloc::Global;
 use std::test::Fail;
 use vlp_printer::{PrintFault, print_vlp};
@@ -86,8 +85,6 @@ fn each_place_has_its_line(rt: HostRuntime) -> Result<(), Fail> {
         let text = licence_line(rt.alloc(), &licence)?;
         assert_eq!(rt; text.as_slice(), line.as_bytes());
     }
-    let text = too_long_line(rt.alloc(), true, 268_435_457)?;
-    assert_eq!(rt; text.as_slice(), b"fault 10 log 268435457\n".as_slice());
     Ok(())
 }
 

@@ -1,0 +1,10 @@
+-- The subject: Tasks, Shapes, Numbers, Weights (the words of commands), with Examples; Paths.
+-- What only serves proofs: Seen.
+pub mod Tasks
+pub mod Numbers
+pub mod Weights
+pub mod Shapes
+pub mod Paths
+pub mod Seen
+pub mod Laws
+pub mod Examples

@@ -1,0 +1,16 @@
+//! How a run ends: its status, the line that tells a fault, and the texts that a command replies.
+#![tactic(auto)]
+
+mod cone;
+mod fault;
+pub mod laws;
+mod licence;
+mod lines;
+mod reply;
+mod status;
+mod words;
+
+pub use fault::fault_line;
+pub use licence::licence_line;
+pub use reply::{Reply, fault_reply};
+pub use status::{LogRefusal, Status};
