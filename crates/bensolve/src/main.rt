@@ -1,8 +1,10 @@
 //! The program: opens the files that the words name, runs the command, and ends with its code.
 #![tactic(auto)]
 
-use bensolve_main::{Status, paths, run};
+use bensolve_main::run;
+use commands::paths;
 use src_sink::{StdSink, StdSource};
+use statuses::Status;
 use std::fs::{self, File};
 use std::io;
 use std::process::ExitCode;

@@ -1,5 +1,5 @@
 -- The log that `solve FILE LOG` writes is accepted by `check FILE LOG`, with the same report.
-use Rattle.std.proofs.Common.{◌≡◌, ℕ, ◌≤◌, List, length, Option, Some, None, true, false, inl, inr, subst, sym, ◌∙◌}
+use Rattle.std.proofs.Common.{◌≡◌, ℕ, ◌≤◌, List, length, Option, Some, None, true, false, inl, inr, subst, sym, ◌∙◌, ap, arith}
 use Rattle.vlp_reader.specs.FirstFault.{Reads}
 use Rattle.vlp_reader.specs.declared.problem.Problem.{Problem}
 use Rattle.deriv_log.specs.Laws.{IsTextOf}
@@ -7,22 +7,26 @@ use Rattle.deriv_log.specs.LogText.{log_text}
 use Rattle.deriv_log.specs.declared.entry.Entry.{Entry}
 use Rattle.deriv_log.proofs.Laws.{one_reading}
 use Rattle.log_rules.specs.Proves.{Proves}
+use Rattle.commands.specs.Tasks.{Shape, shape}
+use Rattle.commands.specs.Tasks.Task.{check, solve}
+use Rattle.commands.specs.Tasks.Files.{logged}
 use Rattle.solver.specs.Accepted.{PassesAs}
+use Rattle.solver.specs.Replies.{Solved}
 use Rattle.solver.proofs.Accepted.{is_accepted}
-use Rattle.bensolve_main.specs.Shapes.{Shape}
-use Rattle.bensolve_main.specs.Shapes.Shape.{check, solve, sample}
-use Rattle.bensolve_main.specs.World.{World, Written, sources_of}
-use Rattle.bensolve_main.specs.Reply.{Reply, Sends, DeliversWith, Delivers}
-use Rattle.bensolve_main.specs.Reading.{problem_limit, GoodFile, ProblemTold}
-use Rattle.bensolve_main.specs.Check.{Checked, Told, CheckReplies}
-use Rattle.bensolve_main.specs.Solve.{Solved, SolveVerdict, SolveReplies}
-use Rattle.bensolve_main.specs.Outcome.{Outcome}
+use Rattle.solver.proofs.Replies.{unsolved_not_done}
+use Rattle.statuses.specs.Codes.{code_of}
+use Rattle.statuses.specs.declared.reply.Reply.{Reply}
+use Rattle.statuses.specs.declared.status.Status.{Status}
+use Rattle.statuses.specs.declared.status.Status.TheVariants.{Done}
 use Rattle.bensolve_main.specs.Accepted.{TellsBoth, IsAcceptedAs, WritesAccepted, Accepted}
-use Rattle.bensolve_main.proofs.Outcomes.{IsWriteFault}
-use Rattle.bensolve_main.proofs.Complete.{PassingTexts, same_bytes, told_done}
-use Rattle.bensolve_main.proofs.Solves.{delivered_as}
-use Rattle.bensolve_main.specs.declared.status.Status.{Status}
-use Rattle.bensolve_main.specs.declared.status.Status.TheVariants.{Done}
+use Rattle.bensolve_main.specs.Check.{CheckVerdict, Proved}
+use Rattle.bensolve_main.specs.Deliver.{Delivers, DeliversWith, Sends}
+use Rattle.bensolve_main.specs.Outcome.{HaltsFor, Outcome, RepliesTo, TellsOfLog}
+use Rattle.bensolve_main.specs.Reading.{FileRefused, GoodFile, problem_limit, log_limit}
+use Rattle.bensolve_main.specs.Tasks.Texts.{problem, problem_and_log}
+use Rattle.bensolve_main.specs.World.{Channel, World, Written, sources_of}
+use Rattle.bensolve_main.proofs.Complete.{PassingTexts, same_bytes, texts_answered, told_reads}
+use Rattle.bensolve_main.proofs.Outcomes.{IsWriteFault, delivered_as, quiet}
 
 -- the bytes are within the limit of a problem and read as one, and of each problem as which they read
 -- these entries pass with this report
@@ -33,6 +37,23 @@ record PassesBytes (report problem : List ℕ) (entries : List Entry) : Type 0 w
   passes : (file : Problem) → Reads problem file → PassesAs report file entries
 
 -- ---- a run of `check`
+-- of a reply with an answer
+proved : (file : Problem) (bytes : List ℕ) (r : Reply) → r.status ≡ Done → CheckVerdict file bytes r → Proved file bytes r
+proved file bytes r done (inl p) = p
+proved file bytes r done (inr (inl none)) = absurd (omega (arith, ap (λ (s : Status). code_of s) (sym done ∙ none.status)))
+proved file bytes r done (inr (inr (inl fails))) = absurd (omega (arith, ap (λ (s : Status). code_of s) (sym done ∙ fails.status)))
+proved file bytes r done (inr (inr (inr stops))) = absurd (omega (arith, ap (λ (s : Status). code_of s) (sym done ∙ stops.status)))
+
+refused_not_done : (r : Reply) (old new : Channel) → r.status ≡ Done → FileRefused r old new → ⊥
+refused_not_done r old new done (inl much) = omega (arith, ap (λ (s : Status). code_of s) (sym done ∙ much.status))
+refused_not_done r old new done (inr none) = omega (arith, ap (λ (s : Status). code_of s) (sym done ∙ none.status))
+
+log_read : (r : Reply) (v w : World) → r.status ≡ Done → RepliesTo problem_and_log check false r (sources_of v) (sources_of w) →
+    TellsOfLog check r (sources_of v) (sources_of w)
+log_read r v w done (inl refused) = absurd (refused_not_done r v.problem w.problem done refused.refused)
+log_read r v w done (inr (inl much)) = absurd (omega (arith, ap (λ (s : Status). code_of s) (sym done ∙ much.much.status)))
+log_read r v w done (inr (inr tells)) = tells
+
 module _ (report problem : List ℕ) (entries : List Entry) (passing : PassesBytes report problem entries) where
   texts_pass : (v : World) → TellsBoth problem (log_text entries) v → PassingTexts v
   texts_pass v tells = record {
@@ -44,39 +65,39 @@ module _ (report problem : List ℕ) (entries : List Entry) (passing : PassesByt
     log_bytes = log_text entries;
     log = tells.log;
     log_within = tells.log_within;
-    entries = entries;
-    is_log = (passing.passes passing.file passing.reads).text;
-    passes = λ file reads. (passing.passes file reads).passes;
+    passes = λ file reads. record {
+      entries = entries;
+      log = (passing.passes file reads).text;
+      passes = (passing.passes file reads).passes;
+    };
   }
 
   -- the report of the answer that was proved is this one
-  same_report : (text : List ℕ) (v w : World) → TellsBoth problem (log_text entries) v →
-      Checked Done text (sources_of v) (sources_of w) → text ≡ report
-  same_report text v w tells checked =
-      let file = checked.file in
-      let answer = checked.verdict.answer in
-      let found = checked.verdict.entries in
-      let reads : Reads problem file =
-      subst (λ (l : List ℕ). Reads l file) (same_bytes _ _ _ _ _ tells.problem checked.good.read) checked.good.reads in
-      let is_text : IsTextOf (log_text entries) found =
-      subst (λ (l : List ℕ). IsTextOf l found) (same_bytes _ _ _ _ _ tells.log checked.read) checked.verdict.log in
+  same_report : (r : Reply) (v w : World) → TellsBoth problem (log_text entries) v → r.status ≡ Done →
+      TellsOfLog check r (sources_of v) (sources_of w) → r.text ≡ report
+  same_report r v w tells done read =
+      let file = read.file in
+      let p : Proved file read.bytes r = proved file read.bytes r done read.verdict in
+      let reads : Reads problem file = told_reads problem file v.problem w.problem tells.problem read.good in
+      let is_text : IsTextOf (log_text entries) p.entries =
+      subst (λ (l : List ℕ). IsTextOf l p.entries) (same_bytes v.log_in.bytes w.log_in.bytes log_limit (log_text entries) read.bytes tells.log read.read) p.log in
       let passes : PassesAs report file entries = passing.passes file reads in
-      let same : found ≡ entries = one_reading.one_log (log_text entries) found entries is_text passes.text in
-      checked.verdict.report
-      ∙ passes.reports answer (subst (λ (es : List Entry). Proves file es answer) same checked.verdict.proves)
+      let same : p.entries ≡ entries = one_reading.one_log (log_text entries) p.entries entries is_text passes.text in
+      p.report
+      ∙ passes.reports p.answer (subst (λ (es : List Entry). Proves file es p.answer) same p.proves)
 
   -- what `check` replied is this report, with `Done`
   sends_report : (r : Reply) (result : Status) (v w : World) → TellsBoth problem (log_text entries) v →
-      CheckReplies r (sources_of v) (sources_of w) → Delivers r result v w →
+      RepliesTo problem_and_log check false r (sources_of v) (sources_of w) → Delivers r result v w →
       Sends false report Done result v.out w.out
   sends_report r result v w tells replies delivers =
-      let done : r.status ≡ Done = told_done r.status r.text v w (texts_pass v tells) replies.told in
-      let checked : Checked Done r.text (sources_of v) (sources_of w) =
-      subst (λ (s : Status). Told s r.text (sources_of v) (sources_of w)) done replies.told in
+      let done : r.status ≡ Done = texts_answered check false r v w (texts_pass v tells) replies in
+      let no_log : r.log ≡ None = quiet problem_and_log check r (sources_of v) (sources_of w) replies in
       let sent : DeliversWith None r.status r.text result v w =
-      subst (λ (l : Option (List ℕ)). DeliversWith l r.status r.text result v w) replies.no_log delivers in
+      subst (λ (l : Option (List ℕ)). DeliversWith l r.status r.text result v w) no_log delivers in
       subst (λ (s : Status). Sends false report s result v.out w.out) done
-      (subst (λ (t : List ℕ). Sends false t r.status result v.out w.out) (same_report r.text v w tells checked) sent.0)
+      (subst (λ (t : List ℕ). Sends false t r.status result v.out w.out)
+      (same_report r v w tells done (log_read r v w done replies)) sent.0)
 
   accepted_as : IsAcceptedAs report problem (log_text entries)
   accepted_as = λ path log_path result v w tells outcome.
@@ -99,7 +120,7 @@ both_written text log v w delivers =
     ]
 
 solved_accepted : (file : Problem) (r : Reply) (v w : World) → GoodFile file v.problem w.problem →
-    Solved true file r.text r.log → DeliversWith r.log Done r.text Done v w → WritesAccepted v w
+    Solved true file r → DeliversWith r.log Done r.text Done v w → WritesAccepted v w
 solved_accepted file r v w good solved delivers =
     let s = solved.solution in
     let written = both_written r.text (log_text s.entries) v w
@@ -120,30 +141,33 @@ solved_accepted file r v w good solved delivers =
       });
     }
 
-replied_accepted : (r : Reply) (v w : World) → SolveReplies true r (sources_of v) (sources_of w) →
+replied_accepted : (r : Reply) (v w : World) → RepliesTo problem solve true r (sources_of v) (sources_of w) →
     Delivers r Done v w → WritesAccepted v w
 replied_accepted r v w replies delivers =
     let done : Done ≡ r.status = delivered_as r.log r.status Done r.text v w (λ h. h) delivers in
     elim replies [
-      | inl no_file ↦
-          absurd (subst (λ (s : Status). ProblemTold s r.text (sources_of v) (sources_of w)) (sym done) no_file.told)
-      | inr solves ↦
-          solved_accepted solves.file r v w solves.good
-          (subst (λ (s : Status). SolveVerdict true solves.file s r.text r.log) (sym done) solves.verdict)
-          (subst (λ (s : Status). DeliversWith r.log s r.text Done v w) (sym done) delivers)
+      | inl refused ↦ absurd (refused_not_done r v.problem w.problem (sym done) refused.refused)
+      | inr tells ↦ elim tells.verdict [
+        | inl solved ↦
+            solved_accepted tells.file r v w tells.good solved
+            (subst (λ (s : Status). DeliversWith r.log s r.text Done v w) (sym done) delivers)
+        | inr unsolved ↦ absurd (unsolved_not_done tells.file r unsolved (sym done))
+      ]
     ]
 
-solve_accepted : (file log : List ℕ) (v w : World) → Outcome (solve file (Some log)) Done v w → WritesAccepted v w
+halts_not_done : (v w : World) → HaltsFor problem Done (sources_of v) (sources_of w) → ⊥
+halts_not_done v w (inl none) = omega (arith, ap (λ (s : Status). code_of s) none)
+halts_not_done v w (inr failed) = omega (arith, ap (λ (s : Status). code_of s) failed.failed.status)
+
+solve_accepted : (file log : List ℕ) (v w : World) → Outcome (shape solve (logged file log)) Done v w → WritesAccepted v w
 solve_accepted file log v w outcome =
     elim outcome [
       | inl made ↦ replied_accepted made.0 v w made.1 made.2
-      | inr halts ↦ absurd halts.cause
+      | inr halts ↦ absurd (halts_not_done v w halts.cause)
     ]
 
 -- ---- each shape
 pub accepts : (shape : Shape) (result : Status) (v w : World) → Outcome shape result v w → Accepted shape result v w
-accepts (check file log) result v w outcome = tt
-accepts (solve file None) result v w outcome = tt
-accepts (solve file (Some log)) result v w outcome = λ done.
-    solve_accepted file log v w (subst (λ (s : Status). Outcome (solve file (Some log)) s v w) done outcome)
-accepts (sample number) result v w outcome = tt
+accepts s result v w outcome = λ file log is done.
+    let of_solve : Outcome (shape solve (logged file log)) result v w = subst (λ (x : Shape). Outcome x result v w) is outcome in
+    solve_accepted file log v w (subst (λ (x : Status). Outcome (shape solve (logged file log)) x v w) done of_solve)

@@ -1,29 +1,59 @@
 -- Where the outside is honest, a run ends with an answer, unless memory is wanting.
-use Rattle.std.proofs.Common.{◌≡◌, ℕ, ◌≤◌, List, length, Option, Some, None, ap, ◌∙◌, true, false, true≢false, ◌⊎◌, inl, inr, refl, subst, sym, arith}
-use Rattle.std.specs.Option.{is_some}
+use Rattle.std.proofs.Common.{◌≡◌, ℕ, ◌≤◌, Bool, List, length, Option, Some, None, IsTrue, ◌∙◌, inl, inr, refl, subst, sym, arith}
 use Rattle.src_sink.proofs.Known.{Consumes-to_end, TakesCount-known}
 use Rattle.vlp_reader.specs.FirstFault.{Reads}
-use Rattle.vlp_reader.proofs.Faults.{never_both}
-use Rattle.deriv_log.specs.Laws.{IsTextOf}
-use Rattle.deriv_log.proofs.Laws.{one_reading}
-use Rattle.frac128.specs.Held.{is_held}
-use Rattle.deriv_log.specs.declared.entry.Entry.{Entry}
-use Rattle.deriv_log.specs.declared.licence.Licence.{Licence}
+use Rattle.vlp_reader.specs.declared.fault.FileFault.{FileFault as AFileFault}
 use Rattle.vlp_reader.specs.declared.problem.Problem.{Problem}
-use Rattle.log_rules.specs.Events.{Failing, log_failure}
-use Rattle.bensolve_main.specs.Shapes.Shape.{check}
+use Rattle.vlp_reader.proofs.Faults.{never_both}
 use Rattle.cert_check.specs.Streams.{ReadsWhole}
-use Rattle.bensolve_main.specs.World.{Channel, World, ReadPast, sources_of}
-use Rattle.bensolve_main.specs.Reply.{DeliversWith}
-use Rattle.bensolve_main.specs.Reading.{GoodFile, problem_limit}
-use Rattle.bensolve_main.specs.Check.{Checked, Told, CheckHalts, HonestCheck, log_limit}
-use Rattle.bensolve_main.specs.Outcome.{Outcome}
-use Rattle.bensolve_main.specs.declared.status.LogRefusal.{LogRefusal}
-use Rattle.bensolve_main.specs.declared.status.LogRefusal.TheVariants.{Text, Wrong}
-use Rattle.bensolve_main.specs.declared.status.Status.{Status}
-use Rattle.bensolve_main.specs.declared.status.Status.TheVariants.{Done, Words, FileFault, ConeFault, Left, NoMemory, ReadFault, WriteFault, Refused, TooLong}
+use Rattle.commands.specs.Paths.{writes_log}
+use Rattle.commands.specs.Tasks.{Shape, Task}
+use Rattle.statuses.specs.declared.reply.Reply.{Reply}
+use Rattle.statuses.specs.declared.status.Status.{Status}
+use Rattle.statuses.specs.declared.status.Status.TheVariants.{Done, NoMemory}
+use Rattle.bensolve_main.specs.Answerable.{Completes, Honest, HonestFile, HonestLog, HonestTexts, HonestTwo, SteadyOutputs, ToldWhole}
+use Rattle.bensolve_main.specs.Deliver.{DeliversWith}
+use Rattle.bensolve_main.specs.Outcome.{Fails, HaltsFor, Outcome, RepliesTo}
+use Rattle.bensolve_main.specs.Reading.{FileRefused, GoodFile, NoFile, SourceFailed, TooMuch, problem_limit, log_limit}
+use Rattle.bensolve_main.specs.Tasks.{Texts, texts_of}
+use Rattle.bensolve_main.specs.Tasks.Texts.{nothing, problem, problem_and_log, two_problems}
+use Rattle.bensolve_main.specs.World.{Channel, World, sources_of}
+use Rattle.bensolve_main.proofs.Checks.{Passing}
+use Rattle.bensolve_main.proofs.Outcomes.{wanted}
+use Rattle.bensolve_main.proofs.Tables.{alone_answered, file_answered, log_answered, two_answered}
 
--- both texts are told, are a file's and a log's and lie within their limits, and no event of the
+-- ---- what honest sources tell
+-- bytes that are told are those that are read
+pub same_bytes : (left left' : Option (List ℕ)) (limit : ℕ) (told bytes : List ℕ) → left ≡ Some told → ReadsWhole left left' limit bytes → bytes ≡ told
+same_bytes left left' limit told bytes is read = (Consumes-to_end left left' told bytes is read.consumed read.at_end).0
+
+-- the file that was read is one as which the bytes read that are told
+pub told_reads : (bytes : List ℕ) (file : Problem) (old new : Channel) → old.bytes ≡ Some bytes → GoodFile file old new → Reads bytes file
+told_reads bytes file old new is good =
+    subst (λ (l : List ℕ). Reads l file) (same_bytes old.bytes new.bytes problem_limit bytes good.bytes is good.read) good.reads
+
+-- a source within its limit is not too long
+not_long : (second : Bool) (limit : ℕ) (r : Reply) (bytes : List ℕ) (old new : Channel) → old.bytes ≡ Some bytes → length bytes ≤ limit →
+    TooMuch second limit r old new → ⊥
+not_long second limit r bytes old new is within much =
+    let above = much.past.above in
+    let most = (TakesCount-known old.bytes new.bytes bytes much.read is much.past.taken).0 in
+    omega arith
+
+-- bytes that read as some problem are not refused
+not_refused : (StatusOf : AFileFault → Status) (r : Reply) (bytes : List ℕ) (old new : Channel) → old.bytes ≡ Some bytes → (file : Problem) → Reads bytes file →
+    NoFile StatusOf r old new → ⊥
+not_refused StatusOf r bytes old new is file reads none =
+    never_both none.bytes file none.fault.line none.fault.kind
+    (subst (λ (l : List ℕ). Reads l file) (sym (same_bytes old.bytes new.bytes problem_limit bytes none.bytes is none.read)) reads) none.first
+
+pub told_not_refused : (r : Reply) (bytes : List ℕ) (old new : Channel) → old.bytes ≡ Some bytes → length bytes ≤ problem_limit → (file : Problem) → Reads bytes file →
+    FileRefused r old new → ⊥
+told_not_refused r bytes old new is within file reads (inl much) = not_long _ problem_limit r bytes old new is within much
+told_not_refused r bytes old new is within file reads (inr none) = not_refused _ r bytes old new is file reads none
+
+-- ---- both texts of `check`
+-- both texts are told, are a problem's and a log's and lie within their limits, and no event of the
 -- log's entries fails
 pub record PassingTexts (old : World) : Type 0 where
   pub bytes : List ℕ
@@ -34,101 +64,103 @@ pub record PassingTexts (old : World) : Type 0 where
   pub log_bytes : List ℕ
   pub log : old.log_in.bytes ≡ Some log_bytes
   pub log_within : length log_bytes ≤ log_limit
-  pub entries : List Entry
-  pub is_log : IsTextOf log_bytes entries
-  pub passes : (file : Problem) → Reads bytes file → log_failure is_held file entries ≡ None
-
-texts_of : (v w : World) → HonestCheck v w → PassingTexts v
-texts_of v w honest = record {
-  bytes = honest.bytes;
-  problem = honest.problem;
-  problem_within = honest.problem_within;
-  file = honest.file;
-  reads = honest.reads;
-  log_bytes = honest.log_bytes;
-  log = honest.log;
-  log_within = honest.log_within;
-  entries = honest.entries;
-  is_log = honest.is_log;
-  passes = honest.passes;
-}
-
--- bytes that are told are those that are read
-pub same_bytes : (left left' : Option (List ℕ)) (limit : ℕ) (told bytes : List ℕ) → left ≡ Some told → ReadsWhole left left' limit bytes → bytes ≡ told
-same_bytes left left' limit told bytes is read = (Consumes-to_end left left' told bytes is read.consumed read.at_end).0
-
--- entries that pass have no failure for the file that was read
-passes : (v w : World) (bytes : List ℕ) (file : Problem) (entries : List Entry) → IsTextOf bytes entries →
-    ReadsWhole v.log_in.bytes w.log_in.bytes log_limit bytes → GoodFile file v.problem w.problem →
-    PassingTexts v → log_failure is_held file entries ≡ None
-passes v w bytes file entries log read good texts =
-    let same = one_reading.one_log texts.log_bytes entries texts.entries
-    (subst (λ (l : List ℕ). IsTextOf l entries) (same_bytes _ _ _ _ _ texts.log read) log) texts.is_log in
-    ap (log_failure is_held file) same ∙ texts.passes file (subst (λ (l : List ℕ). Reads l file) (same_bytes _ _ _ _ _ texts.problem good.read) good.reads)
-
-not_failed : (file : Problem) (entries : List Entry) (f : Failing) → log_failure is_held file entries ≡ None → log_failure is_held file entries ≡ Some f → ⊥
-not_failed file entries f none some = true≢false (sym (ap (λ (o : Option Failing). is_some o) (sym none ∙ some)))
-
--- a log that passes is not refused
-not_refused : (why : LogRefusal) (text : List ℕ) (v w : World) → PassingTexts v → Checked (Refused why) text (sources_of v) (sources_of w) → ⊥
-not_refused (Text f) text v w texts checked =
-    one_reading.apart checked.bytes texts.entries f (subst (λ (l : List ℕ). IsTextOf l texts.entries) (sym (same_bytes _ _ _ _ _ texts.log checked.read)) texts.is_log) checked.verdict.fault
-not_refused (Wrong entry rule) text v w texts checked =
-    not_failed checked.file checked.verdict.entries _ (passes v w checked.bytes checked.file checked.verdict.entries checked.verdict.log checked.read checked.good texts) checked.verdict.wrong
-
--- nor does a step of it stop
-not_stopped : (l : Licence) (text : List ℕ) (v w : World) → PassingTexts v → Checked (Left l) text (sources_of v) (sources_of w) → ⊥
-not_stopped l text v w texts checked =
-    not_failed checked.file checked.verdict.entries _ (passes v w checked.bytes checked.file checked.verdict.entries checked.verdict.log checked.read checked.good texts) checked.verdict.stops
-
--- a source within its limit is not too long
-pub not_long : (old new : Channel) (told : List ℕ) (limit k : ℕ) → old.bytes ≡ Some told → length told ≤ limit → ReadPast old new limit k → ⊥
-not_long old new told limit k is within past = let above = past.above in let most = (TakesCount-known old.bytes new.bytes told k is past.taken).0 in omega arith
+  pub passes : (file : Problem) → Reads bytes file → Passing file log_bytes
 
 -- what is told of texts that pass is an answer
-pub told_done : (status : Status) (text : List ℕ) (v w : World) → PassingTexts v → Told status text (sources_of v) (sources_of w) → status ≡ Done
-told_done Done text v w texts told = refl
-told_done Words text v w texts told = absurd told
-told_done (FileFault f) text v w texts told =
-    absurd (never_both told.bytes texts.file f.line f.kind
-    (subst (λ (l : List ℕ). Reads l texts.file) (sym (same_bytes _ _ _ _ _ texts.problem told.read)) texts.reads) told.fault)
-told_done (Left l) text v w texts told = absurd (not_stopped l text v w texts told)
-told_done NoMemory text v w texts told = absurd told
-told_done (ReadFault log) text v w texts told = absurd told
-told_done (WriteFault log sent) text v w texts told = absurd told
-told_done (Refused why) text v w texts told = absurd (not_refused why text v w texts told)
-told_done (ConeFault f) text v w texts told = absurd told
-told_done (TooLong false read) text v w texts told = absurd (not_long _ _ _ _ _ texts.problem texts.problem_within told.past)
-told_done (TooLong true read) text v w texts told = absurd (not_long _ _ _ _ _ texts.log texts.log_within told.past)
+pub texts_answered : (t : Task) (logs : Bool) (r : Reply) (v w : World) → PassingTexts v → RepliesTo problem_and_log t logs r (sources_of v) (sources_of w) → r.status ≡ Done
+texts_answered t logs r v w texts (inl refused) =
+    absurd (told_not_refused r texts.bytes v.problem w.problem texts.problem texts.problem_within texts.file texts.reads refused.refused)
+texts_answered t logs r v w texts (inr (inl much)) =
+    absurd (not_long _ log_limit r texts.log_bytes v.log_in w.log_in texts.log texts.log_within much.much)
+texts_answered t logs r v w texts (inr (inr tells)) =
+    let reads : Reads texts.bytes tells.file = told_reads texts.bytes tells.file v.problem w.problem texts.problem tells.good in
+    let same : tells.bytes ≡ texts.log_bytes = same_bytes v.log_in.bytes w.log_in.bytes log_limit texts.log_bytes tells.bytes texts.log tells.read in
+    log_answered t tells.file tells.bytes r
+    (subst (λ (l : List ℕ). Passing tells.file l) (sym same) (texts.passes tells.file reads)) tells.verdict
 
--- where the sources are honest, only want of memory halts
-halts_for_memory : (result : Status) (v w : World) → HonestCheck v w → CheckHalts result (sources_of v) (sources_of w) → result ≡ NoMemory
-halts_for_memory Done v w honest halts = absurd halts
-halts_for_memory Words v w honest halts = absurd halts
-halts_for_memory (FileFault f) v w honest halts = absurd halts
-halts_for_memory (Left l) v w honest halts = absurd halts
-halts_for_memory NoMemory v w honest halts = refl
-halts_for_memory (ReadFault false) v w honest halts = absurd (honest.problem_steady halts.problem.rose)
-halts_for_memory (ReadFault true) v w honest halts = absurd (honest.log_steady halts.log_in.rose)
-halts_for_memory (WriteFault log sent) v w honest halts = absurd halts
-halts_for_memory (Refused why) v w honest halts = absurd halts
-halts_for_memory (TooLong log read) v w honest halts = absurd halts
-halts_for_memory (ConeFault f) v w honest halts = absurd halts
+honest_texts : (v w : World) → HonestLog v w → PassingTexts v
+honest_texts v w h = record {
+  bytes = h.bytes;
+  problem = h.told.whole.told;
+  problem_within = h.told.whole.within;
+  file = h.told.file;
+  reads = h.told.reads;
+  log_bytes = h.log_bytes;
+  log = h.log_told.told;
+  log_within = h.log_told.within;
+  passes = λ file reads. record { entries = h.entries; log = h.is_log; passes = h.passes file reads };
+}
 
--- a reply without a log reaches an honest output
-delivered : (status result : Status) (text : List ℕ) (v w : World) → HonestCheck v w → DeliversWith None status text result v w → result ≡ status
-delivered status result text v w honest delivers =
+-- ---- the reply
+-- a task of one problem
+one_answered : (t : Task) (logs : Bool) (r : Reply) (v w : World) → HonestFile t v w → RepliesTo problem t logs r (sources_of v) (sources_of w) → r.status ≡ Done
+one_answered t logs r v w h (inl refused) =
+    absurd (told_not_refused r h.bytes v.problem w.problem h.told.whole.told h.told.whole.within h.told.file h.told.reads refused.refused)
+one_answered t logs r v w h (inr tells) =
+    file_answered t logs tells.file r
+    (h.answers tells.file (told_reads h.bytes tells.file v.problem w.problem h.told.whole.told tells.good)) tells.verdict
+
+-- and of two
+both_answered : (t : Task) (logs : Bool) (r : Reply) (v w : World) → HonestTwo t v w → RepliesTo two_problems t logs r (sources_of v) (sources_of w) → r.status ≡ Done
+both_answered t logs r v w h (inl refused) =
+    absurd (told_not_refused r h.bytes v.problem w.problem h.told.whole.told h.told.whole.within h.told.file h.told.reads refused.refused)
+both_answered t logs r v w h (inr (inl much)) =
+    absurd (not_long _ problem_limit r h.second_bytes v.log_in w.log_in h.second_told.whole.told h.second_told.whole.within much.much)
+both_answered t logs r v w h (inr (inr (inl none))) =
+    absurd (not_refused _ r h.second_bytes v.log_in w.log_in h.second_told.whole.told h.second_told.file h.second_told.reads none.refused)
+both_answered t logs r v w h (inr (inr (inr tells))) =
+    two_answered t tells.first tells.second r
+    (h.answers tells.first tells.second
+    (told_reads h.bytes tells.first v.problem w.problem h.told.whole.told tells.good)
+    (told_reads h.second_bytes tells.second v.log_in w.log_in h.second_told.whole.told tells.good_second)) tells.verdict
+
+answered : (x : Texts) (t : Task) (logs : Bool) (r : Reply) (v w : World) → HonestTexts x t v w → RepliesTo x t logs r (sources_of v) (sources_of w) → r.status ≡ Done
+answered nothing t logs r v w h replies = alone_answered t r h replies.0
+answered problem t logs r v w h replies = one_answered t logs r v w h replies
+answered problem_and_log t logs r v w h replies = texts_answered t logs r v w (honest_texts v w h) replies
+answered two_problems t logs r v w h replies = both_answered t logs r v w h replies
+
+-- ---- its writing
+-- a reply reaches honest outputs
+delivered : (logs : Bool) (log : Option (List ℕ)) (status result : Status) (text : List ℕ) (v w : World) → SteadyOutputs logs v w → ((l : List ℕ) → log ≡ Some l → IsTrue logs) →
+    DeliversWith log status text result v w → result ≡ status
+delivered logs None status result text v w steady wants delivers =
     elim delivers.0 [
       | inl whole ↦ whole.0
-      | inr failed ↦ absurd (honest.out_steady failed.2.rose)
+      | inr failed ↦ absurd (steady.out failed.2.rose)
+    ]
+delivered logs (Some log) status result text v w steady wants delivers =
+    elim delivers [
+      | inl sent ↦ elim sent.1 [
+        | inl whole ↦ whole.0
+        | inr failed ↦ absurd (steady.log_out (wants log refl) failed.2.rose)
+      ]
+      | inr failed ↦ absurd (steady.out failed.0.2.rose)
     ]
 
-pub check_complete : (file log : List ℕ) (result : Status) (v w : World) → HonestCheck v w → Outcome (check file log) result v w → (result ≡ Done) ⊎ (result ≡ NoMemory)
-check_complete file log result v w honest outcome =
-    elim outcome [
-      | inl replied ↦
-          inl (delivered replied.0.status result replied.0.text v w honest
-          (subst (λ (l : Option (List ℕ)). DeliversWith l replied.0.status replied.0.text result v w) replied.1.no_log replied.2)
-          ∙ told_done replied.0.status replied.0.text v w (texts_of v w honest) replied.1.told)
-      | inr halts ↦ inr (halts_for_memory result v w honest halts.cause)
-    ]
+-- ---- only want of memory halts
+not_failed : (second : Bool) (limit most : ℕ) (s : Status) (bytes : List ℕ) (old new : Channel) → ToldWhole most bytes old new → SourceFailed second limit s old new → ⊥
+not_failed second limit most s bytes old new told failed = told.steady failed.failed.rose
+
+fails : (x : Texts) (t : Task) (s : Status) (v w : World) → HonestTexts x t v w → Fails x s (sources_of v) (sources_of w) → ⊥
+fails nothing t s v w h failed = failed
+fails problem t s v w h failed = not_failed _ _ _ s h.bytes v.problem w.problem h.told.whole failed.failed
+fails problem_and_log t s v w h (inl failed) = not_failed _ _ _ s h.bytes v.problem w.problem h.told.whole failed.failed
+fails problem_and_log t s v w h (inr failed) = not_failed _ _ _ s h.log_bytes v.log_in w.log_in h.log_told failed.failed
+fails two_problems t s v w h (inl failed) = not_failed _ _ _ s h.bytes v.problem w.problem h.told.whole failed.failed
+fails two_problems t s v w h (inr failed) = not_failed _ _ _ s h.second_bytes v.log_in w.log_in h.second_told.whole failed.failed
+
+halts_for_memory : (x : Texts) (t : Task) (s : Status) (v w : World) → HonestTexts x t v w → HaltsFor x s (sources_of v) (sources_of w) → s ≡ NoMemory
+halts_for_memory x t s v w h (inl none) = none
+halts_for_memory x t s v w h (inr failed) = absurd (fails x t s v w h failed)
+
+-- ---- a run
+pub completes : (shape : Shape) (result : Status) (v w : World) → Honest shape v w → Outcome shape result v w → Completes result
+completes s result v w honest (inl made) =
+    let r : Reply = made.0 in
+    let logs : Bool = writes_log s.files in
+    inl
+    (delivered logs r.log r.status result r.text v w honest.outputs
+    (λ l. wanted logs (texts_of s.task) s.task r (sources_of v) (sources_of w) l made.1) made.2
+    ∙ answered (texts_of s.task) s.task logs r v w honest.texts made.1)
+completes s result v w honest (inr halts) = inr (halts_for_memory (texts_of s.task) s.task result v w honest.texts halts.cause)

@@ -1,6 +1,9 @@
-pub mod Outcomes
-pub mod Complete
-pub mod Solves
-pub mod Sampled
-pub mod Accepted
-pub mod Commands
+mod Fits
+mod Checks
+mod Tables
+mod Outcomes
+mod Complete
+mod Accepted
+mod Stages
+mod Sampled
+mod Commands

@@ -1,171 +1,98 @@
--- From what the steps of a run tell to what its result says.
-use Rattle.std.proofs.Common.{◌≡◌, ℕ, List, Option, None, Result, Ok, Err, IfOk, IfErr, false, true, subst, sym, refl, inl, inr}
-use Rattle.vlp_reader.specs.declared.problem.Problem.{Problem}
-use Rattle.bensolve_main.specs.Shapes.Shape.{check}
-use Rattle.cert_check.specs.Streams.{StreamEnds}
-use Rattle.cert_check.specs.declared.fault.Refusal.TheVariants as refusal
-use Rattle.cert_check.specs.declared.fault.StreamEnd.{StreamEnd}
-use Rattle.cert_check.specs.declared.fault.StreamEnd.TheVariants as end
-use Rattle.bensolve_main.specs.World.{Channel, World, Sources, sources_of}
-use Rattle.bensolve_main.specs.Reply.{reply, Sends, DeliversWith}
-use Rattle.bensolve_main.specs.Reading.{GoodFile, ProblemTold, ProblemHalts}
-use Rattle.bensolve_main.specs.ProblemReply.{EndsProblem}
-use Rattle.bensolve_main.specs.Check.{Told, CheckHalts, log_limit}
-use Rattle.bensolve_main.specs.LogReply.{TellsEnd, HaltsEnd, LogTold, LogHalts}
-use Rattle.bensolve_main.specs.Outcome.{Outcome}
-use Rattle.bensolve_main.specs.declared.reading.Reply.{Reply as Made}
-use Rattle.bensolve_main.specs.declared.reading.ProblemEnd.{ProblemEnd}
-use Rattle.bensolve_main.specs.declared.reading.ProblemEnd.TheVariants as problem_end
-use Rattle.bensolve_main.specs.declared.status.Status.{Status}
-use Rattle.bensolve_main.specs.declared.status.Status.TheVariants.{Done, Words, FileFault, ConeFault, Left, NoMemory, ReadFault, WriteFault, Refused, TooLong}
-
--- ---- from the end of the check of a log
-log_told : (e : StreamEnd) (file : Problem) (old new : Channel) (status : Status) (text : List ℕ) → StreamEnds e file log_limit old.bytes new.bytes old.faults new.faults →
-    TellsEnd e status text → LogTold file status text old new
-log_told (end.Text f) file old new status text h (same, line) =
-    subst (λ (s : Status). LogTold file s text old new) (sym same) (h.bytes, h.read, record { fault = h.text; line = line })
-log_told (end.Refused (refusal.Wrong entry rule)) file old new status text h (same, line) =
-    subst (λ (s : Status). LogTold file s text old new) (sym same)
-    (h.bytes, h.read, record { entries = h.text.entries; log = h.text.log; wrong = h.text.fails; line = line })
-log_told (end.Refused (refusal.Left entry step l)) file old new status text h (same, line) =
-    subst (λ (s : Status). LogTold file s text old new) (sym same)
-    (h.bytes, h.read, record { entry = entry; step = step; place = refl; trail = refl; entries = h.text.entries; log = h.text.log; stops = h.text.fails; line = line })
-log_told (end.Refused refusal.NoMemory) file old new status text h tells = absurd tells
-log_told (end.TooLong read) file old new status text h (same, line) =
-    subst (λ (s : Status). LogTold file s text old new) (sym same) (record { above = h.0; taken = h.1 }, line)
-log_told end.Fault file old new status text h tells = absurd tells
-log_told end.NoMemory file old new status text h tells = absurd tells
-
-pub end_told : (e : StreamEnd) (file : Problem) (old new : Channel) (r : Result Made Status) → StreamEnds e file log_limit old.bytes new.bytes old.faults new.faults →
-    IfOk r (λ made. TellsEnd e made.status made.text) → IfOk r (λ made. LogTold file made.status made.text old new)
-end_told e file old new (Ok made) h tells = log_told e file old new made.status made.text h tells
-end_told e file old new (Err status) h tells = tt
-
-log_halts : (e : StreamEnd) (file : Problem) (old new : Channel) (status : Status) → StreamEnds e file log_limit old.bytes new.bytes old.faults new.faults → HaltsEnd e status → LogHalts status old new
-log_halts e file old new status h (inl none) = subst (λ (s : Status). LogHalts s old new) (sym none) tt
-log_halts e file old new status h (inr (failed, same)) =
-    let why = subst (λ (x : StreamEnd). StreamEnds x file log_limit old.bytes new.bytes old.faults new.faults) failed h in
-    subst (λ (s : Status). LogHalts s old new) (sym same) (record { within = why.1; rose = why.0 })
-
-pub end_halts : (e : StreamEnd) (file : Problem) (old new : Channel) (r : Result Made Status) → StreamEnds e file log_limit old.bytes new.bytes old.faults new.faults →
-    IfErr r (HaltsEnd e) → IfErr r (λ s. LogHalts s old new)
-end_halts e file old new (Ok made) h halts = tt
-end_halts e file old new (Err status) h halts = log_halts e file old new status h halts
-
--- ---- to what is told of both sources
-told : (file : Problem) (v w : Sources) (status : Status) (text : List ℕ) → GoodFile file v.problem w.problem → LogTold file status text v.log_in w.log_in → Told status text v w
-told file v w Done text good h = record { file = file; good = good; bytes = h.0; read = h.1; verdict = h.2 }
-told file v w Words text good h = absurd h.2
-told file v w (FileFault f) text good h = absurd h.2
-told file v w (ConeFault f) text good h = absurd h.2
-told file v w (Left l) text good h = record { file = file; good = good; bytes = h.0; read = h.1; verdict = h.2 }
-told file v w NoMemory text good h = absurd h.2
-told file v w (ReadFault log) text good h = absurd h.2
-told file v w (WriteFault log sent) text good h = absurd h.2
-told file v w (Refused why) text good h = record { file = file; good = good; bytes = h.0; read = h.1; verdict = h.2 }
-told file v w (TooLong false count) text good h = absurd h.2
-told file v w (TooLong true count) text good h = record { file = file; good = good; past = h.0; line = h.1 }
-
-pub both_told : (file : Problem) (v w : Sources) → GoodFile file v.problem w.problem → (r : Result Made Status) →
-    IfOk r (λ made. LogTold file made.status made.text v.log_in w.log_in) → IfOk r (λ made. Told made.status made.text v w)
-both_told file v w good (Ok made) h = told file v w made.status made.text good h
-both_told file v w good (Err status) h = tt
-
-halts : (file : Problem) (v w : Sources) (status : Status) → GoodFile file v.problem w.problem → LogHalts status v.log_in w.log_in → CheckHalts status v w
-halts file v w Done good h = absurd h
-halts file v w Words good h = absurd h
-halts file v w (FileFault f) good h = absurd h
-halts file v w (ConeFault f) good h = absurd h
-halts file v w (Left l) good h = absurd h
-halts file v w NoMemory good h = tt
-halts file v w (ReadFault false) good h = absurd h
-halts file v w (ReadFault true) good h = record { file = file; good = good; log_in = h }
-halts file v w (WriteFault log sent) good h = absurd h
-halts file v w (Refused why) good h = absurd h
-halts file v w (TooLong log count) good h = absurd h
-
-pub both_halt : (file : Problem) (v w : Sources) → GoodFile file v.problem w.problem → (r : Result Made Status) → IfErr r (λ s. LogHalts s v.log_in w.log_in) → IfErr r (λ s. CheckHalts s v w)
-both_halt file v w good (Ok made) h = tt
-both_halt file v w good (Err status) h = halts file v w status good h
-
--- ---- from the end of the reading of a problem
-refused : (v w : Sources) (status : Status) (text : List ℕ) → ProblemTold status text v w → Told status text v w
-refused v w Done text h = absurd h
-refused v w Words text h = h
-refused v w (FileFault f) text h = h
-refused v w (ConeFault f) text h = h
-refused v w (Left l) text h = absurd h
-refused v w NoMemory text h = h
-refused v w (ReadFault log) text h = h
-refused v w (WriteFault log sent) text h = h
-refused v w (Refused why) text h = absurd h
-refused v w (TooLong false count) text h = h
-refused v w (TooLong true count) text h = absurd h
-
-pub end_refused : (e : ProblemEnd) (v w : Sources) (r : Result Made Status) → EndsProblem e v w → IfOk r (λ made. e ≡ problem_end.Told made) → IfOk r (λ made. Told made.status made.text v w)
-end_refused e v w (Ok made) h is = refused v w made.status made.text (subst (λ (x : ProblemEnd). EndsProblem x v w) is h)
-end_refused e v w (Err status) h is = tt
-
-unread : (v w : Sources) (status : Status) → ProblemHalts status v w → CheckHalts status v w
-unread v w Done h = h
-unread v w Words h = h
-unread v w (FileFault f) h = h
-unread v w (ConeFault f) h = h
-unread v w (Left l) h = h
-unread v w NoMemory h = h
-unread v w (ReadFault false) h = h
-unread v w (ReadFault true) h = absurd h
-unread v w (WriteFault log sent) h = h
-unread v w (Refused why) h = h
-unread v w (TooLong log count) h = h
-
-pub end_unread : (e : ProblemEnd) (v w : Sources) (r : Result Made Status) → EndsProblem e v w → IfErr r (λ s. e ≡ problem_end.Halted s) → IfErr r (λ s. CheckHalts s v w)
-end_unread e v w (Ok made) h is = tt
-end_unread e v w (Err status) h is = unread v w status (subst (λ (x : ProblemEnd). EndsProblem x v w) is h)
-
--- the text that was sent is that of the reply
-pub sent_as : (sent text : List ℕ) (status result : Status) (old new : Channel) → sent ≡ text → Sends false sent status result old new → Sends false text status result old new
-sent_as sent text status result old new same h = subst (λ (t : List ℕ). Sends false t status result old new) same h
-
--- a reply of `check`, and how its writing ended
-pub replied : (file log : List ℕ) (result status : Status) (text : List ℕ) (problem log_in problem' log_in' out out' log_out : Channel) →
-    Told status text (record { problem = problem; log_in = log_in }) (record { problem = problem'; log_in = log_in' }) → Sends false text status result out out' →
-    Outcome (check file log) result
-    (record { problem = problem; log_in = log_in; out = out; log_out = log_out })
-    (record { problem = problem'; log_in = log_in'; out = out'; log_out = log_out })
-replied file log result status text problem log_in problem' log_in' out out' log_out is_told sent =
-    inl (reply status text None, record { told = is_told; no_log = refl }, (sent, record { bytes = refl; faults = refl }))
-
--- `check` halted without a reply
-pub halted : (file log : List ℕ) (result : Status) (problem log_in problem' log_in' out log_out : Channel) →
-    CheckHalts result (record { problem = problem; log_in = log_in }) (record { problem = problem'; log_in = log_in' }) →
-    Outcome (check file log) result
-    (record { problem = problem; log_in = log_in; out = out; log_out = log_out })
-    (record { problem = problem'; log_in = log_in'; out = out; log_out = log_out })
-halted file log result problem log_in problem' log_in' out log_out cause =
-    inr (record { cause = cause; out = record { bytes = refl; faults = refl }; log_out = record { bytes = refl; faults = refl } })
-
-abbrev pub IsWords : Status → Type 0
-IsWords Words = Unit {0}
-IsWords _ = ⊥
+-- What outcomes say, whatever the command: never of words without a shape, and with a log only where
+-- one is written.
+use Rattle.std.proofs.Common.{◌≡◌, ℕ, List, Bool, true, false, true≢false, Option, Some, None, IsTrue, ap, ◌∙◌, subst, sym, refl, inl, inr, arith}
+use Rattle.std.specs.Option.{is_some}
+use Rattle.commands.specs.Paths.{writes_log}
+use Rattle.commands.specs.Tasks.{Shape, Task}
+use Rattle.statuses.specs.Codes.{code_of}
+use Rattle.statuses.specs.declared.reply.Reply.{Reply}
+use Rattle.statuses.specs.declared.status.Status.{Status}
+use Rattle.statuses.specs.declared.status.Status.TheVariants.{Words, WriteFault}
+use Rattle.bensolve_main.specs.Deliver.{DeliversWith}
+use Rattle.bensolve_main.specs.Outcome.{Fails, HaltsFor, Outcome, RepliesTo}
+use Rattle.bensolve_main.specs.Reading.{FileRefused}
+use Rattle.bensolve_main.specs.Tasks.{Texts, texts_of}
+use Rattle.bensolve_main.specs.Tasks.Texts.{nothing, problem, problem_and_log, two_problems}
+use Rattle.bensolve_main.specs.World.{Channel, Sources, World, sources_of}
+use Rattle.bensolve_main.proofs.Tables.{alone_never_words, file_never_words, log_never_words, two_never_words, alone_quiet, file_quiet, log_quiet, two_quiet}
 
 abbrev pub IsWriteFault : Status → Type 0
 IsWriteFault (WriteFault log sent) = Unit {0}
 IsWriteFault _ = ⊥
 
-not_sent : (status : Status) (text : List ℕ) (v w : Sources) (old new : Channel) → Told status text v w → Sends false text status Words old new → ⊥
-not_sent status text v w old new is_told sends =
-    elim sends [
-      | inl whole ↦ subst (λ (s : Status). Told s text v w) (sym whole.0) is_told
-      | inr failed ↦ subst (λ (s : Status). IsWords s) failed.1 tt
+-- a result that tells no fault of an output is the status of its reply
+pub delivered_as : (log : Option (List ℕ)) (status result : Status) (text : List ℕ) (v w : World) →
+    (IsWriteFault result → ⊥) → DeliversWith log status text result v w → result ≡ status
+delivered_as None status result text v w steady delivers =
+    elim delivers.0 [
+      | inl whole ↦ whole.0
+      | inr failed ↦ absurd (steady (subst (λ (s : Status). IsWriteFault s) (sym failed.1) tt))
+    ]
+delivered_as (Some log) status result text v w steady delivers =
+    elim delivers [
+      | inl sent ↦ elim sent.1 [
+        | inl whole ↦ whole.0
+        | inr failed ↦ absurd (steady (subst (λ (s : Status). IsWriteFault s) (sym failed.1) tt))
+      ]
+      | inr failed ↦ absurd (steady (subst (λ (s : Status). IsWriteFault s) (sym failed.0.1) tt))
     ]
 
--- `check` never ends with the status of words without a shape
-pub check_never_words : (file log : List ℕ) (v w : World) → Outcome (check file log) Words v w → ⊥
-check_never_words file log v w outcome =
-    elim outcome [
-      | inl made ↦
-          not_sent made.0.status made.0.text (sources_of v) (sources_of w) v.out w.out made.1.told
-          (subst (λ (l : Option (List ℕ)). DeliversWith l made.0.status made.0.text Words v w) made.1.no_log made.2).0
-      | inr halts ↦ halts.cause
-    ]
+-- ---- words without a shape
+refused_no_words : (r : Reply) (old new : Channel) → FileRefused r old new → Words ≡ r.status → ⊥
+refused_no_words r old new (inl much) same = omega (arith, ap (λ (s : Status). code_of s) (same ∙ much.status))
+refused_no_words r old new (inr none) same = omega (arith, ap (λ (s : Status). code_of s) (same ∙ none.status))
+
+replies_no_words : (x : Texts) (t : Task) (logs : Bool) (r : Reply) (v w : Sources) → RepliesTo x t logs r v w → Words ≡ r.status → ⊥
+replies_no_words nothing t logs r v w replies same = alone_never_words t r replies.0 same
+replies_no_words problem t logs r v w (inl refused) same = refused_no_words r v.problem w.problem refused.refused same
+replies_no_words problem t logs r v w (inr tells) same = file_never_words t logs tells.file r tells.verdict same
+replies_no_words problem_and_log t logs r v w (inl refused) same = refused_no_words r v.problem w.problem refused.refused same
+replies_no_words problem_and_log t logs r v w (inr (inl much)) same = omega (arith, ap (λ (s : Status). code_of s) (same ∙ much.much.status))
+replies_no_words problem_and_log t logs r v w (inr (inr tells)) same = log_never_words t tells.file tells.bytes r tells.verdict same
+replies_no_words two_problems t logs r v w (inl refused) same = refused_no_words r v.problem w.problem refused.refused same
+replies_no_words two_problems t logs r v w (inr (inl much)) same = omega (arith, ap (λ (s : Status). code_of s) (same ∙ much.much.status))
+replies_no_words two_problems t logs r v w (inr (inr (inl none))) same = omega (arith, ap (λ (s : Status). code_of s) (same ∙ none.refused.status))
+replies_no_words two_problems t logs r v w (inr (inr (inr tells))) same = two_never_words t tells.first tells.second r tells.verdict same
+
+fails_no_words : (x : Texts) (v w : Sources) → Fails x Words v w → ⊥
+fails_no_words nothing v w fails = fails
+fails_no_words problem v w fails = omega (arith, ap (λ (s : Status). code_of s) fails.failed.status)
+fails_no_words problem_and_log v w (inl fails) = omega (arith, ap (λ (s : Status). code_of s) fails.failed.status)
+fails_no_words problem_and_log v w (inr fails) = omega (arith, ap (λ (s : Status). code_of s) fails.failed.status)
+fails_no_words two_problems v w (inl fails) = omega (arith, ap (λ (s : Status). code_of s) fails.failed.status)
+fails_no_words two_problems v w (inr fails) = omega (arith, ap (λ (s : Status). code_of s) fails.failed.status)
+
+halts_no_words : (x : Texts) (v w : Sources) → HaltsFor x Words v w → ⊥
+halts_no_words x v w (inl same) = omega (arith, ap (λ (s : Status). code_of s) same)
+halts_no_words x v w (inr fails) = fails_no_words x v w fails
+
+-- no command ends as words without a shape do
+pub never_words : (shape : Shape) (v w : World) → Outcome shape Words v w → ⊥
+never_words s v w (inl made) =
+    let r : Reply = made.0 in
+    replies_no_words (texts_of s.task) s.task (writes_log s.files) r (sources_of v) (sources_of w) made.1
+    (delivered_as r.log r.status Words r.text v w (λ h. h) made.2)
+never_words s v w (inr halts) = halts_no_words (texts_of s.task) (sources_of v) (sources_of w) halts.cause
+
+-- ---- logs
+refused_quiet : (r : Reply) (old new : Channel) → FileRefused r old new → r.log ≡ None
+refused_quiet r old new (inl much) = much.told.no_log
+refused_quiet r old new (inr none) = none.told.no_log
+
+-- without a file for it no log is made
+pub quiet : (x : Texts) (t : Task) (r : Reply) (v w : Sources) → RepliesTo x t false r v w → r.log ≡ None
+quiet nothing t r v w replies = alone_quiet t r replies.0
+quiet problem t r v w (inl refused) = refused_quiet r v.problem w.problem refused.refused
+quiet problem t r v w (inr tells) = file_quiet t tells.file r tells.verdict
+quiet problem_and_log t r v w (inl refused) = refused_quiet r v.problem w.problem refused.refused
+quiet problem_and_log t r v w (inr (inl much)) = much.much.told.no_log
+quiet problem_and_log t r v w (inr (inr tells)) = log_quiet t tells.file tells.bytes r tells.verdict
+quiet two_problems t r v w (inl refused) = refused_quiet r v.problem w.problem refused.refused
+quiet two_problems t r v w (inr (inl much)) = much.much.told.no_log
+quiet two_problems t r v w (inr (inr (inl none))) = none.refused.told.no_log
+quiet two_problems t r v w (inr (inr (inr tells))) = two_quiet t tells.first tells.second r tells.verdict
+
+-- a reply that has a log is one of a command with a file for it
+pub wanted : (logs : Bool) (x : Texts) (t : Task) (r : Reply) (v w : Sources) (log : List ℕ) → RepliesTo x t logs r v w → r.log ≡ Some log → IsTrue logs
+wanted true x t r v w log replies is = refl
+wanted false x t r v w log replies is = absurd (true≢false (ap (λ (o : Option (List ℕ)). is_some o) (sym is ∙ quiet x t r v w replies)))

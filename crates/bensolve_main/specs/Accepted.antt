@@ -1,15 +1,15 @@
 -- What `check FILE LOG` says of the log that `solve FILE LOG` wrote, by the bytes alone.
 use Rattle.std.specs.Prelude.{◌≡◌, ℕ, ◌≤◌, ◌⊎◌, false, List, length, Some}
 use Rattle.cert_check.specs.Streams.{ReadsWhole}
-use Rattle.bensolve_main.specs.Shapes.{Shape}
-use Rattle.bensolve_main.specs.Shapes.Shape.{check, solve}
-use Rattle.bensolve_main.specs.World.{World, Written}
-use Rattle.bensolve_main.specs.Reply.{Sends}
-use Rattle.bensolve_main.specs.Reading.{problem_limit}
-use Rattle.bensolve_main.specs.Check.{log_limit}
+use Rattle.commands.specs.Tasks.{Shape, shape}
+use Rattle.commands.specs.Tasks.Task.{check, solve}
+use Rattle.commands.specs.Tasks.Files.{two, logged}
+use Rattle.statuses.specs.declared.status.Status.{Status}
+use Rattle.statuses.specs.declared.status.Status.TheVariants.{Done}
+use Rattle.bensolve_main.specs.Deliver.{Sends}
 use Rattle.bensolve_main.specs.Outcome.{Outcome, Halts}
-use Rattle.bensolve_main.specs.declared.status.Status.{Status}
-use Rattle.bensolve_main.specs.declared.status.Status.TheVariants.{Done}
+use Rattle.bensolve_main.specs.Reading.{problem_limit, log_limit}
+use Rattle.bensolve_main.specs.World.{World, Written}
 
 -- the sources tell exactly these bytes of a problem and of a log, which is within its limit
 pub record TellsBoth (bytes log_bytes : List ℕ) (old : World) : Type 0 where
@@ -23,8 +23,9 @@ pub record TellsBoth (bytes log_bytes : List ℕ) (old : World) : Type 0 where
 abbrev pub IsAcceptedAs : List ℕ → List ℕ → List ℕ → Type 0
 IsAcceptedAs report problem log =
     (path log_path : List ℕ) (result : Status) (old new : World) →
-    TellsBoth problem log old → Outcome (check path log_path) result old new →
-    Sends false report Done result old.out new.out ⊎ Halts (check path log_path) result old new
+    TellsBoth problem log old → Outcome (shape check (two path log_path)) result old new →
+    Sends false report Done result old.out new.out
+    ⊎ Halts (shape check (two path log_path)) result old new
 
 -- the bytes of the problem were read to their end, a report and then a log were written whole, and
 -- over the same bytes of the problem this log is accepted with this report
@@ -37,7 +38,7 @@ pub record WritesAccepted (old new : World) : Type 0 where
   pub logged : Written log old.log_out new.log_out
   pub accepted : IsAcceptedAs report problem log
 
--- what `solve FILE LOG` has written where it ends with an answer; no other command writes a log
+-- what `solve FILE LOG` has written where it ends with an answer
 abbrev pub Accepted : Shape → Status → World → World → Type 0
-Accepted (solve file (Some log)) result old new = result ≡ Done → WritesAccepted old new
-Accepted _ result old new = Unit {0}
+Accepted s result old new = (file log : List ℕ) → s ≡ shape solve (logged file log) →
+    result ≡ Done → WritesAccepted old new

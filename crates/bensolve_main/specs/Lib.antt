@@ -1,13 +1,14 @@
-pub mod Shapes
-pub mod Codes
+-- The subject: World (the outside of a run), Reading (the texts), Tasks (how a task reads, and what
+-- it says of what was read), Check and Sample (two of them), Deliver (how a reply is written),
+-- Outcome (the stages together), Answerable (when there is an answer), Accepted (what `check` says
+-- of the log of `solve`). What only serves proofs: Stages.
 pub mod World
-pub mod Reply
+pub mod Deliver
 pub mod Reading
-pub mod ProblemReply
 pub mod Check
-pub mod LogReply
-pub mod Solve
-pub mod SolveReply
 pub mod Sample
+pub mod Tasks
 pub mod Outcome
+pub mod Answerable
 pub mod Accepted
+pub mod Stages

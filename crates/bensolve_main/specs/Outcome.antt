@@ -1,49 +1,106 @@
--- What the result of a command says, by the shape of its words.
-use Rattle.std.specs.Prelude.{◌⊎◌, ◌≡◌}
-use Rattle.std.specs.Option.{is_some}
-use Rattle.bensolve_main.specs.Shapes.{Shape}
-use Rattle.bensolve_main.specs.Shapes.Shape.{check, solve, sample}
-use Rattle.bensolve_main.specs.World.{World, Uncalled, sources_of}
-use Rattle.bensolve_main.specs.Reply.{Reply, Delivers}
-use Rattle.bensolve_main.specs.Reading.{ProblemHalts}
-use Rattle.bensolve_main.specs.Check.{CheckReplies, CheckHalts, HonestCheck}
-use Rattle.bensolve_main.specs.Solve.{SolveReplies, HonestSolve}
-use Rattle.bensolve_main.specs.Sample.{SampleReplies, HonestSample}
-use Rattle.bensolve_main.specs.declared.status.Status.{Status}
-use Rattle.bensolve_main.specs.declared.status.Status.TheVariants.{Done, NoMemory}
+-- What the result of a command says, by the stages of its work: the problem is read, then the log or
+-- the second problem, then the task is done, and then its reply is written.
+use Rattle.std.specs.Prelude.{◌⊎◌, ◌≡◌, Bool, true, false, List, ℕ}
+use Rattle.vlp_reader.specs.declared.problem.Problem.{Problem}
+use Rattle.cert_check.specs.Streams.{ReadsWhole}
+use Rattle.commands.specs.Paths.{writes_log}
+use Rattle.commands.specs.Tasks.{Task, Shape}
+use Rattle.statuses.specs.declared.reply.Reply.{Reply}
+use Rattle.statuses.specs.declared.status.Status.{Status}
+use Rattle.statuses.specs.declared.status.Status.TheVariants.{NoMemory, SecondFile}
+use Rattle.bensolve_main.specs.Deliver.{Delivers}
+use Rattle.bensolve_main.specs.Reading.{problem_limit, log_limit, GoodFile, TooMuch, NoFile, FileRefused, SourceFailed}
+use Rattle.bensolve_main.specs.Tasks.{Texts, texts_of, TellsAlone, TellsFile, TellsLog, TellsTwo}
+use Rattle.bensolve_main.specs.Tasks.Texts.{nothing, problem, problem_and_log, two_problems}
+use Rattle.bensolve_main.specs.World.{Sources, World, Uncalled, sources_of}
 
--- what a reply says of the bytes that were read
-abbrev pub Replies : Shape → Reply → World → World → Type 0
-Replies (check file log) reply old new = CheckReplies reply (sources_of old) (sources_of new)
-Replies (solve file log) reply old new =
-    SolveReplies (is_some log) reply (sources_of old) (sources_of new)
-Replies (sample number) reply old new = SampleReplies number reply
+-- ---- the problem
+-- the problem is refused, and nothing else was read
+pub record Refuses (r : Reply) (old new : Sources) : Type 0 where
+  pub refused : FileRefused r old.problem new.problem
+  pub log_in : Uncalled old.log_in new.log_in
 
--- why a command halts without a reply: a source failed, or memory was wanting
-abbrev pub HaltsFor : Shape → Status → World → World → Type 0
-HaltsFor (check file log) result old new = CheckHalts result (sources_of old) (sources_of new)
-HaltsFor (solve file log) result old new = ProblemHalts result (sources_of old) (sources_of new)
-HaltsFor (sample number) result old new = result ≡ NoMemory
+-- the problem was read, nothing else, and the task tells this of it
+pub record TellsOfFile (t : Task) (logs : Bool) (r : Reply) (old new : Sources) : Type 0 where
+  pub file : Problem
+  pub good : GoodFile file old.problem new.problem
+  pub log_in : Uncalled old.log_in new.log_in
+  pub verdict : TellsFile t logs file r
+
+-- ---- the text after it
+-- after a problem, more bytes of this text were taken than its limit
+pub record SecondTooMuch (limit : ℕ) (r : Reply) (old new : Sources) : Type 0 where
+  pub file : Problem
+  pub good : GoodFile file old.problem new.problem
+  pub much : TooMuch true limit r old.log_in new.log_in
+
+-- a log was read to its end, and the task tells this of both
+pub record TellsOfLog (t : Task) (r : Reply) (old new : Sources) : Type 0 where
+  pub file : Problem
+  pub good : GoodFile file old.problem new.problem
+  pub bytes : List ℕ
+  pub read : ReadsWhole old.log_in.bytes new.log_in.bytes log_limit bytes
+  pub verdict : TellsLog t file bytes r
+
+-- a second problem is refused
+pub record RefusesSecond (r : Reply) (old new : Sources) : Type 0 where
+  pub file : Problem
+  pub good : GoodFile file old.problem new.problem
+  pub refused : NoFile SecondFile r old.log_in new.log_in
+
+-- two problems were read, and the task tells this of both
+pub record TellsOfTwo (t : Task) (r : Reply) (old new : Sources) : Type 0 where
+  pub first : Problem
+  pub good : GoodFile first old.problem new.problem
+  pub second : Problem
+  pub good_second : GoodFile second old.log_in new.log_in
+  pub verdict : TellsTwo t first second r
+
+-- ---- what a reply says of what was read
+abbrev pub RepliesTo : Texts → Task → Bool → Reply → Sources → Sources → Type 0
+RepliesTo nothing t logs r old new =
+    TellsAlone t r × Uncalled old.problem new.problem × Uncalled old.log_in new.log_in
+RepliesTo problem t logs r old new = Refuses r old new ⊎ TellsOfFile t logs r old new
+RepliesTo problem_and_log t logs r old new =
+    Refuses r old new ⊎ (SecondTooMuch log_limit r old new ⊎ TellsOfLog t r old new)
+RepliesTo two_problems t logs r old new =
+    Refuses r old new ⊎ (SecondTooMuch problem_limit r old new
+    ⊎ (RefusesSecond r old new ⊎ TellsOfTwo t r old new))
+
+abbrev pub Replies : Shape → Reply → Sources → Sources → Type 0
+Replies s r old new = RepliesTo (texts_of s.task) s.task (writes_log s.files) r old new
+
+-- ---- why a command halts without a reply
+-- the source of the problem failed, and nothing else was read
+pub record ProblemFailed (s : Status) (old new : Sources) : Type 0 where
+  pub failed : SourceFailed false problem_limit s old.problem new.problem
+  pub log_in : Uncalled old.log_in new.log_in
+
+-- after a problem, the source of the text after it failed
+pub record SecondFailed (limit : ℕ) (s : Status) (old new : Sources) : Type 0 where
+  pub file : Problem
+  pub good : GoodFile file old.problem new.problem
+  pub failed : SourceFailed true limit s old.log_in new.log_in
+
+abbrev pub Fails : Texts → Status → Sources → Sources → Type 0
+Fails nothing s old new = ⊥
+Fails problem s old new = ProblemFailed s old new
+Fails problem_and_log s old new = ProblemFailed s old new ⊎ SecondFailed log_limit s old new
+Fails two_problems s old new = ProblemFailed s old new ⊎ SecondFailed problem_limit s old new
+
+-- memory was wanting, or a source failed
+abbrev pub HaltsFor : Texts → Status → Sources → Sources → Type 0
+HaltsFor texts s old new = (s ≡ NoMemory) ⊎ Fails texts s old new
 
 -- a command halted without a reply, and no output was called
 pub record Halts (shape : Shape) (result : Status) (old new : World) : Type 0 where
-  pub cause : HaltsFor shape result old new
+  pub cause : HaltsFor (texts_of shape.task) result (sources_of old) (sources_of new)
   pub out : Uncalled old.out new.out
   pub log_out : Uncalled old.log_out new.log_out
 
+-- ---- a run
 -- some reply was to be made, and this became of it, or the command halted
 abbrev pub Outcome : Shape → Status → World → World → Type 0
 Outcome shape result old new =
-    ((reply : Reply) × Replies shape reply old new × Delivers reply result old new)
+    ((r : Reply) × Replies shape r (sources_of old) (sources_of new) × Delivers r result old new)
     ⊎ Halts shape result old new
-
--- nothing stands against an answer: the outside did not fail in this call, what it told is right
--- and within its limits, and no exact number that is wanted is too large to be held
-abbrev pub Honest : Shape → World → World → Type 0
-Honest (check file log) old new = HonestCheck old new
-Honest (solve file log) old new = HonestSolve (is_some log) old new
-Honest (sample number) old new = HonestSample number old new
-
--- how a command then ends: with an answer or for want of memory
-abbrev pub Completes : Status → Type 0
-Completes result = (result ≡ Done) ⊎ (result ≡ NoMemory)

@@ -1,3 +1,4 @@
 pub mod Checked
 pub mod Ended
 pub mod Accepted
+pub mod Replies

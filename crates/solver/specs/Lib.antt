@@ -2,3 +2,4 @@ pub mod Ends
 pub mod Own
 pub mod Solving
 pub mod Accepted
+pub mod Replies

@@ -39,8 +39,8 @@ fn wanting(fault: &DataFault) -> NoMemory
     }
 }
 
-/// The data of a problem in fractions.
-fn data_of(alloc: Global, problem: &Problem) -> Result<Data<Frac>, NoMemory>
+/// The data of a problem in fractions, which hold each of its numbers.
+pub fn data_of(alloc: Global, problem: &Problem) -> Result<Data<Frac>, NoMemory>
     ensures { IfOk result (IsDataOf (λ q. q) problem.now) }
 {
     match Data::<Frac>::of(alloc, problem) {

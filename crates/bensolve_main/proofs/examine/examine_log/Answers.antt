@@ -1,4 +1,4 @@
-use Rattle.bensolve_main.proofs.Outcomes.{end_told, end_halts}
+use Rattle.bensolve_main.proofs.Stages.{end_told, end_halts}
 use Rattle.bensolve_main.proofs.examine.examine_log.Goals as goal
 
 pub returns-in-Err-clause-told : goal.returns-in-Err-clause-told

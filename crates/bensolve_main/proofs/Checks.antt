@@ -1,0 +1,63 @@
+-- What the replies of `check` and of `sample` say: with an answer where nothing stands against it,
+-- never of words without a shape, and never with a log.
+use Rattle.std.proofs.Common.{◌≡◌, ℕ, List, Option, Some, None, true≢false, ap, ◌∙◌, sym, inl, inr, arith}
+use Rattle.std.specs.Option.{is_some}
+use Rattle.frac128.specs.Held.{is_held}
+use Rattle.vlp_reader.specs.declared.problem.Problem.{Problem}
+use Rattle.deriv_log.specs.Laws.{IsTextOf}
+use Rattle.deriv_log.specs.declared.entry.Entry.{Entry}
+use Rattle.deriv_log.proofs.Laws.{one_reading}
+use Rattle.log_rules.specs.Events.{Failing, log_failure}
+use Rattle.statuses.specs.Codes.{code_of}
+use Rattle.statuses.specs.declared.reply.Reply.{Reply}
+use Rattle.statuses.specs.declared.status.Status.{Status}
+use Rattle.statuses.specs.declared.status.Status.TheVariants.{Done, Words}
+use Rattle.bensolve_main.specs.Check.{CheckVerdict}
+use Rattle.bensolve_main.specs.Sample.{IsSampleHeld, SampleVerdict}
+
+-- ---- a log of which no event fails
+-- the bytes are the text of these entries, which pass for the problem
+pub record Passing (file : Problem) (bytes : List ℕ) : Type 0 where
+  pub entries : List Entry
+  pub log : IsTextOf bytes entries
+  pub passes : log_failure is_held file entries ≡ None
+
+-- whatever entries the bytes are the text of pass
+pub passing : (file : Problem) (bytes : List ℕ) (entries : List Entry) → Passing file bytes → IsTextOf bytes entries → log_failure is_held file entries ≡ None
+passing file bytes entries p log = ap (log_failure is_held file) (one_reading.one_log bytes entries p.entries log p.log) ∙ p.passes
+
+not_failed : (file : Problem) (entries : List Entry) (f : Failing) → log_failure is_held file entries ≡ None → log_failure is_held file entries ≡ Some f → ⊥
+not_failed file entries f none some = true≢false (sym (ap (λ (o : Option Failing). is_some o) (sym none ∙ some)))
+
+pub check_answered : (file : Problem) (bytes : List ℕ) (r : Reply) → Passing file bytes → CheckVerdict file bytes r → r.status ≡ Done
+check_answered file bytes r p (inl proved) = proved.status
+check_answered file bytes r p (inr (inl none)) = absurd (one_reading.apart bytes p.entries none.fault p.log none.first)
+check_answered file bytes r p (inr (inr (inl fails))) =
+    absurd (not_failed file fails.entries _ (passing file bytes fails.entries p fails.log) fails.wrong)
+check_answered file bytes r p (inr (inr (inr stops))) =
+    absurd (not_failed file stops.entries _ (passing file bytes stops.entries p stops.log) stops.stops)
+
+pub check_never_words : (file : Problem) (bytes : List ℕ) (r : Reply) → CheckVerdict file bytes r → Words ≡ r.status → ⊥
+check_never_words file bytes r (inl proved) same = omega (arith, ap (λ (s : Status). code_of s) (same ∙ proved.status))
+check_never_words file bytes r (inr (inl none)) same = omega (arith, ap (λ (s : Status). code_of s) (same ∙ none.status))
+check_never_words file bytes r (inr (inr (inl fails))) same = omega (arith, ap (λ (s : Status). code_of s) (same ∙ fails.status))
+check_never_words file bytes r (inr (inr (inr stops))) same = omega (arith, ap (λ (s : Status). code_of s) (same ∙ stops.status))
+
+pub check_quiet : (file : Problem) (bytes : List ℕ) (r : Reply) → CheckVerdict file bytes r → r.log ≡ None
+check_quiet file bytes r (inl proved) = proved.no_log
+check_quiet file bytes r (inr (inl none)) = none.told.no_log
+check_quiet file bytes r (inr (inr (inl fails))) = fails.told.no_log
+check_quiet file bytes r (inr (inr (inr stops))) = stops.told.no_log
+
+-- ---- the sample file of a number
+pub sample_answered : (number : ℕ) (r : Reply) → IsSampleHeld number → SampleVerdict number r → r.status ≡ Done
+sample_answered number r held (inl solved) = solved.status
+sample_answered number r held (inr left) = absurd (held left.file left.sample left.overflow.licence left.overflow.licensed)
+
+pub sample_never_words : (number : ℕ) (r : Reply) → SampleVerdict number r → Words ≡ r.status → ⊥
+sample_never_words number r (inl solved) same = omega (arith, ap (λ (s : Status). code_of s) (same ∙ solved.status))
+sample_never_words number r (inr left) same = omega (arith, ap (λ (s : Status). code_of s) (same ∙ left.overflow.status))
+
+pub sample_quiet : (number : ℕ) (r : Reply) → SampleVerdict number r → r.log ≡ None
+sample_quiet number r (inl solved) = solved.no_log
+sample_quiet number r (inr left) = left.overflow.told.no_log

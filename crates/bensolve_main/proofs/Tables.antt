@@ -1,0 +1,173 @@
+-- What the replies of each task say: with an answer where nothing stands against it, never of words
+-- without a shape, and with a log only where one is written.
+use Rattle.std.proofs.Common.{◌≡◌, ℕ, List, Bool, false, None}
+use Rattle.vlp_reader.specs.declared.problem.Problem.{Problem}
+use Rattle.commands.specs.Tasks.{Task}
+use Rattle.commands.specs.Tasks.Task.{check, solve, sample, project, associate, meet, sum, join, map, weights, weigh}
+use Rattle.solver.proofs.Replies.{solve_answered, solve_never_words, solve_quiet}
+use Rattle.described.proofs.Answered.{project_answered, project_never_words, project_quiet, associate_answered, associate_never_words, associate_quiet, meet_answered, meet_never_words, meet_quiet, sum_answered, sum_never_words, sum_quiet, join_answered, join_never_words, join_quiet, map_answered, map_never_words, map_quiet}
+use Rattle.weighing.proofs.Answered.{weights_answered, weights_never_words, weights_quiet, weigh_answered, weigh_never_words, weigh_quiet}
+use Rattle.statuses.specs.declared.reply.Reply.{Reply}
+use Rattle.statuses.specs.declared.status.Status.TheVariants.{Done, Words}
+use Rattle.bensolve_main.specs.Answerable.{AnswersAlone, AnswersFile, AnswersTwo}
+use Rattle.bensolve_main.specs.Tasks.{TellsAlone, TellsFile, TellsLog, TellsTwo}
+use Rattle.bensolve_main.proofs.Checks.{Passing, check_answered, check_never_words, check_quiet, sample_answered, sample_never_words, sample_quiet}
+
+-- ---- with an answer
+pub alone_answered : (t : Task) (r : Reply) → AnswersAlone t → TellsAlone t r → r.status ≡ Done
+alone_answered (sample n) r h v = sample_answered n r h v
+alone_answered check r h v = absurd v
+alone_answered solve r h v = absurd v
+alone_answered (project k) r h v = absurd v
+alone_answered (associate k) r h v = absurd v
+alone_answered meet r h v = absurd v
+alone_answered sum r h v = absurd v
+alone_answered join r h v = absurd v
+alone_answered map r h v = absurd v
+alone_answered weights r h v = absurd v
+alone_answered (weigh w) r h v = absurd v
+
+pub file_answered : (t : Task) (logs : Bool) (file : Problem) (r : Reply) → AnswersFile t file → TellsFile t logs file r → r.status ≡ Done
+file_answered solve logs file r h v = solve_answered logs file r h v
+file_answered (project k) logs file r h v = project_answered k logs file r h v
+file_answered (associate k) logs file r h v = associate_answered k file r h v
+file_answered map logs file r h v = map_answered file r h v
+file_answered weights logs file r h v = weights_answered file r h v
+file_answered (weigh w) logs file r h v = weigh_answered w file r h v
+file_answered check logs file r h v = absurd v
+file_answered (sample n) logs file r h v = absurd v
+file_answered meet logs file r h v = absurd v
+file_answered sum logs file r h v = absurd v
+file_answered join logs file r h v = absurd v
+
+pub log_answered : (t : Task) (file : Problem) (bytes : List ℕ) (r : Reply) → Passing file bytes → TellsLog t file bytes r → r.status ≡ Done
+log_answered check file bytes r h v = check_answered file bytes r h v
+log_answered solve file bytes r h v = absurd v
+log_answered (sample n) file bytes r h v = absurd v
+log_answered (project k) file bytes r h v = absurd v
+log_answered (associate k) file bytes r h v = absurd v
+log_answered meet file bytes r h v = absurd v
+log_answered sum file bytes r h v = absurd v
+log_answered join file bytes r h v = absurd v
+log_answered map file bytes r h v = absurd v
+log_answered weights file bytes r h v = absurd v
+log_answered (weigh w) file bytes r h v = absurd v
+
+pub two_answered : (t : Task) (a b : Problem) (r : Reply) → AnswersTwo t a b → TellsTwo t a b r → r.status ≡ Done
+two_answered meet a b r h v = meet_answered a b r h v
+two_answered sum a b r h v = sum_answered a b r h v
+two_answered join a b r h v = join_answered a b r h v
+two_answered check a b r h v = absurd v
+two_answered solve a b r h v = absurd v
+two_answered (sample n) a b r h v = absurd v
+two_answered (project k) a b r h v = absurd v
+two_answered (associate k) a b r h v = absurd v
+two_answered map a b r h v = absurd v
+two_answered weights a b r h v = absurd v
+two_answered (weigh w) a b r h v = absurd v
+
+-- ---- never of words without a shape
+pub alone_never_words : (t : Task) (r : Reply) → TellsAlone t r → Words ≡ r.status → ⊥
+alone_never_words (sample n) r v same = sample_never_words n r v same
+alone_never_words check r v same = v
+alone_never_words solve r v same = v
+alone_never_words (project k) r v same = v
+alone_never_words (associate k) r v same = v
+alone_never_words meet r v same = v
+alone_never_words sum r v same = v
+alone_never_words join r v same = v
+alone_never_words map r v same = v
+alone_never_words weights r v same = v
+alone_never_words (weigh w) r v same = v
+
+pub file_never_words : (t : Task) (logs : Bool) (file : Problem) (r : Reply) → TellsFile t logs file r → Words ≡ r.status → ⊥
+file_never_words solve logs file r v same = solve_never_words logs file r v same
+file_never_words (project k) logs file r v same = project_never_words k logs file r v same
+file_never_words (associate k) logs file r v same = associate_never_words k file r v same
+file_never_words map logs file r v same = map_never_words file r v same
+file_never_words weights logs file r v same = weights_never_words file r v same
+file_never_words (weigh w) logs file r v same = weigh_never_words w file r v same
+file_never_words check logs file r v same = v
+file_never_words (sample n) logs file r v same = v
+file_never_words meet logs file r v same = v
+file_never_words sum logs file r v same = v
+file_never_words join logs file r v same = v
+
+pub log_never_words : (t : Task) (file : Problem) (bytes : List ℕ) (r : Reply) → TellsLog t file bytes r → Words ≡ r.status → ⊥
+log_never_words check file bytes r v same = check_never_words file bytes r v same
+log_never_words solve file bytes r v same = v
+log_never_words (sample n) file bytes r v same = v
+log_never_words (project k) file bytes r v same = v
+log_never_words (associate k) file bytes r v same = v
+log_never_words meet file bytes r v same = v
+log_never_words sum file bytes r v same = v
+log_never_words join file bytes r v same = v
+log_never_words map file bytes r v same = v
+log_never_words weights file bytes r v same = v
+log_never_words (weigh w) file bytes r v same = v
+
+pub two_never_words : (t : Task) (a b : Problem) (r : Reply) → TellsTwo t a b r → Words ≡ r.status → ⊥
+two_never_words meet a b r v same = meet_never_words a b r v same
+two_never_words sum a b r v same = sum_never_words a b r v same
+two_never_words join a b r v same = join_never_words a b r v same
+two_never_words check a b r v same = v
+two_never_words solve a b r v same = v
+two_never_words (sample n) a b r v same = v
+two_never_words (project k) a b r v same = v
+two_never_words (associate k) a b r v same = v
+two_never_words map a b r v same = v
+two_never_words weights a b r v same = v
+two_never_words (weigh w) a b r v same = v
+
+-- ---- without a log
+pub alone_quiet : (t : Task) (r : Reply) → TellsAlone t r → r.log ≡ None
+alone_quiet (sample n) r v = sample_quiet n r v
+alone_quiet check r v = absurd v
+alone_quiet solve r v = absurd v
+alone_quiet (project k) r v = absurd v
+alone_quiet (associate k) r v = absurd v
+alone_quiet meet r v = absurd v
+alone_quiet sum r v = absurd v
+alone_quiet join r v = absurd v
+alone_quiet map r v = absurd v
+alone_quiet weights r v = absurd v
+alone_quiet (weigh w) r v = absurd v
+
+pub file_quiet : (t : Task) (file : Problem) (r : Reply) → TellsFile t false file r → r.log ≡ None
+file_quiet solve file r v = solve_quiet file r v
+file_quiet (project k) file r v = project_quiet k file r v
+file_quiet (associate k) file r v = associate_quiet k file r v
+file_quiet map file r v = map_quiet file r v
+file_quiet weights file r v = weights_quiet file r v
+file_quiet (weigh w) file r v = weigh_quiet w file r v
+file_quiet check file r v = absurd v
+file_quiet (sample n) file r v = absurd v
+file_quiet meet file r v = absurd v
+file_quiet sum file r v = absurd v
+file_quiet join file r v = absurd v
+
+pub log_quiet : (t : Task) (file : Problem) (bytes : List ℕ) (r : Reply) → TellsLog t file bytes r → r.log ≡ None
+log_quiet check file bytes r v = check_quiet file bytes r v
+log_quiet solve file bytes r v = absurd v
+log_quiet (sample n) file bytes r v = absurd v
+log_quiet (project k) file bytes r v = absurd v
+log_quiet (associate k) file bytes r v = absurd v
+log_quiet meet file bytes r v = absurd v
+log_quiet sum file bytes r v = absurd v
+log_quiet join file bytes r v = absurd v
+log_quiet map file bytes r v = absurd v
+log_quiet weights file bytes r v = absurd v
+log_quiet (weigh w) file bytes r v = absurd v
+
+pub two_quiet : (t : Task) (a b : Problem) (r : Reply) → TellsTwo t a b r → r.log ≡ None
+two_quiet meet a b r v = meet_quiet a b r v
+two_quiet sum a b r v = sum_quiet a b r v
+two_quiet join a b r v = join_quiet a b r v
+two_quiet check a b r v = absurd v
+two_quiet solve a b r v = absurd v
+two_quiet (sample n) a b r v = absurd v
+two_quiet (project k) a b r v = absurd v
+two_quiet (associate k) a b r v = absurd v
+two_quiet map a b r v = absurd v
+two_quiet weights a b r v = absurd v
+two_quiet (weigh w) a b r v = absurd v

@@ -1,0 +1,127 @@
+-- What the steps of a run tell. For the clauses of the code alone.
+use Rattle.std.specs.Prelude.{◌≡◌, ◌⊎◌, ℕ, ◌<◌, ◌≤◌, Bool, true, false, List, [], IsTrue}
+use Rattle.exact_field.specs.declared.op.Left.{Left as AStep}
+use Rattle.frac128.specs.declared.frac.Frac.{Frac}
+use Rattle.vlp_reader.specs.declared.fault.FileFault.{FileFault as AFileFault}
+use Rattle.vlp_reader.specs.declared.problem.Problem.{Problem}
+use Rattle.deriv_log.specs.declared.licence.Licence.{Licence}
+use Rattle.deriv_log.specs.declared.licence.Place.TheVariants.{Step}
+use Rattle.cert_check.specs.Streams.{ReadsWhole}
+use Rattle.cert_check.specs.declared.fault.Refusal.TheVariants as refusal
+use Rattle.cert_check.specs.declared.fault.StreamEnd.{StreamEnd}
+use Rattle.cert_check.specs.declared.fault.StreamEnd.TheVariants as end
+use Rattle.commands.specs.Tasks.{Files, Shape, Task}
+use Rattle.commands.specs.Tasks.Files.{none, one, two, logged}
+use Rattle.commands.specs.Tasks.Task.{check, project, associate, weigh}
+use Rattle.commands.specs.Weights.{are_weights}
+use Rattle.statuses.specs.Replies.{TellsFault}
+use Rattle.statuses.specs.declared.reply.Reply.{Reply}
+use Rattle.statuses.specs.declared.status.LogRefusal.TheVariants.{Text, Wrong}
+use Rattle.statuses.specs.declared.status.Status.{Status}
+use Rattle.statuses.specs.declared.status.Status.TheVariants.{FileFault, SecondFile, Left, NoMemory, ReadFault, Refused, TooLong}
+use Rattle.bensolve_main.specs.Check.{CheckVerdict}
+use Rattle.bensolve_main.specs.Outcome.{RepliesTo, HaltsFor}
+use Rattle.bensolve_main.specs.Reading.{problem_limit, log_limit, GoodFile, TooMuch, NoFile, FileRefused, SourceFailed}
+use Rattle.bensolve_main.specs.Tasks.{Texts, texts_of, TellsFile, TellsTwo}
+use Rattle.bensolve_main.specs.Tasks.Texts.{nothing, problem, problem_and_log, two_problems}
+use Rattle.bensolve_main.specs.World.{Channel, Sources}
+use Rattle.bensolve_main.specs.declared.reading.ProblemEnd.{ProblemEnd}
+use Rattle.bensolve_main.specs.declared.reading.ProblemEnd.TheVariants.{Told, Halted}
+
+-- ---- the shapes that words have
+-- what is read goes with the files that are named
+abbrev pub FilesFit : Texts → Files → Type 0
+FilesFit nothing none = Unit {0}
+FilesFit problem (one file) = Unit {0}
+FilesFit problem (logged file log) = Unit {0}
+FilesFit problem_and_log (two file second) = Unit {0}
+FilesFit two_problems (two file second) = Unit {0}
+FilesFit _ _ = ⊥
+
+-- the number of columns or the word of the weights is one that is accepted
+abbrev pub TaskFits : Task → Type 0
+TaskFits (project columns) = (0 < columns) × (columns ≤ 19)
+TaskFits (associate columns) = (0 < columns) × (columns ≤ 19)
+TaskFits (weigh word) = IsTrue (are_weights word)
+TaskFits _ = Unit {0}
+
+pub record ShapeFits (s : Shape) : Type 0 where
+  pub files : FilesFit (texts_of s.task) s.files
+  pub task : TaskFits s.task
+
+-- what a task reads
+abbrev pub ReadsNothing : Task → Type 0
+ReadsNothing t = texts_of t ≡ nothing
+
+abbrev pub ReadsProblem : Task → Type 0
+ReadsProblem t = texts_of t ≡ problem
+
+abbrev pub ReadsTwo : Task → Type 0
+ReadsTwo t = texts_of t ≡ two_problems
+
+-- ---- reading
+-- the status of a first or of a second problem that is refused
+abbrev pub file_status : Bool → AFileFault → Status
+file_status false = FileFault
+file_status true = SecondFile
+
+-- memory was wanting, or the source failed
+abbrev pub HaltsReading : Bool → ℕ → Status → Channel → Channel → Type 0
+HaltsReading second limit s old new = (s ≡ NoMemory) ⊎ SourceFailed second limit s old new
+
+-- why there is no problem
+abbrev pub EndsReading : Bool → ProblemEnd → Channel → Channel → Type 0
+EndsReading second (Told r) old new =
+    TooMuch second problem_limit r old new ⊎ NoFile (file_status second) r old new
+EndsReading second (Halted s) old new = HaltsReading second problem_limit s old new
+
+-- ---- the check of a log
+-- the licence of a step of the check of an entry
+abbrev pub step_licence : ℕ → ℕ → AStep Frac → Licence
+step_licence entry step l = record { place = Step entry step; left = l; trail = [] }
+
+-- a reply tells this status by its line
+abbrev pub TellsStatus : Status → Reply → Type 0
+TellsStatus s r = (r.status ≡ s) × TellsFault r
+
+-- a reply tells the end of the check of a log
+abbrev pub TellsEnd : StreamEnd → Reply → Type 0
+TellsEnd (end.Text f) r = TellsStatus (Refused (Text f)) r
+TellsEnd (end.Refused (refusal.Wrong entry rule)) r = TellsStatus (Refused (Wrong entry rule)) r
+TellsEnd (end.Refused (refusal.Left entry step l)) r =
+    TellsStatus (Left (step_licence entry step l)) r
+TellsEnd (end.TooLong read) r = TellsStatus (TooLong true read) r
+TellsEnd _ r = ⊥
+
+-- or there is none: memory was wanting, or the source failed
+abbrev pub HaltsEnd : StreamEnd → Status → Type 0
+HaltsEnd e s = (s ≡ NoMemory) ⊎ ((e ≡ end.Fault) × (s ≡ ReadFault true))
+
+-- ---- what is told of the text after a problem
+abbrev pub LogTold : Problem → Reply → Channel → Channel → Type 0
+LogTold file r old new =
+    TooMuch true log_limit r old new
+    ⊎ ((bytes : List ℕ) × ReadsWhole old.bytes new.bytes log_limit bytes
+    × CheckVerdict file bytes r)
+
+abbrev pub SecondTold : Task → Problem → Reply → Channel → Channel → Type 0
+SecondTold t first r old new =
+    TooMuch true problem_limit r old new ⊎ (NoFile SecondFile r old new
+    ⊎ ((second : Problem) × GoodFile second old new × TellsTwo t first second r))
+
+-- ---- what is told of all texts
+abbrev pub FileTold : Task → Bool → Reply → Channel → Channel → Type 0
+FileTold t logs r old new =
+    FileRefused r old new ⊎ ((file : Problem) × GoodFile file old new × TellsFile t logs file r)
+
+abbrev pub CheckTold : Reply → Sources → Sources → Type 0
+CheckTold r old new = RepliesTo problem_and_log check false r old new
+
+abbrev pub CheckHalts : Status → Sources → Sources → Type 0
+CheckHalts s old new = HaltsFor problem_and_log s old new
+
+abbrev pub TwoTold : Task → Reply → Sources → Sources → Type 0
+TwoTold t r old new = RepliesTo two_problems t false r old new
+
+abbrev pub TwoHalts : Status → Sources → Sources → Type 0
+TwoHalts s old new = HaltsFor two_problems s old new

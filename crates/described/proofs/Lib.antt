@@ -1,0 +1,5 @@
+pub mod Answered
+mod Asked
+mod Associated
+mod Told
+mod Words

@@ -1,0 +1,82 @@
+-- What the replies of a problem say: with an answer where nothing stands against it, never of words
+-- without a shape, and with a log only where one is wanted.
+use Rattle.std.proofs.Common.{◌≡◌, Bool, false, None, Result, Ok, Err, IfOk, ap, ◌∙◌, sym, inl, inr, arith}
+use Rattle.src_sink.specs.declared.items.NoMemory.{NoMemory}
+use Rattle.vlp_reader.specs.declared.problem.Problem.{Problem}
+use Rattle.deriv_log.specs.declared.licence.Licence.{Licence}
+use Rattle.cone_rules.specs.declared.fault.ConeFault.{ConeFault as AConeFault}
+use Rattle.statuses.specs.Codes.{code_of}
+use Rattle.statuses.specs.Replies.{TellsFault}
+use Rattle.statuses.specs.declared.reply.Reply.{Reply}
+use Rattle.statuses.specs.declared.status.Status.{Status}
+use Rattle.statuses.specs.declared.status.Status.TheVariants.{Done, Words, ConeFault}
+use Rattle.statuses.specs.declared.status.Status.TheVariants as status
+use Rattle.solver.specs.Replies.{IsSolvable, SolveVerdict, Unsolved}
+use Rattle.solver.specs.Solving.{EndsSolving}
+use Rattle.solver.specs.declared.end.SolveEnd.TheVariants.{Cone, Left}
+
+-- ---- the reply where there is no solution
+pub cone_told : (file : Problem) (f : AConeFault) (x : Result Reply NoMemory) → EndsSolving file (Cone f) → IfOk x (λ r. r.status ≡ ConeFault f) → IfOk x TellsFault → IfOk x (Unsolved file)
+cone_told file f (Ok r) ends status told = inl (record { fault = f; status = status; has = ends; told = told })
+cone_told file f (Err e) ends status told = tt
+
+pub left_told : (file : Problem) (l : Licence) (x : Result Reply NoMemory) → EndsSolving file (Left l) → IfOk x (λ r. r.status ≡ status.Left l) → IfOk x TellsFault → IfOk x (Unsolved file)
+left_told file l (Ok r) ends status told = inr (record { licence = l; status = status; licensed = ends; told = told })
+left_told file l (Err e) ends status told = tt
+
+pub unsolved_verdict : (logs : Bool) (file : Problem) (x : Result Reply NoMemory) → IfOk x (Unsolved file) → IfOk x (SolveVerdict logs file)
+unsolved_verdict logs file (Ok r) unsolved = inr unsolved
+unsolved_verdict logs file (Err e) unsolved = tt
+
+-- ---- where nothing stands against an answer
+pub unsolved_answered : (file : Problem) (r : Reply) → IsSolvable file → Unsolved file r → ⊥
+unsolved_answered file r solvable unsolved =
+    elim unsolved [
+      | inl refused ↦ solvable.faultless refused.fault refused.has
+      | inr left ↦ solvable.held left.licence left.licensed
+    ]
+
+pub solve_answered : (logs : Bool) (file : Problem) (r : Reply) → IsSolvable file → SolveVerdict logs file r → r.status ≡ Done
+solve_answered logs file r solvable verdict =
+    elim verdict [
+      | inl solved ↦ solved.status
+      | inr unsolved ↦ absurd (unsolved_answered file r solvable unsolved)
+    ]
+
+-- ---- words without a shape
+pub unsolved_never_words : (file : Problem) (r : Reply) → Unsolved file r → Words ≡ r.status → ⊥
+unsolved_never_words file r unsolved same =
+    elim unsolved [
+      | inl refused ↦ omega (arith, ap (λ (s : Status). code_of s) (same ∙ refused.status))
+      | inr left ↦ omega (arith, ap (λ (s : Status). code_of s) (same ∙ left.status))
+    ]
+
+pub solve_never_words : (logs : Bool) (file : Problem) (r : Reply) → SolveVerdict logs file r → Words ≡ r.status → ⊥
+solve_never_words logs file r verdict same =
+    elim verdict [
+      | inl solved ↦ omega (arith, ap (λ (s : Status). code_of s) (same ∙ solved.status))
+      | inr unsolved ↦ unsolved_never_words file r unsolved same
+    ]
+
+-- ---- without an answer
+pub unsolved_not_done : (file : Problem) (r : Reply) → Unsolved file r → r.status ≡ Done → ⊥
+unsolved_not_done file r unsolved done =
+    elim unsolved [
+      | inl refused ↦ omega (arith, ap (λ (s : Status). code_of s) (sym done ∙ refused.status))
+      | inr left ↦ omega (arith, ap (λ (s : Status). code_of s) (sym done ∙ left.status))
+    ]
+
+-- ---- logs
+pub unsolved_quiet : (file : Problem) (r : Reply) → Unsolved file r → r.log ≡ None
+unsolved_quiet file r unsolved =
+    elim unsolved [
+      | inl refused ↦ refused.told.no_log
+      | inr left ↦ left.told.no_log
+    ]
+
+pub solve_quiet : (file : Problem) (r : Reply) → SolveVerdict false file r → r.log ≡ None
+solve_quiet file r verdict =
+    elim verdict [
+      | inl solved ↦ solved.printed
+      | inr unsolved ↦ unsolved_quiet file r unsolved
+    ]

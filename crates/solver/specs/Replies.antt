@@ -1,0 +1,49 @@
+-- What is replied of a problem: its solution, or why there is none.
+use Rattle.std.specs.Prelude.{◌≡◌, ◌⊎◌, Bool}
+use Rattle.frac128.specs.Held.{is_held}
+use Rattle.vlp_reader.specs.declared.problem.Problem.{Problem}
+use Rattle.deriv_log.specs.declared.licence.Licence.{Licence}
+use Rattle.log_rules.specs.Report.{report_text}
+use Rattle.cone_rules.specs.Faults.{HasFault}
+use Rattle.cone_rules.specs.declared.fault.ConeFault.{ConeFault as AConeFault}
+use Rattle.licence.specs.Licence.{LicensedAnyhow}
+use Rattle.statuses.specs.Replies.{TellsFault, log_for}
+use Rattle.statuses.specs.declared.reply.Reply.{Reply}
+use Rattle.statuses.specs.declared.status.Status.TheVariants.{Done, ConeFault, Left}
+use Rattle.solver.specs.Solving.{IsSolutionOf}
+use Rattle.solver.specs.declared.end.Solution.{Solution}
+
+-- there are a log's entries and an answer, which solve the problem: the text is the report of the
+-- answer, and the log, where one is wanted, that of the entries
+pub record Solved (logs : Bool) (file : Problem) (r : Reply) : Type 0 where
+  pub status : r.status ≡ Done
+  pub solution : Solution
+  pub right : IsSolutionOf file solution
+  pub report : r.text ≡ report_text file solution.answer
+  pub printed : r.log ≡ log_for logs solution.entries
+
+-- the ordering cone has this first fault
+pub record ConeRefused (file : Problem) (r : Reply) : Type 0 where
+  pub fault : AConeFault
+  pub status : r.status ≡ ConeFault fault
+  pub has : HasFault file fault
+  pub told : TellsFault r
+
+-- an operation whose exact result is not held is licensed
+pub record Overflowed (file : Problem) (r : Reply) : Type 0 where
+  pub licence : Licence
+  pub status : r.status ≡ Left licence
+  pub licensed : LicensedAnyhow is_held file licence
+  pub told : TellsFault r
+
+abbrev pub Unsolved : Problem → Reply → Type 0
+Unsolved file r = ConeRefused file r ⊎ Overflowed file r
+
+-- what is replied of a problem, with a log or without
+abbrev pub SolveVerdict : Bool → Problem → Reply → Type 0
+SolveVerdict logs file r = Solved logs file r ⊎ Unsolved file r
+
+-- nothing stands against an answer: the cone has no fault, and no overflow is licensed
+pub record IsSolvable (file : Problem) : Type 0 where
+  pub faultless : (f : AConeFault) → HasFault file f → ⊥
+  pub held : (l : Licence) → LicensedAnyhow is_held file l → ⊥

@@ -1,0 +1,13 @@
+pub mod Lowest
+pub mod TightPlaces
+pub mod TightFacets
+pub mod WeighedRight
+pub mod ProvedSets
+pub mod Walks
+pub mod Below
+pub mod Numbers
+pub mod Found
+pub mod Told
+pub mod Verdicts
+pub mod Answered
+pub mod WorkedExamples
