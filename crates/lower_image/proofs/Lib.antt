@@ -1,0 +1,13 @@
+pub mod AllFacets
+pub mod Examples
+pub mod Exchange
+pub mod Facets
+pub mod Generators
+pub mod Rows
+pub mod Start
+pub mod Turns
+pub mod WeightCone
+pub mod WeightEnds
+pub mod WeightEquations
+pub mod WeightPriced
+pub mod WeightSolved
