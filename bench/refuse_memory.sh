@@ -7,7 +7,8 @@
 #                                       it from its sources, which compiles it anew each time
 #
 # The runs are `solve` with a log, of a problem with vertices, one without, and one with a cone by generators, `check`
-# of the logs of all three, and `sample 1`. The allocations are the calls of malloc, calloc and realloc of the whole
+# of the logs of all three, `sample 1`, and a projection with its log, an associated problem, a sum, a join, an image and
+# weights of these problems. The allocations are the calls of malloc, calloc and realloc of the whole
 # process, from 1 up to the first number that no run reaches.
 set -euo pipefail
 top=$(cd "$(dirname "${BASH_SOURCE[0]}")/.." && pwd)
@@ -49,6 +50,13 @@ runs() {
         echo "check $work/problems/$problem $work/logs/$problem"
     done
     echo "sample 1"
+    echo "project $work/problems/vertices 1 LOG"
+    echo "associate $work/problems/vertices 1"
+    echo "sum $work/problems/vertices $work/problems/line"
+    echo "join $work/problems/vertices $work/problems/line"
+    echo "map $work/problems/vertices"
+    echo "weights $work/problems/vertices"
+    echo "weigh $work/problems/line 1,1"
 }
 
 # A library in front of that of C, which refuses the allocation of the number REFUSE, and then writes a byte to the

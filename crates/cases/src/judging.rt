@@ -2,8 +2,8 @@
 use crate::Fault;
 use crate::case::{Case, words_of};
 use crate::running::{Seen, Trial, printed_problem};
-use bensolve_main::Status;
 use src_sink::{Bytes, MemSink};
+use statuses::Status;
 use std::alloc::Global;
 
 /// What of a run its case does not want, told in words; none where it wants all of it. Where calls fail, `whole` is the
@@ -30,6 +30,11 @@ pub(crate) fn finding(
         && command.as_str() == "solve"
     {
         found = solved_difference(alloc, trial, &seen)?;
+    }
+    if let (None, [command, _, columns, _], Status::Done) = (found, trial.words, &seen.status)
+        && command.as_str() == "project"
+    {
+        found = projected_difference(alloc, trial, columns.as_str(), &seen)?;
     }
     match found {
         None => Ok(None),
@@ -141,6 +146,27 @@ fn solved_difference(
     let unlogged = calm_run(alloc, "solve file", file, &[], most)?;
     Ok(first_wrong(&[
         (is_same_report(&checked, seen), "what the log proves"),
+        (is_same_report(&unlogged, seen), "the output without a log"),
+    ]))
+}
+
+/// What differs where `check` reads the log that was written beside the text of `associate`, or where no log is named.
+fn projected_difference(
+    alloc: Global,
+    trial: Trial<'_>,
+    columns: &str,
+    seen: &Seen,
+) -> Result<Option<&'static str>, Fault> {
+    let (file, log, most) = (trial.file, seen.log_out.contents(), trial.most);
+    let associate = format!(in alloc; "associate file {columns}")?;
+    let project = format!(in alloc; "project file {columns}")?;
+    let associated = calm_run(alloc, associate.as_str(), file, &[], most)?;
+    let made = associated.out.contents();
+    let checked = calm_run(alloc, "check file log", made, log, most)?;
+    let unlogged = calm_run(alloc, project.as_str(), file, &[], most)?;
+    let is_accepted = matches!(&checked.status, Status::Done);
+    Ok(first_wrong(&[
+        (is_accepted, "what the log proves of the associated problem"),
         (is_same_report(&unlogged, seen), "the output without a log"),
     ]))
 }

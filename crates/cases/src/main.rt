@@ -6,7 +6,7 @@
 //!
 //! | Key | Value |
 //! |---|---|
-//! | `file`, `log` | the text of the problem, and that of the log that is read; without the key an empty one |
+//! | `file`, `log` | the text of the problem, and that of the log or the second problem that is read; without the key an empty one |
 //! | `status` | the codes with which the run may end, as `0` or `0,3,5`; of `print` there is none |
 //! | `out` | what is written to the output where the run ends with the first of these codes, with `*` for any bytes; where the key stands more than once, one of them |
 //! | `log_out` | what is written to the log's output, in the same form |
@@ -28,7 +28,8 @@
 //! An object that the words do not name fails at its first call. Of every case the program tries that fault lines begin with their
 //! status, that nothing is written with the statuses 2, 6 and 7, and to the log's output only behind a report, and that `sent` is
 //! the length of what was written. Where `solve FILE LOG` ends with 0, `check` accepts the log with the same report, and
-//! without LOG the report is the same. What `print problem` writes is printed alike when it is read again.
+//! without LOG the report is the same; where `project FILE K LOG` does, it accepts the log with the text of `associate FILE K`, and
+//! without LOG the text is the same. What `print problem` writes is printed alike when it is read again.
 #![tactic(auto)]
 
 mod case;
