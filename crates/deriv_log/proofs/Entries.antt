@@ -17,7 +17,7 @@ use Rattle.deriv_log.specs.declared.entry.LogPair.{LogPair}
 use Rattle.deriv_log.specs.declared.entry.EndKind.{EndKind}
 use Rattle.deriv_log.specs.declared.entry.EndKind.TheVariants.{Infeasible, Whole as WholeEnd, NoVertex, Solved}
 use Rattle.deriv_log.specs.declared.entry.Entry.{Entry}
-use Rattle.deriv_log.specs.declared.entry.Entry.TheVariants.{Version, Duality, Cut, Start, Add, Point, Ray, Farkas, Whole, Line, Facet, End}
+use Rattle.deriv_log.specs.declared.entry.Entry.TheVariants.{Version, Duality, Cut, Start, Add, Point, Ray, Farkas, Whole, Line, Facet, End, Share, CutOf, PointOf, RayOf, AddHints}
 use Rattle.deriv_log.specs.declared.fault.LogKind.TheVariants.{BadLine}
 use Rattle.deriv_log.proofs.Cutting.{Lacks, slice_split-join, Lacks-join, digits_lack, letters_lack}
 use Rattle.deriv_log.proofs.Numerals.{decimal_leads}
@@ -118,6 +118,11 @@ printed_name (Whole x ray m) = printed_letters (codes "whole") (omega arith) ref
 printed_name (Line d x ray m back n) = printed_letters (codes "line") (omega arith) refl
 printed_name (Facet cut) = printed_letters (codes "facet") (omega arith) refl
 printed_name (End k) = printed_letters (codes "end") (omega arith) refl
+printed_name (Share v) = printed_letters (codes "share") (omega arith) refl
+printed_name (CutOf w gamma share v) = printed_letters (codes "cutof") (omega arith) refl
+printed_name (PointOf generator share m) = printed_letters (codes "pointof") (omega arith) refl
+printed_name (RayOf generator share m) = printed_letters (codes "rayof") (omega arith) refl
+printed_name (AddHints cut ps hints) = printed_letters (codes "addh") (omega arith) refl
 
 printed_entry : (e : Entry) → is_formed e ≡ true → Printed (entry_words e)
 printed_entry e h = (printed_name e, printed_each part_words is_formed_part printed_part (entry_parts e) h)
@@ -157,6 +162,11 @@ forms_known (Whole x ray m) = refl
 forms_known (Line d x ray m back n) = refl
 forms_known (Facet cut) = refl
 forms_known (End k) = refl
+forms_known (Share v) = refl
+forms_known (CutOf w gamma share v) = refl
+forms_known (PointOf generator share m) = refl
+forms_known (RayOf generator share m) = refl
+forms_known (AddHints cut ps hints) = refl
 
 -- the words of an entry pass the tests of a line
 pub words_pass : (e : Entry) → is_formed e ≡ true → words_fault (entry_words e) ≡ None

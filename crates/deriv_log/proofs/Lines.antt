@@ -14,7 +14,7 @@ use Rattle.deriv_log.specs.LineFault.{line_fault}
 use Rattle.deriv_log.specs.LogText.{entry_name, entry_text, log_text}
 use Rattle.deriv_log.specs.Numerals.{same_word}
 use Rattle.deriv_log.specs.declared.entry.Entry.{Entry}
-use Rattle.deriv_log.specs.declared.entry.Entry.TheVariants.{Version, Duality, Cut, Start, Add, Point, Ray, Farkas, Whole, Line, Facet, End}
+use Rattle.deriv_log.specs.declared.entry.Entry.TheVariants.{Version, Duality, Cut, Start, Add, Point, Ray, Farkas, Whole, Line, Facet, End, Share, CutOf, PointOf, RayOf, AddHints}
 use Rattle.deriv_log.specs.declared.fault.LogKind.{LogKind}
 use Rattle.deriv_log.specs.declared.fault.LogKind.TheVariants.{NoEnd}
 use Rattle.deriv_log.proofs.Entries.{cut_entry, entry_lacks, line_passes}
@@ -73,6 +73,11 @@ end_name (Whole x ray m) = refl
 end_name (Line d x ray m back n) = refl
 end_name (Facet cut) = refl
 end_name (End k) = refl
+end_name (Share v) = refl
+end_name (CutOf w gamma share v) = refl
+end_name (PointOf generator share m) = refl
+end_name (RayOf generator share m) = refl
+end_name (AddHints cut ps hints) = refl
 
 ends_alike : (e : Entry) → is_formed e ≡ true → is_end_line (whole_line e) ≡ is_end e
 ends_alike e h = ap (λ ws. same_word (first_word ws) (codes "end")) (cut_entry e h) ∙ end_name e

@@ -13,7 +13,7 @@ use Rattle.deriv_log.specs.LogText.{Part, natural, number, vector, naturals, spa
 use Rattle.deriv_log.specs.declared.entry.EndKind.{EndKind}
 use Rattle.deriv_log.specs.declared.entry.EndKind.TheVariants.{Infeasible, Whole as WholeEnd, NoVertex, Solved}
 use Rattle.deriv_log.specs.declared.entry.Entry.{Entry}
-use Rattle.deriv_log.specs.declared.entry.Entry.TheVariants.{Version, Duality, Cut, Start, Add, Point, Ray, Farkas, Whole, Line, Facet, End}
+use Rattle.deriv_log.specs.declared.entry.Entry.TheVariants.{Version, Duality, Cut, Start, Add, Point, Ray, Farkas, Whole, Line, Facet, End, Share, CutOf, PointOf, RayOf, AddHints}
 use Rattle.deriv_log.proofs.Forms.{Words, one_each}
 use Rattle.deriv_log.proofs.Entries.{cut_entry, forms_known}
 
@@ -151,6 +151,16 @@ named (Facet cut) (Facet other) a b = cc
 named (Facet cut) _ a b = cc
 named (End k) (End l) a b = cc
 named (End k) _ a b = cc
+named (Share v) (Share w) a b = cc
+named (Share v) _ a b = cc
+named (CutOf w gamma share v) (CutOf x delta other y) a b = cc
+named (CutOf w gamma share v) _ a b = cc
+named (PointOf generator share m) (PointOf other shared n) a b = cc
+named (PointOf generator share m) _ a b = cc
+named (RayOf generator share m) (RayOf other shared n) a b = cc
+named (RayOf generator share m) _ a b = cc
+named (AddHints cut ps hints) (AddHints other qs third) a b = cc
+named (AddHints cut ps hints) _ a b = cc
 
 same_forms : (fs gs : List Form) → Some fs ≡ Some gs → fs ≡ gs
 same_forms fs gs e = cc

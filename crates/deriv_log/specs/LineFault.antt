@@ -29,7 +29,17 @@ form_of (part.sparse u) = sparse
 form_of (part.pairs ps) = pairs
 form_of (part.kind k) = kind
 
--- what stands behind the first word of a line; other first words have no line
+-- what stands behind the first word of a line of version 2; other first words have no line
+abbrev pub second_forms_of : List ℕ → Option (List Form)
+second_forms_of name =
+    if same_word name (codes "share") then Some (sparse ∷ [])
+    else if same_word name (codes "cutof") then Some (vector ∷ number ∷ natural ∷ sparse ∷ [])
+    else if same_word name (codes "pointof") then Some (natural ∷ natural ∷ sparse ∷ [])
+    else if same_word name (codes "rayof") then Some (natural ∷ natural ∷ sparse ∷ [])
+    else if same_word name (codes "addh") then Some (natural ∷ pairs ∷ naturals ∷ [])
+    else None
+
+-- what stands behind the first word of a line
 abbrev pub forms_of : List ℕ → Option (List Form)
 forms_of name =
     if same_word name (codes "version") then Some (natural ∷ [])
@@ -44,7 +54,7 @@ forms_of name =
     else if same_word name (codes "line") then Some (vector ∷ sparse ∷ sparse ∷ sparse ∷ sparse ∷ sparse ∷ [])
     else if same_word name (codes "facet") then Some (natural ∷ [])
     else if same_word name (codes "end") then Some (kind ∷ [])
-    else None
+    else second_forms_of name
 
 -- the words that are left behind a part, or the first test that fails
 abbrev pub Left : Type 0

@@ -9,7 +9,7 @@ use Rattle.deriv_log.specs.declared.entry.LogPair.{LogPair}
 use Rattle.deriv_log.specs.declared.entry.EndKind.{EndKind}
 use Rattle.deriv_log.specs.declared.entry.EndKind.TheVariants.{Infeasible, Whole as WholeEnd, NoVertex, Solved}
 use Rattle.deriv_log.specs.declared.entry.Entry.{Entry}
-use Rattle.deriv_log.specs.declared.entry.Entry.TheVariants.{Version, Duality, Cut, Start, Add, Point, Ray, Farkas, Whole, Line, Facet, End}
+use Rattle.deriv_log.specs.declared.entry.Entry.TheVariants.{Version, Duality, Cut, Start, Add, Point, Ray, Farkas, Whole, Line, Facet, End, Share, CutOf, PointOf, RayOf, AddHints}
 
 -- a part of an entry: a natural number, a fraction, a vector, a list of natural numbers, a sparse vector,
 -- pairs of generators, or a kind of end
@@ -36,6 +36,11 @@ entry_name (Whole x ray m) = codes "whole"
 entry_name (Line d x ray m back n) = codes "line"
 entry_name (Facet cut) = codes "facet"
 entry_name (End k) = codes "end"
+entry_name (Share v) = codes "share"
+entry_name (CutOf w gamma share v) = codes "cutof"
+entry_name (PointOf generator share m) = codes "pointof"
+entry_name (RayOf generator share m) = codes "rayof"
+entry_name (AddHints cut ps hints) = codes "addh"
 
 -- what stands behind it, in order
 abbrev pub entry_parts : Entry → List Part
@@ -51,6 +56,11 @@ entry_parts (Whole x ray m) = sparse x ∷ sparse ray ∷ sparse m ∷ []
 entry_parts (Line d x ray m back n) = vector d ∷ sparse x ∷ sparse ray ∷ sparse m ∷ sparse back ∷ sparse n ∷ []
 entry_parts (Facet cut) = natural cut ∷ []
 entry_parts (End k) = kind k ∷ []
+entry_parts (Share v) = sparse v ∷ []
+entry_parts (CutOf w gamma share v) = vector w ∷ number gamma ∷ natural share ∷ sparse v ∷ []
+entry_parts (PointOf generator share m) = natural generator ∷ natural share ∷ sparse m ∷ []
+entry_parts (RayOf generator share m) = natural generator ∷ natural share ∷ sparse m ∷ []
+entry_parts (AddHints cut ps hints) = natural cut ∷ pairs ps ∷ naturals hints ∷ []
 
 -- the words of a place and its value
 abbrev pub spot_words : Spot → List (List ℕ)

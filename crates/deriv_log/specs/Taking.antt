@@ -11,6 +11,7 @@ use Rattle.deriv_log.specs.LineFault.{Form, Left, behind, behind_name, counted, 
 use Rattle.deriv_log.specs.LogText.{Part, part_words, spot_words, entry_name, entry_parts, entry_text}
 use Rattle.deriv_log.specs.Numerals.{same_word}
 use Rattle.deriv_log.specs.declared.entry.Entry.{Entry}
+use Rattle.deriv_log.specs.declared.entry.Entry.TheVariants.{Share, CutOf, PointOf, RayOf, AddHints}
 use Rattle.deriv_log.specs.declared.fault.Stop.{Stop}
 use Rattle.deriv_log.specs.declared.fault.Stop.TheVariants as stop
 use Rattle.deriv_log.specs.declared.fault.LogEnd.{LogEnd}
@@ -62,6 +63,20 @@ TakesEntry name old new (Err stop.NoMemory) = Unit {0}
 -- the name is none of an entry that speaks of cuts and generators
 abbrev pub IsNoCut : List ℕ → Type 0
 IsNoCut name = All (λ other. same_word name other ≡ false) (codes "version" ∷ codes "duality" ∷ codes "cut" ∷ codes "start" ∷ codes "add" ∷ codes "point" ∷ codes "ray" ∷ codes "facet" ∷ [])
+
+-- the name is none of an entry of version 2
+abbrev pub IsNotSecond : List ℕ → Type 0
+IsNotSecond name = All (λ other. same_word name other ≡ false)
+    (codes "share" ∷ codes "cutof" ∷ codes "pointof" ∷ codes "rayof" ∷ codes "addh" ∷ [])
+
+-- an entry of version 2
+abbrev pub IsSecond : Entry → Type 0
+IsSecond (Share v) = Unit {0}
+IsSecond (CutOf w gamma share v) = Unit {0}
+IsSecond (PointOf generator share m) = Unit {0}
+IsSecond (RayOf generator share m) = Unit {0}
+IsSecond (AddHints cut pairs hints) = Unit {0}
+IsSecond _ = ⊥
 
 -- these words are those of this entry, or fail the tests of a line
 abbrev pub ReadsWords : List ℕ → Result Entry Stop → Type 0

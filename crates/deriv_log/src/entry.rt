@@ -1,9 +1,13 @@
 //! The entries of a log.
-use frac128::{Frac, Sparse, Vector};
-use src_sink::Items;
+ghost use Rattle.std.specs.Prelude.{◌≡◌, IfOk};
+ghost use Rattle.deriv_log.specs.Taking.{IsSecond};
 
-/// Two live generators between which a new one is made: the numbers of the one with a positive value
-/// at the added row, and of the one with a negative value.
+use frac128::{Frac, Sparse, Vector};
+use src_sink::{Items, NoMemory};
+use std::alloc::Global;
+
+/// Two live generators between which a new one is made: the numbers of the one with a positive
+/// value at the added row, and of the one with a negative value.
 #[derive(Clone, Copy, Debug)]
 pub struct LogPair {
     pub plus: u32,
@@ -87,6 +91,272 @@ pub enum Entry {
     },
     /// The end of the log.
     End(EndKind),
+    /// A vector that later entries share; it gets the next number, from 1.
+    Share {
+        v: Sparse,
+    },
+    /// A cut whose dual vector is a shared one.
+    CutOf {
+        w: Vector,
+        gamma: Frac,
+        share: u32,
+        v: Sparse,
+    },
+    /// A pre-image of a live point that is a shared vector.
+    PointOf {
+        generator: u32,
+        share: u32,
+        m: Sparse,
+    },
+    /// A pre-image of a live direction that is a shared vector.
+    RayOf {
+        generator: u32,
+        share: u32,
+        m: Sparse,
+    },
+    /// A cut that comes into use, with the pairs of generators that give new ones, and for each
+    /// other opposite pair a third generator that covers it.
+    AddHints {
+        cut: u32,
+        pairs: Items<LogPair>,
+        hints: Items<u32>,
+    },
+}
+
+/// A copy of a list.
+fn copied<T: Copy + Drop>(alloc: Global, items: &Items<T>) -> Result<Items<T>, NoMemory>
+    ensures { IfOk result (λ copy. copy ≡ items.now) }
+{
+    let mut copy = Items::new(alloc);
+    copy.append(items.as_slice())?;
+    Ok(copy)
+}
+
+fn copied_duality(
+    alloc: Global,
+    c: &Vector,
+    weights: &Vector,
+    picks: &Items<u32>,
+    inverse: &Vector,
+) -> Result<Entry, NoMemory>
+    ensures { IfOk result (λ copy. copy ≡ Entry.Duality c.now weights.now picks.now inverse.now) }
+{
+    Ok(Entry::Duality {
+        c: copied(alloc, c)?,
+        weights: copied(alloc, weights)?,
+        picks: copied(alloc, picks)?,
+        inverse: copied(alloc, inverse)?,
+    })
+}
+
+fn copied_cut(
+    alloc: Global,
+    w: &Vector,
+    gamma: Frac,
+    u: &Sparse,
+    v: &Sparse,
+) -> Result<Entry, NoMemory>
+    ensures { IfOk result (λ copy. copy ≡ Entry.Cut w.now gamma u.now v.now) }
+{
+    Ok(Entry::Cut {
+        w: copied(alloc, w)?,
+        gamma,
+        u: copied(alloc, u)?,
+        v: copied(alloc, v)?,
+    })
+}
+
+fn copied_start(
+    alloc: Global,
+    cuts: &Items<u32>,
+    point: &Vector,
+    directions: &Vector,
+) -> Result<Entry, NoMemory>
+    ensures { IfOk result (λ copy. copy ≡ Entry.Start cuts.now point.now directions.now) }
+{
+    Ok(Entry::Start {
+        cuts: copied(alloc, cuts)?,
+        point: copied(alloc, point)?,
+        directions: copied(alloc, directions)?,
+    })
+}
+
+fn copied_add(alloc: Global, cut: u32, pairs: &Items<LogPair>) -> Result<Entry, NoMemory>
+    ensures { IfOk result (λ copy. copy ≡ Entry.Add cut pairs.now) }
+{
+    let pairs = copied(alloc, pairs)?;
+    Ok(Entry::Add { cut, pairs })
+}
+
+fn copied_point(alloc: Global, generator: u32, x: &Sparse, m: &Sparse) -> Result<Entry, NoMemory>
+    ensures { IfOk result (λ copy. copy ≡ Entry.Point generator x.now m.now) }
+{
+    let x = copied(alloc, x)?;
+    let m = copied(alloc, m)?;
+    Ok(Entry::Point { generator, x, m })
+}
+
+fn copied_ray(alloc: Global, generator: u32, x: &Sparse, m: &Sparse) -> Result<Entry, NoMemory>
+    ensures { IfOk result (λ copy. copy ≡ Entry.Ray generator x.now m.now) }
+{
+    let x = copied(alloc, x)?;
+    let m = copied(alloc, m)?;
+    Ok(Entry::Ray { generator, x, m })
+}
+
+fn copied_farkas(alloc: Global, u: &Sparse) -> Result<Entry, NoMemory>
+    ensures { IfOk result (λ copy. copy ≡ Entry.Farkas u.now) }
+{
+    let u = copied(alloc, u)?;
+    Ok(Entry::Farkas { u })
+}
+
+fn copied_whole(alloc: Global, x: &Sparse, ray: &Sparse, m: &Sparse) -> Result<Entry, NoMemory>
+    ensures { IfOk result (λ copy. copy ≡ Entry.Whole x.now ray.now m.now) }
+{
+    let x = copied(alloc, x)?;
+    let ray = copied(alloc, ray)?;
+    let m = copied(alloc, m)?;
+    Ok(Entry::Whole { x, ray, m })
+}
+
+fn copied_line(
+    alloc: Global,
+    d: &Vector,
+    x: &Sparse,
+    ray: &Sparse,
+    m: &Sparse,
+    back: &Sparse,
+    n: &Sparse,
+) -> Result<Entry, NoMemory>
+    ensures { IfOk result (λ copy. copy ≡ Entry.Line d.now x.now ray.now m.now back.now n.now) }
+{
+    Ok(Entry::Line {
+        d: copied(alloc, d)?,
+        x: copied(alloc, x)?,
+        ray: copied(alloc, ray)?,
+        m: copied(alloc, m)?,
+        back: copied(alloc, back)?,
+        n: copied(alloc, n)?,
+    })
+}
+
+fn copied_share(alloc: Global, v: &Sparse) -> Result<Entry, NoMemory>
+    ensures { IfOk result (λ copy. copy ≡ Entry.Share v.now) }
+{
+    let v = copied(alloc, v)?;
+    Ok(Entry::Share { v })
+}
+
+fn copied_cutof(
+    alloc: Global,
+    w: &Vector,
+    gamma: Frac,
+    share: u32,
+    v: &Sparse,
+) -> Result<Entry, NoMemory>
+    ensures { IfOk result (λ copy. copy ≡ Entry.CutOf w.now gamma share v.now) }
+{
+    let w = copied(alloc, w)?;
+    let v = copied(alloc, v)?;
+    Ok(Entry::CutOf { w, gamma, share, v })
+}
+
+fn copied_pointof(alloc: Global, generator: u32, share: u32, m: &Sparse) -> Result<Entry, NoMemory>
+    ensures { IfOk result (λ copy. copy ≡ Entry.PointOf generator share m.now) }
+{
+    let m = copied(alloc, m)?;
+    Ok(Entry::PointOf {
+        generator,
+        share,
+        m,
+    })
+}
+
+fn copied_rayof(alloc: Global, generator: u32, share: u32, m: &Sparse) -> Result<Entry, NoMemory>
+    ensures { IfOk result (λ copy. copy ≡ Entry.RayOf generator share m.now) }
+{
+    let m = copied(alloc, m)?;
+    Ok(Entry::RayOf {
+        generator,
+        share,
+        m,
+    })
+}
+
+fn copied_addh(
+    alloc: Global,
+    cut: u32,
+    pairs: &Items<LogPair>,
+    hints: &Items<u32>,
+) -> Result<Entry, NoMemory>
+    ensures { IfOk result (λ copy. copy ≡ Entry.AddHints cut pairs.now hints.now) }
+{
+    let pairs = copied(alloc, pairs)?;
+    let hints = copied(alloc, hints)?;
+    Ok(Entry::AddHints { cut, pairs, hints })
+}
+
+impl Entry {
+    /// A copy, with lists of its own. It costs their lengths.
+    pub fn copied(&self, alloc: Global) -> Result<Entry, NoMemory>
+        ensures { IfOk result (λ copy. copy ≡ self.now) }
+    {
+        match self {
+            Entry::Version(number) => Ok(Entry::Version(*number)),
+            Entry::Duality {
+                c,
+                weights,
+                picks,
+                inverse,
+            } => copied_duality(alloc, c, weights, picks, inverse),
+            Entry::Cut { w, gamma, u, v } => copied_cut(alloc, w, *gamma, u, v),
+            Entry::Start {
+                cuts,
+                point,
+                directions,
+            } => copied_start(alloc, cuts, point, directions),
+            Entry::Add { cut, pairs } => copied_add(alloc, *cut, pairs),
+            Entry::Point { generator, x, m } => copied_point(alloc, *generator, x, m),
+            Entry::Ray { generator, x, m } => copied_ray(alloc, *generator, x, m),
+            Entry::Farkas { u } => copied_farkas(alloc, u),
+            Entry::Whole { x, ray, m } => copied_whole(alloc, x, ray, m),
+            Entry::Line {
+                d,
+                x,
+                ray,
+                m,
+                back,
+                n,
+            } => copied_line(alloc, d, x, ray, m, back, n),
+            Entry::Facet { cut } => Ok(Entry::Facet { cut: *cut }),
+            Entry::End(kind) => Ok(Entry::End(*kind)),
+            _ => self.copied_second(alloc),
+        }
+    }
+
+    /// The same of an entry of version 2.
+    fn copied_second(&self, alloc: Global) -> Result<Entry, NoMemory>
+        requires { IsSecond self.now }
+        ensures { IfOk result (λ copy. copy ≡ self.now) }
+    {
+        match self {
+            Entry::Share { v } => copied_share(alloc, v),
+            Entry::CutOf { w, gamma, share, v } => copied_cutof(alloc, w, *gamma, *share, v),
+            Entry::PointOf {
+                generator,
+                share,
+                m,
+            } => copied_pointof(alloc, *generator, *share, m),
+            Entry::RayOf {
+                generator,
+                share,
+                m,
+            } => copied_rayof(alloc, *generator, *share, m),
+            Entry::AddHints { cut, pairs, hints } => copied_addh(alloc, *cut, pairs, hints),
+            _ => unreachable!(),
+        }
+    }
 }
 
 /// The entries of a log, in their order.

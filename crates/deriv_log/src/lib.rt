@@ -21,4 +21,4 @@ pub use licence::{Family, Licence, Place, Program};
 pub use line::read_line;
 pub use log::{one_reading, read_log};
 pub use number::fraction;
-pub use text::print_log;
+pub use text::{print_line, print_log};

@@ -1,6 +1,6 @@
 //! The entry of one line.
 ghost use Rattle.std.specs.Prelude.{codes, IfOk, IfErr};
-ghost use Rattle.deriv_log.specs.Taking.{TakesEntry, IsNoCut, ReadsWords, ReadsLine, RefusesLine};
+ghost use Rattle.deriv_log.specs.Taking.{TakesEntry, IsNoCut, IsNotSecond, ReadsWords, ReadsLine, RefusesLine};
 
 use crate::entry::Entry;
 use crate::fault::{LogEnd, LogFault, LogKind, Stop};
@@ -128,6 +128,58 @@ fn take_end(words: &mut Words) -> Result<Entry, Stop>
     Ok(Entry::End(take_kind(words)?))
 }
 
+fn take_share(alloc: Global, words: &mut Words) -> Result<Entry, Stop>
+    ensures { TakesEntry (codes "share") words.old words.new result }
+{
+    let v = take_sparse(alloc, words)?;
+    Ok(Entry::Share { v })
+}
+
+fn take_cutof(alloc: Global, words: &mut Words) -> Result<Entry, Stop>
+    ensures { TakesEntry (codes "cutof") words.old words.new result }
+{
+    let w = take_vector(alloc, words)?;
+    let gamma = take_number(words)?;
+    let share = take_natural(words)?;
+    let v = take_sparse(alloc, words)?;
+    Ok(Entry::CutOf { w, gamma, share, v })
+}
+
+fn take_pointof(alloc: Global, words: &mut Words) -> Result<Entry, Stop>
+    ensures { TakesEntry (codes "pointof") words.old words.new result }
+{
+    let generator = take_natural(words)?;
+    let share = take_natural(words)?;
+    let m = take_sparse(alloc, words)?;
+    Ok(Entry::PointOf {
+        generator,
+        share,
+        m,
+    })
+}
+
+fn take_rayof(alloc: Global, words: &mut Words) -> Result<Entry, Stop>
+    ensures { TakesEntry (codes "rayof") words.old words.new result }
+{
+    let generator = take_natural(words)?;
+    let share = take_natural(words)?;
+    let m = take_sparse(alloc, words)?;
+    Ok(Entry::RayOf {
+        generator,
+        share,
+        m,
+    })
+}
+
+fn take_addh(alloc: Global, words: &mut Words) -> Result<Entry, Stop>
+    ensures { TakesEntry (codes "addh") words.old words.new result }
+{
+    let cut = take_natural(words)?;
+    let pairs = take_pairs(alloc, words)?;
+    let hints = take_naturals(alloc, words)?;
+    Ok(Entry::AddHints { cut, pairs, hints })
+}
+
 /// The entry of this name, of which the parts stand first.
 fn take_entry(alloc: Global, name: &[u8], words: &mut Words) -> Result<Entry, Stop>
     ensures { TakesEntry name.now words.old words.new result }
@@ -149,13 +201,34 @@ fn take_entry(alloc: Global, name: &[u8], words: &mut Words) -> Result<Entry, St
     } else if is_word(name, b"start") {
         take_start(alloc, words)
     } else {
+        take_second(alloc, name, words)
+    }
+}
+
+/// The same of the entries of version 2.
+fn take_second(alloc: Global, name: &[u8], words: &mut Words) -> Result<Entry, Stop>
+    requires { IsNoCut name.now }
+    ensures { TakesEntry name.now words.old words.new result }
+{
+    if is_word(name, b"addh") {
+        take_addh(alloc, words)
+    } else if is_word(name, b"cutof") {
+        take_cutof(alloc, words)
+    } else if is_word(name, b"pointof") {
+        take_pointof(alloc, words)
+    } else if is_word(name, b"rayof") {
+        take_rayof(alloc, words)
+    } else if is_word(name, b"share") {
+        take_share(alloc, words)
+    } else {
         take_answer(alloc, name, words)
     }
 }
 
 /// The same of the entries that tell an answer.
 fn take_answer(alloc: Global, name: &[u8], words: &mut Words) -> Result<Entry, Stop>
-    requires { IsNoCut name.now }
+    requires cut { IsNoCut name.now }
+    requires second { IsNotSecond name.now }
     ensures { TakesEntry name.now words.old words.new result }
 {
     if is_word(name, b"end") {

@@ -1,6 +1,6 @@
 //! The text of logs.
 ghost use Rattle.std.specs.Prelude.{◌≡◌, ◌++◌, IfOk, OnOk};
-ghost use Rattle.src_sink.specs.Texts.{words_text};
+ghost use Rattle.src_sink.specs.Texts.{line_text, words_text};
 ghost use Rattle.deriv_log.specs.LogText as part;
 ghost use Rattle.deriv_log.specs.LogText.{part_words, entry_words, log_text, end_word};
 ghost use Rattle.deriv_log.specs.Printing.{spaced};
@@ -87,7 +87,8 @@ fn put_duality_entry(
     inverse: &[Frac],
     into: &mut Bytes,
 ) -> Result<(), NoMemory>
-    ensures { OnOk result (into.new ≡ into.old ++ words_text (entry_words (Entry.Duality c.now weights.now picks.now inverse.now))) }
+    ensures { OnOk result (into.new ≡ into.old
+        ++ words_text (entry_words (Entry.Duality c.now weights.now picks.now inverse.now))) }
 {
     into.append(b"duality")?;
     put_vector(c, into)?;
@@ -104,7 +105,8 @@ fn put_cut_entry(
     v: &[Spot],
     into: &mut Bytes,
 ) -> Result<(), NoMemory>
-    ensures { OnOk result (into.new ≡ into.old ++ words_text (entry_words (Entry.Cut w.now gamma u.now v.now))) }
+    ensures { OnOk result (into.new ≡ into.old
+        ++ words_text (entry_words (Entry.Cut w.now gamma u.now v.now))) }
 {
     into.append(b"cut")?;
     put_vector(w, into)?;
@@ -120,7 +122,8 @@ fn put_start_entry(
     directions: &[Frac],
     into: &mut Bytes,
 ) -> Result<(), NoMemory>
-    ensures { OnOk result (into.new ≡ into.old ++ words_text (entry_words (Entry.Start cuts.now point.now directions.now))) }
+    ensures { OnOk result (into.new ≡ into.old
+        ++ words_text (entry_words (Entry.Start cuts.now point.now directions.now))) }
 {
     into.append(b"start")?;
     put_naturals(cuts, into)?;
@@ -130,7 +133,8 @@ fn put_start_entry(
 }
 
 fn put_add_entry(cut: u32, pairs: &[LogPair], into: &mut Bytes) -> Result<(), NoMemory>
-    ensures { OnOk result (into.new ≡ into.old ++ words_text (entry_words (Entry.Add cut pairs.now))) }
+    ensures { OnOk result (into.new ≡ into.old
+        ++ words_text (entry_words (Entry.Add cut pairs.now))) }
 {
     into.append(b"add")?;
     put_natural(cut, into)?;
@@ -139,7 +143,8 @@ fn put_add_entry(cut: u32, pairs: &[LogPair], into: &mut Bytes) -> Result<(), No
 }
 
 fn put_point_entry(generator: u32, x: &[Spot], m: &[Spot], into: &mut Bytes) -> Result<(), NoMemory>
-    ensures { OnOk result (into.new ≡ into.old ++ words_text (entry_words (Entry.Point generator x.now m.now))) }
+    ensures { OnOk result (into.new ≡ into.old
+        ++ words_text (entry_words (Entry.Point generator x.now m.now))) }
 {
     into.append(b"point")?;
     put_natural(generator, into)?;
@@ -149,7 +154,8 @@ fn put_point_entry(generator: u32, x: &[Spot], m: &[Spot], into: &mut Bytes) -> 
 }
 
 fn put_ray_entry(generator: u32, x: &[Spot], m: &[Spot], into: &mut Bytes) -> Result<(), NoMemory>
-    ensures { OnOk result (into.new ≡ into.old ++ words_text (entry_words (Entry.Ray generator x.now m.now))) }
+    ensures { OnOk result (into.new ≡ into.old
+        ++ words_text (entry_words (Entry.Ray generator x.now m.now))) }
 {
     into.append(b"ray")?;
     put_natural(generator, into)?;
@@ -167,7 +173,8 @@ fn put_farkas_entry(u: &[Spot], into: &mut Bytes) -> Result<(), NoMemory>
 }
 
 fn put_whole_entry(x: &[Spot], ray: &[Spot], m: &[Spot], into: &mut Bytes) -> Result<(), NoMemory>
-    ensures { OnOk result (into.new ≡ into.old ++ words_text (entry_words (Entry.Whole x.now ray.now m.now))) }
+    ensures { OnOk result (into.new ≡ into.old
+        ++ words_text (entry_words (Entry.Whole x.now ray.now m.now))) }
 {
     into.append(b"whole")?;
     put_sparse(x, into)?;
@@ -185,7 +192,8 @@ fn put_line_entry(
     n: &[Spot],
     into: &mut Bytes,
 ) -> Result<(), NoMemory>
-    ensures { OnOk result (into.new ≡ into.old ++ words_text (entry_words (Entry.Line d.now x.now ray.now m.now back.now n.now))) }
+    ensures { OnOk result (into.new ≡ into.old
+        ++ words_text (entry_words (Entry.Line d.now x.now ray.now m.now back.now n.now))) }
 {
     into.append(b"line")?;
     put_vector(d, into)?;
@@ -210,6 +218,75 @@ fn put_end_entry(kind: EndKind, into: &mut Bytes) -> Result<(), NoMemory>
 {
     into.append(b"end")?;
     put_kind(kind, into)?;
+    Ok(())
+}
+
+fn put_share_entry(v: &[Spot], into: &mut Bytes) -> Result<(), NoMemory>
+    ensures { OnOk result (into.new ≡ into.old ++ words_text (entry_words (Entry.Share v.now))) }
+{
+    into.append(b"share")?;
+    put_sparse(v, into)?;
+    Ok(())
+}
+
+fn put_cutof_entry(
+    w: &[Frac],
+    gamma: Frac,
+    share: u32,
+    v: &[Spot],
+    into: &mut Bytes,
+) -> Result<(), NoMemory>
+    ensures { OnOk result (into.new ≡ into.old
+        ++ words_text (entry_words (Entry.CutOf w.now gamma share v.now))) }
+{
+    into.append(b"cutof")?;
+    put_vector(w, into)?;
+    put_number(gamma, into)?;
+    put_natural(share, into)?;
+    put_sparse(v, into)?;
+    Ok(())
+}
+
+fn put_pointof_entry(
+    generator: u32,
+    share: u32,
+    m: &[Spot],
+    into: &mut Bytes,
+) -> Result<(), NoMemory>
+    ensures { OnOk result (into.new ≡ into.old
+        ++ words_text (entry_words (Entry.PointOf generator share m.now))) }
+{
+    into.append(b"pointof")?;
+    put_natural(generator, into)?;
+    put_natural(share, into)?;
+    put_sparse(m, into)?;
+    Ok(())
+}
+
+fn put_rayof_entry(generator: u32, share: u32, m: &[Spot], into: &mut Bytes) -> Result<(), NoMemory>
+    ensures { OnOk result (into.new ≡ into.old
+        ++ words_text (entry_words (Entry.RayOf generator share m.now))) }
+{
+    into.append(b"rayof")?;
+    put_natural(generator, into)?;
+    put_natural(share, into)?;
+    put_sparse(m, into)?;
+    Ok(())
+}
+
+fn put_addh_entry(
+    cut: u32,
+    pairs: &[LogPair],
+    hints: &[u32],
+    into: &mut Bytes,
+) -> Result<(), NoMemory>
+    ensures { OnOk result (into.new ≡ into.old
+        ++ words_text (entry_words (Entry.AddHints cut pairs.now hints.now))) }
+{
+    into.append(b"addh")?;
+    put_natural(cut, into)?;
+    put_pairs(pairs, into)?;
+    put_naturals(hints, into)?;
     Ok(())
 }
 
@@ -286,7 +363,39 @@ fn put_entry(entry: &Entry, into: &mut Bytes) -> Result<(), NoMemory>
         ),
         Entry::Facet { cut } => put_facet_entry(*cut, into),
         Entry::End(kind) => put_end_entry(*kind, into),
+        Entry::Share { v } => put_share_entry(v.as_slice(), into),
+        Entry::CutOf { w, gamma, share, v } => put_cutof_entry(
+            w.as_slice(),
+            *gamma,
+            *share,
+            v.as_slice(),
+            into,
+        ),
+        Entry::PointOf {
+            generator,
+            share,
+            m,
+        } => put_pointof_entry(*generator, *share, m.as_slice(), into),
+        Entry::RayOf {
+            generator,
+            share,
+            m,
+        } => put_rayof_entry(*generator, *share, m.as_slice(), into),
+        Entry::AddHints { cut, pairs, hints } => put_addh_entry(
+            *cut,
+            pairs.as_slice(),
+            hints.as_slice(),
+            into,
+        ),
     }
+}
+
+/// Puts the line of an entry behind a text, with its line feed.
+pub fn print_line(entry: &Entry, into: &mut Bytes) -> Result<(), NoMemory>
+    ensures { OnOk result (into.new ≡ into.old ++ line_text (entry_words entry.now)) }
+{
+    put_entry(entry, into)?;
+    into.push(b'\n')
 }
 
 /// The text of a log: a line for each entry.
@@ -295,8 +404,7 @@ pub fn print_log(alloc: Global, entries: &Entries) -> Result<Bytes, NoMemory>
 {
     let mut text = Bytes::new(alloc);
     for entry in entries.as_slice() {
-        put_entry(entry, &mut text)?;
-        text.push(b'\n')?;
+        print_line(entry, &mut text)?;
     }
     Ok(text)
 }

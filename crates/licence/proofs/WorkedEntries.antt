@@ -22,7 +22,7 @@ use Rattle.upper_image.specs.Spots.{column, dense}
 use Rattle.deriv_log.specs.declared.entry.Entry.{Entry}
 use Rattle.deriv_log.specs.declared.entry.Entry.TheVariants.{Version, Duality, Cut, Start, Point, Ray}
 use Rattle.deriv_log.specs.declared.licence.Place.TheVariants.{Elim}
-use Rattle.log_rules.specs.Events.{Failure, events, first_failure, log_failure}
+use Rattle.log_rules.specs.Events.{Failure, events, first_failure, plain_failure}
 use Rattle.log_rules.specs.Meets.{Meets}
 use Rattle.log_rules.specs.Order.{kind, place}
 use Rattle.log_rules.proofs.LogHeld.{entry-passes}
@@ -161,7 +161,7 @@ start = Start (1 ∷ 2 ∷ []) (n 6 ∷ minus 3 ∷ []) (n 1 ∷ n 2 ∷ n 1 ∷
 abbrev with_point : List Entry
 with_point = started ++ point ∷ []
 
-passes : log_failure (λ q. true) leaning (with_point ++ ray ∷ []) ≡ None
+passes : plain_failure (λ q. true) leaning (with_point ++ ray ∷ []) ≡ None
 unfolding whole fraction gcd ◌+ℚ◌ ◌*ℚ◌ neg_ℚ inverse_ℚ le_ℚ
 passes = refl
 

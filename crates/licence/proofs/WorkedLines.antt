@@ -44,7 +44,7 @@ use Rattle.deriv_log.specs.declared.entry.Entry.TheVariants.{Version, Duality, C
 use Rattle.deriv_log.specs.declared.licence.Family.{Family}
 use Rattle.deriv_log.specs.declared.licence.Family.TheVariants.{Image}
 use Rattle.deriv_log.specs.declared.licence.Place.TheVariants.{Elim, Pair}
-use Rattle.log_rules.specs.Events.{log_failure}
+use Rattle.log_rules.specs.Events.{plain_failure}
 use Rattle.log_rules.specs.Live.{rows_in_use, cut_row}
 use Rattle.log_rules.specs.Meets.{Meets}
 use Rattle.log_rules.proofs.LogMeets.{events_give_meets}
@@ -307,7 +307,7 @@ second_cut = Cut up (n 4) second_u []
 abbrev start : Entry
 start = Start (1 ∷ []) (n 0 ∷ n 0 ∷ []) (n 0 ∷ n 1 ∷ [])
 
-passes : log_failure (λ q. true) half_plane along ≡ None
+passes : plain_failure (λ q. true) half_plane along ≡ None
 unfolding whole fraction gcd ◌+ℚ◌ ◌*ℚ◌ neg_ℚ inverse_ℚ le_ℚ
 passes = refl
 

@@ -14,7 +14,7 @@ use Rattle.vlp_reader.specs.declared.problem.Cone.{Cone}
 use Rattle.vlp_reader.specs.declared.problem.Cone.TheVariants.{Orthant, Gens, Dual}
 use Rattle.upper_image.specs.Spots.{dense}
 use Rattle.deriv_log.specs.declared.entry.Entry.{Entry}
-use Rattle.deriv_log.specs.declared.entry.Entry.TheVariants.{Version, Duality, Cut, Start, Add, Point, Ray, Farkas, Whole, Line, Facet, End}
+use Rattle.deriv_log.specs.declared.entry.Entry.TheVariants.{Version, Duality, Cut, Start, Add, Point, Ray, Farkas, Whole, Line, Facet, End, Share, CutOf, PointOf, RayOf, AddHints}
 use Rattle.log_rules.specs.Live.{y_of}
 use Rattle.log_rules.specs.Proves.{AllMeet}
 use Rattle.lp_form.specs.Programs.{side_total, generators, feasible_system, benson_system, interior_system, choice_of, value_of, share_of, full_share_of}
@@ -112,6 +112,11 @@ IsBaseEntry file c weights before (Start cuts point directions) = ⊤
 IsBaseEntry file c weights before (Add cut pairs) = ⊤
 IsBaseEntry file c weights before (Facet cut) = ⊤
 IsBaseEntry file c weights before (End kind) = ⊤
+IsBaseEntry file c weights before (Share v) = ⊤
+IsBaseEntry file c weights before (CutOf w gamma share v) = ⊤
+IsBaseEntry file c weights before (PointOf k share m) = ⊤
+IsBaseEntry file c weights before (RayOf k share m) = ⊤
+IsBaseEntry file c weights before (AddHints cut pairs hints) = ⊤
 
 -- each entry of a trail is one behind those before it
 abbrev pub AllBase : Problem → (c weights : List ℚ) → List Entry → Type 0

@@ -15,11 +15,11 @@ use Rattle.deriv_log.specs.declared.entry.Entry.{Entry}
 use Rattle.deriv_log.specs.declared.entry.Entry.TheVariants as entry
 use Rattle.polyhedra.proofs.Members.{pairs-nil, pairs-cons}
 use Rattle.polyhedra.proofs.Tests.{both_true}
-use Rattle.log_rules.specs.Events.{log_failure}
+use Rattle.log_rules.specs.Events.{plain_failure}
 use Rattle.log_rules.specs.Examples.{n, wide, Parts, Says, Fails, small, small_cuts, small_front, last_ray, solved_end, large, large_log, plain, line_file, the_line, line_end, line_log, line_first_log, line_cuts, line_above, line_add_log, line_below, LineBelow, half_space, first_line, second_line, mixed_line, half_space_log, wide_cone, cone_log, cone_alone, cone_alone_log, dual_cone, dual_log, one, whole_log, bounded_log, empty, farkas_log, largest, largest_front, largest_log, LargestLog, WorkedLogs, pair}
 use Rattle.log_rules.specs.Live.{duality_vector}
 use Rattle.log_rules.specs.ReportExamples.{line_answer}
-use Rattle.log_rules.specs.Proves.{Proves, live_at, named_facets}
+use Rattle.log_rules.specs.Proves.{PlainProves, live_at, named_facets}
 use Rattle.log_rules.specs.Right.{Rise, is_before, key, stated}
 use Rattle.log_rules.proofs.LogMeets.{events_give_meets}
 use Rattle.log_rules.specs.declared.answer.Answer.TheVariants.{Solved}
@@ -407,7 +407,7 @@ directions = live_at largest_file largest_log zero_ℚ
 facets : List Facet
 facets = named_facets largest_file largest_log (map (λ g. g.y) points) (map (λ g. g.y) directions)
 
-accepted : log_failure is_held largest_file largest_log ≡ None
+accepted : plain_failure is_held largest_file largest_log ≡ None
 unfolding largest_kept whole fraction ◌+ℚ◌ ◌*ℚ◌ neg_ℚ inverse_ℚ le_ℚ gcd
 accepted = refl
 
@@ -427,7 +427,7 @@ facets_rise : rising (map (λ f. key (stated f)) facets) ≡ true
 unfolding rising facets points directions whole fraction ◌+ℚ◌ ◌*ℚ◌ neg_ℚ inverse_ℚ le_ℚ gcd
 facets_rise = refl
 
-proves : Proves largest_file largest_log (Solved (duality_vector largest_log) [] points directions facets)
+proves : PlainProves largest_file largest_log (Solved (duality_vector largest_log) [] points directions facets)
 unfolding points directions facets
 proves = record {
   log = record { formed = formed; ends = refl };
@@ -468,7 +468,7 @@ line_front =
     ∷ entry.Ray 2 [] []
     ∷ entry.Facet 1 ∷ []
 
-line_accepted : log_failure is_held whole_line line_log ≡ None
+line_accepted : plain_failure is_held whole_line line_log ≡ None
 unfolding line_kept whole fraction ◌+ℚ◌ ◌*ℚ◌ neg_ℚ inverse_ℚ le_ℚ gcd
 line_accepted = refl
 
@@ -479,7 +479,7 @@ line_formed = refl
 lone_rises : (v : List ℚ) → Rise (v ∷ [])
 lone_rises v = pairs-cons (λ u w. IsTrue (is_before u w)) v [] (All-nil (λ w. IsTrue (is_before v w))) (pairs-nil (λ u w. IsTrue (is_before u w)))
 
-pub line_proves : Proves whole_line line_log line_answer
+pub line_proves : PlainProves whole_line line_log line_answer
 unfolding line_kept whole fraction ◌+ℚ◌ ◌*ℚ◌ neg_ℚ inverse_ℚ le_ℚ gcd
 line_proves = record {
   log = record { formed = line_formed; ends = refl };

@@ -8,7 +8,7 @@ use Rattle.polyhedra.proofs.Tests.{or_left, or_right, not_true}
 use Rattle.log_rules.specs.Laws.{OneAnswer}
 use Rattle.log_rules.specs.Meets.{Meets}
 use Rattle.log_rules.specs.Order.{Kind, kind, place, has, implies, stands_once}
-use Rattle.log_rules.specs.Proves.{Proves, AllMeet, Gives, IsSorting, live_at, named_facets}
+use Rattle.log_rules.specs.Proves.{PlainProves, AllMeet, Gives, IsSorting, live_at, named_facets}
 use Rattle.log_rules.specs.Right.{key, stated}
 use Rattle.log_rules.proofs.Entries.{order_of, along, StandsAt, stands_at, end_last}
 use Rattle.log_rules.proofs.Rising.{sorted_same}
@@ -96,7 +96,7 @@ facets_same file entries points points' directions directions' facets facets' p 
 
 -- ---- the law
 module _ (file : Problem) (entries : List Entry) where
-  one : (answer answer' : Answer) → end_of answer ≡ end_of answer' → Proves file entries answer → Proves file entries answer' → answer ≡ answer'
+  one : (answer answer' : Answer) → end_of answer ≡ end_of answer' → PlainProves file entries answer → PlainProves file entries answer' → answer ≡ answer'
   one (Infeasible u) (Infeasible u') e h h' =
       let p : entry.Farkas u ≡ entry.Farkas u' = only_one file order.farkas refl entries h.meet (entry.Farkas u) (entry.Farkas u') refl refl h.gives.1 h'.gives.1 in
       cc

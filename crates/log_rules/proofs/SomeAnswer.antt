@@ -26,7 +26,7 @@ use Rattle.log_rules.specs.Laws.{Stands, SomeAnswer}
 use Rattle.log_rules.specs.Live.{State, state, y_of, t_of, cut_at, inequality, duality_vector, named, lines}
 use Rattle.log_rules.specs.Meets.{MeetsEnd}
 use Rattle.log_rules.specs.Order.{has}
-use Rattle.log_rules.specs.Proves.{AllMeet, Proves, Gives, IsSorting, shown, live_at, facet_of, named_facets, shown_lines}
+use Rattle.log_rules.specs.Proves.{AllMeet, PlainProves, Gives, IsSorting, shown, live_at, facet_of, named_facets, shown_lines}
 use Rattle.log_rules.specs.Right.{Rise, is_before, key, stated}
 use Rattle.log_rules.specs.declared.answer.Answer.{Answer}
 use Rattle.log_rules.specs.declared.answer.Answer.TheVariants as answer
@@ -262,7 +262,7 @@ module _ (file : Problem) (entries : List Entry) (log : IsLog entries) (meet : A
         (c, record { c_given = refl; lines_are = refl; points_are = points.1; directions_are = directions.1; facets_are = facets.1 }),
       )
 
-  some : (a : Answer) × Proves file entries a
+  some : (a : Answer) × PlainProves file entries a
   some = let g = gives end_is.0 stands_end met_end in (g.0, record { log = log; meet = meet; gives = g.1 })
 
 pub some_answer : SomeAnswer

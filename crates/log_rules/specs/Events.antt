@@ -26,7 +26,7 @@ use Rattle.deriv_log.specs.declared.entry.LogPair.{LogPair}
 use Rattle.deriv_log.specs.declared.entry.EndKind.{EndKind}
 use Rattle.deriv_log.specs.declared.entry.EndKind.TheVariants as kind
 use Rattle.deriv_log.specs.declared.entry.Entry.{Entry}
-use Rattle.deriv_log.specs.declared.entry.Entry.TheVariants.{Version, Duality, Cut, Start, Add, Point, Ray, Farkas, Whole, Line, Facet, End}
+use Rattle.deriv_log.specs.declared.entry.Entry.TheVariants.{Version, Duality, Cut, Start, Add, Point, Ray, Farkas, Whole, Line, Facet, End, Share, CutOf, PointOf, RayOf, AddHints}
 use Rattle.log_rules.specs.declared.rule.Rule.{Rule}
 use Rattle.log_rules.specs.declared.rule.Rule.TheVariants as rule
 use Rattle.log_rules.specs.Order as order
@@ -339,6 +339,10 @@ end_events file before s kind.Solved =
     && list_all (λ k. is_accounted file.objs s (named before) (cut_row s k)) s.used) ∷ []
 
 -- ---- all kinds
+-- an entry of version 2 stands in no plain log
+abbrev pub never : List Event
+never = test rule.Order false ∷ []
+
 -- the tests and steps of an entry behind the entries before it, after the test of its order
 abbrev pub kind_events : Problem → List Entry → State → Entry → List Event
 kind_events file before s (Version n) = test rule.Version (n == 1) ∷ []
@@ -353,6 +357,11 @@ kind_events file before s (Whole x ray m) = whole_events file (duality_vector be
 kind_events file before s (Line d x ray m back n) = line_events file (lines before) d x ray m back n
 kind_events file before s (Facet cut) = facet_events file before s cut
 kind_events file before s (End kind) = end_events file before s kind
+kind_events file before s (Share _) = never
+kind_events file before s (CutOf _ _ _ _) = never
+kind_events file before s (PointOf _ _ _) = never
+kind_events file before s (RayOf _ _ _) = never
+kind_events file before s (AddHints _ _ _) = never
 
 -- the tests and steps of an entry behind the entries before it
 abbrev pub events : Problem → List Entry → Entry → List Event
@@ -373,6 +382,6 @@ first_failing holds file before (e ∷ entries) =
       | None ↦ first_failing holds file (before ++ e ∷ []) entries
     ]
 
--- the first failure of a log, if there is one
-abbrev pub log_failure : (ℚ → Bool) → Problem → List Entry → Option Failing
-log_failure holds file entries = first_failing holds file [] entries
+-- the first failure of a plain log, if there is one
+abbrev pub plain_failure : (ℚ → Bool) → Problem → List Entry → Option Failing
+plain_failure holds file entries = first_failing holds file [] entries

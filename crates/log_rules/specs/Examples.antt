@@ -15,10 +15,10 @@ use Rattle.deriv_log.specs.declared.entry.LogPair.{LogPair}
 use Rattle.deriv_log.specs.declared.entry.EndKind.TheVariants as kind
 use Rattle.deriv_log.specs.declared.entry.Entry.{Entry}
 use Rattle.deriv_log.specs.declared.entry.Entry.TheVariants as entry
-use Rattle.log_rules.specs.Events.{Failing, log_failure}
+use Rattle.log_rules.specs.Events.{Failing, plain_failure}
 use Rattle.log_rules.specs.Live.{duality_vector}
 use Rattle.log_rules.specs.Names.{rule_number}
-use Rattle.log_rules.specs.Proves.{Proves, live_at, named_facets, shown_lines}
+use Rattle.log_rules.specs.Proves.{PlainProves, live_at, named_facets, shown_lines}
 use Rattle.log_rules.specs.Events.Failure.{wrong, left}
 use Rattle.log_rules.specs.declared.answer.Answer.TheVariants.{Solved}
 
@@ -82,7 +82,7 @@ in_numbers (Some f) = f.entry ∷ elim (f.failure) [ wrong r ↦ 0 ∷ rule_numb
 pub record Fails (parts : Parts) (log : List Entry) (failure : List ℕ) : Type 0 where
   pub file : Problem
   pub says : Says file parts
-  pub first : in_numbers (log_failure is_held file log) ≡ failure
+  pub first : in_numbers (plain_failure is_held file log) ≡ failure
 
 -- none fails
 abbrev pub Passes : Parts → List Entry → Type 0
@@ -428,7 +428,7 @@ pub record LargestLog : Type 0 where
   pub tight : map (λ f. f.tight) (named_facets file largest_log (map (λ g. g.y) (live_at file largest_log one_ℚ)) (map (λ g. g.y) (live_at file largest_log zero_ℚ)))
       ≡ (1 ∷ 3 ∷ []) ∷ (1 ∷ 2 ∷ []) ∷ (2 ∷ 4 ∷ []) ∷ []
   pub bounds : map (λ f. f.gamma.num) (named_facets file largest_log [] []) ≡ pos 1 ∷ pos 1 ∷ pos 1 ∷ []
-  pub proves : Proves file largest_log
+  pub proves : PlainProves file largest_log
       (Solved (duality_vector largest_log) [] (live_at file largest_log one_ℚ) (live_at file largest_log zero_ℚ)
       (named_facets file largest_log (map (λ g. g.y) (live_at file largest_log one_ℚ)) (map (λ g. g.y) (live_at file largest_log zero_ℚ))))
 
@@ -450,7 +450,7 @@ line_below_log =
 pub record LineBelow : Type 0 where
   pub file : Problem
   pub says : Says file line_below
-  pub passes : log_failure is_held file line_below_log ≡ None
+  pub passes : plain_failure is_held file line_below_log ≡ None
   pub line : shown_lines file line_below_log ≡ record { d = n 1 ∷ n 0 ∷ []; ray = at 1 (n 1) ∷ []; back = at 1 minus_one ∷ [] } ∷ []
   pub direction : numerators (map (λ g. g.y) (live_at file line_below_log zero_ℚ)) ≡ (pos 0 ∷ negsuc 0 ∷ []) ∷ []
 

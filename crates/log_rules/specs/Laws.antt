@@ -8,11 +8,11 @@ use Rattle.polyhedra.specs.Inequality.{Inequality}
 use Rattle.polyhedra.specs.LowerImage.{completed, IsRecession}
 use Rattle.polyhedra.specs.Vectors.{AreWide, zeros}
 use Rattle.upper_image.specs.UpperImage.{IsInWorkingImage, IsWorkingDirection, IsInImage, IsDirection, IsValidFor, front, IsInLowerImageOf, signed}
-use Rattle.log_rules.specs.Events.{log_failure}
+use Rattle.log_rules.specs.Events.{plain_failure}
 use Rattle.polyhedra.specs.LiveList.{Numbered}
 use Rattle.polyhedra.specs.LiveSteps.{IsLive}
 use Rattle.log_rules.specs.Live.{State, state, live_vectors, y_of, t_of, cut_at, inequality, in_use, rows_in_use, named, lines}
-use Rattle.log_rules.specs.Proves.{AllMeet, Proves}
+use Rattle.log_rules.specs.Proves.{AllMeet, PlainProves}
 use Rattle.log_rules.specs.Right.{IsRight, stated, IsSolution}
 use Rattle.std.specs.Prelude.{ℕ, ◌≡◌, ◌⊎◌, ◌++◌, suc, ◌<◌, true, List, [], map, filter, All, Contains, IsTrue, Bool, None, ◌↔◌, ◌-◌, ◌∷◌, length}
 use Rattle.exact_field.specs.Rational.{ℚ, zero_ℚ, one_ℚ, neg_ℚ}
@@ -30,11 +30,11 @@ use Rattle.log_rules.specs.Order as order
 -- ---- the order of evaluation, and the rules
 -- a log without a failure meets all its rules
 abbrev pub EventsGiveMeets : Type 0
-EventsGiveMeets = (holds : ℚ → Bool) (file : Problem) (entries : List Entry) → log_failure holds file entries ≡ None → AllMeet file entries
+EventsGiveMeets = (holds : ℚ → Bool) (file : Problem) (entries : List Entry) → plain_failure holds file entries ≡ None → AllMeet file entries
 
 -- and where all numbers are held, a log that meets them has none: rules and events say the same
 abbrev pub MeetsGiveEvents : Type 0
-MeetsGiveEvents = (file : Problem) (entries : List Entry) → AllMeet file entries → log_failure (λ _. true) file entries ≡ None
+MeetsGiveEvents = (file : Problem) (entries : List Entry) → AllMeet file entries → plain_failure (λ _. true) file entries ≡ None
 
 -- ---- what stands
 -- without the entries at the places of the lines the live generators describe the cone of the rows
@@ -74,7 +74,7 @@ pub record IsReached (file : Problem) (entries : List Entry) (c : List ℚ) (ls 
 
 abbrev pub SolvedIsReached : Type 0
 SolvedIsReached = (file : Problem) (entries : List Entry) (c : List ℚ) (ls : List LineGen) (points directions : List Gen) (facets : List Facet) →
-    Proves file entries (Solved c ls points directions facets) → IsReached file entries c ls points directions facets
+    PlainProves file entries (Solved c ls points directions facets) → IsReached file entries c ls points directions facets
 
 -- ---- exactness
 -- the y of the live generators (y, t) with this t
@@ -88,23 +88,23 @@ named_cuts s entries = map (λ k. inequality (cut_at s.cuts k)) (named entries)
 -- a solved log meets the conditions of exactness for the image in working coordinates
 abbrev pub SolvedIsSolved : Type 0
 SolvedIsSolved = (file : Problem) (entries : List Entry) (c : List ℚ) (ls : List LineGen) (points directions : List Gen) (facets : List Facet) →
-    Proves file entries (Solved c ls points directions facets) →
+    PlainProves file entries (Solved c ls points directions facets) →
     let s = state file.objs entries in
     IsSolvedAlong file.objs (IsInWorkingImage file) (IsWorkingDirection file) c (lines entries) (in_use s) (live_vectors s) (listed file.objs s one_ℚ) (listed file.objs s zero_ℚ)
     (named_cuts s entries)
 
 -- what a log proves is right
 abbrev pub ProvedIsRight : Type 0
-ProvedIsRight = (file : Problem) (entries : List Entry) (answer : Answer) → Proves file entries answer → IsRight file answer
+ProvedIsRight = (file : Problem) (entries : List Entry) (answer : Answer) → PlainProves file entries answer → IsRight file answer
 
 -- entries prove one answer only
 abbrev pub OneAnswer : Type 0
 OneAnswer = (file : Problem) (entries : List Entry) (answer answer' : Answer) →
-    Proves file entries answer → Proves file entries answer' → answer ≡ answer'
+    PlainProves file entries answer → PlainProves file entries answer' → answer ≡ answer'
 
 -- and a log whose entries meet their rules proves some answer
 abbrev pub SomeAnswer : Type 0
-SomeAnswer = (file : Problem) (entries : List Entry) → IsLog entries → AllMeet file entries → (answer : Answer) × Proves file entries answer
+SomeAnswer = (file : Problem) (entries : List Entry) → IsLog entries → AllMeet file entries → (answer : Answer) × PlainProves file entries answer
 
 -- two right solutions for one file and one c agree in all but pre-images and dual vectors: in the
 -- lines, the points, the directions and the facets, in their order, and in the numbers of tight

@@ -22,7 +22,7 @@ use Rattle.deriv_log.specs.declared.entry.LogPair.{LogPair}
 use Rattle.deriv_log.specs.declared.entry.EndKind.{EndKind}
 use Rattle.deriv_log.specs.declared.entry.EndKind.TheVariants as kind
 use Rattle.deriv_log.specs.declared.entry.Entry.{Entry}
-use Rattle.deriv_log.specs.declared.entry.Entry.TheVariants.{Version, Duality, Cut, Start, Add, Point, Ray, Farkas, Whole, Line, Facet, End}
+use Rattle.deriv_log.specs.declared.entry.Entry.TheVariants.{Version, Duality, Cut, Start, Add, Point, Ray, Farkas, Whole, Line, Facet, End, Share, CutOf, PointOf, RayOf, AddHints}
 use Rattle.log_rules.specs.Order as order
 
 -- ---- start: with the lines as many cuts as there are objectives, a reduced point at which they
@@ -110,7 +110,8 @@ MeetsEnd file before kind.NoVertex = ⊥
 MeetsEnd file before kind.Solved = MeetsSolved file before (state file.objs before)
 
 -- ---- all kinds
--- what the entry must meet but for its order, where s stands
+-- what the entry must meet but for its order, where s stands; one of version 2 stands in no plain
+-- log
 abbrev pub MeetsKind : Problem → List Entry → State → Entry → Type 0
 MeetsKind file before s (Version n) = n ≡ 1
 MeetsKind file before s (Duality c weights picks inverse) = ShowsFitting file c weights picks inverse
@@ -124,6 +125,11 @@ MeetsKind file before s (Whole x ray m) = MeetsWhole file (duality_vector before
 MeetsKind file before s (Line d x ray m back n) = MeetsLine file before d x ray m back n
 MeetsKind file before s (Facet cut) = MeetsFacet file before s cut
 MeetsKind file before s (End kind) = MeetsEnd file before kind
+MeetsKind file before s (Share _) = ⊥
+MeetsKind file before s (CutOf _ _ _ _) = ⊥
+MeetsKind file before s (PointOf _ _ _) = ⊥
+MeetsKind file before s (RayOf _ _ _) = ⊥
+MeetsKind file before s (AddHints _ _ _) = ⊥
 
 -- the entry meets each of its rules behind the entries before it
 pub record Meets (file : Problem) (before : List Entry) (e : Entry) : Type 0 where

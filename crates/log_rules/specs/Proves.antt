@@ -1,4 +1,5 @@
--- What a log proves: each entry meets its rules, and the answer is the one that the entries give.
+-- What a plain log proves: each entry meets its rules, and the answer is the one that the entries
+-- give.
 use Rattle.std.specs.Prelude.{◌≡◌, List, [], ◌∷◌, ◌++◌, map, Contains, filter, slice_index_or, Option, None, Some}
 use Rattle.std.specs.List.{filter_map}
 use Rattle.exact_field.specs.Rational.{ℚ, zero_ℚ, one_ℚ}
@@ -88,8 +89,8 @@ Gives file entries (Whole c x ray) = Contains entries (entry.End kind.Whole) × 
 Gives file entries (Solved c ls points directions facets) =
     Contains entries (entry.End kind.Solved) × GivesSolution file entries c ls points directions facets
 
--- the entries prove the answer for the file
-pub record Proves (file : Problem) (entries : List Entry) (answer : Answer) : Type 0 where
+-- the entries prove the answer for the file, as a plain log
+pub record PlainProves (file : Problem) (entries : List Entry) (answer : Answer) : Type 0 where
   pub log : IsLog entries
   pub meet : AllMeet file entries
   pub gives : Gives file entries answer

@@ -6,7 +6,7 @@ use Rattle.vlp_reader.specs.declared.problem.Problem.{Problem}
 use Rattle.vlp_reader.specs.declared.problem.Bound.TheVariants.{Unsaid, Lower}
 use Rattle.deriv_log.specs.declared.entry.Entry.{Entry}
 use Rattle.log_rules.specs.Examples.{Parts, Says, n, at, half, minus_one, empty, one, line_file, line_log, largest}
-use Rattle.log_rules.specs.Proves.{Proves}
+use Rattle.log_rules.specs.Proves.{PlainProves}
 use Rattle.log_rules.specs.Report.{report_lines}
 use Rattle.log_rules.specs.declared.answer.Answer.{Answer}
 use Rattle.log_rules.specs.declared.answer.Answer.TheVariants.{Infeasible, Whole, Solved}
@@ -21,7 +21,7 @@ pub record Reports (parts : Parts) (answer : Answer) (lines : List (List ℕ)) :
 pub record Shows (parts : Parts) (log : List Entry) (answer : Answer) : Type 0 where
   pub file : Problem
   pub says : Says file parts
-  pub proves : Proves file log answer
+  pub proves : PlainProves file log answer
 
 -- x1 + x2 ≤ 1 and x ≥ 0, maximised: two points, two directions, three facets
 abbrev pub largest_answer : Answer

@@ -10,7 +10,7 @@ use Rattle.upper_image.specs.Witnesses.{IsInfeasible}
 use Rattle.vlp_reader.specs.Sides.{IsFeasible, IsRecession}
 use Rattle.vlp_reader.specs.declared.problem.Problem.{Problem}
 use Rattle.deriv_log.specs.declared.entry.Entry.{Entry}
-use Rattle.log_rules.specs.Proves.{Proves}
+use Rattle.log_rules.specs.Proves.{PlainProves}
 use Rattle.log_rules.specs.declared.answer.Answer.{Answer}
 use Rattle.log_rules.specs.declared.answer.Facet.{Facet}
 use Rattle.log_rules.specs.declared.answer.Gen.{Gen}
@@ -66,4 +66,4 @@ IsRightProjection file k (Found lines points directions sides) =
 abbrev pub FoundIsRight : Type 0
 FoundIsRight = (k : ℕ) (file made : Problem) (entries : List Entry) (answer : Answer)
     (found : Projection) → k ≤ file.cols → IsAssociated k file made →
-    Proves made entries answer → IsProjectionFrom k answer found → IsRightProjection file k found
+    PlainProves made entries answer → IsProjectionFrom k answer found → IsRightProjection file k found

@@ -1,0 +1,7 @@
+use Rattle.std.proofs.Common.{codes}
+use Rattle.deriv_log.specs.LogText.{natural, naturals, pairs}
+use Rattle.deriv_log.proofs.Printed.{named, then_part, whole_text}
+use Rattle.deriv_log.proofs.text.put_addh_entry.Goals as goal
+
+pub returns : goal.returns
+returns c = whole_text (then_part (naturals c.args.hints.now) (then_part (pairs c.args.pairs.now) (then_part (natural c.args.cut) (named c.args.into.now (codes "addh") c.append.new.self c.in_ok-append.ensures.ok) c.in_ok-put_natural.ensures) c.in_ok-put_pairs.ensures) c.in_ok-put_naturals.ensures)

@@ -1,0 +1,7 @@
+use Rattle.std.proofs.Common.{codes}
+use Rattle.deriv_log.specs.LogText.{natural, number, sparse, vector}
+use Rattle.deriv_log.proofs.Printed.{named, then_part, whole_text}
+use Rattle.deriv_log.proofs.text.put_cutof_entry.Goals as goal
+
+pub returns : goal.returns
+returns c = whole_text (then_part (sparse c.args.v.now) (then_part (natural c.args.share) (then_part (number c.args.gamma) (then_part (vector c.args.w.now) (named c.args.into.now (codes "cutof") c.append.new.self c.in_ok-append.ensures.ok) c.in_ok-put_vector.ensures) c.in_ok-put_number.ensures) c.in_ok-put_natural.ensures) c.in_ok-put_sparse.ensures)

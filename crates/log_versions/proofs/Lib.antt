@@ -1,0 +1,9 @@
+pub mod Examples
+pub mod HintedPairs
+pub mod PlainLogs
+pub mod PlainMeets
+pub mod PlainStay
+pub mod Upgraded
+pub mod UpgradedLogs
+pub mod Walked
+pub mod WrittenMeets
