@@ -3,6 +3,7 @@ ghost use Rattle.std.specs.Prelude.{◌≡◌, List, [], ◌∷◌, ◌++◌, If
 ghost use Rattle.cert_check.specs.Keeping.{next_scale, next_farkas, next_whole, line_of, next_lines, next_ways, next_end};
 ghost use Rattle.cert_check.specs.Standing.{HasFound};
 ghost use Rattle.deriv_log.specs.declared.entry.Entry.{Entry};
+ghost use Rattle.log_versions.specs.Plain.{plain};
 ghost use Rattle.vlp_reader.specs.declared.problem.Dir.{Dir};
 
 use deriv_log::{EndKind, Entry};
@@ -19,7 +20,7 @@ pub struct FoundWhole {
     pub ray: Sparse,
 }
 
-/// What the answers need of the entries before, besides what stands of a solved log.
+/// What the answers need of the plain entries before, besides what stands of a solved log.
 #[derive(Debug, Drop)]
 pub struct Found {
     pub farkas: Option<Sparse>,
@@ -30,7 +31,7 @@ pub struct Found {
 }
 
 /// A copy of a list.
-fn copied<T: Copy + Drop>(alloc: Global, items: &Items<T>) -> Result<Items<T>, NoMemory>
+pub fn copied<T: Copy + Drop>(alloc: Global, items: &Items<T>) -> Result<Items<T>, NoMemory>
     ensures { IfOk result (λ copy. copy ≡ items.now) }
 {
     let mut copy = Items::new(alloc);
@@ -143,7 +144,8 @@ impl Found {
 
     /// With one entry more.
     pub fn keep(&mut self, alloc: Global, dir: Dir, entry: &Entry) -> Result<(), NoMemory>
-        ensures { (before : List Entry) → HasFound dir before self.old → OnOk result (HasFound dir (before ++ entry.now ∷ []) self.new) }
+        ensures { (before : List Entry) → HasFound dir (plain before) self.old
+            → OnOk result (HasFound dir (plain (before ++ entry.now ∷ [])) self.new) }
     {
         keep_farkas(alloc, &mut self.farkas, entry)?;
         keep_whole(alloc, &mut self.whole, entry)?;

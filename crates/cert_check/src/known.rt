@@ -1,12 +1,14 @@
 //! What the tests of an entry need of the problem and of the entries before.
 ghost use Rattle.std.specs.Prelude.{List, [], ◌∷◌, ◌++◌, IfOk, OnOk, IsTrue};
+ghost use Rattle.deriv_log.specs.Formed.{is_formed};
 ghost use Rattle.deriv_log.specs.declared.entry.Entry.{Entry};
-ghost use Rattle.log_rules.specs.Order.{kind, in_order};
-ghost use Rattle.cert_check.specs.Standing.{IsKnown, FitsScale};
+ghost use Rattle.cert_check.specs.Standing.{IsKnown};
+ghost use Rattle.cert_check.specs.Taking.{IsTested};
 ghost use Rattle.vlp_reader.specs.declared.problem.Problem.{Problem};
 
 use crate::found::{keep_scale, keep_way};
 use crate::kinds::Kinds;
+use crate::shares::Shares;
 use deriv_log::Entry;
 use frac128::Vector;
 use src_sink::{Items, NoMemory};
@@ -14,14 +16,15 @@ use std::alloc::Global;
 use vlp_matrices::Sheet;
 use vlp_reader::Problem;
 
-/// The problem by rows and columns, the kinds of the entries before, the duality vector, and the
-/// lines.
+/// The problem by rows and columns, the kinds of the entries before, the duality vector, the lines,
+/// and the shared vectors.
 #[derive(Debug, Drop)]
 pub struct Known {
     pub sheet: Sheet,
     pub kinds: Kinds,
     pub c: Vector,
     pub lines: Items<Vector>,
+    pub shares: Shares,
 }
 
 impl Known {
@@ -34,16 +37,20 @@ impl Known {
             kinds: Kinds::none(),
             c: Items::new(alloc),
             lines: Items::new(alloc),
+            shares: Shares::none(alloc),
         })
     }
 
     /// With one entry more.
     pub fn keep(&mut self, alloc: Global, entry: &Entry) -> Result<(), NoMemory>
-        ensures { (file : Problem) (before : List Entry) → IsKnown file before self.old → IsTrue (in_order before (kind entry.now)) → FitsScale file entry.now
+        requires { IsTrue (is_formed entry.now) }
+        ensures { (file : Problem) (before : List Entry) → IsKnown file before self.old
+            → IsTested file before entry.now
             → OnOk result (IsKnown file (before ++ entry.now ∷ []) self.new) }
     {
         keep_scale(alloc, &mut self.c, entry)?;
         keep_way(alloc, &mut self.lines, entry)?;
+        self.shares.keep(alloc, entry)?;
         self.kinds = self.kinds.with(entry);
         Ok(())
     }

@@ -3,12 +3,13 @@ ghost use Rattle.std.specs.Prelude.{◌≡◌, List, [], ◌∷◌, ◌++◌, Is
 ghost use Rattle.frac128.specs.Held.{is_held};
 ghost use Rattle.deriv_log.specs.Formed.{is_formed, IsLog};
 ghost use Rattle.deriv_log.specs.declared.entry.Entry.{Entry};
-ghost use Rattle.log_rules.specs.Events.{events};
-ghost use Rattle.log_rules.specs.Order.{kind, in_order};
-ghost use Rattle.log_rules.specs.Proves.{Proves};
+ghost use Rattle.log_rules.specs.Proves.{PlainProves};
 ghost use Rattle.log_rules.specs.Runs.{Runs, steps};
 ghost use Rattle.log_rules.specs.declared.answer.Answer.TheVariants.{Whole};
-ghost use Rattle.cert_check.specs.Standing.{IsAt, IsKnown, HasFound, FitsScale};
+ghost use Rattle.log_versions.specs.Plain.{plain};
+ghost use Rattle.log_versions.specs.WrittenEvents.{written_events};
+ghost use Rattle.cert_check.specs.Standing.{IsAt, IsKnown, HasFound};
+ghost use Rattle.cert_check.specs.Taking.{IsTested};
 ghost use Rattle.vlp_reader.specs.declared.problem.Problem.{Problem};
 
 use crate::found::{Found, FoundWhole};
@@ -24,17 +25,24 @@ use src_sink::NoMemory;
 use std::alloc::Global;
 use vlp_reader::{Dir, Problem};
 
-/// What is known of a log's entries so far, none of whose events fails. Behind an error of `take` the value is of no use. It
-/// takes memory for the cuts, the lines, and the live generators with their tight sets and pre-images, and none for what is
-/// live no more.
+/// What is known of a log's entries so far, none of whose events fails. Behind an error of `take`
+/// the value is of no use. It takes memory for the cuts, the lines, the shared vectors, and the
+/// live generators with their tight sets and pre-images, and none for what is live no more.
 ///
-/// Each entry costs what its tests and operations cost, and what it gives is copied: `duality` the entries of the cone's
-/// vectors, and for a cone by generators the cube of the number of objectives; `cut` the entries of the sides and of the
-/// objectives, and the test in the dual cone; `start` twice the cube of the number of objectives, and once a place for
-/// each cut; `add` the entries of the live generators, and at the worst its opposite pairs times the generators times the
-/// words of a tight set; `point` and `ray` the entries of the sides and of the objectives; `facet` the rows in use and
-/// the facets, each times the words of a set of generators; `end solved` the rows in use times the facets times those
-/// words. The first entry that compares rows makes their sets, once: rows times generators.
+/// Each entry costs what its tests and operations cost, and what it gives is copied: `duality` the
+/// entries of the cone's vectors, and for a cone by generators the cube of the number of
+/// objectives; `cut` the entries of the sides and of the objectives, and the test in the dual cone;
+/// `start` twice the cube of the number of objectives, and once a place for each cut; `add` the
+/// entries of the live generators, and at the worst its opposite pairs times the generators times
+/// the words of a tight set; `point` and `ray` the entries of the sides and of the objectives;
+/// `facet` the rows in use and the facets, each times the words of a set of generators;
+/// `end solved` the rows in use times the facets times those words. The first entry that compares
+/// rows makes their sets, once: rows times generators.
+///
+/// `share` costs the places of its vector, which is kept; `cutof`, `pointof` and `rayof` what
+/// `cut`, `point` and `ray` do. A pair that `addh` lists costs what one of `add` does; each other
+/// opposite pair costs the search of its hint by number, and two passes over the words of tight
+/// sets.
 #[derive(Debug, Drop)]
 pub struct Progress {
     pub known: Known,
@@ -64,9 +72,12 @@ impl Progress {
 
     /// Keeps what the entry gives for the tests of further ones and for the answers.
     fn keep(&mut self, alloc: Global, dir: Dir, entry: &Entry) -> Result<(), NoMemory>
-        ensures known { (file : Problem) (before : List Entry) → IsKnown file before self.old.known → IsTrue (in_order before (kind entry.now)) → FitsScale file entry.now
+        requires { IsTrue (is_formed entry.now) }
+        ensures known { (file : Problem) (before : List Entry) → IsKnown file before self.old.known
+            → IsTested file before entry.now
             → OnOk result (IsKnown file (before ++ entry.now ∷ []) self.new.known) }
-        ensures found { (before : List Entry) → HasFound dir before self.old.found → OnOk result (HasFound dir (before ++ entry.now ∷ []) self.new.found) }
+        ensures found { (before : List Entry) → HasFound dir (plain before) self.old.found
+            → OnOk result (HasFound dir (plain (before ++ entry.now ∷ [])) self.new.found) }
         ensures solving { self.new.solving ≡ self.old.solving }
     {
         self.known.keep(alloc, entry)?;
@@ -78,9 +89,12 @@ impl Progress {
     pub fn take(&mut self, alloc: Global, problem: &Problem, entry: &Entry) -> Result<(), Stop>
         requires formed { IsTrue (is_formed entry.now) }
         requires standing { (before : List Entry) × IsAt problem.now before self.old }
-        ensures { (before : List Entry) → IsAt problem.now before self.old → Runs is_held (events problem.now before entry.now) 0 (steps (events problem.now before entry.now)) (λ _. IsAt problem.now (before ++ entry.now ∷ []) self.new) result }
+        ensures { (before : List Entry) → IsAt problem.now before self.old
+            → Runs is_held (written_events problem.now before entry.now) 0
+            (steps (written_events problem.now before entry.now))
+            (λ _. IsAt problem.now (before ++ entry.now ∷ []) self.new) result }
     {
-        pass(Rule::Order, self.known.kinds.in_order(entry))?;
+        pass(Rule::Order, self.known.kinds.may_follow(entry))?;
         take_entry(alloc, problem, &self.known, &mut self.solving, entry)?;
         match self.keep(alloc, problem.dir, entry) {
             Ok(()) => Ok(()),
@@ -91,7 +105,8 @@ impl Progress {
     /// The answer that a log without a failing event proves. That of a solved log is sorted.
     pub fn finish(self, alloc: Global, problem: &Problem) -> Result<Answer, NoMemory>
         requires { (entries : List Entry) × (IsAt problem.now entries self × IsLog entries) }
-        ensures { (entries : List Entry) → IsAt problem.now entries self → IsLog entries → IfOk result (Proves problem.now entries) }
+        ensures { (entries : List Entry) → IsAt problem.now entries self → IsLog entries
+            → IfOk result (PlainProves problem.now (plain entries)) }
     {
         let Progress {
             known,

@@ -20,7 +20,7 @@ use Rattle.vlp_reader.specs.declared.problem.Problem.{Problem}
 use Rattle.deriv_log.specs.declared.entry.Entry.{Entry}
 use Rattle.log_rules.specs.Live.{Stated, State, state, rows_in_use, cut_row, inequality, cut_at, named}
 use Rattle.log_rules.specs.declared.answer.LineGen.{LineGen}
-use Rattle.log_rules.specs.Proves.{Proves, IsSorting, facet_of, named_facets, shown_lines}
+use Rattle.log_rules.specs.Proves.{PlainProves, IsSorting, facet_of, named_facets, shown_lines}
 use Rattle.log_rules.specs.Right.{key, places_from, tight_numbers}
 use Rattle.log_rules.specs.Right as right
 use Rattle.log_rules.specs.declared.answer.Answer.TheVariants.{Solved}
@@ -300,7 +300,7 @@ module _ (file : Problem) (entries : List Entry) (dir : Dir) (c : List ℚ) (gen
       -- ---- the answer
       pub given : (ls : List LineGen) → ls ≡ shown_lines file entries → (fs : List Facet) → IsSorting (λ (m : Member). m.y) (points_of dir generators) points →
           IsSorting (λ (m : Member). m.y) (directions_of dir generators) directions → IsSorting (λ f. key (right.stated f)) found fs →
-          Proves file entries (Solved c ls (map shown_of points) (map shown_of directions) fs)
+          PlainProves file entries (Solved c ls (map shown_of points) (map shown_of directions) fs)
       given ls told fs a b f = record {
         log = h.log;
         meet = h.meet;
@@ -326,7 +326,7 @@ pub answer_given : (file : Problem) (entries : List Entry) (dir : Dir) (c : List
     IsSorting (λ (m : Member). m.y) (points_of dir generators) points → IsSorting (λ (m : Member). m.y) (directions_of dir generators) directions →
     AreFacetPlaces used facets (length cuts) places → made ≡ facets_at dir points directions cuts places →
     ((width : ℕ) → All (λ f. length f.w ≡ width) made → AllPairs (λ f g. key (right.stated f) ≢ key (right.stated g)) made → IsSorting (λ f. key (right.stated f)) made fs) →
-    Proves file entries (Solved c ls (map shown_of points) (map shown_of directions) fs)
+    PlainProves file entries (Solved c ls (map shown_of points) (map shown_of directions) fs)
 answer_given file entries dir c generators cuts used facets h ls told points directions places made fs p d are e sort =
     let from_points : (m : Member) → Contains points m → Contains (points_of dir generators) m = λ m a. (p.same m).1 a in
     let from_directions : (m : Member) → Contains directions m → Contains (directions_of dir generators) m = λ m a. (d.same m).1 a in

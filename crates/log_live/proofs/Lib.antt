@@ -14,3 +14,8 @@ pub mod FirstGenerators
 pub mod Between
 pub mod Standing
 pub mod Added
+pub mod PairCounts
+pub mod Hintings
+pub mod Tellings
+pub mod LeastHints
+pub mod LeastCounts

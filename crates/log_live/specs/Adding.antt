@@ -1,5 +1,5 @@
 -- What an `add` entry does to the live generators, by the parts that the calls go through.
-use Rattle.std.specs.Prelude.{◌≡◌, ℕ, suc, ◌+◌, ◌<◌, ◌≤◌, List, [], ◌∷◌, ◌++◌, length, map, filter, take, drop, All, AllPairs, Bool, false, not, ◌||◌, nat_eq, if◌then◌else◌, None}
+use Rattle.std.specs.Prelude.{◌≡◌, ℕ, suc, ◌+◌, ◌-◌, ◌<◌, ◌≤◌, List, [], ◌∷◌, ◌++◌, length, map, filter, take, drop, All, AllPairs, Bool, false, not, ◌||◌, nat_eq, if◌then◌else◌, None, Contains}
 use Rattle.std.specs.List.{flat_map}
 use Rattle.exact_field.specs.Rational.{ℚ, zero_ℚ, one_ℚ, neg_ℚ, ◌*ℚ◌, ◌/ℚ◌, le_ℚ, lt_ℚ}
 use Rattle.exact_field.specs.Vector.{dot, entry}
@@ -12,7 +12,7 @@ use Rattle.polyhedra.specs.Vectors.{AreWide}
 use Rattle.lineality.specs.Without.{without}
 use Rattle.lineality.specs.Steps.{IsClear}
 use Rattle.polyhedra.specs.Exactness.{homogenised}
-use Rattle.polyhedra.specs.LiveList.{Numbered, LivePair, vectors, numbered, new_vectors, is_uncovered_live}
+use Rattle.polyhedra.specs.LiveList.{Numbered, LivePair, IsRising, vectors, numbered, new_vectors, is_uncovered_live}
 use Rattle.log_live.specs.Live.{numbered_of, live_of, HasTightSet, StandsFor}
 use Rattle.vlp_reader.specs.declared.problem.Problem.{Problem}
 use Rattle.log_rules.specs.Events.{Event, dot_steps, divisor, meeting_point, meeting_steps, same_pairs, value_steps}
@@ -60,6 +60,12 @@ pair_of p m = record { plus_side = numbered_of p; minus_side = numbered_of m }
 abbrev pub third_test : List (List ℚ) → LivePair → Numbered → Bool
 third_test rows pair g =
     nat_eq g.number pair.plus_side.number || nat_eq g.number pair.minus_side.number || not (covers rows pair.plus_side.vector pair.minus_side.vector g.vector)
+
+-- two different generators of the list
+pub record AreTwo (gens : List Generator) (plus minus : Generator) : Type 0 where
+  pub plus_listed : Contains gens plus
+  pub minus_listed : Contains gens minus
+  pub differ : plus.vector ≡ minus.vector → ⊥
 
 -- ---- a new generator
 -- k times the minus entry, and then the sum with the plus entry
@@ -139,6 +145,15 @@ pub record AreAtRow (q : ℕ) (rows : List (List ℚ)) (row : List ℚ) (gens : 
   pub tight : All (HasTightSet rows) gens
   pub wide : length row ≡ suc q
   pub at_row : values ≡ map (λ g. dot row g.vector) gens
+
+-- generators that describe the cone of the rows, by rising numbers, with their tight sets; where two
+-- have fewer tight rows in common than the least number, a third one covers them
+pub record AreAtPairs (q least : ℕ) (rows : List (List ℚ)) (gens : List Generator) : Type 0 where
+  pub next : ℕ
+  pub rising : IsRising (record { live = live_of gens; next = next })
+  pub described : AreDescribed q rows (vectors (live_of gens))
+  pub tight : All (HasTightSet rows) gens
+  pub least_is : least ≤ described.open_places - 2
 
 -- a generator with one more row
 abbrev pub grown : List ℚ → Generator → Generator

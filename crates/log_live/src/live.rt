@@ -1,5 +1,5 @@
 //! The live generators of a log as one value.
-ghost use Rattle.std.specs.Prelude.{◌≡◌, ⊤, ◌≤◌, ◌<◌, ◌*◌, ◌==◌, ℕ, List, All, [], ◌∷◌, ◌++◌, IfOk, OnOk, IfSome, IfNone, length, map, not, false, is_some};
+ghost use Rattle.std.specs.Prelude.{◌≡◌, ◌≤◌, ◌<◌, ◌*◌, ◌==◌, ℕ, List, [], ◌∷◌, ◌++◌, IfOk, OnOk, IfSome, IfNone, length, map, not, false, is_some};
 ghost use Rattle.std.specs.List.{list_all};
 ghost use Rattle.exact_field.specs.Rational.{ℚ};
 ghost use Rattle.exact_field.specs.Vector.{dot};
@@ -8,31 +8,30 @@ ghost use Rattle.deriv_log.specs.declared.entry.Entry.{Entry};
 ghost use Rattle.deriv_log.specs.declared.entry.Entry.TheVariants.{Start, Add, Point, Ray};
 ghost use Rattle.frac128.specs.declared.vectors.Spot.{Spot};
 ghost use Rattle.vlp_reader.specs.declared.problem.Problem.{Problem};
-ghost use Rattle.log_rules.specs.Events.{is_open, same_pairs};
-ghost use Rattle.log_rules.specs.Events.Event.{test};
-ghost use Rattle.log_rules.specs.Live.{State, after, nothing, preimages, required_pairs};
+ghost use Rattle.log_rules.specs.Events.{is_open};
+ghost use Rattle.log_rules.specs.Live.{State, after, cut_row, nothing, preimages, rows_in_use};
 ghost use Rattle.log_rules.specs.Meets.{MeetsStart};
 ghost use Rattle.log_rules.specs.Runs.{Runs, steps};
-ghost use Rattle.log_rules.specs.declared.rule.Rule.TheVariants as rule;
+ghost use Rattle.log_versions.specs.Hints.{least_hints};
 ghost use Rattle.log_live.specs.Adding.{IsAddition, IsChange, added_events, kept_of};
-ghost use Rattle.log_live.specs.Live.{HasPreimages, HasTightSet, IsListOf, IsOpenAt, StandsFor, live_of};
+ghost use Rattle.log_live.specs.Hinting.{PassesAddition, hinted_added_events};
+ghost use Rattle.log_live.specs.Live.{HasPreimages, IsListOf, IsOpenAt, StandsFor};
 
 use crate::adding::{keep_all, new_generators, number_behind};
+use crate::asking::{hints_told, test_hints, test_pairs};
 use crate::generator::{Generator, find};
-use crate::matching::has_pairs;
 use crate::starting::{start_direction, start_point};
 use crate::values::values_at;
 use deriv_log::LogPair;
 use frac128::{Frac, Sparse};
-use incid_sets::Marks;
-use log_rules::{Rule, Stop};
-use log_tests::{Steps, pass};
+use log_rules::Stop;
+use log_tests::Steps;
 use src_sink::{Items, NoMemory};
 use std::alloc::Global;
 use std::mem::replace;
 
-/// The live generators of a log behind some of its entries, each with the rows in use that are tight at it and the
-/// pre-image that it has.
+/// The live generators of a log behind some of its entries, each with the rows in use that are
+/// tight at it and the pre-image that it has.
 #[derive(Debug, Drop)]
 pub struct Live {
     /// They stand by rising numbers.
@@ -41,7 +40,7 @@ pub struct Live {
     pub next: u32,
 }
 
-/// What an `add` entry changes.
+/// What an `add` or `addh` entry changes.
 #[derive(Debug, Drop)]
 pub struct Change {
     /// The values of the row at the live generators.
@@ -50,52 +49,6 @@ pub struct Change {
     pub made: Vec<Generator>,
     /// The number that the next new one gets.
     pub next: u32,
-}
-
-/// The empty set of rows in use; where there are no generators, of none.
-fn no_rows(alloc: Global, generators: &[Generator]) -> Result<Marks, NoMemory>
-    requires { (rows : List (List ℚ)) × All (HasTightSet rows) generators.now }
-    ensures { IfOk result (λ marks. All (λ g. length g.tight ≡ length marks) generators.now) }
-{
-    let mut bound = 0;
-    if !generators.is_empty() {
-        bound = generators[0].tight.bound();
-    }
-    Marks::new(alloc, bound)
-}
-
-/// Whether the pairs are those that a row with these values asks for.
-fn are_asked(
-    alloc: Global,
-    generators: &[Generator],
-    values: &[Frac],
-    pairs: &[LogPair],
-) -> Result<bool, NoMemory>
-    requires values { length values.now ≡ length generators.now }
-    requires rows { (rows : List (List ℚ)) × All (HasTightSet rows) generators.now }
-    ensures { (rows : List (List ℚ)) (row : List ℚ) → All (HasTightSet rows) generators.now → values.now ≡ map (λ g. dot row g.vector) generators.now
-        → IfOk result (λ answer. answer ≡ same_pairs pairs.now (required_pairs rows (live_of generators.now) row)) }
-{
-    let common = no_rows(alloc, generators)?;
-    has_pairs(alloc, generators, values, pairs, common)
-}
-
-/// The test that the pairs are those that a row with these values asks for.
-fn test_pairs(
-    alloc: Global,
-    generators: &[Generator],
-    values: &[Frac],
-    pairs: &[LogPair],
-) -> Result<(), Stop>
-    requires values { length values.now ≡ length generators.now }
-    requires rows { (rows : List (List ℚ)) × All (HasTightSet rows) generators.now }
-    ensures { (rows : List (List ℚ)) (row : List ℚ) (taken : ℕ) → All (HasTightSet rows) generators.now → values.now ≡ map (λ g. dot row g.vector) generators.now
-        → Runs is_held (test rule.Pairs (same_pairs pairs.now (required_pairs rows (live_of generators.now) row)) ∷ []) taken taken (λ _. ⊤) result }
-{
-    match are_asked(alloc, generators, values, pairs) {
-        Ok(asked) => pass(Rule::Pairs, asked),
-        Err(_) => Err(Stop::NoMemory),
-    }
 }
 
 /// Whether each has a pre-image.
@@ -109,7 +62,8 @@ impl Live {
     /// No generators, as before a `start`.
     pub fn none(alloc: Global) -> Live
         ensures list { (q : ℕ) (s : State) → s.list ≡ nothing.list → IsListOf q s result }
-        ensures preimages { (before : List Entry) → ((k : ℕ) → 1 ≤ k → preimages before k ≡ []) → HasPreimages before result }
+        ensures preimages { (before : List Entry) → ((k : ℕ) → 1 ≤ k → preimages before k ≡ [])
+            → HasPreimages before result }
     {
         Live {
             generators: Vec::new(alloc),
@@ -117,8 +71,8 @@ impl Live {
         }
     }
 
-    /// The generators of a `start` entry that meets its rules: its point and the direction of each of
-    /// its `count` cuts. No product is computed.
+    /// The generators of a `start` entry that meets its rules: its point and the direction of each
+    /// of its `count` cuts. No product is computed.
     pub fn start(
         alloc: Global,
         q: u32,
@@ -129,10 +83,13 @@ impl Live {
         requires few { q ≤ 100000 }
         requires many { count ≤ 100000 }
         requires entries { length directions.now ≡ count * q }
-        ensures list { (file : Problem) (before : List Entry) (s : State) (cuts : List ℕ) → file.objs ≡ q → length cuts ≡ count
+        ensures list { (file : Problem) (before : List Entry) (s : State) (cuts : List ℕ)
+            → file.objs ≡ q → length cuts ≡ count
             → MeetsStart file before s cuts point.now directions.now
-            → IfOk result (IsListOf file.objs (after file.objs s (Start cuts point.now directions.now))) }
-        ensures preimages { (before : List Entry) → ((k : ℕ) → 1 ≤ k → preimages before k ≡ []) → IfOk result (HasPreimages before) }
+            → IfOk result
+            (IsListOf file.objs (after file.objs s (Start cuts point.now directions.now))) }
+        ensures preimages { (before : List Entry) → ((k : ℕ) → 1 ≤ k → preimages before k ≡ [])
+            → IfOk result (HasPreimages before) }
     {
         let mut generators = Vec::new(alloc);
         generators.push(start_point(alloc, count, point)?)?;
@@ -156,9 +113,12 @@ impl Live {
         gamma: Frac,
         pairs: &[LogPair],
     ) -> Result<Change, Stop>
-        requires addition { (file : Problem) × (s : State) × (cut : ℕ) × IsAddition file s cut w.now gamma self.now }
-        ensures { (file : Problem) (s : State) (cut : ℕ) → IsAddition file s cut w.now gamma self.now
-            → Runs is_held (added_events file.objs s cut pairs.now) 0 (steps (added_events file.objs s cut pairs.now))
+        requires addition { (file : Problem) × (s : State) × (cut : ℕ)
+            × IsAddition file s cut w.now gamma self.now }
+        ensures { (file : Problem) (s : State) (cut : ℕ)
+            → IsAddition file s cut w.now gamma self.now
+            → Runs is_held (added_events file.objs s cut pairs.now) 0
+            (steps (added_events file.objs s cut pairs.now))
             (IsChange file.objs s cut pairs.now self.now) result }
     {
         let first_new = self.next;
@@ -180,11 +140,52 @@ impl Live {
         Ok(Change { values, made, next })
     }
 
-    /// Drops the generators at which the row of the change is negative, gives the others the row, and lists the new ones.
+    /// What an `addh` entry changes, by its events behind the test of its number.
+    fn change_hinted(
+        &self,
+        alloc: Global,
+        w: &[Frac],
+        gamma: Frac,
+        pairs: &[LogPair],
+        hints: &[u32],
+    ) -> Result<Change, Stop>
+        requires addition { (file : Problem) × (s : State) × (cut : ℕ)
+            × IsAddition file s cut w.now gamma self.now }
+        ensures { (file : Problem) (s : State) (cut : ℕ)
+            → IsAddition file s cut w.now gamma self.now
+            → Runs is_held (hinted_added_events file.objs s cut pairs.now hints.now) 0
+            (steps (hinted_added_events file.objs s cut pairs.now hints.now))
+            (IsChange file.objs s cut pairs.now self.now) result }
+    {
+        let behind_all = self.next;
+        let generators = self.generators.as_slice();
+        let mut counter = Steps { taken: 0 };
+        let values = values_at(alloc, &mut counter, w, gamma, generators)?;
+        let at_row = values.as_slice();
+        test_hints(alloc, generators, at_row, pairs, hints)?;
+        let made = new_generators(
+            alloc,
+            &mut counter,
+            w.len(),
+            generators,
+            at_row,
+            pairs,
+            behind_all,
+        )?;
+        let next = number_behind(behind_all, pairs.len())?;
+        Ok(Change { values, made, next })
+    }
+
+    /// Drops the generators at which the row of the change is negative, gives the others the row,
+    /// and lists the new ones.
     fn take(&mut self, alloc: Global, change: Change) -> Result<(), NoMemory>
         requires { length change.values ≡ length self.old.generators.items }
-        ensures { (row : List ℚ) → change.values ≡ map (λ g. dot row g.vector) self.old.generators.items
-            → OnOk result ((self.new.generators.items ≡ kept_of row self.old.generators.items ++ change.made.items) × (self.new.next ≡ change.next)) }
+        ensures { (row : List ℚ)
+            → change.values ≡ map (λ g. dot row g.vector) self.old.generators.items
+            → OnOk result
+            ((self.new.generators.items
+            ≡ kept_of row self.old.generators.items ++ change.made.items)
+            × (self.new.next ≡ change.next)) }
     {
         let Change { values, made, next } = change;
         let mut made = made;
@@ -195,10 +196,11 @@ impl Live {
         Ok(())
     }
 
-    /// The events of an `add` entry behind the test of its number, for the cut `w.y >= gamma`: its values at the live
-    /// generators, the test of the pairs, and the new generators. Those at which it is negative are dropped, and the
-    /// others keep their pre-images. Behind an error the value is of no use. The cost is at the worst that of the
-    /// opposite pairs times the generators times the words of a tight set.
+    /// The events of an `add` entry behind the test of its number, for the cut `w.y >= gamma`: its
+    /// values at the live generators, the test of the pairs, and the new generators. Those at which
+    /// it is negative are dropped, and the others keep their pre-images. Behind an error the value
+    /// is of no use. The cost is at the worst that of the opposite pairs times the generators times
+    /// the words of a tight set; most pairs are decided by counts of tight rows.
     pub fn add(
         &mut self,
         alloc: Global,
@@ -206,11 +208,15 @@ impl Live {
         gamma: Frac,
         pairs: &[LogPair],
     ) -> Result<(), Stop>
-        requires addition { (file : Problem) × (s : State) × (cut : ℕ) × IsAddition file s cut w.now gamma self.old }
-        ensures runs { (file : Problem) (s : State) (cut : ℕ) → IsAddition file s cut w.now gamma self.old
-            → Runs is_held (added_events file.objs s cut pairs.now) 0 (steps (added_events file.objs s cut pairs.now))
+        requires addition { (file : Problem) × (s : State) × (cut : ℕ)
+            × IsAddition file s cut w.now gamma self.old }
+        ensures runs { (file : Problem) (s : State) (cut : ℕ)
+            → IsAddition file s cut w.now gamma self.old
+            → Runs is_held (added_events file.objs s cut pairs.now) 0
+            (steps (added_events file.objs s cut pairs.now))
             (λ _. IsListOf file.objs (after file.objs s (Add cut pairs.now)) self.new) result }
-        ensures preimages { (file : Problem) (s : State) (cut : ℕ) (before : List Entry) → IsAddition file s cut w.now gamma self.old → HasPreimages before self.old
+        ensures preimages { (file : Problem) (s : State) (cut : ℕ) (before : List Entry)
+            → IsAddition file s cut w.now gamma self.old → HasPreimages before self.old
             → OnOk result (HasPreimages (before ++ Add cut pairs.now ∷ []) self.new) }
     {
         let change = self.change_at(alloc, w, gamma, pairs)?;
@@ -220,13 +226,72 @@ impl Live {
         }
     }
 
-    /// The place of the live generator of this number, if it has this t and no pre-image yet: 1 for the generator of a
-    /// `point` entry, 0 for that of a `ray`. The cost is the logarithm of the number of generators.
+    /// The events of an `addh` entry behind the test of its number: as `add`, but each opposite
+    /// pair that is not listed has a hint, a third live generator that covers it, and is not
+    /// searched for.
+    pub fn add_hinted(
+        &mut self,
+        alloc: Global,
+        w: &[Frac],
+        gamma: Frac,
+        pairs: &[LogPair],
+        hints: &[u32],
+    ) -> Result<(), Stop>
+        requires addition { (file : Problem) × (s : State) × (cut : ℕ)
+            × IsAddition file s cut w.now gamma self.old }
+        ensures runs { (file : Problem) (s : State) (cut : ℕ)
+            → IsAddition file s cut w.now gamma self.old
+            → Runs is_held (hinted_added_events file.objs s cut pairs.now hints.now) 0
+            (steps (hinted_added_events file.objs s cut pairs.now hints.now))
+            (λ _. IsListOf file.objs (after file.objs s (Add cut pairs.now)) self.new) result }
+        ensures preimages { (file : Problem) (s : State) (cut : ℕ) (before : List Entry)
+            → IsAddition file s cut w.now gamma self.old → HasPreimages before self.old
+            → OnOk result (HasPreimages (before ++ Add cut pairs.now ∷ []) self.new) }
+    {
+        let change = self.change_hinted(alloc, w, gamma, pairs, hints)?;
+        match self.take(alloc, change) {
+            Ok(()) => Ok(()),
+            Err(_) => Err(Stop::NoMemory),
+        }
+    }
+
+    /// The least hints of an addition that passes: for each opposite pair that is not listed, in
+    /// their order, the least generator that covers it. It costs the opposite pairs times the
+    /// places of these generators.
+    pub fn least_hints(
+        &self,
+        alloc: Global,
+        w: &[Frac],
+        gamma: Frac,
+        pairs: &[LogPair],
+    ) -> Result<Items<u32>, NoMemory>
+        requires { (file : Problem) × (s : State) × (cut : ℕ)
+            × PassesAddition file s cut w.now gamma pairs.now self.now }
+        ensures { (file : Problem) (s : State) (cut : ℕ)
+            → PassesAddition file s cut w.now gamma pairs.now self.now
+            → IfOk result (λ hints. hints
+            ≡ least_hints (rows_in_use file.objs s) s.list.live (cut_row s cut) pairs.now) }
+    {
+        // Generators have numbers below this one, so there are few enough to count the steps.
+        let _next = self.next;
+        let generators = self.generators.as_slice();
+        let mut counter = Steps { taken: 0 };
+        match values_at(alloc, &mut counter, w, gamma, generators) {
+            Ok(values) => hints_told(alloc, generators, values.as_slice(), pairs),
+            Err(_) => Err(NoMemory),
+        }
+    }
+
+    /// The place of the live generator of this number, if it has this t and no pre-image yet: 1 for
+    /// the generator of a `point` entry, 0 for that of a `ray`. The cost is the logarithm of the
+    /// number of generators.
     pub fn place_open(&self, number: u32, t: Frac) -> Option<usize>
         requires standing { (file : Problem) × (s : State) × StandsFor file s self.now }
-        ensures some { (file : Problem) (s : State) (before : List Entry) → StandsFor file s self.now → HasPreimages before self.now
+        ensures some { (file : Problem) (s : State) (before : List Entry)
+            → StandsFor file s self.now → HasPreimages before self.now
             → IfSome result (IsOpenAt file.objs before s number t self.now) }
-        ensures none { (file : Problem) (s : State) (before : List Entry) → StandsFor file s self.now → HasPreimages before self.now
+        ensures none { (file : Problem) (s : State) (before : List Entry)
+            → StandsFor file s self.now → HasPreimages before self.now
             → IfNone result (is_open file.objs before s.list.live number t ≡ false) }
     {
         let place = find(&self.generators, number)?;
@@ -243,11 +308,15 @@ impl Live {
     pub fn set_preimage(&mut self, place: usize, x: Sparse)
         requires { place < length self.old.generators.items }
         ensures list { (q : ℕ) (s : State) → IsListOf q s self.old → IsListOf q s self.new }
-        ensures point { (file : Problem) (s : State) (before : List Entry) (k : ℕ) (t : ℚ) (m : List Spot)
-            → StandsFor file s self.old → HasPreimages before self.old → IsOpenAt file.objs before s k t self.old place
+        ensures point { (file : Problem) (s : State) (before : List Entry) (k : ℕ) (t : ℚ)
+            (m : List Spot)
+            → StandsFor file s self.old → HasPreimages before self.old
+            → IsOpenAt file.objs before s k t self.old place
             → HasPreimages (before ++ Point k x m ∷ []) self.new }
-        ensures ray { (file : Problem) (s : State) (before : List Entry) (k : ℕ) (t : ℚ) (m : List Spot)
-            → StandsFor file s self.old → HasPreimages before self.old → IsOpenAt file.objs before s k t self.old place
+        ensures ray { (file : Problem) (s : State) (before : List Entry) (k : ℕ) (t : ℚ)
+            (m : List Spot)
+            → StandsFor file s self.old → HasPreimages before self.old
+            → IsOpenAt file.objs before s k t self.old place
             → HasPreimages (before ++ Ray k x m ∷ []) self.new }
     {
         let generator = &mut self.generators[place];
@@ -256,7 +325,8 @@ impl Live {
 
     /// Whether each live generator has a pre-image.
     pub fn are_reached(&self) -> bool
-        ensures { (q : ℕ) (s : State) (before : List Entry) → IsListOf q s self.now → HasPreimages before self.now
+        ensures { (q : ℕ) (s : State) (before : List Entry) → IsListOf q s self.now
+            → HasPreimages before self.now
             → result ≡ list_all (λ g. not (length (preimages before g.number) == 0)) s.list.live }
     {
         are_given(&self.generators)

@@ -20,8 +20,9 @@ ghost use Rattle.vlp_matrices.specs.Sheets.{IsSheetOf};
 ghost use Rattle.log_live.specs.Live.{IsOpenAt, live_of};
 ghost use Rattle.log_live.specs.Tight.{AreTight, is_accounted_at};
 ghost use Rattle.log_live.specs.declared.generator.Generator.{Generator};
+ghost use Rattle.log_versions.specs.WrittenEvents.{hinted_events};
 ghost use Rattle.log_solved.specs.Places.{place_of};
-ghost use Rattle.log_solved.specs.Solving.{IsSolving, StandsBefore};
+ghost use Rattle.log_solved.specs.Solving.{IsSolving, StandsBefore, PassesAdd, hints_of};
 ghost use Rattle.log_solved.specs.Uses.{AreUses};
 
 use crate::shown::{shows_point, shows_ray};
@@ -203,6 +204,48 @@ impl Solving {
             Ok(()) => Ok(()),
             Err(NoMemory) => Err(Stop::NoMemory),
         }
+    }
+
+    /// The events of an `addh` entry. What stands behind it is what stands behind an `add` of its pairs.
+    pub fn add_hinted(
+        &mut self,
+        alloc: Global,
+        cut: u32,
+        pairs: &[LogPair],
+        hints: &[u32],
+    ) -> Result<(), Stop>
+        requires { (file : Problem) × ((before : List Entry) × StandsBefore file before order.add self.old) }
+        ensures { (file : Problem) (before : List Entry) → StandsBefore file before order.add self.old
+            → Runs is_held (hinted_events file (state file.objs before) cut pairs.now hints.now) 0 (steps (hinted_events file (state file.objs before) cut pairs.now hints.now))
+            (λ _. IsSolving file (before ++ entry.Add cut pairs.now ∷ []) self.new) result }
+    {
+        pass(Rule::Index, self.is_unused(cut))?;
+        let row = &self.cuts[cut as usize - 1];
+        self.live
+            .add_hinted(alloc, row.w.as_slice(), row.gamma, pairs, hints)?;
+        self.sets = None;
+        match self.uses.bring(cut) {
+            Ok(()) => Ok(()),
+            Err(NoMemory) => Err(Stop::NoMemory),
+        }
+    }
+
+    /// The least hints of an `add` entry that passes: for each opposite pair that it does not list, in
+    /// their order, the least generator that covers it. They cost the opposite pairs times the
+    /// generators in front of those.
+    pub fn least_hints(
+        &self,
+        alloc: Global,
+        cut: u32,
+        pairs: &[LogPair],
+    ) -> Result<Items<u32>, NoMemory>
+        requires { (file : Problem) × (before : List Entry) × PassesAdd file before cut pairs.now self.now }
+        ensures { (file : Problem) (before : List Entry) → PassesAdd file before cut pairs.now self.now
+            → IfOk result (λ hints. hints ≡ hints_of file before cut pairs.now) }
+    {
+        let row = &self.cuts[cut as usize - 1];
+        self.live
+            .least_hints(alloc, row.w.as_slice(), row.gamma, pairs)
     }
 
     /// Gives the generator at a place a copy of its pre-image.

@@ -1,0 +1,66 @@
+-- An entry that names a shared vector.
+use Rattle.std.proofs.Common.{◌≡◌, ℕ, ◌≤◌, List, [], ◌∷◌, ◌++◌, length, sym, ap, ◌∙◌, subst, Bool, ◌&&◌, nat_le, None}
+use Rattle.std.specs.Prelude.{Result}
+use Rattle.std.proofs.lemmas.Bool.{leb-true}
+use Rattle.frac128.specs.Held.{is_held}
+use Rattle.frac128.specs.declared.vectors.Spot.{Spot}
+use Rattle.polyhedra.proofs.Tests.{both_true}
+use Rattle.vlp_reader.specs.declared.problem.Problem.{Problem}
+use Rattle.deriv_log.specs.declared.entry.Entry.{Entry}
+use Rattle.log_rules.specs.Events.{Event, first_failure}
+use Rattle.log_rules.specs.Events.Event.{test}
+use Rattle.log_rules.specs.Runs.{Runs, Stops, steps}
+use Rattle.log_rules.specs.declared.rule.Rule.TheVariants as rule
+use Rattle.log_rules.specs.declared.stop.Stop.{Stop}
+use Rattle.log_tests.proofs.Going.{test-passed}
+use Rattle.log_solved.specs.Solving.{IsSolving}
+use Rattle.log_solved.specs.declared.solving.Solving.{Solving}
+use Rattle.log_versions.specs.Plain.{shares, plain_entry, plain}
+use Rattle.log_versions.specs.WrittenEvents.{is_there, written_kind_events}
+use Rattle.log_versions.proofs.PlainLogs.{plain-push}
+use Rattle.cert_check.specs.Taking.{Takes}
+use Rattle.cert_check.proofs.Taking.{stops_first, runs_behind}
+
+-- a number that passed its test
+pub is_number : (b : Bool) (k n : ℕ) → b ≡ (nat_le 1 k && nat_le k n) →
+    first_failure is_held 1 (test rule.Index b ∷ []) ≡ None → (1 ≤ k) × (k ≤ n)
+is_number b k n same none =
+    let both = both_true (nat_le 1 k) (nat_le k n) (sym same ∙ test-passed 1 rule.Index b none) in
+    (leb-true 1 k both.0, leb-true k n both.1)
+
+-- the test among the vectors that are kept is that among those of the entries
+pub there : (b : Bool) (k : ℕ) (before : List Entry) (vectors : List (List Spot)) →
+    b ≡ (nat_le 1 k && nat_le k (length vectors)) → vectors ≡ shares before →
+    b ≡ (nat_le 1 k && nat_le k (length (shares before)))
+there b k before vectors h same =
+    h ∙ ap (λ (vs : List (List Spot)). nat_le 1 k && nat_le k (length vs)) same
+
+pub not_there : (b : Bool) (k : ℕ) (before : List Entry) (vectors : List (List Spot)) →
+    b ≡ (nat_le 1 k && nat_le k (length vectors)) → vectors ≡ shares before →
+    (es : List Event) (stop : Stop) → Stops is_held (test rule.Index b ∷ []) 0 stop →
+    Stops is_held (is_there before k ∷ es) 0 stop
+not_there b k before vectors h same es stop stops =
+    stops_first rule.Index b (nat_le 1 k && nat_le k (length (shares before)))
+    (there b k before vectors h same) es stop stops
+
+-- the entry does what its plain entry does, behind the test that the vector is there
+pub took_sharing : (file : Problem) (before : List Entry) (e p : Entry) (k : ℕ) (solving : Solving)
+    (result : Result (Unit {0}) Stop) →
+    plain_entry (shares before) e ≡ p ∷ [] → plain_entry (shares before) p ≡ p ∷ [] →
+    written_kind_events file before e ≡ is_there before k ∷ written_kind_events file before p →
+    (b : Bool) → b ≡ (nat_le 1 k && nat_le k (length (shares before))) →
+    first_failure is_held 1 (test rule.Index b ∷ []) ≡ None →
+    Takes file before p solving result → Takes file before e solving result
+took_sharing file before e p k solving result plainly itself tests b same none h =
+    let plain_same : plain (before ++ p ∷ []) ≡ plain (before ++ e ∷ []) =
+    plain-push before p ∙ ap (λ (es : List Entry). plain before ++ es) (itself ∙ sym plainly)
+    ∙ sym (plain-push before e) in
+    let behind = runs_behind rule.Index b (nat_le 1 k && nat_le k (length (shares before))) same
+    (written_kind_events file before p) none
+    (IsSolving file (plain (before ++ p ∷ [])) solving) result h in
+    subst (λ (es : List Event). Runs is_held es 0 (steps es)
+    (λ _. IsSolving file (plain (before ++ e ∷ [])) solving) result) (sym tests)
+    (subst (λ (es : List Entry). Runs is_held
+    (is_there before k ∷ written_kind_events file before p) 0
+    (steps (written_kind_events file before p)) (λ _. IsSolving file es solving) result)
+    plain_same behind)

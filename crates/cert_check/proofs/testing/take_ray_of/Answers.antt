@@ -1,0 +1,56 @@
+use Rattle.std.proofs.Common.{◌∙◌, sym, ap, subst, refl, rules, [], ◌∷◌}
+use Rattle.frac128.specs.Sparse.{IsSparse}
+use Rattle.deriv_log.specs.declared.entry.Entry.TheVariants.{Ray, RayOf}
+use Rattle.log_versions.specs.Plain.{shares, shared, plain}
+use Rattle.log_versions.specs.WrittenEvents.{written_kind_events}
+use Rattle.cert_check.proofs.OneEntry.{took_as, took_plainly}
+use Rattle.cert_check.proofs.Sharing.{there, is_number, not_there, took_sharing}
+use Rattle.cert_check.proofs.testing.take_ray_of.Goals as goal
+
+pub at-requires-clause-least : goal.at-requires-clause-least
+at-requires-clause-least c =
+    (is_number c.has.result c.args.share _ c.has.ensures (c.in_ok-pass.ensures 0).0).0
+
+pub at-requires-clause-most : goal.at-requires-clause-most
+at-requires-clause-most c =
+    (is_number c.has.result c.args.share _ c.has.ensures (c.in_ok-pass.ensures 0).0).1
+
+pub certify_ray-requires-clause-sheet : goal.certify_ray-requires-clause-sheet
+certify_ray-requires-clause-sheet c = c.requires.may.1.knows.sheet
+
+pub certify_ray-requires-clause-preimage : goal.certify_ray-requires-clause-preimage
+certify_ray-requires-clause-preimage c =
+    subst IsSparse (sym c.as_slice-x.ensures.items) c.at.ensures.sparse
+
+pub certify_ray-requires-clause-multipliers : goal.certify_ray-requires-clause-multipliers
+certify_ray-requires-clause-multipliers c =
+    subst IsSparse (sym c.as_slice.ensures.items) c.requires.multipliers
+
+pub certify_ray-requires-clause-standing : goal.certify_ray-requires-clause-standing
+certify_ray-requires-clause-standing c = let from = c.requires.may in (plain from.0, from.1.stands)
+
+pub returns-in_err-pass : goal.returns-in_err-pass
+returns-in_err-pass c = λ before may.
+    let stopped = not_there c.has.result c.args.share before c.args.known.now.shares c.has.ensures
+    may.knows.shares
+    (written_kind_events c.args.problem.now before
+    (Ray c.args.generator (shared (shares before) c.args.share) c.args.m.now))
+    c.in_err-pass.field-0.0 (c.in_err-pass.ensures 0) in
+    search (stopped, rules)
+
+pub returns : goal.returns
+returns c = λ before may.
+    let file = c.args.problem.now in
+    let e = Ray c.args.generator c.as_slice-x.result.now c.as_slice.result.now in
+    let p = Ray c.args.generator (shared (shares before) c.args.share) c.args.m.now in
+    let same = c.as_slice-x.ensures.items ∙ c.at.ensures.value
+    ∙ ap (λ vs. shared vs c.args.share) may.knows.shares in
+    took_sharing file before (RayOf c.args.generator c.args.share c.args.m.now) p c.args.share
+    c.certify_ray.new.self c.certify_ray.result refl refl refl
+    c.has.result
+    (there c.has.result c.args.share before c.args.known.now.shares c.has.ensures may.knows.shares)
+    (c.in_ok-pass.ensures 0).0
+    (took_as file before e p c.certify_ray.new.self c.certify_ray.result
+    (λ i. Ray c.args.generator (same i) (c.as_slice.ensures.items i))
+    (took_plainly file before e (e ∷ []) c.certify_ray.new.self c.certify_ray.result refl
+    (c.certify_ray.ensures (plain before) may.stands)))

@@ -1,0 +1,101 @@
+use Rattle.std.proofs.Common.{◌∙◌, sym, subst, refl, arith, [], ◌∷◌}
+use Rattle.frac128.specs.Sparse.{IsSparse}
+use Rattle.deriv_log.specs.declared.entry.Entry.TheVariants.{Duality, Point, Ray, Farkas}
+use Rattle.log_versions.specs.Plain.{plain}
+use Rattle.cert_check.proofs.OneEntry.{sparse_at, took, took_as, took_plainly, kind_as}
+use Rattle.cert_check.proofs.testing.take_witness.Goals as goal
+
+pub certify_point-requires-clause-sheet : goal.certify_point-requires-clause-sheet
+certify_point-requires-clause-sheet c = c.requires.may.1.knows.sheet
+
+pub certify_point-requires-clause-preimage : goal.certify_point-requires-clause-preimage
+certify_point-requires-clause-preimage c =
+    subst IsSparse (sym c.as_slice-in-Point.ensures.items)
+    (sparse_at c.args.entry.now (Point c.in-Point.generator c.in-Point.x c.in-Point.m) c.in-Point.is
+    c.requires.formed 1 (omega arith) c.in-Point.x refl)
+
+pub certify_point-requires-clause-multipliers : goal.certify_point-requires-clause-multipliers
+certify_point-requires-clause-multipliers c =
+    subst IsSparse (sym c.as_slice-in-Point-2.ensures.items)
+    (sparse_at c.args.entry.now (Point c.in-Point.generator c.in-Point.x c.in-Point.m) c.in-Point.is
+    c.requires.formed 2 (omega arith) c.in-Point.m refl)
+
+pub certify_point-requires-clause-standing : goal.certify_point-requires-clause-standing
+certify_point-requires-clause-standing c =
+    let from = c.requires.may in (
+      plain from.0,
+      (kind_as c.args.problem.now from.0 c.args.entry.now
+          (Point c.in-Point.generator c.in-Point.x c.in-Point.m) c.args.known.now c.args.solving.now
+          c.in-Point.is from.1).stands,
+    )
+
+pub certify_ray-requires-clause-sheet : goal.certify_ray-requires-clause-sheet
+certify_ray-requires-clause-sheet c = c.requires.may.1.knows.sheet
+
+pub certify_ray-requires-clause-preimage : goal.certify_ray-requires-clause-preimage
+certify_ray-requires-clause-preimage c =
+    subst IsSparse (sym c.as_slice-in-Ray.ensures.items)
+    (sparse_at c.args.entry.now (Ray c.in-Ray.generator c.in-Ray.x c.in-Ray.m) c.in-Ray.is
+    c.requires.formed 1 (omega arith) c.in-Ray.x refl)
+
+pub certify_ray-requires-clause-multipliers : goal.certify_ray-requires-clause-multipliers
+certify_ray-requires-clause-multipliers c =
+    subst IsSparse (sym c.as_slice-in-Ray-2.ensures.items)
+    (sparse_at c.args.entry.now (Ray c.in-Ray.generator c.in-Ray.x c.in-Ray.m) c.in-Ray.is
+    c.requires.formed 2 (omega arith) c.in-Ray.m refl)
+
+pub certify_ray-requires-clause-standing : goal.certify_ray-requires-clause-standing
+certify_ray-requires-clause-standing c =
+    let from = c.requires.may in (
+      plain from.0,
+      (kind_as c.args.problem.now from.0 c.args.entry.now
+          (Ray c.in-Ray.generator c.in-Ray.x c.in-Ray.m) c.args.known.now c.args.solving.now
+          c.in-Ray.is from.1).stands,
+    )
+
+pub returns-in-Duality : goal.returns-in-Duality
+returns-in-Duality c = λ before may.
+    let file = c.args.problem.now in
+    let e = Duality c.as_slice.result.now c.as_slice-in-Duality.result.now
+    c.as_slice-in-Duality-2.result.now c.as_slice-in-Duality-3.result.now in
+    took_as file before e c.args.entry.now c.args.solving.now c.check_duality.result
+    ((λ i. Duality (c.as_slice.ensures.items i) (c.as_slice-in-Duality.ensures.items i)
+    (c.as_slice-in-Duality-2.ensures.items i) (c.as_slice-in-Duality-3.ensures.items i))
+    ∙ sym c.in-Duality.is)
+    (took file before e e c.args.solving.now c.check_duality.result refl (λ q st. refl) refl
+    (λ k. refl) may.stands.solving c.check_duality.ensures)
+
+pub returns-in-Point : goal.returns-in-Point
+returns-in-Point c = λ before may.
+    let file = c.args.problem.now in
+    let e = Point c.in-Point.generator c.as_slice-in-Point.result.now
+    c.as_slice-in-Point-2.result.now in
+    let here = kind_as file before c.args.entry.now
+    (Point c.in-Point.generator c.in-Point.x c.in-Point.m) c.args.known.now c.args.solving.now
+    c.in-Point.is may in
+    took_as file before e c.args.entry.now c.certify_point.new.self c.certify_point.result
+    ((λ i. Point c.in-Point.generator (c.as_slice-in-Point.ensures.items i)
+    (c.as_slice-in-Point-2.ensures.items i)) ∙ sym c.in-Point.is)
+    (took_plainly file before e (e ∷ []) c.certify_point.new.self c.certify_point.result refl
+    (c.certify_point.ensures (plain before) here.stands))
+
+pub returns-in-Ray : goal.returns-in-Ray
+returns-in-Ray c = λ before may.
+    let file = c.args.problem.now in
+    let e = Ray c.in-Ray.generator c.as_slice-in-Ray.result.now c.as_slice-in-Ray-2.result.now in
+    let here = kind_as file before c.args.entry.now (Ray c.in-Ray.generator c.in-Ray.x c.in-Ray.m)
+    c.args.known.now c.args.solving.now c.in-Ray.is may in
+    took_as file before e c.args.entry.now c.certify_ray.new.self c.certify_ray.result
+    ((λ i. Ray c.in-Ray.generator (c.as_slice-in-Ray.ensures.items i)
+    (c.as_slice-in-Ray-2.ensures.items i)) ∙ sym c.in-Ray.is)
+    (took_plainly file before e (e ∷ []) c.certify_ray.new.self c.certify_ray.result refl
+    (c.certify_ray.ensures (plain before) here.stands))
+
+pub returns-in-Farkas : goal.returns-in-Farkas
+returns-in-Farkas c = λ before may.
+    let file = c.args.problem.now in
+    let e = Farkas c.as_slice-in-Farkas.result.now in
+    took_as file before e c.args.entry.now c.args.solving.now c.check_farkas.result
+    ((λ i. Farkas (c.as_slice-in-Farkas.ensures.items i)) ∙ sym c.in-Farkas.is)
+    (took file before e e c.args.solving.now c.check_farkas.result refl (λ q st. refl) refl
+    (λ k. refl) may.stands.solving c.check_farkas.ensures)
