@@ -25,7 +25,7 @@ described_words k file logs r (inl d) e = cc
 described_words k file logs r (inr d) e = cc
 
 described_quiet : (k : ℕ) (file : Problem) (r : Reply) → Describes k file false r → r.log ≡ None
-described_quiet k file r (inl d) = d.printed
+described_quiet k file r (inl d) = d.logged.printed
 described_quiet k file r (inr d) = d.told.no_log
 
 module _ (Layout : Problem → Type 0) (Set : List ℚ → Type 0) (n : ℕ) (r : Reply) where

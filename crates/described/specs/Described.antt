@@ -10,9 +10,10 @@ use Rattle.projected_answer.specs.Found.{IsProjectionFrom}
 use Rattle.projected_answer.specs.Right.{IsRightProjection}
 use Rattle.projected_answer.specs.Text.{projection_text}
 use Rattle.projected_answer.specs.declared.found.Projection.{Projection}
+use Rattle.solver.specs.Replies.{IsLogged}
 use Rattle.solver.specs.Solving.{IsSolutionOf}
 use Rattle.solver.specs.declared.end.Solution.{Solution}
-use Rattle.statuses.specs.Replies.{TellsFault, log_for}
+use Rattle.statuses.specs.Replies.{TellsFault}
 use Rattle.statuses.specs.declared.reply.Reply.{Reply}
 use Rattle.statuses.specs.declared.status.Status.TheVariants.{Done, Left}
 
@@ -29,7 +30,7 @@ pub record Described (k : ℕ) (file : Problem) (logs : Bool) (r : Reply) : Type
   pub from : IsProjectionFrom k solution.answer found
   pub right : IsRightProjection file k found
   pub text : r.text ≡ projection_text k found
-  pub printed : r.log ≡ log_for logs solution.entries
+  pub logged : IsLogged logs made solution r.log
 
 -- an operation whose exact result is not held is licensed for the associated problem
 pub record DescriptionStopped (k : ℕ) (file : Problem) (r : Reply) : Type 0 where

@@ -23,7 +23,7 @@ pub(crate) fn describe(alloc: Global, file: &Problem, k: u32, logs: bool) -> Res
         Ok(solution) => {
             let found = project_answer(alloc, k, &solution.answer)?;
             let text = projection_text(alloc, k, &found)?;
-            let log = log_text(alloc, &solution.entries, logs)?;
+            let log = log_text(alloc, &made, &solution, logs)?;
             let status = Status::Done;
             Ok(Reply { status, text, log })
         }

@@ -6,7 +6,7 @@ use Rattle.frac128.specs.Held.{is_held, held_zero}
 use Rattle.vlp_reader.specs.declared.problem.Problem.{Problem}
 use Rattle.deriv_log.specs.declared.entry.Entry.{Entry}
 use Rattle.deriv_log.specs.declared.licence.Place.TheVariants.{Step}
-use Rattle.log_rules.specs.Events.{log_failure}
+use Rattle.log_rules.specs.Events.{plain_failure}
 use Rattle.log_rules.specs.Events.Failure.{left as overflows}
 use Rattle.licence.specs.Licence.{IsOverflow}
 use Rattle.licence.specs.Operands.{Setting}
@@ -14,7 +14,7 @@ use Rattle.licence.proofs.Given.{overflow_laws}
 
 -- the overflow of the check of the trail, at its step, is one in any setting with this file and this trail
 pub check_overflows : (s : Setting) (file : Problem) (entries : List Entry) (number k : ℕ) (left : Left ℚ) → s.file ≡ file → s.trail ≡ entries →
-    log_failure is_held file entries ≡ Some (record { entry = number; failure = overflows k left.op left.a left.b }) →
+    plain_failure is_held file entries ≡ Some (record { entry = number; failure = overflows k left.op left.a left.b }) →
     IsOverflow is_held s (Step number k) left
 check_overflows s file entries number k left same trail h =
-    overflow_laws.check is_held s number k left.op left.a left.b held_zero (ap₂ (log_failure is_held) same trail ∙ h)
+    overflow_laws.check is_held s number k left.op left.a left.b held_zero (ap₂ (plain_failure is_held) same trail ∙ h)

@@ -77,6 +77,6 @@ unsolved_quiet file r unsolved =
 pub solve_quiet : (file : Problem) (r : Reply) → SolveVerdict false file r → r.log ≡ None
 solve_quiet file r verdict =
     elim verdict [
-      | inl solved ↦ solved.printed
+      | inl solved ↦ solved.logged.printed
       | inr unsolved ↦ unsolved_quiet file r unsolved
     ]

@@ -5,7 +5,7 @@ use Rattle.vlp_reader.specs.declared.problem.Problem.{Problem}
 use Rattle.deriv_log.specs.declared.entry.Entry.{Entry}
 use Rattle.deriv_log.specs.declared.licence.Licence.{Licence}
 use Rattle.deriv_log.specs.declared.licence.Place.TheVariants.{Step}
-use Rattle.log_rules.specs.Events.{log_failure}
+use Rattle.log_rules.specs.Events.{plain_failure}
 use Rattle.log_rules.specs.Events.Failure.{left as overflows}
 
 -- the licence of the first step of a log whose exact result is not held: its number in its entry,
@@ -13,7 +13,7 @@ use Rattle.log_rules.specs.Events.Failure.{left as overflows}
 pub record IsStepLicence (file : Problem) (entries : List Entry) (licence : Licence) : Type 0 where
   pub entry : ℕ
   pub step : ℕ
-  pub first : log_failure is_held file entries
+  pub first : plain_failure is_held file entries
       ≡ Some (record {
         entry = entry;
         failure = overflows step licence.left.op licence.left.a licence.left.b;

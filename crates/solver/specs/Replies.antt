@@ -1,9 +1,12 @@
 -- What is replied of a problem: its solution, or why there is none.
-use Rattle.std.specs.Prelude.{◌≡◌, ◌⊎◌, Bool}
+use Rattle.std.specs.Prelude.{◌≡◌, ◌⊎◌, ℕ, Bool, IsTrue, List, Option}
 use Rattle.frac128.specs.Held.{is_held}
 use Rattle.vlp_reader.specs.declared.problem.Problem.{Problem}
+use Rattle.deriv_log.specs.Formed.{IsLog}
 use Rattle.deriv_log.specs.declared.licence.Licence.{Licence}
 use Rattle.log_rules.specs.Report.{report_text}
+use Rattle.log_versions.specs.Upgrade.{upgraded}
+use Rattle.cert_check.specs.Verdict.{Accepts}
 use Rattle.cone_rules.specs.Faults.{HasFault}
 use Rattle.cone_rules.specs.declared.fault.ConeFault.{ConeFault as AConeFault}
 use Rattle.licence.specs.Licence.{LicensedAnyhow}
@@ -13,14 +16,22 @@ use Rattle.statuses.specs.declared.status.Status.TheVariants.{Done, ConeFault, L
 use Rattle.solver.specs.Solving.{IsSolutionOf}
 use Rattle.solver.specs.declared.end.Solution.{Solution}
 
+-- the log of a solution, where one is wanted: the text of the upgrade of its entries, which is a
+-- log of which no event fails, and proves the same answer
+pub record IsLogged (logs : Bool) (file : Problem) (s : Solution)
+    (log : Option (List ℕ)) : Type 0 where
+  pub printed : log ≡ log_for logs (upgraded file.objs s.entries)
+  pub is_log : IsTrue logs → IsLog (upgraded file.objs s.entries)
+  pub accepts : IsTrue logs → Accepts file (upgraded file.objs s.entries) s.answer
+
 -- there are a log's entries and an answer, which solve the problem: the text is the report of the
--- answer, and the log, where one is wanted, that of the entries
+-- answer, and the log, where one is wanted, is that of the solution
 pub record Solved (logs : Bool) (file : Problem) (r : Reply) : Type 0 where
   pub status : r.status ≡ Done
   pub solution : Solution
   pub right : IsSolutionOf file solution
   pub report : r.text ≡ report_text file solution.answer
-  pub printed : r.log ≡ log_for logs solution.entries
+  pub logged : IsLogged logs file solution r.log
 
 -- the ordering cone has this first fault
 pub record ConeRefused (file : Problem) (r : Reply) : Type 0 where

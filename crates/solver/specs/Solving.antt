@@ -5,6 +5,7 @@ use Rattle.frac128.specs.Held.{is_held}
 use Rattle.deriv_log.specs.Formed.{IsLog}
 use Rattle.vlp_reader.specs.declared.problem.Problem.{Problem}
 use Rattle.cone_rules.specs.Faults.{IsSound, HasFault}
+use Rattle.log_rules.specs.Proves.{PlainProves}
 use Rattle.cert_check.specs.Verdict.{Accepts}
 use Rattle.licence.specs.Licence.{LicensedAnyhow}
 use Rattle.solver.specs.declared.end.Solution.{Solution}
@@ -12,11 +13,12 @@ use Rattle.solver.specs.declared.end.SolveEnd.{SolveEnd}
 use Rattle.solver.specs.declared.end.SolveEnd.TheVariants.{Cone, Left, NoMemory}
 
 -- the ordering cone is sound, the entries are a log of which no event fails, and prove the answer,
--- which is right
+-- which is right; they are a plain log, without hints or shared vectors
 pub record IsSolutionOf (file : Problem) (s : Solution) : Type 0 where
   pub sound : IsSound file
   pub log : IsLog s.entries
   pub accepts : Accepts file s.entries s.answer
+  pub plainly : PlainProves file s.entries s.answer
 
 -- the first fault of the cone; or an overflow of an operation on numbers that these are, which is
 -- licensed; nothing of want of memory

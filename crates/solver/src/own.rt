@@ -2,7 +2,7 @@
 ghost use Rattle.std.specs.Prelude.{◌≡◌, IfErr, IfOk};
 ghost use Rattle.frac128.specs.Held.{is_held};
 ghost use Rattle.deriv_log.specs.Formed.{IsLog};
-ghost use Rattle.log_rules.specs.Proves.{AllMeet};
+ghost use Rattle.log_rules.specs.Proves.{AllMeet, PlainProves};
 ghost use Rattle.licence.specs.Operands.{Setting};
 ghost use Rattle.overflows.specs.Faults.{OnLicence, Overflows};
 ghost use Rattle.cert_check.specs.Verdict.{Accepts};
@@ -15,13 +15,14 @@ use overflows::SolveFault;
 use std::alloc::Global;
 use vlp_reader::Problem;
 
-/// The answer of a log that meets its rules. Where a step of the check overflows, the fault's
+/// The answer of a plain log that meets its rules. Where a step of the check overflows, the fault's
 /// licence has the whole log as its trail.
 pub fn check_own(alloc: Global, problem: &Problem, entries: Entries) -> Result<Solution, SolveFault>
     requires log { IsLog entries }
     requires meet { AllMeet problem.now entries }
     ensures same { IfOk result (λ checked. checked.entries ≡ entries) }
     ensures ok { IfOk result (λ checked. Accepts problem.now entries checked.answer) }
+    ensures plainly { IfOk result (λ checked. PlainProves problem.now entries checked.answer) }
     ensures first { IfErr result (λ fault. OnLicence fault (IsStepLicence problem.now entries)) }
     ensures licensed { IfErr result (λ fault. (s : Setting) → s.file ≡ problem.now →
         s.trail ≡ entries → Overflows is_held s entries fault) }

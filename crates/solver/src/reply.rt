@@ -1,26 +1,33 @@
 //! What is replied of a problem.
 ghost use Rattle.std.specs.Prelude.{◌≡◌, IfOk};
 ghost use Rattle.log_rules.specs.Report.{report_text};
-ghost use Rattle.solver.specs.Replies.{SolveVerdict, Unsolved};
-ghost use Rattle.solver.specs.Solving.{EndsSolving};
-ghost use Rattle.statuses.specs.Replies.{log_for};
+ghost use Rattle.solver.specs.Replies.{IsLogged, SolveVerdict, Unsolved};
+ghost use Rattle.solver.specs.Solving.{EndsSolving, IsSolutionOf};
 ghost use Rattle.vlp_reader.specs.declared.problem.Problem.{Problem as AProblem};
 
 use crate::answering::solve;
 use crate::end::{Solution, SolveEnd};
-use deriv_log::{Entries, print_log};
+use log_upgrade::upgrade_text;
 use sol_writer::report;
 use src_sink::{Bytes, NoMemory};
 use statuses::{Reply, Status, fault_reply};
 use std::alloc::Global;
 use vlp_reader::Problem;
 
-/// The log of a reply, where one is wanted.
-pub fn log_text(alloc: Global, entries: &Entries, logs: bool) -> Result<Option<Bytes>, NoMemory>
-    ensures { IfOk result (λ log. log ≡ log_for logs entries.now) }
+/// The log of a solution, where one is wanted: the text of the upgrade of its entries to version 2,
+/// which costs a check of the log once more. Where none is wanted it costs nothing.
+pub fn log_text(
+    alloc: Global,
+    file: &Problem,
+    solution: &Solution,
+    logs: bool,
+) -> Result<Option<Bytes>, NoMemory>
+    requires { IsSolutionOf file.now solution.now }
+    ensures { IfOk result (IsLogged logs file.now solution.now) }
 {
     if logs {
-        Ok(Some(print_log(alloc, entries)?))
+        let text = upgrade_text(alloc, file, &solution.entries)?;
+        Ok(Some(text))
     } else {
         Ok(None)
     }
@@ -33,14 +40,15 @@ fn solved_reply(
     solution: &Solution,
     logs: bool,
 ) -> Result<Reply, NoMemory>
+    requires { IsSolutionOf file.now solution.now }
     ensures status { IfOk result (λ r. r.status ≡ Status.Done) }
     ensures report { IfOk result (λ r. r.text ≡ report_text file.now solution.now.answer) }
-    ensures log { IfOk result (λ r. r.log ≡ log_for logs solution.now.entries) }
+    ensures log { IfOk result (λ r. IsLogged logs file.now solution.now r.log) }
 {
     Ok(Reply {
         status: Status::Done,
         text: report(alloc, file, &solution.answer)?,
-        log: log_text(alloc, &solution.entries, logs)?,
+        log: log_text(alloc, file, solution, logs)?,
     })
 }
 
@@ -55,8 +63,8 @@ pub fn unsolved_reply(alloc: Global, end: SolveEnd) -> Result<Reply, NoMemory>
     }
 }
 
-/// Solves a problem, and tells its answer with the log that proves it or without, or why there is
-/// none.
+/// Solves a problem, and tells its answer, with the log of version 2 that proves it or without, or
+/// why there is none.
 pub fn solve_reply(alloc: Global, file: &Problem, logs: bool) -> Result<Reply, NoMemory>
     ensures { IfOk result (SolveVerdict logs file.now) }
 {

@@ -8,7 +8,7 @@ use Rattle.polyhedra.proofs.Lists.{Contains-here, Contains-there}
 use Rattle.vlp_reader.specs.declared.problem.Problem.{Problem}
 use Rattle.upper_image.specs.UpperImage.{IsInImage}
 use Rattle.deriv_log.specs.declared.entry.Entry.{Entry}
-use Rattle.log_rules.specs.Proves.{Proves}
+use Rattle.log_rules.specs.Proves.{PlainProves}
 use Rattle.log_rules.specs.Right.{places_from, IsSolution}
 use Rattle.log_rules.specs.declared.answer.Answer.TheVariants.{Infeasible, Whole, Solved}
 use Rattle.log_rules.specs.declared.answer.Facet.{Facet}
@@ -48,7 +48,7 @@ stands_at (v ∷ vs) zero h = Contains-here v vs v refl
 stands_at (v ∷ vs) (suc k) h = Contains-there v vs (slice_index_or vs k []) (stands_at vs k (omega arith))
 
 module _ (file : Problem) (entries : List Entry) (c : List ℚ) (ls : List LineGen) (points directions : List Gen) (facets : List Facet)
-    (proves : Proves file entries (Solved c ls points directions facets)) where
+    (proves : PlainProves file entries (Solved c ls points directions facets)) where
   right : IsSolution file c ls points directions facets
   right = proved_is_right file entries (Solved c ls points directions facets) proves
 

@@ -16,7 +16,7 @@ use Rattle.vlp_reader.specs.declared.problem.Problem.{Problem}
 use Rattle.deriv_log.specs.declared.entry.Entry.{Entry}
 use Rattle.log_rules.specs.Laws.{listed, named_cuts}
 use Rattle.log_rules.specs.Live.{state, in_use, live_vectors, lines}
-use Rattle.log_rules.specs.Proves.{Proves, GivesSolution}
+use Rattle.log_rules.specs.Proves.{PlainProves, GivesSolution}
 use Rattle.log_rules.specs.Right.{stated}
 use Rattle.log_rules.specs.declared.answer.Answer.TheVariants.{Solved}
 use Rattle.log_rules.specs.declared.answer.Gen.{Gen}
@@ -46,7 +46,7 @@ same_normals file (f ∷ facets) y =
 
 -- the facets of the answer solve the image
 answer_solved : (file : Problem) (entries : List Entry) (c : List ℚ) (ls : List LineGen) (points directions : List Gen) (facets : List Facet) →
-    Proves file entries (Solved c ls points directions facets) →
+    PlainProves file entries (Solved c ls points directions facets) →
     IsSolvedAlong file.objs (IsInWorkingImage file) (IsWorkingDirection file) c (lines entries) (in_use (state file.objs entries)) (live_vectors (state file.objs entries))
     (map (turned file.dir) (map (λ (g : Gen). g.y) points)) (map (turned file.dir) (map (λ (g : Gen). g.y) directions)) (map (working file) (map stated facets))
 answer_solved file entries c ls points directions facets proves =

@@ -7,7 +7,7 @@ use Rattle.polyhedra.specs.Hull.{IsInHull}
 use Rattle.vlp_reader.specs.declared.problem.Problem.{Problem}
 use Rattle.upper_image.specs.UpperImage.{signed, IsInImage}
 use Rattle.deriv_log.specs.declared.entry.Entry.{Entry}
-use Rattle.log_rules.specs.Proves.{Proves}
+use Rattle.log_rules.specs.Proves.{PlainProves}
 use Rattle.log_rules.specs.Right.{places_from, IsRight, IsSolution}
 use Rattle.log_rules.specs.declared.answer.Answer.{Answer}
 use Rattle.log_rules.specs.declared.answer.Answer.TheVariants.{Solved}
@@ -42,7 +42,7 @@ tight_normals facets y = map (λ f. f.w) (filter (λ f. same_ℚ (dot f.w y) f.g
 abbrev pub WeightsAreHull : Type 0
 WeightsAreHull = (file : Problem) (entries : List Entry) (c : List ℚ) (ls : List LineGen)
     (points directions : List Gen) (facets : List Facet) →
-    Proves file entries (Solved c ls points directions facets) →
+    PlainProves file entries (Solved c ls points directions facets) →
     (w y : List ℚ) → length w ≡ file.objs → dot w c ≡ one_ℚ → IsInImage file y →
     IsLowest file w (dot w y) ↔ IsInHull file.objs (tight_normals facets y) [] [] w
 
@@ -57,4 +57,4 @@ WeightSetsAreTight = (file : Problem) (c : List ℚ) (ls : List LineGen)
 -- so the facets that are told of a point are those whose normals make it least
 abbrev pub ProvedAreWeightSets : Type 0
 ProvedAreWeightSets = (file : Problem) (entries : List Entry) (answer : Answer) →
-    Proves file entries answer → AreWeightSets file answer
+    PlainProves file entries answer → AreWeightSets file answer

@@ -19,9 +19,9 @@ returns-in-Ok c =
       from = c.in_ok-found-in-Ok.ensures;
       right =
           found_is_right c.args.k file made solution.entries solution.answer found c.requires.columns
-          c.in_ok-made.ensures c.in-Ok.ensures.ok.accepts.proves c.in_ok-found-in-Ok.ensures;
+          c.in_ok-made.ensures c.in-Ok.ensures.ok.plainly c.in_ok-found-in-Ok.ensures;
       text = c.in_ok-text-in-Ok.ensures;
-      printed = c.in_ok-log-in-Ok.ensures;
+      logged = c.in_ok-log-in-Ok.ensures;
     })
 
 pub returns : goal.returns

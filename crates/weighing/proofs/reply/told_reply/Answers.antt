@@ -9,7 +9,7 @@ returns c = λ file right.
       status = refl;
       solution = solution;
       right = right;
-      sets = proved_are_weight_sets file solution.entries solution.answer right.accepts.proves;
+      sets = proved_are_weight_sets file solution.entries solution.answer right.plainly;
       text = c.in_ok-weights_text.ensures;
       no_log = refl;
     }

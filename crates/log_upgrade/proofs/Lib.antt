@@ -1,0 +1,6 @@
+pub mod SameVectors
+pub mod Standings
+pub mod Steps
+pub mod Walking
+pub mod Whole
+pub mod WrittenEntries

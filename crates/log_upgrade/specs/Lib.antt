@@ -1,0 +1,4 @@
+pub mod Repeats
+pub mod Upgrades
+pub mod Vectors
+pub mod Walk

@@ -1,0 +1,239 @@
+//! The walk along the entries of a log that makes its upgrade.
+ghost use Rattle.std.specs.Prelude.{◌≡◌, ◌<◌, ◌++◌, ◌∷◌, [], List, IsTrue, IfOk, OnOk, Some, None};
+ghost use Rattle.std.specs.List.{list_all};
+ghost use Rattle.frac128.specs.declared.vectors.Spot.{Spot};
+ghost use Rattle.vlp_reader.specs.declared.problem.Problem.{Problem};
+ghost use Rattle.deriv_log.specs.Formed.{is_formed, is_short};
+ghost use Rattle.src_sink.specs.Texts.{line_text};
+ghost use Rattle.deriv_log.specs.LogText.{entry_words, log_text};
+ghost use Rattle.deriv_log.specs.declared.entry.Entry.{Entry};
+ghost use Rattle.log_versions.specs.Upgrade.{body, naming, more_shared};
+ghost use Rattle.log_upgrade.specs.Repeats.{AreStandings};
+ghost use Rattle.log_upgrade.specs.Walk.{in_place, placed, IsNext, StandsAt, IsUpgraded};
+ghost use Rattle.log_upgrade.specs.declared.repeats.Repeats.{Repeats};
+
+use crate::repeats::{Place, Repeats, vector_of};
+use cert_check::Checker;
+use deriv_log::{Entries, Entry, LogPair, print_line};
+use frac128::Spot;
+use src_sink::{Bytes, Items, NoMemory};
+use std::alloc::Global;
+use vlp_reader::Problem;
+
+/// What stands in the place of an entry.
+#[derive(Drop)]
+pub(crate) enum Upgraded {
+    /// The entry itself.
+    Same,
+    /// Another entry.
+    Changed(Entry),
+    /// An entry that shares its vector, and one that names it.
+    Shared(Entry, Entry),
+}
+
+/// A list with these items.
+fn listed<T: Copy + Drop>(alloc: Global, items: &[T]) -> Result<Items<T>, NoMemory>
+    ensures { IfOk result (λ list. list ≡ items.now) }
+{
+    let mut list = Items::new(alloc);
+    list.append(items)?;
+    Ok(list)
+}
+
+/// The entry with a shared vector in place of its own.
+fn named(alloc: Global, entry: &Entry, share: u32) -> Result<Entry, NoMemory>
+    ensures { IfOk result (λ other. other ≡ naming share entry.now) }
+{
+    match entry {
+        Entry::Cut { w, gamma, v, .. } => Ok(Entry::CutOf {
+            w: listed(alloc, w.as_slice())?,
+            gamma: *gamma,
+            share,
+            v: listed(alloc, v.as_slice())?,
+        }),
+        Entry::Point { generator, m, .. } => Ok(Entry::PointOf {
+            generator: *generator,
+            share,
+            m: listed(alloc, m.as_slice())?,
+        }),
+        Entry::Ray { generator, m, .. } => Ok(Entry::RayOf {
+            generator: *generator,
+            share,
+            m: listed(alloc, m.as_slice())?,
+        }),
+        _ => entry.copied(alloc),
+    }
+}
+
+/// An entry that has its vector at this place.
+fn at_place(
+    alloc: Global,
+    entry: &Entry,
+    vector: &[Spot],
+    place: Place,
+) -> Result<Upgraded, NoMemory>
+    requires formed { IsTrue (is_formed entry.now) }
+    requires vector { body entry.now ≡ Some vector.now }
+    ensures is { IfOk result (λ upgraded. in_place entry.now upgraded ≡ placed vector.now entry.now place) }
+    ensures formed { IfOk result (λ upgraded. IsTrue (list_all is_formed (in_place entry.now upgraded))) }
+{
+    match place {
+        Place::Own => Ok(Upgraded::Same),
+        Place::First(share) => {
+            let first = Entry::Share {
+                v: listed(alloc, vector)?,
+            };
+            Ok(Upgraded::Shared(first, named(alloc, entry, share)?))
+        }
+        Place::Again(share) => Ok(Upgraded::Changed(named(alloc, entry, share)?)),
+    }
+}
+
+/// Each number can be written in a log.
+fn are_short(numbers: &[u32])
+    ensures { IsTrue (list_all is_short numbers.now) }
+{}
+
+/// An `add` with its hints.
+fn hinted(alloc: Global, cut: u32, pairs: &[LogPair], hints: Items<u32>) -> Result<Entry, NoMemory>
+    requires { IsTrue (is_formed (Entry.Add cut pairs.now)) }
+    ensures is { IfOk result (λ entry. entry ≡ Entry.AddHints cut pairs.now hints) }
+    ensures formed { IfOk result (λ entry. IsTrue (is_formed entry)) }
+{
+    are_short(hints.as_slice());
+    Ok(Entry::AddHints {
+        cut,
+        pairs: listed(alloc, pairs)?,
+        hints,
+    })
+}
+
+/// What stands in the place of an entry that has no vector to share.
+fn with_hints(alloc: Global, checker: &Checker, entry: &Entry) -> Result<Upgraded, NoMemory>
+    requires none { body entry.now ≡ None }
+    requires next { (file : Problem) × (all before : List Entry) × (vectors : List (List Spot)) × (after : List Entry) × (repeats : Repeats)
+        × IsNext file all before vectors entry.now after checker.now repeats }
+    ensures { (file : Problem) (all before : List Entry) (vectors : List (List Spot)) (after : List Entry) (repeats : Repeats)
+        → IsNext file all before vectors entry.now after checker.now repeats
+        → IfOk result (IsUpgraded file.objs all before vectors entry.now) }
+{
+    match entry {
+        Entry::Version(_) => Ok(Upgraded::Changed(Entry::Version(2))),
+        Entry::Add { cut, pairs } => {
+            let hints = checker.least_hints(alloc, *cut, pairs.as_slice())?;
+            Ok(Upgraded::Changed(hinted(alloc, *cut, pairs.as_slice(), hints)?))
+        }
+        _ => Ok(Upgraded::Same),
+    }
+}
+
+/// What stands in the place of the next entry.
+fn in_upgrade<'a>(
+    alloc: Global,
+    checker: &Checker,
+    repeats: &mut Repeats<'a>,
+    entry: &'a Entry,
+) -> Result<Upgraded, NoMemory>
+    requires { (file : Problem) × (all before : List Entry) × (vectors : List (List Spot)) × (after : List Entry)
+        × IsNext file all before vectors entry.now after checker.now repeats.old }
+    ensures is { (file : Problem) (all before : List Entry) (vectors : List (List Spot)) (after : List Entry)
+        → IsNext file all before vectors entry.now after checker.now repeats.old
+        → IfOk result (IsUpgraded file.objs all before vectors entry.now) }
+    ensures standings { (file : Problem) (all before : List Entry) (vectors : List (List Spot)) (after : List Entry)
+        → IsNext file all before vectors entry.now after checker.now repeats.old
+        → OnOk result (AreStandings all (more_shared all vectors entry.now) repeats.new) }
+{
+    match vector_of(entry) {
+        Some(vector) => {
+            let place = repeats.take(vector)?;
+            at_place(alloc, entry, vector, place)
+        }
+        None => with_hints(alloc, checker, entry),
+    }
+}
+
+/// What is known behind some entries of a log.
+#[derive(Drop)]
+pub(crate) struct Upgrader<'a> {
+    checker: Checker,
+    repeats: Repeats<'a>,
+}
+
+impl<'a> Upgrader<'a> {
+    /// Before the first of these entries.
+    pub(crate) fn new(
+        alloc: Global,
+        problem: &Problem,
+        entries: &'a [Entry],
+    ) -> Result<Upgrader<'a>, NoMemory>
+        ensures { IfOk result (StandsAt problem.now entries.now [] []) }
+    {
+        Ok(Upgrader {
+            checker: Checker::new(alloc, problem)?,
+            repeats: Repeats::of(alloc, entries)?,
+        })
+    }
+
+    /// What stands in the place of the next entry. Its copies are all that it takes memory for, besides the hints.
+    pub(crate) fn take(
+        &mut self,
+        alloc: Global,
+        problem: &Problem,
+        entry: &'a Entry,
+    ) -> Result<Upgraded, NoMemory>
+        requires { (all before : List Entry) × (vectors : List (List Spot)) × (after : List Entry)
+            × IsNext problem.now all before vectors entry.now after self.old.checker self.old.repeats }
+        ensures is { (all before : List Entry) (vectors : List (List Spot)) (after : List Entry)
+            → IsNext problem.now all before vectors entry.now after self.old.checker self.old.repeats
+            → IfOk result (IsUpgraded problem.now.objs all before vectors entry.now) }
+        ensures stands { (all before : List Entry) (vectors : List (List Spot)) (after : List Entry)
+            → IsNext problem.now all before vectors entry.now after self.old.checker self.old.repeats
+            → OnOk result (StandsAt problem.now all (before ++ entry.now ∷ []) (more_shared all vectors entry.now) self.new) }
+    {
+        let upgraded = in_upgrade(alloc, &self.checker, &mut self.repeats, entry)?;
+        self.checker.take(alloc, problem, entry)?;
+        Ok(upgraded)
+    }
+}
+
+/// Puts the line of an entry behind a text, and lets the entry go.
+fn print_made(entry: Entry, text: &mut Bytes) -> Result<(), NoMemory>
+    ensures { OnOk result (text.new ≡ text.old ++ line_text (entry_words entry)) }
+{
+    print_line(&entry, text)
+}
+
+impl Upgraded {
+    /// Appends it to the entries of an upgrade.
+    pub(crate) fn put(
+        self,
+        alloc: Global,
+        entry: &Entry,
+        upgrade: &mut Entries,
+    ) -> Result<(), NoMemory>
+        ensures { OnOk result (upgrade.new ≡ upgrade.old ++ in_place entry.now self) }
+    {
+        match self {
+            Upgraded::Same => upgrade.push(entry.copied(alloc)?),
+            Upgraded::Changed(other) => upgrade.push(other),
+            Upgraded::Shared(share, other) => {
+                upgrade.push(share)?;
+                upgrade.push(other)
+            }
+        }
+    }
+
+    /// Puts its lines behind a text.
+    pub(crate) fn print(self, entry: &Entry, text: &mut Bytes) -> Result<(), NoMemory>
+        ensures { OnOk result (text.new ≡ text.old ++ log_text (in_place entry.now self)) }
+    {
+        match self {
+            Upgraded::Same => print_line(entry, text),
+            Upgraded::Changed(other) => print_made(other, text),
+            Upgraded::Shared(share, other) => {
+                print_made(share, text)?;
+                print_made(other, text)
+            }
+        }
+    }
+}
