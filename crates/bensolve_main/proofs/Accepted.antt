@@ -1,12 +1,13 @@
 -- The log that `solve FILE LOG` writes is accepted by `check FILE LOG`, with the same report.
-use Rattle.std.proofs.Common.{◌≡◌, ℕ, ◌≤◌, List, length, Option, Some, None, true, false, inl, inr, subst, sym, ◌∙◌, ap, arith}
+use Rattle.std.proofs.Common.{◌≡◌, ℕ, ◌≤◌, List, length, Option, Some, None, true, false, refl, inl, inr, subst, sym, ◌∙◌, ap, arith}
 use Rattle.vlp_reader.specs.FirstFault.{Reads}
 use Rattle.vlp_reader.specs.declared.problem.Problem.{Problem}
 use Rattle.deriv_log.specs.Laws.{IsTextOf}
 use Rattle.deriv_log.specs.LogText.{log_text}
 use Rattle.deriv_log.specs.declared.entry.Entry.{Entry}
 use Rattle.deriv_log.proofs.Laws.{one_reading}
-use Rattle.log_rules.specs.Proves.{Proves}
+use Rattle.log_versions.specs.Upgrade.{upgraded}
+use Rattle.log_versions.specs.Written.{Proves}
 use Rattle.commands.specs.Tasks.{Shape, shape}
 use Rattle.commands.specs.Tasks.Task.{check, solve}
 use Rattle.commands.specs.Tasks.Files.{logged}
@@ -123,21 +124,22 @@ solved_accepted : (file : Problem) (r : Reply) (v w : World) → GoodFile file v
     Solved true file r → DeliversWith r.log Done r.text Done v w → WritesAccepted v w
 solved_accepted file r v w good solved delivers =
     let s = solved.solution in
-    let written = both_written r.text (log_text s.entries) v w
-    (subst (λ (l : Option (List ℕ)). DeliversWith l Done r.text Done v w) solved.printed delivers) in
+    let entries = upgraded file.objs s.entries in
+    let written = both_written r.text (log_text entries) v w
+    (subst (λ (l : Option (List ℕ)). DeliversWith l Done r.text Done v w) solved.logged.printed delivers) in
     record {
       problem = good.bytes;
       read = good.read;
       report = r.text;
       reported = written.0;
-      log = log_text s.entries;
+      log = log_text entries;
       logged = written.1;
-      accepted = accepted_as r.text good.bytes s.entries (record {
+      accepted = accepted_as r.text good.bytes entries (record {
         within = good.read.within;
         file = file;
         reads = good.reads;
-        passes = λ g reads. subst (λ (t : List ℕ). PassesAs t g s.entries) (sym solved.report)
-            (is_accepted file s solved.right good.bytes g good.reads reads);
+        passes = λ g reads. subst (λ (t : List ℕ). PassesAs t g entries) (sym solved.report)
+            (is_accepted file s solved.right good.bytes g good.reads reads (solved.logged.is_log refl));
       });
     }
 

@@ -5,5 +5,6 @@ mod Outcomes
 mod Complete
 mod Accepted
 mod Stages
+mod Relogged
 mod Sampled
 mod Commands

@@ -3,7 +3,7 @@
 use Rattle.std.proofs.Common.{◌≡◌, ℕ, List, Bool, false, None}
 use Rattle.vlp_reader.specs.declared.problem.Problem.{Problem}
 use Rattle.commands.specs.Tasks.{Task}
-use Rattle.commands.specs.Tasks.Task.{check, solve, sample, project, associate, meet, sum, join, map, weights, weigh}
+use Rattle.commands.specs.Tasks.Task.{check, relog, solve, sample, project, associate, meet, sum, join, map, weights, weigh}
 use Rattle.solver.proofs.Replies.{solve_answered, solve_never_words, solve_quiet}
 use Rattle.described.proofs.Answered.{project_answered, project_never_words, project_quiet, associate_answered, associate_never_words, associate_quiet, meet_answered, meet_never_words, meet_quiet, sum_answered, sum_never_words, sum_quiet, join_answered, join_never_words, join_quiet, map_answered, map_never_words, map_quiet}
 use Rattle.weighing.proofs.Answered.{weights_answered, weights_never_words, weights_quiet, weigh_answered, weigh_never_words, weigh_quiet}
@@ -11,12 +11,13 @@ use Rattle.statuses.specs.declared.reply.Reply.{Reply}
 use Rattle.statuses.specs.declared.status.Status.TheVariants.{Done, Words}
 use Rattle.bensolve_main.specs.Answerable.{AnswersAlone, AnswersFile, AnswersTwo}
 use Rattle.bensolve_main.specs.Tasks.{TellsAlone, TellsFile, TellsLog, TellsTwo}
-use Rattle.bensolve_main.proofs.Checks.{Passing, check_answered, check_never_words, check_quiet, sample_answered, sample_never_words, sample_quiet}
+use Rattle.bensolve_main.proofs.Checks.{Passing, check_answered, check_never_words, check_quiet, relog_answered, relog_never_words, relog_quiet, sample_answered, sample_never_words, sample_quiet}
 
 -- ---- with an answer
 pub alone_answered : (t : Task) (r : Reply) → AnswersAlone t → TellsAlone t r → r.status ≡ Done
 alone_answered (sample n) r h v = sample_answered n r h v
 alone_answered check r h v = absurd v
+alone_answered relog r h v = absurd v
 alone_answered solve r h v = absurd v
 alone_answered (project k) r h v = absurd v
 alone_answered (associate k) r h v = absurd v
@@ -35,6 +36,7 @@ file_answered map logs file r h v = map_answered file r h v
 file_answered weights logs file r h v = weights_answered file r h v
 file_answered (weigh w) logs file r h v = weigh_answered w file r h v
 file_answered check logs file r h v = absurd v
+file_answered relog logs file r h v = absurd v
 file_answered (sample n) logs file r h v = absurd v
 file_answered meet logs file r h v = absurd v
 file_answered sum logs file r h v = absurd v
@@ -42,6 +44,7 @@ file_answered join logs file r h v = absurd v
 
 pub log_answered : (t : Task) (file : Problem) (bytes : List ℕ) (r : Reply) → Passing file bytes → TellsLog t file bytes r → r.status ≡ Done
 log_answered check file bytes r h v = check_answered file bytes r h v
+log_answered relog file bytes r h v = relog_answered file bytes r h v
 log_answered solve file bytes r h v = absurd v
 log_answered (sample n) file bytes r h v = absurd v
 log_answered (project k) file bytes r h v = absurd v
@@ -58,6 +61,7 @@ two_answered meet a b r h v = meet_answered a b r h v
 two_answered sum a b r h v = sum_answered a b r h v
 two_answered join a b r h v = join_answered a b r h v
 two_answered check a b r h v = absurd v
+two_answered relog a b r h v = absurd v
 two_answered solve a b r h v = absurd v
 two_answered (sample n) a b r h v = absurd v
 two_answered (project k) a b r h v = absurd v
@@ -70,6 +74,7 @@ two_answered (weigh w) a b r h v = absurd v
 pub alone_never_words : (t : Task) (r : Reply) → TellsAlone t r → Words ≡ r.status → ⊥
 alone_never_words (sample n) r v same = sample_never_words n r v same
 alone_never_words check r v same = v
+alone_never_words relog r v same = v
 alone_never_words solve r v same = v
 alone_never_words (project k) r v same = v
 alone_never_words (associate k) r v same = v
@@ -88,6 +93,7 @@ file_never_words map logs file r v same = map_never_words file r v same
 file_never_words weights logs file r v same = weights_never_words file r v same
 file_never_words (weigh w) logs file r v same = weigh_never_words w file r v same
 file_never_words check logs file r v same = v
+file_never_words relog logs file r v same = v
 file_never_words (sample n) logs file r v same = v
 file_never_words meet logs file r v same = v
 file_never_words sum logs file r v same = v
@@ -95,6 +101,7 @@ file_never_words join logs file r v same = v
 
 pub log_never_words : (t : Task) (file : Problem) (bytes : List ℕ) (r : Reply) → TellsLog t file bytes r → Words ≡ r.status → ⊥
 log_never_words check file bytes r v same = check_never_words file bytes r v same
+log_never_words relog file bytes r v same = relog_never_words file bytes r v same
 log_never_words solve file bytes r v same = v
 log_never_words (sample n) file bytes r v same = v
 log_never_words (project k) file bytes r v same = v
@@ -111,6 +118,7 @@ two_never_words meet a b r v same = meet_never_words a b r v same
 two_never_words sum a b r v same = sum_never_words a b r v same
 two_never_words join a b r v same = join_never_words a b r v same
 two_never_words check a b r v same = v
+two_never_words relog a b r v same = v
 two_never_words solve a b r v same = v
 two_never_words (sample n) a b r v same = v
 two_never_words (project k) a b r v same = v
@@ -123,6 +131,7 @@ two_never_words (weigh w) a b r v same = v
 pub alone_quiet : (t : Task) (r : Reply) → TellsAlone t r → r.log ≡ None
 alone_quiet (sample n) r v = sample_quiet n r v
 alone_quiet check r v = absurd v
+alone_quiet relog r v = absurd v
 alone_quiet solve r v = absurd v
 alone_quiet (project k) r v = absurd v
 alone_quiet (associate k) r v = absurd v
@@ -141,6 +150,7 @@ file_quiet map file r v = map_quiet file r v
 file_quiet weights file r v = weights_quiet file r v
 file_quiet (weigh w) file r v = weigh_quiet w file r v
 file_quiet check file r v = absurd v
+file_quiet relog file r v = absurd v
 file_quiet (sample n) file r v = absurd v
 file_quiet meet file r v = absurd v
 file_quiet sum file r v = absurd v
@@ -148,6 +158,7 @@ file_quiet join file r v = absurd v
 
 pub log_quiet : (t : Task) (file : Problem) (bytes : List ℕ) (r : Reply) → TellsLog t file bytes r → r.log ≡ None
 log_quiet check file bytes r v = check_quiet file bytes r v
+log_quiet relog file bytes r v = relog_quiet file bytes r v
 log_quiet solve file bytes r v = absurd v
 log_quiet (sample n) file bytes r v = absurd v
 log_quiet (project k) file bytes r v = absurd v
@@ -164,6 +175,7 @@ two_quiet meet a b r v = meet_quiet a b r v
 two_quiet sum a b r v = sum_quiet a b r v
 two_quiet join a b r v = join_quiet a b r v
 two_quiet check a b r v = absurd v
+two_quiet relog a b r v = absurd v
 two_quiet solve a b r v = absurd v
 two_quiet (sample n) a b r v = absurd v
 two_quiet (project k) a b r v = absurd v

@@ -6,7 +6,7 @@ use Rattle.vlp_reader.specs.FirstFault.{Reads}
 use Rattle.vlp_reader.specs.declared.problem.Problem.{Problem}
 use Rattle.deriv_log.specs.Laws.{IsTextOf}
 use Rattle.deriv_log.specs.declared.entry.Entry.{Entry}
-use Rattle.log_rules.specs.Events.{log_failure}
+use Rattle.log_versions.specs.WrittenEvents.{log_failure}
 use Rattle.commands.specs.Paths.{writes_log}
 use Rattle.commands.specs.Tasks.{Task, Shape}
 use Rattle.commands.specs.Tasks.Task.{solve, sample, project, associate, meet, sum, join, map, weights, weigh}

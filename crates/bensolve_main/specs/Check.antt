@@ -8,13 +8,13 @@ use Rattle.deriv_log.specs.declared.entry.Entry.{Entry}
 use Rattle.deriv_log.specs.declared.fault.LogFault.{LogFault as ALogFault}
 use Rattle.deriv_log.specs.declared.licence.Licence.{Licence}
 use Rattle.deriv_log.specs.declared.licence.Place.TheVariants.{Step}
-use Rattle.log_rules.specs.Events.{log_failure}
 use Rattle.log_rules.specs.Events.Failure.{wrong, left}
-use Rattle.log_rules.specs.Proves.{Proves}
 use Rattle.log_rules.specs.Report.{report_text}
 use Rattle.log_rules.specs.Right.{IsRight}
 use Rattle.log_rules.specs.declared.answer.Answer.{Answer}
 use Rattle.log_rules.specs.declared.rule.Rule.{Rule}
+use Rattle.log_versions.specs.Written.{Proves}
+use Rattle.log_versions.specs.WrittenEvents.{log_failure}
 use Rattle.statuses.specs.Replies.{TellsFault}
 use Rattle.statuses.specs.declared.reply.Reply.{Reply}
 use Rattle.statuses.specs.declared.status.LogRefusal.TheVariants.{Text, Wrong}

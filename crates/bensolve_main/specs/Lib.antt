@@ -6,6 +6,7 @@ pub mod World
 pub mod Deliver
 pub mod Reading
 pub mod Check
+pub mod Relog
 pub mod Sample
 pub mod Tasks
 pub mod Outcome

@@ -10,12 +10,12 @@ use Rattle.statuses.specs.declared.status.Status.{Status}
 use Rattle.statuses.specs.declared.status.Status.TheVariants.{FileFault, ReadFault, TooLong}
 use Rattle.bensolve_main.specs.World.{Channel, ReadPast, ReadFailed}
 
--- the most bytes that are read of a problem, and of a log: 16 MiB and 256 MiB
+-- the most bytes that are read of a problem, and of a log: 16 MiB and 384 MiB
 abbrev pub problem_limit : ℕ
 problem_limit = 16777216
 
 abbrev pub log_limit : ℕ
-log_limit = 268435456
+log_limit = 402653184
 
 -- a problem was read to its end, and reads as this file
 pub record GoodFile (file : Problem) (old new : Channel) : Type 0 where

@@ -12,17 +12,17 @@ use Rattle.cert_check.specs.declared.fault.StreamEnd.{StreamEnd}
 use Rattle.cert_check.specs.declared.fault.StreamEnd.TheVariants as end
 use Rattle.commands.specs.Tasks.{Files, Shape, Task}
 use Rattle.commands.specs.Tasks.Files.{none, one, two, logged}
-use Rattle.commands.specs.Tasks.Task.{check, project, associate, weigh}
+use Rattle.commands.specs.Tasks.Task.{project, associate, weigh}
 use Rattle.commands.specs.Weights.{are_weights}
 use Rattle.statuses.specs.Replies.{TellsFault}
 use Rattle.statuses.specs.declared.reply.Reply.{Reply}
 use Rattle.statuses.specs.declared.status.LogRefusal.TheVariants.{Text, Wrong}
 use Rattle.statuses.specs.declared.status.Status.{Status}
 use Rattle.statuses.specs.declared.status.Status.TheVariants.{FileFault, SecondFile, Left, NoMemory, ReadFault, Refused, TooLong}
-use Rattle.bensolve_main.specs.Check.{CheckVerdict}
+use Rattle.bensolve_main.specs.Check.{NoLog, FailsAt, StopsAt}
 use Rattle.bensolve_main.specs.Outcome.{RepliesTo, HaltsFor}
 use Rattle.bensolve_main.specs.Reading.{problem_limit, log_limit, GoodFile, TooMuch, NoFile, FileRefused, SourceFailed}
-use Rattle.bensolve_main.specs.Tasks.{Texts, texts_of, TellsFile, TellsTwo}
+use Rattle.bensolve_main.specs.Tasks.{Texts, texts_of, TellsFile, TellsLog, TellsTwo}
 use Rattle.bensolve_main.specs.Tasks.Texts.{nothing, problem, problem_and_log, two_problems}
 use Rattle.bensolve_main.specs.World.{Channel, Sources}
 use Rattle.bensolve_main.specs.declared.reading.ProblemEnd.{ProblemEnd}
@@ -55,6 +55,9 @@ ReadsNothing t = texts_of t ≡ nothing
 
 abbrev pub ReadsProblem : Task → Type 0
 ReadsProblem t = texts_of t ≡ problem
+
+abbrev pub ReadsLog : Task → Type 0
+ReadsLog t = texts_of t ≡ problem_and_log
 
 abbrev pub ReadsTwo : Task → Type 0
 ReadsTwo t = texts_of t ≡ two_problems
@@ -98,11 +101,15 @@ abbrev pub HaltsEnd : StreamEnd → Status → Type 0
 HaltsEnd e s = (s ≡ NoMemory) ⊎ ((e ≡ end.Fault) × (s ≡ ReadFault true))
 
 -- ---- what is told of the text after a problem
-abbrev pub LogTold : Problem → Reply → Channel → Channel → Type 0
-LogTold file r old new =
+-- of the bytes of a log that gives no answer
+abbrev pub RefusesLog : Problem → List ℕ → Reply → Type 0
+RefusesLog file bytes r = NoLog bytes r ⊎ (FailsAt file bytes r ⊎ StopsAt file bytes r)
+
+abbrev pub LogTold : Task → Problem → Reply → Channel → Channel → Type 0
+LogTold t file r old new =
     TooMuch true log_limit r old new
     ⊎ ((bytes : List ℕ) × ReadsWhole old.bytes new.bytes log_limit bytes
-    × CheckVerdict file bytes r)
+    × TellsLog t file bytes r)
 
 abbrev pub SecondTold : Task → Problem → Reply → Channel → Channel → Type 0
 SecondTold t first r old new =
@@ -114,11 +121,11 @@ abbrev pub FileTold : Task → Bool → Reply → Channel → Channel → Type 0
 FileTold t logs r old new =
     FileRefused r old new ⊎ ((file : Problem) × GoodFile file old new × TellsFile t logs file r)
 
-abbrev pub CheckTold : Reply → Sources → Sources → Type 0
-CheckTold r old new = RepliesTo problem_and_log check false r old new
+abbrev pub WithLogTold : Task → Reply → Sources → Sources → Type 0
+WithLogTold t r old new = RepliesTo problem_and_log t false r old new
 
-abbrev pub CheckHalts : Status → Sources → Sources → Type 0
-CheckHalts s old new = HaltsFor problem_and_log s old new
+abbrev pub WithLogHalts : Status → Sources → Sources → Type 0
+WithLogHalts s old new = HaltsFor problem_and_log s old new
 
 abbrev pub TwoTold : Task → Reply → Sources → Sources → Type 0
 TwoTold t r old new = RepliesTo two_problems t false r old new

@@ -2,13 +2,14 @@
 use Rattle.std.specs.Prelude.{ℕ, Bool, List}
 use Rattle.vlp_reader.specs.declared.problem.Problem.{Problem}
 use Rattle.commands.specs.Tasks.{Task}
-use Rattle.commands.specs.Tasks.Task.{check, solve, sample, project, associate, meet, sum, join, map, weights, weigh}
+use Rattle.commands.specs.Tasks.Task.{check, relog, solve, sample, project, associate, meet, sum, join, map, weights, weigh}
 use Rattle.described.specs.Calculus.{MeetVerdict, SumVerdict, JoinVerdict, MapVerdict}
 use Rattle.described.specs.Projected.{ProjectVerdict, AssociateVerdict}
 use Rattle.solver.specs.Replies.{SolveVerdict}
 use Rattle.statuses.specs.declared.reply.Reply.{Reply}
 use Rattle.weighing.specs.Replies.{WeightsVerdict, WeighVerdict}
 use Rattle.bensolve_main.specs.Check.{CheckVerdict}
+use Rattle.bensolve_main.specs.Relog.{RelogVerdict}
 use Rattle.bensolve_main.specs.Sample.{SampleVerdict}
 
 -- what is read: nothing; a problem; a problem and then a log; two problems
@@ -21,6 +22,7 @@ pub data Texts : Type 0 where
 abbrev pub texts_of : Task → Texts
 texts_of (sample number) = nothing
 texts_of check = problem_and_log
+texts_of relog = problem_and_log
 texts_of meet = two_problems
 texts_of sum = two_problems
 texts_of join = two_problems
@@ -44,6 +46,7 @@ TellsFile _ logs file r = ⊥
 -- what is told of a problem and of the bytes of a log
 abbrev pub TellsLog : Task → Problem → List ℕ → Reply → Type 0
 TellsLog check file bytes r = CheckVerdict file bytes r
+TellsLog relog file bytes r = RelogVerdict file bytes r
 TellsLog _ file bytes r = ⊥
 
 -- what is told of two problems

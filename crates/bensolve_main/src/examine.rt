@@ -1,11 +1,12 @@
 //! The check of a log.
 ghost use Rattle.std.specs.Prelude.{◌≡◌, ◌≤◌, true, None, IfOk, IfErr};
+ghost use Rattle.commands.specs.Tasks.Task.{check};
 ghost use Rattle.log_rules.specs.Report.{report_text};
-ghost use Rattle.bensolve_main.specs.World.{channel, sources};
-ghost use Rattle.bensolve_main.specs.Stages.{CheckHalts, CheckTold, HaltsEnd, HaltsReading, LogTold, TellsEnd, TellsStatus, step_licence};
+ghost use Rattle.bensolve_main.specs.World.{channel};
+ghost use Rattle.bensolve_main.specs.Stages.{HaltsEnd, HaltsReading, LogTold, TellsEnd, TellsStatus, step_licence};
 ghost use Rattle.bensolve_main.specs.Reading.{log_limit};
 
-use crate::reading::{long_reply, read_problem, reply_at};
+use crate::reading::long_reply;
 use cert_check::{Answer, Refusal, StreamEnd, check_from};
 use deriv_log::{Entries, Licence, Place};
 use exact_field::Left;
@@ -16,8 +17,8 @@ use statuses::{LogRefusal, Reply, Status, fault_reply};
 use std::alloc::Global;
 use vlp_reader::Problem;
 
-/// The most bytes that are read of a log: 256 MiB.
-const LOG_LIMIT: u64 = 268_435_456;
+/// The most bytes that are read of a log: 384 MiB.
+pub(crate) const LOG_LIMIT: u64 = 402_653_184;
 
 /// What is told of a step whose exact result is not held.
 fn step_reply(alloc: Global, entry: u32, step: u64, left: Left<Frac>) -> Result<Reply, NoMemory>
@@ -38,8 +39,8 @@ fn refused_reply(alloc: Global, why: LogRefusal) -> Result<Reply, NoMemory>
     fault_reply(alloc, Status::Refused(why))
 }
 
-/// What is told where the check of a log gives no answer. An `Err` is a status without a reply.
-fn end_reply(alloc: Global, end: StreamEnd) -> Result<Reply, Status>
+/// What is told where a log gives no answer. An `Err` is a status without a reply.
+pub(crate) fn end_reply(alloc: Global, end: StreamEnd) -> Result<Reply, Status>
     ensures told { IfOk result (TellsEnd end) }
     ensures halts { IfErr result (HaltsEnd end) }
 {
@@ -71,10 +72,14 @@ fn answer_reply(alloc: Global, file: &Problem, answer: &Answer) -> Result<Reply,
     })
 }
 
-/// Reads and checks the log. An `Err` is a status without a reply.
-fn examine_log<L: Source>(alloc: Global, file: &Problem, log_in: &mut L) -> Result<Reply, Status>
+/// Reads the log, and checks it as it is read. An `Err` is a status without a reply.
+pub(crate) fn examine<L: Source>(
+    alloc: Global,
+    file: &Problem,
+    log_in: &mut L,
+) -> Result<Reply, Status>
     ensures count { L.faults log_in.old ≤ L.faults log_in.new }
-    ensures told { IfOk result (λ r. LogTold file.now r
+    ensures told { IfOk result (λ r. LogTold check file.now r
         (channel (L.left log_in.old) (L.faults log_in.old))
         (channel (L.left log_in.new) (L.faults log_in.new))) }
     ensures halts { IfErr result (λ s. HaltsReading true log_limit s
@@ -84,30 +89,5 @@ fn examine_log<L: Source>(alloc: Global, file: &Problem, log_in: &mut L) -> Resu
     match check_from(alloc, file, log_in, LOG_LIMIT) {
         Ok(answer) => Ok(answer_reply(alloc, file, &answer)?),
         Err(end) => end_reply(alloc, end),
-    }
-}
-
-/// Reads the problem, then the log, and checks the log. An `Err` is a status without a reply.
-pub(crate) fn examine<S: Source, L: Source>(
-    alloc: Global,
-    problem: &mut S,
-    log_in: &mut L,
-) -> Result<Reply, Status>
-    ensures counts { (S.faults problem.old ≤ S.faults problem.new)
-        × (L.faults log_in.old ≤ L.faults log_in.new) }
-    ensures told { IfOk result (λ r. CheckTold r
-        (sources (channel (S.left problem.old) (S.faults problem.old))
-        (channel (L.left log_in.old) (L.faults log_in.old)))
-        (sources (channel (S.left problem.new) (S.faults problem.new))
-        (channel (L.left log_in.new) (L.faults log_in.new)))) }
-    ensures halts { IfErr result (λ s. CheckHalts s
-        (sources (channel (S.left problem.old) (S.faults problem.old))
-        (channel (L.left log_in.old) (L.faults log_in.old)))
-        (sources (channel (S.left problem.new) (S.faults problem.new))
-        (channel (L.left log_in.new) (L.faults log_in.new)))) }
-{
-    match read_problem(alloc, false, problem) {
-        Ok(file) => examine_log(alloc, &file, log_in),
-        Err(end) => reply_at(end),
     }
 }

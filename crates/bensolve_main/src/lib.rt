@@ -4,6 +4,7 @@
 mod examine;
 mod prepare;
 mod reading;
+mod relog;
 mod sampling;
 mod top;
 

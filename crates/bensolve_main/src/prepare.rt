@@ -6,13 +6,14 @@ ghost use Rattle.vlp_reader.specs.Values.{printed_numbers};
 ghost use Rattle.commands.specs.Paths.{log_in_path, problem_path};
 ghost use Rattle.commands.specs.Seen.{files_seen, shape_seen, task_seen};
 ghost use Rattle.bensolve_main.specs.Outcome.{HaltsFor, Replies};
-ghost use Rattle.bensolve_main.specs.Reading.{problem_limit};
-ghost use Rattle.bensolve_main.specs.Stages.{FileTold, HaltsReading, ReadsNothing, ReadsProblem, ReadsTwo, SecondTold, ShapeFits, TaskFits, TwoHalts, TwoTold};
+ghost use Rattle.bensolve_main.specs.Reading.{log_limit, problem_limit};
+ghost use Rattle.bensolve_main.specs.Stages.{FileTold, HaltsReading, LogTold, ReadsLog, ReadsNothing, ReadsProblem, ReadsTwo, SecondTold, ShapeFits, TaskFits, TwoHalts, TwoTold, WithLogHalts, WithLogTold};
 ghost use Rattle.bensolve_main.specs.Tasks.{TellsAlone, TellsFile, TellsTwo, texts_of};
 ghost use Rattle.bensolve_main.specs.World.{channel, sources};
 
 use crate::examine::examine;
 use crate::reading::{read_problem, reply_at};
+use crate::relog::relog;
 use crate::sampling::sample_reply;
 use commands::{Command, Files, Task};
 use described::{associate_reply, join_reply, map_reply, meet_reply, project_reply, sum_reply};
@@ -92,6 +93,56 @@ fn one_text<S: Source>(
 {
     match read_problem(alloc, false, problem) {
         Ok(file) => Ok(file_reply(alloc, task, &file, logs)?),
+        Err(end) => reply_at(end),
+    }
+}
+
+/// Reads the log, and does a task of the problem and the log. An `Err` is a status without a reply.
+fn log_reply<L: Source>(
+    alloc: Global,
+    task: Task<'_>,
+    file: &Problem,
+    log_in: &mut L,
+) -> Result<Reply, Status>
+    requires { ReadsLog (task_seen task) }
+    ensures count { L.faults log_in.old ≤ L.faults log_in.new }
+    ensures told { IfOk result (λ r. LogTold (task_seen task.entry) file.now r
+        (channel (L.left log_in.old) (L.faults log_in.old))
+        (channel (L.left log_in.new) (L.faults log_in.new))) }
+    ensures halts { IfErr result (λ s. HaltsReading true log_limit s
+        (channel (L.left log_in.old) (L.faults log_in.old))
+        (channel (L.left log_in.new) (L.faults log_in.new))) }
+{
+    match task {
+        Task::Check => examine(alloc, file, log_in),
+        Task::Relog => relog(alloc, file, log_in),
+        _ => unreachable!(),
+    }
+}
+
+/// Reads the problem, then the log, and does a task of both. An `Err` is a status without a reply.
+fn with_log<S: Source, L: Source>(
+    alloc: Global,
+    task: Task<'_>,
+    problem: &mut S,
+    log_in: &mut L,
+) -> Result<Reply, Status>
+    requires { ReadsLog (task_seen task) }
+    ensures counts { (S.faults problem.old ≤ S.faults problem.new)
+        × (L.faults log_in.old ≤ L.faults log_in.new) }
+    ensures told { IfOk result (λ r. WithLogTold (task_seen task.entry) r
+        (sources (channel (S.left problem.old) (S.faults problem.old))
+        (channel (L.left log_in.old) (L.faults log_in.old)))
+        (sources (channel (S.left problem.new) (S.faults problem.new))
+        (channel (L.left log_in.new) (L.faults log_in.new)))) }
+    ensures halts { IfErr result (λ s. WithLogHalts s
+        (sources (channel (S.left problem.old) (S.faults problem.old))
+        (channel (L.left log_in.old) (L.faults log_in.old)))
+        (sources (channel (S.left problem.new) (S.faults problem.new))
+        (channel (L.left log_in.new) (L.faults log_in.new)))) }
+{
+    match read_problem(alloc, false, problem) {
+        Ok(file) => log_reply(alloc, task, &file, log_in),
         Err(end) => reply_at(end),
     }
 }
@@ -177,7 +228,7 @@ pub(crate) fn prepare<S: Source, L: Source>(
         Files::Problem { .. } => one_text(alloc, task, false, problem),
         Files::Log { .. } => one_text(alloc, task, true, problem),
         Files::Second { .. } => match task {
-            Task::Check => examine(alloc, problem, log_in),
+            Task::Check | Task::Relog => with_log(alloc, task, problem, log_in),
             _ => two_texts(alloc, task, problem, log_in),
         },
     }

@@ -20,8 +20,10 @@ use std::alloc::Global;
 ///
 /// - `check FILE LOG` reads the problem, then the log, checks the log, and reports the answer that
 ///   it proves.
+/// - `relog FILE LOG` reads both as `check` does, and writes the log of version 2 that says the
+///   same. It keeps all entries, and the text that it writes.
 /// - `solve FILE` reads the problem, solves it, and reports its answer; `solve FILE LOG` then writes
-///   a log that proves the answer.
+///   a log of version 2 that proves the answer.
 /// - `sample N` makes the sample file of a number from 1 to 1000, solves it, and tells in five lines
 ///   how many points, directions and facets its image has.
 /// - `project FILE K` describes the projection of the feasible set on its first K columns, from 1 to
@@ -33,9 +35,9 @@ use std::alloc::Global;
 /// - `weights FILE` solves the problem, and tells for each point of its image the weights for which
 ///   it is least; `weigh FILE W` tells the points that are least for the weights that W writes.
 ///
-/// The text goes to `out`; where there is no answer, it is the one fault line of the status. A log
-/// goes to `log_out`, where there is an answer. Everything is read, and every text made, before
-/// anything is written. A second problem is read from `log_in`.
+/// The text goes to `out`; where there is no answer, it is the one fault line of the status. The log
+/// of `solve` or `project` goes to `log_out`, where there is an answer. Everything is read, and every
+/// text made, before anything is written. A log or a second problem is read from `log_in`.
 pub fn run<S: Source, L: Source, T: Sink, K: Sink>(
     alloc: Global,
     words: &[String],

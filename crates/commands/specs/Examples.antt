@@ -5,7 +5,7 @@ use Rattle.commands.specs.Numbers.{number_of}
 use Rattle.commands.specs.Paths.{files_of, problem_path, log_in_path, log_out_path}
 use Rattle.commands.specs.Shapes.{shape_of}
 use Rattle.commands.specs.Tasks.{shape}
-use Rattle.commands.specs.Tasks.Task.{check, solve, sample, project, associate, meet, sum, join, map, weights, weigh}
+use Rattle.commands.specs.Tasks.Task.{check, relog, solve, sample, project, associate, meet, sum, join, map, weights, weigh}
 use Rattle.commands.specs.Tasks.Files.{none, one, two, logged}
 use Rattle.commands.specs.Weights.{are_weights, AreWeightsOf}
 
@@ -51,6 +51,8 @@ pub record WeightExamples : Type 0 where
 pub record ShapeExamples : Type 0 where
   pub check_files : shape_of (codes "check" ∷ codes "f" ∷ codes "g" ∷ [])
       ≡ Some (shape check (two (codes "f") (codes "g")))
+  pub relog_files : shape_of (codes "relog" ∷ codes "f" ∷ codes "g" ∷ [])
+      ≡ Some (shape relog (two (codes "f") (codes "g")))
   pub solve_file : shape_of (codes "solve" ∷ codes "f" ∷ []) ≡ Some (shape solve (one (codes "f")))
   pub solve_to_log : shape_of (codes "solve" ∷ codes "f" ∷ codes "g" ∷ [])
       ≡ Some (shape solve (logged (codes "f") (codes "g")))
@@ -85,6 +87,9 @@ pub record NoShapeExamples : Type 0 where
   pub capital : shape_of (codes "Solve" ∷ codes "f" ∷ []) ≡ None
   pub no_log : shape_of (codes "check" ∷ codes "f" ∷ []) ≡ None
   pub same_file : shape_of (codes "check" ∷ codes "f" ∷ codes "f" ∷ []) ≡ None
+  pub relogged_alone : shape_of (codes "relog" ∷ codes "f" ∷ []) ≡ None
+  pub relogged_as_itself : shape_of (codes "relog" ∷ codes "f" ∷ codes "f" ∷ []) ≡ None
+  pub relog_many : shape_of (codes "relog" ∷ codes "f" ∷ codes "g" ∷ codes "h" ∷ []) ≡ None
   pub same_log : shape_of (codes "solve" ∷ codes "f" ∷ codes "f" ∷ []) ≡ None
   pub met_with_itself : shape_of (codes "meet" ∷ codes "a" ∷ codes "a" ∷ []) ≡ None
   pub one_file : shape_of (codes "join" ∷ codes "f" ∷ []) ≡ None
@@ -109,6 +114,10 @@ pub record PathExamples : Type 0 where
   pub read_too : log_in_path (files_of (shape_of (codes "check" ∷ codes "f" ∷ codes "g" ∷ [])))
       ≡ Some (codes "g")
   pub not_written : log_out_path (files_of (shape_of (codes "check" ∷ codes "f" ∷ codes "g" ∷ []))) ≡ None
+  pub relog_reads : log_in_path (files_of (shape_of (codes "relog" ∷ codes "f" ∷ codes "g" ∷ [])))
+      ≡ Some (codes "g")
+  pub relog_writes_none : log_out_path (files_of (shape_of (codes "relog" ∷ codes "f" ∷ codes "g" ∷ [])))
+      ≡ None
   pub written : log_out_path (files_of (shape_of (codes "solve" ∷ codes "f" ∷ codes "g" ∷ [])))
       ≡ Some (codes "g")
   pub not_read : log_in_path (files_of (shape_of (codes "solve" ∷ codes "f" ∷ codes "g" ∷ []))) ≡ None

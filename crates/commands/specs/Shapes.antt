@@ -5,7 +5,7 @@ use Rattle.std.specs.Str.{bytes_eq}
 use Rattle.commands.specs.Numbers.{number_of}
 use Rattle.commands.specs.Weights.{are_weights}
 use Rattle.commands.specs.Tasks.{Task, Shape, shape}
-use Rattle.commands.specs.Tasks.Task.{check, solve, sample, project, associate, meet, sum, join, map, weights, weigh}
+use Rattle.commands.specs.Tasks.Task.{check, relog, solve, sample, project, associate, meet, sum, join, map, weights, weigh}
 use Rattle.commands.specs.Tasks.Files.{none, one, two, logged}
 
 -- ---- the words after a name
@@ -46,6 +46,7 @@ shape_of (word ∷ file ∷ []) =
     else None
 shape_of (word ∷ file ∷ other ∷ []) =
     if bytes_eq word (codes "check") then second_shape check file other
+    else if bytes_eq word (codes "relog") then second_shape relog file other
     else if bytes_eq word (codes "meet") then second_shape meet file other
     else if bytes_eq word (codes "sum") then second_shape sum file other
     else if bytes_eq word (codes "join") then second_shape join file other

@@ -5,6 +5,7 @@ use Rattle.std.specs.Prelude.{ℕ, List}
 -- of columns, and `weigh` by the word of the weights
 pub data Task : Type 0 where
   check : Task
+  relog : Task
   solve : Task
   sample : (number : ℕ) → Task
   project : (columns : ℕ) → Task

@@ -15,6 +15,8 @@ use crate::weights::are_weights;
 pub enum Task<'a> {
     /// To check a log, and report the answer that it proves.
     Check,
+    /// To write the log of version 2 that says what a log says.
+    Relog,
     /// To solve a problem, and report its answer.
     Solve,
     /// To solve a sample file, and count what its image has.
@@ -175,6 +177,8 @@ fn command_of_two<'a>(word: &str, one: &'a str, two: &'a str) -> Option<Command<
 {
     if word == "check" {
         second_command(Task::Check, one, two)
+    } else if word == "relog" {
+        second_command(Task::Relog, one, two)
     } else if word == "meet" {
         second_command(Task::Meet, one, two)
     } else if word == "sum" {
