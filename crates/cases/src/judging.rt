@@ -22,26 +22,58 @@ pub(crate) fn finding(
         return print_finding(alloc, case, trial);
     }
     let seen = trial.seen(alloc)?;
-    let mut found = difference(case, &seen);
-    if let (None, Some(whole)) = (found, whole) {
-        found = front_difference(&seen, whole);
-    }
-    if let (None, [command, _, _], Status::Done) = (found, trial.words, &seen.status)
-        && command.as_str() == "solve"
-    {
-        found = solved_difference(alloc, trial, &seen)?;
-    }
-    if let (None, [command, _, columns, _], Status::Done) = (found, trial.words, &seen.status)
-        && command.as_str() == "project"
-    {
-        found = projected_difference(alloc, trial, columns.as_str(), &seen)?;
-    }
-    match found {
+    match difference_of(alloc, case, trial, whole, &seen)? {
         None => Ok(None),
         Some(what) => {
             let (code, text) = (seen.status.code(), text_in(&seen.out));
             Ok(Some(format!(in alloc; "{what}: status {code}, {text:?}")?))
         }
+    }
+}
+
+/// What of a run is not as its case wants.
+fn difference_of(
+    alloc: Global,
+    case: &Case,
+    trial: Trial<'_>,
+    whole: Option<&Seen>,
+    seen: &Seen,
+) -> Result<Option<&'static str>, Fault> {
+    let found = difference(case, seen).or_else(|| whole.and_then(|all| front_difference(
+        seen, all,
+    )));
+    match (found, &seen.status) {
+        (None, Status::Done) => command_difference(alloc, trial, seen),
+        _ => Ok(found),
+    }
+}
+
+/// What differs in other runs over what a command wrote.
+fn command_difference(
+    alloc: Global,
+    trial: Trial<'_>,
+    seen: &Seen,
+) -> Result<Option<&'static str>, Fault> {
+    match trial.words {
+        [command, _, _] => log_difference(alloc, command.as_str(), trial, seen),
+        [command, _, columns, _] if command.as_str() == "project" => {
+            projected_difference(alloc, trial, columns.as_str(), seen)
+        }
+        _ => Ok(None),
+    }
+}
+
+/// The same of a command of three words.
+fn log_difference(
+    alloc: Global,
+    command: &str,
+    trial: Trial<'_>,
+    seen: &Seen,
+) -> Result<Option<&'static str>, Fault> {
+    match command {
+        "solve" => solved_difference(alloc, trial, seen),
+        "relog" => relogged_difference(alloc, trial, seen),
+        _ => Ok(None),
     }
 }
 
@@ -147,6 +179,23 @@ fn solved_difference(
     Ok(first_wrong(&[
         (is_same_report(&checked, seen), "what the log proves"),
         (is_same_report(&unlogged, seen), "the output without a log"),
+    ]))
+}
+
+/// What differs where `check` reads the log that was written and that which was read, or where it is
+/// written once more.
+fn relogged_difference(
+    alloc: Global,
+    trial: Trial<'_>,
+    seen: &Seen,
+) -> Result<Option<&'static str>, Fault> {
+    let (file, log, most) = (trial.file, seen.out.contents(), trial.most);
+    let before = calm_run(alloc, "check file log", file, trial.log, most)?;
+    let checked = calm_run(alloc, "check file log", file, log, most)?;
+    let again = calm_run(alloc, "relog file log", file, log, most)?;
+    Ok(first_wrong(&[
+        (is_same_report(&checked, &before), "what the new log proves"),
+        (is_same_report(&again, seen), "the log of the new log"),
     ]))
 }
 
