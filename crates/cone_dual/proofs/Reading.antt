@@ -1,9 +1,9 @@
 -- Rows and generators that are read one by one.
 use Rattle.std.proofs.Common.{◌≡◌, ℕ, zero, suc, ◌+◌, ◌-◌, ◌<◌, List, [], ◌∷◌, ◌++◌, length, map, take, drop, sym, ap, ap₂, ◌∙◌, subst, arith, append_assoc, slice_index_or}
-use Rattle.std.specs.Prelude.{Contains}
+use Rattle.std.specs.Prelude.{All, Contains}
 use Rattle.std.specs.List.{range_with_len}
 use Rattle.std.proofs.lemmas.List.{get_or-map, length-map, take_more, take-append-drop}
-use Rattle.std.proofs.lemmas.List.Elements.{Contains-get_or}
+use Rattle.std.proofs.lemmas.List.Elements.{Contains-append_right, Contains-get_or}
 use Rattle.exact_field.specs.Rational.{ℚ}
 use Rattle.polyhedra.specs.LiveList.{Numbered, numbers as numbers-of, vectors}
 use Rattle.polyhedra.specs.LiveSteps.{IsLive}
@@ -11,9 +11,10 @@ use Rattle.polyhedra.specs.LiveList.{LiveList}
 use Rattle.polyhedra.proofs.Members.{Contains-map, member_of}
 use Rattle.lin_rows.specs.Read.{numbers}
 use Rattle.lin_rows.proofs.Building.{number_row}
-use Rattle.vlp_reader.specs.declared.problem.Problem.{Problem}
-use Rattle.cone_dual.specs.Generators.{AreConeRows}
-use Rattle.cone_dual.proofs.Licences.{cone_rows-front}
+use Rattle.deriv_log.specs.declared.licence.Family.{Family}
+use Rattle.licence.specs.Operands.{IsAddition, IsMadeOver, Setting}
+use Rattle.cone_dual.specs.Generators.{MayDescribe}
+use Rattle.cone_dual.proofs.Licences.{front_listed}
 
 pub range_more : (a n : ℕ) → range_with_len a (n + 1) ≡ range_with_len a n ++ (a + n) ∷ []
 range_more a zero = let start : a ≡ a + 0 = omega arith in ap (λ (k : ℕ). k ∷ []) start
@@ -37,12 +38,16 @@ one_more t old new x d k pushed is inside own = pushed ∙ ap₂ (λ (xs : List 
 pub front_is : (before t : List (List ℚ)) (k : ℕ) → k < length t → (before ++ take k t) ++ slice_index_or t k [] ∷ [] ≡ before ++ take (k + 1) t
 front_is before t k inside = append_assoc before (take k t) (slice_index_or t k [] ∷ []) ∙ ap (λ (xs : List (List ℚ)). before ++ xs) (sym (take_more t k [] inside))
 
-pub front_cone : (file : Problem) (n : ℕ) (before t : List (List ℚ)) (k : ℕ) → k < length t → AreConeRows file n (before ++ t) →
-    AreConeRows file n ((before ++ take k t) ++ slice_index_or t k [] ∷ [])
-front_cone file n before t k inside c =
-    cone_rows-front file n ((before ++ take k t) ++ slice_index_or t k [] ∷ []) (drop (k + 1) t)
-    (subst (AreConeRows file n) (sym (ap (λ (xs : List (List ℚ)). xs ++ drop (k + 1) t) (front_is before t k inside)
-    ∙ append_assoc before (take (k + 1) t) (drop (k + 1) t) ∙ ap (λ (xs : List (List ℚ)). before ++ xs) (take-append-drop (k + 1) t))) c)
+-- so the next one may be added behind the rows so far
+pub next_may : (s : Setting) (family : Family) (n : ℕ) (before t : List (List ℚ)) (k : ℕ) (list : LiveList) → k < length t →
+    MayDescribe s family n (before ++ t) → IsMadeOver n (before ++ take k t) list →
+    IsAddition s (before ++ take k t) (slice_index_or t k []) list family
+next_may s family n before t k list inside h made = h.added (before ++ take k t) (slice_index_or t k []) list
+    (subst (λ (xs : List (List ℚ)). All (Contains xs) (before ++ take k t)) whole (front_listed (before ++ take k t) (drop k t)))
+    (Contains-append_right before t (slice_index_or t k []) (Contains-get_or t k [] inside)) made
+  where
+    whole : (before ++ take k t) ++ drop k t ≡ before ++ t
+    whole = append_assoc before (take k t) (drop k t) ∙ ap (λ (xs : List (List ℚ)). before ++ xs) (take-append-drop k t)
 
 -- the generator at a place of the list of numbers
 module _ {F : Type 0} (value : F → ℚ) (list : LiveList) (nums : List ℕ) (nums_are : nums ≡ numbers-of list.live) (i : ℕ) (inside : i < length nums) (entries : List F) where

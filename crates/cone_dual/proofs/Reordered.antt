@@ -17,10 +17,8 @@ use Rattle.polyhedra.proofs.LiveSteps.{are_live}
 use Rattle.polyhedra.proofs.Members.{Contains-filter, Contains-map, Contains-map_source, all_of_members, member_of}
 use Rattle.tableaux.specs.Table.{Table, row_of}
 use Rattle.tableaux.specs.Elimination.{AreIndependent}
-use Rattle.vlp_reader.specs.declared.problem.Problem.{Problem}
-use Rattle.lp_form.specs.Programs.{nonzero_vectors}
 use Rattle.log_rules.specs.Live.{contains}
-use Rattle.cone_dual.specs.Generators.{AreConeRows, AreGenerators, begun_with, others}
+use Rattle.cone_dual.specs.Generators.{AreGenerators, begun_with, others}
 
 -- ---- numbers
 -- a number is from 1 to n
@@ -85,14 +83,6 @@ module _ (rows : Table) (picks : List ℕ) (within : All (IsPlace (length rows))
 pub picked_places : (n : ℕ) (rows : Table) (picks : List ℕ) → AreIndependent n rows picks → All (IsPlace (length rows)) picks
 picked_places n rows picks h = All-from_get_or (IsPlace (length rows)) picks 0
     (λ i l. (All-get_or (λ k. 1 ≤ k) picks i 0 l h.from_one, All-get_or (λ k. k ≤ length rows) picks i 0 l h.to_end))
-
-pub begun_cone : (file : Problem) (n : ℕ) (rows : Table) (picks : List ℕ) → All (IsPlace (length rows)) picks → AreConeRows file n rows →
-    AreConeRows file n (begun_with picks rows)
-begun_cone file n rows picks within c = record {
-  width = c.width;
-  listed = all_of_members (Contains (nonzero_vectors file.cone)) (begun_with picks rows)
-      (λ r k. member_of (Contains (nonzero_vectors file.cone)) rows r c.listed (begun_listed rows picks within r k));
-}
 
 -- ---- cones
 module _ (n : ℕ) (rows begun : List (List ℚ)) (there : (r : List ℚ) → Contains begun r → Contains rows r) (back : All (Contains begun) rows) where

@@ -1,5 +1,5 @@
--- The generators of the cone of some rows, as a list, and the order of their making; rows of a
--- file's ordering cone.
+-- The double description of some rows; the generators of their cone, as a list, and the order of
+-- their making; rows of a file's ordering cone.
 use Rattle.std.specs.Prelude.{ℕ, List, ◌++◌, ◌≡◌, ◌↔◌, map, length, filter, All, AllPairs, Contains, not}
 use Rattle.std.specs.List.{range_with_len}
 use Rattle.exact_field.specs.Rational.{ℚ}
@@ -7,13 +7,14 @@ use Rattle.polyhedra.specs.LiveList.{LiveList, vectors}
 use Rattle.tableaux.specs.Table.{Table, row_of}
 use Rattle.tableaux.specs.Elimination.{AreIndependent}
 use Rattle.vlp_reader.specs.declared.problem.Problem.{Problem}
-use Rattle.deriv_log.specs.declared.licence.Family.TheVariants.{ConeRows}
+use Rattle.deriv_log.specs.declared.licence.Family.{Family}
 use Rattle.deriv_log.specs.declared.licence.Place.{Place}
 use Rattle.deriv_log.specs.declared.licence.Place.TheVariants.{Elim, Pair}
 use Rattle.lp_form.specs.Programs.{nonzero_vectors}
 use Rattle.log_rules.specs.Live.{contains}
 use Rattle.licence.specs.Base.{IsGeneratorOf}
-use Rattle.licence.specs.Operands.{IsMadeOver}
+use Rattle.licence.specs.Operands.{AreElimRows, IsAddition, IsMadeOver, Setting}
+use Rattle.double_descr.specs.State.{State}
 
 -- the list has exactly the generators of the cone where all rows are at least 0, each once
 pub record AreGenerators (n : ℕ) (rows gens : List (List ℚ)) : Type 0 where
@@ -37,12 +38,28 @@ pub record AreMadeInOrder (n : ℕ) (rows gens : List (List ℚ)) : Type 0 where
   pub made : IsMadeOver n (begun_with picks rows) list
   pub same : gens ≡ vectors list.live
 
+-- the double description of these rows: it begins with n independent ones and takes a step for each
+-- other row
+pub record IsDescriptionOf (n : ℕ) (rows : List (List ℚ)) (dd : State) : Type 0 where
+  pub width : dd.width ≡ n
+  pub picks : List ℕ
+  pub independent : AreIndependent n rows picks
+  pub rows_are : dd.rows ≡ begun_with picks rows
+  pub made : IsMadeOver n dd.rows dd.list
+
+-- some of these rows may be eliminated, and each of them added behind any of them as one of the
+-- family
+pub record MayDescribe (s : Setting) (family : Family) (n : ℕ) (rows : List (List ℚ)) : Type 0 where
+  pub eliminated : (some : List (List ℚ)) → All (Contains rows) some → AreElimRows s some n
+  pub added : (before : List (List ℚ)) (last : List ℚ) (list : LiveList) → All (Contains rows) before →
+      Contains rows last → IsMadeOver n before list → IsAddition s before last list family
+
 -- the place is a step of an elimination of some of these rows, or of the addition of one of them to
--- others as a vector of the ordering cone
-abbrev pub IsOver : List (List ℚ) → Place → Type 0
-IsOver all (Elim rows basis row col step) = All (Contains all) rows
-IsOver all (Pair ConeRows rows first second step) = All (Contains all) rows
-IsOver all _ = ⊥
+-- others as one of the family
+abbrev pub IsOver : Family → List (List ℚ) → Place → Type 0
+IsOver family all (Elim rows basis row col step) = All (Contains all) rows
+IsOver family all (Pair given rows first second step) = (given ≡ family) × All (Contains all) rows
+IsOver family all _ = ⊥
 
 -- the rows are vectors of the file's ordering cone that are not 0, and have as many entries as
 -- there are objectives

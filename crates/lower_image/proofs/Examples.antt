@@ -29,7 +29,7 @@ use Rattle.licence.proofs.WorkedBase.{full_after}
 use Rattle.lp_form.specs.Programs.{feasible_system}
 use Rattle.lower_image.specs.Examples.{LowerExamples, across, choice_row, corners, first_row, first_up, four_up, second_row}
 use Rattle.lower_image.specs.Lower.{AreAllFacets, AreLowerRows, IsCertified, dual_vector, inequality_of, weight_at}
-use Rattle.lower_image.proofs.Rows.{point_holds}
+use Rattle.lower_image.proofs.LowerRows.{point_holds}
 use Rattle.lower_image.proofs.Start.{lower_start}
 
 fits : Fits corners ones

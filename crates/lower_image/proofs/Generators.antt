@@ -25,7 +25,7 @@ use Rattle.licence.specs.Steps.{exchange_row}
 use Rattle.lower_image.specs.Lower.{IsLower, dual_at, weight_at}
 use Rattle.lower_image.specs.Laws.{IsWeighted, LowerGeneratorLaws}
 use Rattle.lower_image.proofs.Exchange.{exchange_at, take-zeros, two_more, weight_long, weight_normed, dual_parts}
-use Rattle.lower_image.proofs.Rows.{c_long, c_last, some, image_wide}
+use Rattle.lower_image.proofs.LowerRows.{c_long, c_last, some, image_wide}
 
 -- ---- signs
 magnitude_up : (q : ℚ) → zero_ℚ ≤ℚ q → magnitude q ≡ q

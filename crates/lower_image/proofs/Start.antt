@@ -36,7 +36,7 @@ use Rattle.lower_image.specs.Lower.{AreLowerRows, AreSpanning, IsCertified, IsLo
 use Rattle.lower_image.specs.Laws.{IsWeighted, LowerStartLaws}
 use Rattle.lower_image.proofs.Exchange.{exchange_at, weight_long}
 use Rattle.lower_image.proofs.Generators.{lower_generators}
-use Rattle.lower_image.proofs.Rows.{c_long, some, cone_direction, lower_rows}
+use Rattle.lower_image.proofs.LowerRows.{c_long, some, cone_direction, lower_rows}
 use Rattle.vlp_reader.specs.Cones.{cone_fits}
 
 -- ---- the first rows

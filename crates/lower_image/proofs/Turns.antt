@@ -33,7 +33,7 @@ use Rattle.lower_image.specs.Lower.{IsLower, dual_at, weight_at, dual_vector}
 use Rattle.lower_image.specs.Laws.{IsWeighted, LowerTurnLaws}
 use Rattle.lower_image.proofs.Exchange.{exchange_at, dual_long, one_more}
 use Rattle.lower_image.proofs.Generators.{front-weight, in_cone, parts, f_long, lower_generators}
-use Rattle.lower_image.proofs.Rows.{c_long, some, image_wide, cone_direction, lower_rows}
+use Rattle.lower_image.proofs.LowerRows.{c_long, some, image_wide, cone_direction, lower_rows}
 
 -- ---- entries of dual vectors
 at_seam : (f xs : List ℚ) (k : ℕ) → slice_index_or (f ++ xs) (length f + k) zero_ℚ ≡ slice_index_or xs k zero_ℚ

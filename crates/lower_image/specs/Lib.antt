@@ -1,4 +1,9 @@
+pub mod Ends
 pub mod Examples
+pub mod Facets
 pub mod Laws
 pub mod Lower
+pub mod Rows
+pub mod Search
+pub mod Starting
 pub mod Weights

@@ -1,64 +1,26 @@
-//! The lower image of a problem: what the ends of the linear program of a weight show, and the cone
-//! of dual vectors, which the rows of points and directions cut out. Each function is a law: it
-//! does nothing, and its contract is the statement.
+//! The lower image of a problem: the program of a weight solved and read off, the cone of dual
+//! vectors that the rows of points and directions cut out, and all facets of the image by it.
 #![tactic(auto)]
 
-ghost use Rattle.lower_image.specs.Examples.{LowerExamples};
-ghost use Rattle.lower_image.specs.Laws.{AllFacetsLaws, CertifiedAreFacets, LowerGeneratorLaws, LowerRowLaws, LowerStartLaws, LowerTurnLaws};
-ghost use Rattle.lower_image.specs.Weights.{WeightBounded, WeightChoice, WeightCut, WeightRay};
+mod certificate;
+mod ends;
+mod facets;
+mod laws;
+mod rows;
+mod search;
+mod solving;
+mod spanning;
+mod starting;
+mod touching;
+mod weighing;
 
-/// An optimum of the program of a weight is a cut.
-pub fn weight_cut()
-    ensures { WeightCut }
-{}
-
-/// Its multipliers are a feasible point at which the cut is tight.
-pub fn weight_choice()
-    ensures { WeightChoice }
-{}
-
-/// The program of a weight has no solution only where the weight falls along a direction of the
-/// feasible set.
-pub fn weight_ray()
-    ensures { WeightRay }
-{}
-
-/// The program of a weight is bounded where some point is feasible.
-pub fn weight_bounded()
-    ensures { WeightBounded }
-{}
-
-/// Base rows may be added, have full rank, and hold at the dual vector of each valid inequality.
-pub fn lower_rows()
-    ensures { LowerRowLaws }
-{}
-
-/// How rows begin, and that certified generators stay.
-pub fn lower_start()
-    ensures { LowerStartLaws }
-{}
-
-/// What generators stand for.
-pub fn lower_generators()
-    ensures { LowerGeneratorLaws }
-{}
-
-/// A generator that stands for no valid inequality gives a row that turns.
-pub fn lower_turns()
-    ensures { LowerTurnLaws }
-{}
-
-/// Once all generators are certified they are all facets.
-pub fn certified_are_facets()
-    ensures { CertifiedAreFacets }
-{}
-
-/// What follows where all facets are there.
-pub fn all_facets()
-    ensures { AllFacetsLaws }
-{}
-
-/// Rows, generators and facets of a small file, and near ones that are none.
-pub fn lower_examples()
-    ensures { LowerExamples }
-{}
+pub use certificate::weight_cut_of;
+pub use ends::WeightEnd;
+pub use facets::{AllFacets, all_facets};
+pub use laws::{
+    certified_are_facets, from_all_facets, lower_examples, lower_generators, lower_rows,
+    lower_start, lower_turns, weight_bounded, weight_choice, weight_cut, weight_ray,
+};
+pub use rows::{exchanged_row, image_at};
+pub use solving::weight_end;
+pub use weighing::{Weighed, weigh_generator};

@@ -1,5 +1,0 @@
-use Rattle.lower_image.proofs.WeightEnds.{weight_choice}
-use Rattle.lower_image.proofs.weight_choice.Goals as goal
-
-pub returns : goal.returns
-returns c = weight_choice

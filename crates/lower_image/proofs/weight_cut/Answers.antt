@@ -1,5 +1,0 @@
-use Rattle.lower_image.proofs.WeightEnds.{weight_cut}
-use Rattle.lower_image.proofs.weight_cut.Goals as goal
-
-pub returns : goal.returns
-returns c = weight_cut

@@ -1,5 +1,0 @@
-use Rattle.lower_image.proofs.WeightEnds.{weight_ray}
-use Rattle.lower_image.proofs.weight_ray.Goals as goal
-
-pub returns : goal.returns
-returns c = weight_ray
