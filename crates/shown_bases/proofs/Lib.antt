@@ -1,4 +1,4 @@
-mod Optima
+pub mod Optima
 pub mod Ranks
 pub mod Solving
 mod Worked

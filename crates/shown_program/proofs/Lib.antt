@@ -1,0 +1,9 @@
+pub mod Assembled
+pub mod BensonRows
+pub mod Entered
+pub mod Listed
+pub mod Multiples
+pub mod Orders
+pub mod Priced
+pub mod Shows
+pub mod Summed

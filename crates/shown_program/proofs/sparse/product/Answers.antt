@@ -1,0 +1,36 @@
+use Rattle.std.proofs.Common.{◌∙◌, ap, arith, length, map}
+use Rattle.exact_field.specs.Rational.{◌+ℚ◌, ◌*ℚ◌}
+use Rattle.exact_field.proofs.Rationals.{zero-add_ℚ}
+use Rattle.lin_rows.specs.Lines.{entries}
+use Rattle.shown_program.proofs.Listed.{place_in}
+use Rattle.shown_program.proofs.Multiples.{weighed, weighed_end, weighed_more}
+use Rattle.shown_program.proofs.sparse.product.Goals as goal
+
+pub loop-cell-init : goal.loop-cell-init
+loop-cell-init g c =
+    let value = g.F.Field.value in
+    let rest = weighed (entries value c.args.cells.now) (map value c.args.y.now) in
+    ap (λ q. q +ℚ rest) c.zero-total.ensures ∙ zero-add_ℚ rest
+
+pub number_at-requires : goal.number_at-requires
+number_at-requires g c =
+    let place = place_in (length c.args.y.now) 0 c.args.cells.now c.loop-cell.cell-index
+    c.cell-item.result c.requires c.loop-cell-test.true c.cell-item.is in
+    record { low = omega (arith, place.0); high = place.1 }
+
+pub loop-cell-preserved : goal.loop-cell-preserved
+loop-cell-preserved g c =
+    let value = g.F.Field.value in
+    let cell = c.cell-item.result in
+    weighed_more value c.args.cells.now c.loop-cell.cell-index cell (map value c.args.y.now)
+    (weighed (entries value c.args.cells.now) (map value c.args.y.now)) (value c.loop-cell.total)
+    (value c.in-Ok.sum) c.loop-cell-test.true c.cell-item.is
+    (c.in-Ok.ensures.ok ∙ ap (λ q. value c.loop-cell.total +ℚ value cell.value *ℚ q)
+    c.number_at.ensures)
+    c.loop-cell.invariant
+
+pub returns : goal.returns
+returns g c =
+    let value = g.F.Field.value in
+    weighed_end value c.args.cells.now c.loop-cell.cell-index c.args.y.now
+    (value c.loop-cell.total) (omega arith) c.requires c.loop-cell.invariant

@@ -1,0 +1,50 @@
+//! Guesses of an optimum, and optima.
+use src_sink::Items;
+
+/// A column of a basis and an equation. The column goes by its place in the list of the basis's
+/// columns. Both are numbered from 1.
+#[derive(Clone, Copy, Debug)]
+pub struct Pair {
+    pub vector: u32,
+    pub place: u32,
+}
+
+/// An order in which the columns of a basis are seen to be independent: columns that leave one
+/// equation each, then as many that leave equations together, and columns that leave one each again.
+/// A column leaves equations if it has no entries but in them and in those that were left before.
+#[derive(Debug, Drop)]
+pub struct Order {
+    /// The first columns, each with the equation that it leaves.
+    pub front: Items<Pair>,
+    /// The columns that leave equations together, by their places in the list.
+    pub vectors: Items<u32>,
+    /// These equations, in rising order.
+    pub places: Items<u32>,
+    /// The last columns.
+    pub back: Items<Pair>,
+}
+
+/// A guess of an optimum.
+#[derive(Debug, Drop)]
+pub struct Guess<F: Drop> {
+    /// The columns of a basis, as many as there are equations: from 1 those of the unknowns, and
+    /// behind them one artificial column for each equation.
+    pub columns: Items<u32>,
+    /// A value for each of the columns.
+    pub x: Items<F>,
+    /// A multiplier for each equation.
+    pub y: Items<F>,
+    pub order: Order,
+}
+
+/// A solution of the greatest cost, the multipliers of the equations that show it, and the basis at
+/// which both are read off.
+#[derive(Debug, Drop)]
+pub struct Optimum<F: Drop> {
+    /// A value for each unknown.
+    pub x: Items<F>,
+    /// A multiplier for each equation.
+    pub dual: Items<F>,
+    /// The column of each equation, numbered as those of a guess.
+    pub basis: Items<u32>,
+}

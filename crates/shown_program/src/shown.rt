@@ -1,0 +1,147 @@
+//! The test of a guess.
+ghost use Rattle.std.specs.Prelude.{◌≡◌, ◌≤◌, length, map, All, IsTrue, IfOk, IfSome};
+ghost use Rattle.tableaux.specs.Simplex.{IsOptimal, OptimalAt};
+ghost use Rattle.tableaux.specs.Table.{System, Table};
+ghost use Rattle.vlp_reader.specs.declared.problem.Problem.{Problem as File};
+ghost use Rattle.lp_form.specs.Data.{IsDataOf};
+ghost use Rattle.lp_form.specs.Names.{HasWidths, named};
+ghost use Rattle.lp_form.specs.Programs.{named_system};
+ghost use Rattle.shown_program.specs.Guesses.{order_of};
+ghost use Rattle.shown_program.specs.Program.{IsProgramOf};
+ghost use Rattle.shown_program.specs.Tests.{AreInRange, Passes};
+
+use crate::columns::Columns;
+use crate::guess::{Guess, Optimum};
+use crate::order::is_shown;
+use crate::prices::are_prices;
+use crate::solution::{are_allowed, solve, spread};
+use crate::written::columns_of;
+use exact_field::Field;
+use lp_form::{Data, LpName};
+use src_sink::{Items, NoMemory};
+use std::alloc::Global;
+
+/// Whether a number is one from 1 to another.
+fn is_number(k: usize, most: usize) -> bool
+    ensures { IsTrue result → (1 ≤ k) × (k ≤ most) }
+{
+    k >= 1 && k <= most
+}
+
+/// Whether all are so.
+fn are_numbers(columns: &[u32], most: usize) -> bool
+    ensures low { IsTrue result → All (λ c. 1 ≤ c) columns.now }
+    ensures high { IsTrue result → All (λ c. c ≤ most) columns.now }
+{
+    for column in columns {
+        if !is_number(*column as usize, most) {
+            return false;
+        }
+    }
+    true
+}
+
+/// Whether there are as many columns as equations, and each is one of the program.
+fn are_in_range<F: Field>(program: &Columns<'_, F>, columns: &[u32]) -> bool
+    ensures { IsTrue result → AreInRange program.now columns.now }
+{
+    if columns.len() != program.right.len() {
+        return false;
+    }
+    are_numbers(columns, program.cost.len() + program.right.len())
+}
+
+/// Whether a guess passes all tests.
+fn passes<F: Field>(
+    alloc: Global,
+    program: &Columns<'_, F>,
+    guess: &Guess<F>,
+) -> Result<bool, NoMemory>
+    ensures { IfOk result (λ yes. IsTrue yes → Passes F.value program.now guess.now.columns (map F.value guess.now.x) (map F.value guess.now.y) (order_of guess.now.order)) }
+{
+    let columns = guess.columns.as_slice();
+    if !are_in_range(program, columns) {
+        return Ok(false);
+    }
+    let x = guess.x.as_slice();
+    if x.len() != columns.len() {
+        return Ok(false);
+    }
+    let y = guess.y.as_slice();
+    if y.len() != program.right.len() {
+        return Ok(false);
+    }
+    if !are_allowed(columns, x, program.cost.len()) {
+        return Ok(false);
+    }
+    if !solve(alloc, program, columns, x)? {
+        return Ok(false);
+    }
+    if !are_prices(alloc, program, columns, y)? {
+        return Ok(false);
+    }
+    is_shown(alloc, program, columns, &guess.order)
+}
+
+/// A copy of a list.
+fn copied<T: Copy>(alloc: Global, list: &[T]) -> Result<Items<T>, NoMemory>
+    ensures { IfOk result (λ copy. copy ≡ list.now) }
+{
+    let mut copy = Items::new(alloc);
+    copy.append(list)?;
+    Ok(copy)
+}
+
+/// The optimum that a guess shows, if it passes all tests.
+fn optimum_at<F: Field>(
+    alloc: Global,
+    program: &Columns<'_, F>,
+    guess: &Guess<F>,
+) -> Result<Option<Optimum<F>>, NoMemory>
+    ensures certified { (s : System) → IsProgramOf F.value s program.now →
+        IfOk result (λ o. IfSome o (λ e. IsOptimal s (map F.value e.x) (map F.value e.dual))) }
+    ensures read_off { (s : System) → IsProgramOf F.value s program.now →
+        IfOk result (λ o. IfSome o (λ e. (d : Table) × OptimalAt s e.basis d (map F.value e.x) (map F.value e.dual))) }
+    ensures same { IfOk result (λ o. IfSome o (λ e. e.basis ≡ guess.now.columns)) }
+{
+    if !passes(alloc, program, guess)? {
+        return Ok(None);
+    }
+    let columns = guess.columns.as_slice();
+    let x = spread(
+        alloc,
+        columns,
+        guess.x.as_slice(),
+        program.cost.len() as u32,
+    )?;
+    let dual = copied(alloc, guess.y.as_slice())?;
+    let basis = copied(alloc, columns)?;
+    Ok(Some(Optimum { x, dual, basis }))
+}
+
+/// The optimum that a guess shows for a named program, whose columns are not written into one table.
+/// There is none where a test fails, or a number is not held that a test calculates; and none for the
+/// programs of a weight and of the cone, which are not tested. `c` is the duality vector, which only
+/// `Benson` uses.
+///
+/// The cost is linear in the entries of the columns that are not 0, but for the columns that leave
+/// equations together: these are eliminated.
+pub fn optimum_of<F: Field>(
+    alloc: Global,
+    form: &Data<F>,
+    c: &[F],
+    name: &LpName<F>,
+    guess: &Guess<F>,
+) -> Result<Option<Optimum<F>>, NoMemory>
+    requires { HasWidths (length form.now.p) c.now name.now }
+    ensures certified { (file : File) → IsDataOf F.value file form.now →
+        IfOk result (λ o. IfSome o (λ e. IsOptimal (named_system file (map F.value c.now) (named F.value name.now)) (map F.value e.x) (map F.value e.dual))) }
+    ensures read_off { (file : File) → IsDataOf F.value file form.now →
+        IfOk result (λ o. IfSome o (λ e. (d : Table) × OptimalAt (named_system file (map F.value c.now) (named F.value name.now)) e.basis d (map F.value e.x) (map F.value e.dual))) }
+    ensures same { IfOk result (λ o. IfSome o (λ e. e.basis ≡ guess.now.columns)) }
+{
+    match columns_of(alloc, form, c, name)? {
+        None => Ok(None),
+        Some(program) => optimum_at(alloc, &program, guess),
+    }
+}
