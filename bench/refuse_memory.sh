@@ -7,9 +7,9 @@
 #                                       it from its sources, which compiles it anew each time
 #
 # The runs are `solve` with a log, of a problem with vertices, one without, and one with a cone by generators, `check`
-# of the logs of all three, `sample 1`, and a projection with its log, an associated problem, a sum, a join, an image and
-# weights of these problems. The allocations are the calls of malloc, calloc and realloc of the whole
-# process, from 1 up to the first number that no run reaches.
+# of the logs of all three, `relog` of these and of a log of version 1, `sample 1`, and a projection with its log, an
+# associated problem, a sum, a join, an image and weights of these problems. The allocations are the calls of
+# malloc, calloc and realloc of the whole process, from 1 up to the first number that no run reaches.
 set -euo pipefail
 top=$(cd "$(dirname "${BASH_SOURCE[0]}")/.." && pwd)
 work=$(mktemp -d)
@@ -49,6 +49,10 @@ runs() {
     for problem in vertices line generators; do
         echo "check $work/problems/$problem $work/logs/$problem"
     done
+    for problem in vertices line generators; do
+        echo "relog $work/problems/$problem $work/logs/$problem"
+    done
+    echo "relog $work/problems/vertices $top/crates/bensolve/data/plane.log"
     echo "sample 1"
     echo "project $work/problems/vertices 1 LOG"
     echo "associate $work/problems/vertices 1"
