@@ -1,14 +1,3 @@
-pub mod Cutting
-pub mod Numerals
-pub mod Fractions
-pub mod Forms
-pub mod Entries
-pub mod Written
-pub mod OneEntry
+pub mod Complete
 pub mod Lines
 pub mod Laws
-pub mod Reading
-pub mod Taken
-pub mod Fronts
-pub mod LineByLine
-pub mod Printed

@@ -4,7 +4,7 @@ use Rattle.deriv_log.specs.FirstFault.{FirstFault}
 use Rattle.deriv_log.specs.Formed.{IsLog}
 use Rattle.deriv_log.specs.LogText.{log_text}
 use Rattle.deriv_log.specs.declared.entry.Entry.{Entry}
-use Rattle.deriv_log.specs.declared.fault.LogFault.{LogFault}
+use Rattle.word_lines.specs.declared.fault.LogFault.{LogFault}
 
 -- these bytes are the text of this log
 abbrev pub IsTextOf : List ℕ → List Entry → Type 0

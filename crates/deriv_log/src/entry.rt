@@ -5,23 +5,7 @@ ghost use Rattle.deriv_log.specs.Taking.{IsSecond};
 use frac128::{Frac, Sparse, Vector};
 use src_sink::{Items, NoMemory};
 use std::alloc::Global;
-
-/// Two live generators between which a new one is made: the numbers of the one with a positive
-/// value at the added row, and of the one with a negative value.
-#[derive(Clone, Copy, Debug)]
-pub struct LogPair {
-    pub plus: u32,
-    pub minus: u32,
-}
-
-/// Which answer a log ends with.
-#[derive(Clone, Copy, Debug, PartialEq, Eq)]
-pub enum EndKind {
-    Infeasible,
-    Whole,
-    NoVertex,
-    Solved,
-}
+use word_lines::{EndKind, LogPair};
 
 /// An entry of a log: a line of its text. Vectors stand in working coordinates, those of the
 /// minimising problem.

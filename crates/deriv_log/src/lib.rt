@@ -5,20 +5,14 @@
 #![tactic(auto)]
 
 mod entry;
-mod fault;
-mod items;
 mod licence;
 mod line;
 mod log;
-mod number;
-mod parts;
 mod text;
-mod words;
 
-pub use entry::{EndKind, Entries, Entry, LogPair};
-pub use fault::{LogEnd, LogFault, LogKind};
+pub use entry::{Entries, Entry};
 pub use licence::{Family, Licence, Place, Program};
 pub use line::read_line;
 pub use log::{one_reading, read_log};
-pub use number::fraction;
 pub use text::{print_line, print_log};
+pub use word_lines::{EndKind, LogEnd, LogFault, LogKind, LogPair, fraction};

@@ -28,6 +28,8 @@ pub enum Family {
     Exchanged,
     /// The vectors of the ordering cone.
     ConeRows,
+    /// The rows of a text of a representation.
+    Rep,
 }
 
 /// Where an operation stands. Rows, columns, entries and steps are counted from 1.

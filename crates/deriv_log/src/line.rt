@@ -1,14 +1,16 @@
 //! The entry of one line.
 ghost use Rattle.std.specs.Prelude.{codes, IfOk, IfErr};
-ghost use Rattle.deriv_log.specs.Taking.{TakesEntry, IsNoCut, IsNotSecond, ReadsWords, ReadsLine, RefusesLine};
+ghost use Rattle.deriv_log.specs.LogGrammar.{log_grammar};
+ghost use Rattle.deriv_log.specs.Taking.{TakesEntry, IsNoCut, IsNotSecond, ReadsLine, RefusesLine};
 
 use crate::entry::Entry;
-use crate::fault::{LogEnd, LogFault, LogKind, Stop};
-use crate::parts::{
-    take_kind, take_natural, take_naturals, take_number, take_pairs, take_sparse, take_vector,
-};
-use crate::words::{Words, has_empty_word, is_word};
+use crate::text::put_entry;
+use src_sink::{Bytes, NoMemory};
 use std::alloc::Global;
+use word_lines::{
+    LineEntry, LogEnd, LogKind, Stop, Words, is_word, take_kind, take_natural, take_naturals,
+    take_number, take_pairs, take_sparse, take_vector,
+};
 
 fn take_duality(alloc: Global, words: &mut Words) -> Result<Entry, Stop>
     ensures { TakesEntry (codes "duality") words.old words.new result }
@@ -244,21 +246,19 @@ fn take_answer(alloc: Global, name: &[u8], words: &mut Words) -> Result<Entry, S
     }
 }
 
-/// The entry of the words of a line.
-fn line_entry(alloc: Global, text: &[u8]) -> Result<Entry, Stop>
-    ensures { ReadsWords text.now result }
-{
-    if has_empty_word(text) {
-        return Err(Stop::Fault(LogKind::BadLine));
+impl LineEntry for Entry {
+    ghost grammar = { log_grammar };
+
+    fn take(alloc: Global, name: &[u8], words: &mut Words) -> Result<Entry, Stop> {
+        take_entry(alloc, name, words)
     }
-    let mut words = Words::of(text);
-    let Some(name) = words.next() else {
-        return Err(Stop::Fault(LogKind::BadLine));
-    };
-    let entry = take_entry(alloc, name, &mut words)?;
-    match words.next() {
-        Some(_) => Err(Stop::Fault(LogKind::BadLine)),
-        None => Ok(entry),
+
+    fn put(&self, into: &mut Bytes) -> Result<(), NoMemory> {
+        put_entry(self, into)
+    }
+
+    fn is_end(&self) -> bool {
+        matches!(self, Entry::End(_))
     }
 }
 
@@ -275,11 +275,5 @@ pub fn read_line(
     ensures ok { IfOk result (ReadsLine ended whole text.now) }
     ensures refused { IfErr result (RefusesLine number ended whole text.now) }
 {
-    if ended || !whole {
-        return Err(Stop::Fault(LogKind::BadLine).at(number));
-    }
-    match line_entry(alloc, text) {
-        Ok(entry) => Ok(entry),
-        Err(stop) => Err(stop.at(number)),
-    }
+    word_lines::read_line(alloc, number, text, whole, ended)
 }

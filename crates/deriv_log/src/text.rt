@@ -1,76 +1,16 @@
 //! The text of logs.
 ghost use Rattle.std.specs.Prelude.{◌≡◌, ◌++◌, IfOk, OnOk};
 ghost use Rattle.src_sink.specs.Texts.{line_text, words_text};
-ghost use Rattle.deriv_log.specs.LogText as part;
-ghost use Rattle.deriv_log.specs.LogText.{part_words, entry_words, log_text, end_word};
-ghost use Rattle.deriv_log.specs.Printing.{spaced};
+ghost use Rattle.deriv_log.specs.LogText.{entry_words, log_text};
 
-use crate::entry::{EndKind, Entries, Entry, LogPair};
-use crate::items::{Printed, put_list};
+use crate::entry::{Entries, Entry};
 use frac128::{Frac, Spot};
 use src_sink::{Bytes, NoMemory};
 use std::alloc::Global;
-
-fn put_natural(value: u32, into: &mut Bytes) -> Result<(), NoMemory>
-    ensures { OnOk result (into.new ≡ into.old ++ spaced (part_words (part.natural value))) }
-{
-    value.put(into)?;
-    Ok(())
-}
-
-fn put_number(value: Frac, into: &mut Bytes) -> Result<(), NoMemory>
-    ensures { OnOk result (into.new ≡ into.old ++ spaced (part_words (part.number value))) }
-{
-    value.put(into)?;
-    Ok(())
-}
-
-fn put_vector(value: &[Frac], into: &mut Bytes) -> Result<(), NoMemory>
-    ensures { OnOk result (into.new ≡ into.old ++ spaced (part_words (part.vector value.now))) }
-{
-    put_list(value, into)?;
-    Ok(())
-}
-
-fn put_naturals(value: &[u32], into: &mut Bytes) -> Result<(), NoMemory>
-    ensures { OnOk result (into.new ≡ into.old ++ spaced (part_words (part.naturals value.now))) }
-{
-    put_list(value, into)?;
-    Ok(())
-}
-
-fn put_sparse(value: &[Spot], into: &mut Bytes) -> Result<(), NoMemory>
-    ensures { OnOk result (into.new ≡ into.old ++ spaced (part_words (part.sparse value.now))) }
-{
-    put_list(value, into)?;
-    Ok(())
-}
-
-fn put_pairs(value: &[LogPair], into: &mut Bytes) -> Result<(), NoMemory>
-    ensures { OnOk result (into.new ≡ into.old ++ spaced (part_words (part.pairs value.now))) }
-{
-    put_list(value, into)?;
-    Ok(())
-}
-
-fn kind_name(kind: EndKind) -> &'static [u8]
-    ensures { result.now ≡ end_word kind }
-{
-    match kind {
-        EndKind::Infeasible => b"infeasible",
-        EndKind::Whole => b"whole",
-        EndKind::NoVertex => b"novertex",
-        EndKind::Solved => b"solved",
-    }
-}
-
-fn put_kind(kind: EndKind, into: &mut Bytes) -> Result<(), NoMemory>
-    ensures { OnOk result (into.new ≡ into.old ++ spaced (part_words (part.kind kind))) }
-{
-    into.push(b' ')?;
-    into.append(kind_name(kind))?;
-    Ok(())
-}
+use word_lines::{
+    EndKind, LogPair, print_entries, put_kind, put_natural, put_naturals, put_number, put_pairs,
+    put_sparse, put_vector,
+};
 
 fn put_version_entry(number: u32, into: &mut Bytes) -> Result<(), NoMemory>
     ensures { OnOk result (into.new ≡ into.old ++ words_text (entry_words (Entry.Version number))) }
@@ -291,7 +231,7 @@ fn put_addh_entry(
 }
 
 /// Appends the words of an entry's line.
-fn put_entry(entry: &Entry, into: &mut Bytes) -> Result<(), NoMemory>
+pub(crate) fn put_entry(entry: &Entry, into: &mut Bytes) -> Result<(), NoMemory>
     ensures { OnOk result (into.new ≡ into.old ++ words_text (entry_words entry.now)) }
 {
     match entry {
@@ -394,17 +334,12 @@ fn put_entry(entry: &Entry, into: &mut Bytes) -> Result<(), NoMemory>
 pub fn print_line(entry: &Entry, into: &mut Bytes) -> Result<(), NoMemory>
     ensures { OnOk result (into.new ≡ into.old ++ line_text (entry_words entry.now)) }
 {
-    put_entry(entry, into)?;
-    into.push(b'\n')
+    word_lines::print_line(entry, into)
 }
 
 /// The text of a log: a line for each entry.
 pub fn print_log(alloc: Global, entries: &Entries) -> Result<Bytes, NoMemory>
     ensures { IfOk result (λ text. text ≡ log_text entries.now) }
 {
-    let mut text = Bytes::new(alloc);
-    for entry in entries.as_slice() {
-        print_line(entry, &mut text)?;
-    }
-    Ok(text)
+    print_entries(alloc, entries)
 }

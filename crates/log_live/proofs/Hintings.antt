@@ -6,7 +6,7 @@ use Rattle.std.proofs.lemmas.List.{append-nil}
 use Rattle.exact_field.specs.Rational.{ℚ, zero_ℚ, lt_ℚ}
 use Rattle.polyhedra.specs.LiveList.{Numbered, LivePair, IsRising, products, is_uncovered_live}
 use Rattle.polyhedra.proofs.Tests.{same_tests}
-use Rattle.deriv_log.specs.declared.entry.LogPair.{LogPair}
+use Rattle.word_lines.specs.declared.part.LogPair.{LogPair}
 use Rattle.std.specs.Prelude.{AllPairs, Contains, Result, Ok, Err}
 use Rattle.std.specs.List.{list_all}
 use Rattle.frac128.specs.Held.{is_held}

@@ -7,7 +7,7 @@ use Rattle.polyhedra.specs.LiveList.{Numbered, LiveList, LivePair, IsRising, is_
 use Rattle.polyhedra.proofs.Lists.{Contains-here, Contains-there, Contains-cases, Contains-nil}
 use Rattle.polyhedra.proofs.Members.{member_of, Contains-map_source, Contains-filter_source, pairs-head, pairs-tail}
 use Rattle.polyhedra.proofs.Tests.{both_true, both_hold}
-use Rattle.deriv_log.specs.declared.entry.LogPair.{LogPair}
+use Rattle.word_lines.specs.declared.part.LogPair.{LogPair}
 use Rattle.log_rules.specs.Live.{required_pairs}
 use Rattle.log_versions.specs.Hints.{first_cover, least_hints, lists, named_pair, opposite_pairs, same_pair}
 use Rattle.log_versions.specs.Walk.{is_next}

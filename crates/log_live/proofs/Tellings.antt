@@ -5,7 +5,7 @@ use Rattle.std.proofs.lemmas.List.{append-nil}
 use Rattle.exact_field.specs.Rational.{ℚ}
 use Rattle.polyhedra.specs.DoubleDescription.{covers}
 use Rattle.polyhedra.specs.LiveList.{Numbered, LivePair}
-use Rattle.deriv_log.specs.declared.entry.LogPair.{LogPair}
+use Rattle.word_lines.specs.declared.part.LogPair.{LogPair}
 use Rattle.log_versions.specs.Hints.{first_cover, named_pair}
 use Rattle.log_versions.specs.Walk.{is_next}
 use Rattle.log_live.specs.Hinting.{Tells, hints_along}

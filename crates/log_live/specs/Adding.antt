@@ -19,7 +19,7 @@ use Rattle.log_rules.specs.Events.{Event, dot_steps, divisor, meeting_point, mee
 use Rattle.log_rules.specs.Events as events
 use Rattle.log_rules.specs.Live.{State, value, cut_at, cut_row, rows_in_use, required_pairs, log_pair}
 use Rattle.log_rules.specs.declared.rule.Rule.TheVariants as rule
-use Rattle.deriv_log.specs.declared.entry.LogPair.{LogPair}
+use Rattle.word_lines.specs.declared.part.LogPair.{LogPair}
 use Rattle.log_rules.specs.Events.Event.{step, test}
 use Rattle.log_live.specs.declared.generator.Generator.{Generator}
 use Rattle.log_live.specs.declared.live.Live.{Live}

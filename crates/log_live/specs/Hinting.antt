@@ -5,7 +5,7 @@ use Rattle.exact_field.specs.Rational.{ℚ, zero_ℚ, lt_ℚ}
 use Rattle.frac128.specs.Held.{is_held}
 use Rattle.polyhedra.specs.LiveList.{Numbered, LivePair}
 use Rattle.vlp_reader.specs.declared.problem.Problem.{Problem}
-use Rattle.deriv_log.specs.declared.entry.LogPair.{LogPair}
+use Rattle.word_lines.specs.declared.part.LogPair.{LogPair}
 use Rattle.log_rules.specs.Events.{Event, first_failure, pair_of, value_steps}
 use Rattle.log_rules.specs.Events.Event.{test}
 use Rattle.log_rules.specs.Live.{State, value, cut_at, cut_row, required_pairs, rows_in_use}

@@ -26,7 +26,7 @@ use src_sink::{Items, NoMemory};
 use std::alloc::Global;
 
 /// The empty set of rows in use; where there are no generators, of none.
-fn no_rows(alloc: Global, generators: &[Generator]) -> Result<Marks, NoMemory>
+pub fn no_rows(alloc: Global, generators: &[Generator]) -> Result<Marks, NoMemory>
     requires { (rows : List (List ℚ)) × All (HasTightSet rows) generators.now }
     ensures { IfOk result (λ marks. All (λ g. length g.tight ≡ length marks) generators.now) }
 {

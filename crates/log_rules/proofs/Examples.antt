@@ -10,7 +10,7 @@ use Rattle.vlp_reader.specs.declared.problem.Bound.TheVariants.{Unsaid, Lower}
 use Rattle.vlp_reader.specs.Cells.{are_cells}
 use Rattle.vlp_reader.specs.Cones.{cone_fits, duality_fits}
 use Rattle.deriv_log.specs.Formed.{is_formed}
-use Rattle.deriv_log.specs.declared.entry.EndKind.TheVariants as kind
+use Rattle.word_lines.specs.declared.part.EndKind.TheVariants as kind
 use Rattle.deriv_log.specs.declared.entry.Entry.{Entry}
 use Rattle.deriv_log.specs.declared.entry.Entry.TheVariants as entry
 use Rattle.polyhedra.proofs.Members.{pairs-nil, pairs-cons}

@@ -18,8 +18,8 @@ use Rattle.log_rules.specs.declared.answer.Answer.{Answer}
 use Rattle.log_rules.specs.declared.answer.Answer.TheVariants.{Infeasible, Whole, Solved}
 use Rattle.log_rules.specs.declared.answer.Facet.{Facet}
 use Rattle.log_rules.specs.declared.answer.Gen.{Gen}
-use Rattle.deriv_log.specs.declared.entry.EndKind.{EndKind}
-use Rattle.deriv_log.specs.declared.entry.EndKind.TheVariants as ending
+use Rattle.word_lines.specs.declared.part.EndKind.{EndKind}
+use Rattle.word_lines.specs.declared.part.EndKind.TheVariants as ending
 use Rattle.deriv_log.specs.declared.entry.Entry.{Entry}
 use Rattle.deriv_log.specs.declared.entry.Entry.TheVariants as entry
 use Rattle.log_rules.specs.Order as order

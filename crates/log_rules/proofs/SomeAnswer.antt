@@ -18,8 +18,8 @@ use Rattle.upper_image.proofs.TurnedSets.{turned-same}
 use Rattle.frac128.specs.declared.vectors.Spot.{Spot}
 use Rattle.vlp_reader.specs.declared.problem.Problem.{Problem}
 use Rattle.deriv_log.specs.Formed.{IsLog, is_end, ends_once}
-use Rattle.deriv_log.specs.declared.entry.EndKind.{EndKind}
-use Rattle.deriv_log.specs.declared.entry.EndKind.TheVariants as ending
+use Rattle.word_lines.specs.declared.part.EndKind.{EndKind}
+use Rattle.word_lines.specs.declared.part.EndKind.TheVariants as ending
 use Rattle.deriv_log.specs.declared.entry.Entry.{Entry}
 use Rattle.deriv_log.specs.declared.entry.Entry.TheVariants.{Farkas, Whole, End}
 use Rattle.log_rules.specs.Laws.{Stands, SomeAnswer}

@@ -22,9 +22,9 @@ use Rattle.vlp_reader.specs.Sides.{sides, side_column, side_bounds, numbers_from
 use Rattle.vlp_reader.specs.declared.problem.Problem.{Problem}
 use Rattle.vlp_reader.specs.declared.problem.Cone.{Cone}
 use Rattle.vlp_reader.specs.declared.problem.Cone.TheVariants.{Orthant, Gens, Dual}
-use Rattle.deriv_log.specs.declared.entry.LogPair.{LogPair}
-use Rattle.deriv_log.specs.declared.entry.EndKind.{EndKind}
-use Rattle.deriv_log.specs.declared.entry.EndKind.TheVariants as kind
+use Rattle.word_lines.specs.declared.part.LogPair.{LogPair}
+use Rattle.word_lines.specs.declared.part.EndKind.{EndKind}
+use Rattle.word_lines.specs.declared.part.EndKind.TheVariants as kind
 use Rattle.deriv_log.specs.declared.entry.Entry.{Entry}
 use Rattle.deriv_log.specs.declared.entry.Entry.TheVariants.{Version, Duality, Cut, Start, Add, Point, Ray, Farkas, Whole, Line, Facet, End, Share, CutOf, PointOf, RayOf, AddHints}
 use Rattle.log_rules.specs.declared.rule.Rule.{Rule}

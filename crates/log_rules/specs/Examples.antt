@@ -11,8 +11,8 @@ use Rattle.vlp_reader.specs.declared.problem.Bound.{Bound}
 use Rattle.vlp_reader.specs.declared.problem.Bound.TheVariants.{Unsaid, Free, Lower, Upper, Fixed}
 use Rattle.vlp_reader.specs.declared.problem.Cone.{Cone}
 use Rattle.vlp_reader.specs.declared.problem.Cone.TheVariants.{Orthant, Gens, Dual}
-use Rattle.deriv_log.specs.declared.entry.LogPair.{LogPair}
-use Rattle.deriv_log.specs.declared.entry.EndKind.TheVariants as kind
+use Rattle.word_lines.specs.declared.part.LogPair.{LogPair}
+use Rattle.word_lines.specs.declared.part.EndKind.TheVariants as kind
 use Rattle.deriv_log.specs.declared.entry.Entry.{Entry}
 use Rattle.deriv_log.specs.declared.entry.Entry.TheVariants as entry
 use Rattle.log_rules.specs.Events.{Failing, plain_failure}

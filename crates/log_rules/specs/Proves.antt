@@ -20,7 +20,7 @@ use Rattle.log_rules.specs.declared.answer.Answer.TheVariants.{Infeasible, Whole
 use Rattle.log_rules.specs.declared.answer.Gen.{Gen}
 use Rattle.log_rules.specs.declared.answer.LineGen.{LineGen}
 use Rattle.log_rules.specs.declared.answer.Facet.{Facet}
-use Rattle.deriv_log.specs.declared.entry.EndKind.TheVariants as kind
+use Rattle.word_lines.specs.declared.part.EndKind.TheVariants as kind
 use Rattle.deriv_log.specs.declared.entry.Entry.{Entry}
 use Rattle.deriv_log.specs.declared.entry.Entry.TheVariants as entry
 

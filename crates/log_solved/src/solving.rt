@@ -7,7 +7,7 @@ ghost use Rattle.frac128.specs.Sparse.{IsSparse};
 ghost use Rattle.frac128.specs.declared.vectors.Spot.{Spot};
 ghost use Rattle.deriv_log.specs.declared.entry.Entry.{Entry};
 ghost use Rattle.deriv_log.specs.declared.entry.Entry.TheVariants as entry;
-ghost use Rattle.deriv_log.specs.declared.entry.EndKind.TheVariants as end;
+ghost use Rattle.word_lines.specs.declared.part.EndKind.TheVariants as end;
 ghost use Rattle.vlp_reader.specs.Sides.{numbers_from};
 ghost use Rattle.vlp_reader.specs.declared.problem.Problem.{Problem};
 ghost use Rattle.log_rules.specs.Events.{add_events, end_events, facet_events, is_accounted, is_largest, is_taken, point_events, ray_events, start_events};

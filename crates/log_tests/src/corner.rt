@@ -135,7 +135,7 @@ fn fits_corner(own: bool, product: Frac) -> bool
 }
 
 /// A cut's product with a direction is positive for its own, and 0 for the others.
-fn meets_direction(
+pub fn meets_direction(
     counter: &mut Steps,
     w: &[Frac],
     own: bool,

@@ -94,7 +94,7 @@ fn all_before(lines: &[Vector], place: usize) -> bool
 }
 
 /// Whether `d` goes on the reduced echelon form of the lines.
-fn goes_on(lines: &[Vector], d: &[Frac]) -> bool
+pub fn goes_on(lines: &[Vector], d: &[Frac]) -> bool
     ensures { result ≡ goes_on lines.now d.now }
 {
     leading(d) == Frac::from(1) && all_before(lines, leading_place(d))

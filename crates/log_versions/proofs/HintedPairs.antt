@@ -11,7 +11,7 @@ use Rattle.polyhedra.proofs.Lists.{Contains-here, Contains-there, Contains-cases
 use Rattle.polyhedra.proofs.Members.{all_of_members, member_of, Contains-map, Contains-map_source, Contains-filter, Contains-filter_source, pairs-nil, pairs-head, pairs-tail, pairs-append, pairs-filter, pairs-map, pairs-weaker}
 use Rattle.polyhedra.proofs.SolvedAreExact.{rising_lists_are_equal}
 use Rattle.polyhedra.proofs.Tests.{both_true, both_hold, either_true, or_left, or_right, not_true, list_all-true, true_or_not}
-use Rattle.deriv_log.specs.declared.entry.LogPair.{LogPair}
+use Rattle.word_lines.specs.declared.part.LogPair.{LogPair}
 use Rattle.log_rules.specs.Live.{value, find, cut_row, rows_in_use, required_pairs, log_pair}
 use Rattle.log_rules.proofs.Kept.{find_is}
 use Rattle.log_rules.proofs.PassedTests.{passes_some}

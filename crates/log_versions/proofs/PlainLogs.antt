@@ -4,8 +4,9 @@ use Rattle.std.specs.List.{list_all}
 use Rattle.std.proofs.lemmas.Bool.{and_parts, and_from}
 use Rattle.std.proofs.lemmas.List.Elements.{filter_map-append}
 use Rattle.frac128.specs.declared.vectors.Spot.{Spot}
-use Rattle.deriv_log.specs.Formed.{is_formed, is_formed_part, is_end, ends_once, IsLog}
-use Rattle.deriv_log.specs.LogText.{vector, number, sparse, natural, pairs}
+use Rattle.deriv_log.specs.Formed.{is_formed, is_end, ends_once, IsLog}
+use Rattle.word_lines.specs.Parts.{is_formed_part}
+use Rattle.word_lines.specs.Parts.{vector, number, sparse, natural, pairs}
 use Rattle.deriv_log.specs.declared.entry.Entry.{Entry}
 use Rattle.deriv_log.specs.declared.entry.Entry.TheVariants.{Version, Duality, Cut, Start, Add, Point, Ray, Farkas, Whole, Line, Facet, End, Share, CutOf, PointOf, RayOf, AddHints}
 use Rattle.log_versions.specs.Plain.{share_in, shares, shared, plain_entry, plain_behind, plain}

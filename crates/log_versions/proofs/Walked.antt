@@ -8,7 +8,7 @@ use Rattle.polyhedra.specs.LiveList.{Numbered, LivePair, is_uncovered_live}
 use Rattle.polyhedra.proofs.Lists.{Contains-here, Contains-there, Contains-cases, Contains-nil}
 use Rattle.polyhedra.proofs.Members.{all_of_members, member_of, Contains-map_source, Contains-filter_source, pairs-nil, pairs-cons, pairs-head, pairs-tail}
 use Rattle.polyhedra.proofs.Tests.{both_true, both_hold, list_all-true, true-list_all, same_tests}
-use Rattle.deriv_log.specs.declared.entry.LogPair.{LogPair}
+use Rattle.word_lines.specs.declared.part.LogPair.{LogPair}
 use Rattle.log_rules.specs.Live.{required_pairs}
 use Rattle.log_versions.specs.Hints.{opposite_pairs, named_pair, same_pair, lists, pairs_rise, is_hint, are_hints}
 use Rattle.log_versions.specs.Walk.{is_next, next_covers, walk, all_listed, all_hinted, WalkDecides}

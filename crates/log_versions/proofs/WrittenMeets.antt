@@ -5,7 +5,7 @@ use Rattle.std.proofs.lemmas.Bool.{eqb-true, eq-eqb}
 use Rattle.std.proofs.lemmas.List.Elements.{All-nil}
 use Rattle.exact_field.specs.Rational.{ℚ}
 use Rattle.vlp_reader.specs.declared.problem.Problem.{Problem}
-use Rattle.deriv_log.specs.declared.entry.LogPair.{LogPair}
+use Rattle.word_lines.specs.declared.part.LogPair.{LogPair}
 use Rattle.deriv_log.specs.declared.entry.Entry.{Entry}
 use Rattle.deriv_log.specs.declared.entry.Entry.TheVariants.{Version, Duality, Cut, Start, Add, Point, Ray, Farkas, Whole, Line, Facet, End, Share, CutOf, PointOf, RayOf, AddHints}
 use Rattle.polyhedra.proofs.Members.{all_of_members, member_of, pairs-nil, pairs-cons, pairs-head, pairs-tail}

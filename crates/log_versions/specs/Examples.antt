@@ -6,7 +6,7 @@ use Rattle.vlp_reader.specs.declared.problem.Problem.{Problem}
 use Rattle.vlp_reader.specs.declared.problem.Dir.TheVariants.{Min}
 use Rattle.vlp_reader.specs.declared.problem.Bound.TheVariants.{Lower}
 use Rattle.vlp_reader.specs.declared.problem.Cone.TheVariants.{Orthant}
-use Rattle.deriv_log.specs.declared.entry.LogPair.{LogPair}
+use Rattle.word_lines.specs.declared.part.LogPair.{LogPair}
 use Rattle.deriv_log.specs.declared.entry.Entry.{Entry}
 use Rattle.deriv_log.specs.declared.entry.Entry.TheVariants as entry
 use Rattle.log_rules.specs.Examples.{n, half, third, minus_one, cell, at, pair, Parts, Says, in_numbers, small, small_front, last_ray, solved_end, one, bounded_log}

@@ -6,7 +6,7 @@ use Rattle.exact_field.specs.Rational.{ℚ, zero_ℚ, lt_ℚ}
 use Rattle.polyhedra.specs.DoubleDescription.{covers}
 use Rattle.polyhedra.specs.LiveList.{Numbered, LivePair, products}
 use Rattle.vlp_reader.specs.declared.problem.Problem.{Problem}
-use Rattle.deriv_log.specs.declared.entry.LogPair.{LogPair}
+use Rattle.word_lines.specs.declared.part.LogPair.{LogPair}
 use Rattle.log_rules.specs.Live.{State, value, find, cut_row, rows_in_use, required_pairs, log_pair}
 
 -- each live generator with a positive value with each with a negative one, by rising plus and then

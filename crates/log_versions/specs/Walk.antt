@@ -4,7 +4,7 @@ use Rattle.std.specs.Prelude.{◌≡◌, ℕ, Bool, true, false, ◌&&◌, if◌
 use Rattle.std.specs.List.{list_all}
 use Rattle.exact_field.specs.Rational.{ℚ}
 use Rattle.polyhedra.specs.LiveList.{Numbered, LiveList, LivePair, IsRising, is_uncovered_live}
-use Rattle.deriv_log.specs.declared.entry.LogPair.{LogPair}
+use Rattle.word_lines.specs.declared.part.LogPair.{LogPair}
 use Rattle.log_rules.specs.Live.{required_pairs}
 use Rattle.log_versions.specs.Hints.{opposite_pairs, named_pair, same_pair, lists, unlisted, pairs_rise, is_hint, are_hints}
 

@@ -7,8 +7,9 @@ use Rattle.polyhedra.proofs.Tests.{both_hold, true-list_all}
 use Rattle.frac128.specs.Held.{is_held}
 use Rattle.frac128.specs.Sparse.{IsSparse, rises_above}
 use Rattle.frac128.specs.declared.vectors.Spot.{Spot}
-use Rattle.deriv_log.specs.Formed.{is_formed, is_formed_part, is_formed_spot, is_short}
-use Rattle.deriv_log.specs.LogText.{naturals, sparse, vector}
+use Rattle.deriv_log.specs.Formed.{is_formed}
+use Rattle.word_lines.specs.Parts.{is_formed_part, is_formed_spot, is_short}
+use Rattle.word_lines.specs.Parts.{naturals, sparse, vector}
 use Rattle.deriv_log.specs.declared.entry.Entry.TheVariants.{Duality}
 
 short : (n : ℕ) → n ≤ 4294967294 → is_short n ≡ true

@@ -3,7 +3,8 @@
 ghost use Rattle.std.specs.Prelude.{◌≡◌, ℕ, List, All, IsTrue};
 ghost use Rattle.exact_field.specs.Rational.{ℚ};
 ghost use Rattle.frac128.specs.Held.{is_held};
-ghost use Rattle.deriv_log.specs.Formed.{is_formed, is_formed_spot, is_short};
+ghost use Rattle.deriv_log.specs.Formed.{is_formed};
+ghost use Rattle.word_lines.specs.Parts.{is_formed_spot, is_short};
 ghost use Rattle.deriv_log.specs.declared.entry.Entry.TheVariants as line;
 
 use deriv_log::Entry;

@@ -16,12 +16,12 @@ use Rattle.vlp_reader.specs.Sides.{is_unsaid}
 use Rattle.vlp_reader.specs.declared.problem.Dir.{Dir}
 use Rattle.vlp_reader.specs.declared.problem.Dir.TheVariants.{Min, Max}
 use Rattle.vlp_reader.specs.declared.problem.Problem.{Problem}
-use Rattle.deriv_log.specs.Formed.{is_short, is_formed_spot}
-use Rattle.deriv_log.specs.LogText.{spot_words, sparse_words}
-use Rattle.deriv_log.proofs.Cutting.{Lacks, Lacks-join, slice_split-join}
-use Rattle.deriv_log.proofs.Entries.{IsPrinted, Printed, printed_natural, printed_number, printed_letters, printed_append, printed_short, printed_each, printed_map, printed_spot, no_blanks, no_feeds}
-use Rattle.deriv_log.proofs.Forms.{Words}
-use Rattle.deriv_log.proofs.OneEntry.{same_short, told_spot, told_list}
+use Rattle.word_lines.specs.Parts.{is_short, is_formed_spot}
+use Rattle.word_lines.specs.Parts.{spot_words, sparse_words}
+use Rattle.word_lines.proofs.Cutting.{Lacks, Lacks-join, slice_split-join}
+use Rattle.word_lines.proofs.PrintedWords.{IsPrinted, Printed, printed_natural, printed_number, printed_letters, printed_append, printed_short, printed_each, printed_map, printed_spot, no_blanks, no_feeds}
+use Rattle.word_lines.proofs.Forms.{Words}
+use Rattle.word_lines.proofs.OneEntry.{same_short, told_spot, told_list}
 use Rattle.log_rules.specs.Report.{vector_line, sparse_line, line_lines, facet_line, dual_line, downward, dual_direction_line, incidence_line, section, answer_name, head_lines, image_lines, witness_lines, report_lines}
 use Rattle.log_rules.specs.declared.answer.Answer.{Answer}
 use Rattle.log_rules.specs.declared.answer.Answer.TheVariants.{Infeasible, Whole, Solved}

@@ -4,7 +4,7 @@ use Rattle.std.specs.List.{list_all}
 use Rattle.frac128.specs.Held.{is_held}
 use Rattle.frac128.specs.declared.vectors.Spot.{Spot}
 use Rattle.vlp_reader.specs.declared.problem.Problem.{Problem}
-use Rattle.deriv_log.specs.Formed.{is_short, is_formed_spot}
+use Rattle.word_lines.specs.Parts.{is_short, is_formed_spot}
 use Rattle.log_rules.specs.Report.{report_text}
 use Rattle.log_rules.specs.declared.answer.Answer.{Answer}
 use Rattle.log_rules.specs.declared.answer.Answer.TheVariants.{Infeasible, Whole, Solved}

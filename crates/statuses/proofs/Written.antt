@@ -1,6 +1,6 @@
 -- Fault lines as texts.
 use Rattle.std.proofs.Common.{◌≡◌, ℕ, List, [], ◌∷◌, ◌++◌, ap, sym, ◌∙◌, append_assoc, append-nil, codes, decimal}
-use Rattle.deriv_log.specs.Printing.{spaced}
+use Rattle.word_lines.specs.Printing.{spaced}
 use Rattle.sol_writer.proofs.Written.{Line}
 
 -- a fault line with two numbers and a name

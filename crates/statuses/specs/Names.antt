@@ -22,3 +22,4 @@ abbrev pub family_name : Family → List ℕ
 family_name family.Image = codes "image"
 family_name family.Exchanged = codes "exchanged"
 family_name family.ConeRows = codes "cone"
+family_name family.Rep = codes "rep"

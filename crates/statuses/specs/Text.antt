@@ -8,9 +8,9 @@ use Rattle.frac128.specs.declared.frac.Frac.{Frac}
 use Rattle.frac128.specs.declared.vectors.Spot.{Spot}
 use Rattle.vlp_reader.specs.Faults.{kind_number, kind_name}
 use Rattle.vlp_reader.specs.declared.fault.FileFault.{FileFault}
-use Rattle.deriv_log.specs.LogText.{part_words, naturals, sparse, vector}
-use Rattle.deriv_log.specs.Names.{kind_number as log_kind_number, kind_name as log_kind_name}
-use Rattle.deriv_log.specs.declared.fault.LogFault.{LogFault}
+use Rattle.word_lines.specs.Parts.{part_words, naturals, sparse, vector}
+use Rattle.word_lines.specs.Names.{kind_number as log_kind_number, kind_name as log_kind_name}
+use Rattle.word_lines.specs.declared.fault.LogFault.{LogFault}
 use Rattle.deriv_log.specs.declared.licence.Licence.{Licence}
 use Rattle.deriv_log.specs.declared.licence.Place.{Place}
 use Rattle.deriv_log.specs.declared.licence.Place.TheVariants.{Pivot, Elim, Pair, Exchange, Scale, Step}

@@ -1,6 +1,6 @@
 //! The fault line of an operation whose exact result is not held.
 ghost use Rattle.std.specs.Prelude.{◌≡◌, ◌++◌, ◌∷◌, [], codes, decimal, IfOk, OnOk};
-ghost use Rattle.deriv_log.specs.Printing.{spaced};
+ghost use Rattle.word_lines.specs.Printing.{spaced};
 ghost use Rattle.statuses.specs.Names.{operation_name, family_name};
 ghost use Rattle.statuses.specs.Text.{operation_words, place_words, basis_words, licence_text, weigh_text};
 
@@ -32,6 +32,7 @@ fn family_name(family: Family) -> &'static [u8]
         Family::Image => b"image",
         Family::Exchanged => b"exchanged",
         Family::ConeRows => b"cone",
+        Family::Rep => b"rep",
     }
 }
 

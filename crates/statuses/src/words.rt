@@ -1,8 +1,8 @@
 //! Words of a line, a blank before each.
 ghost use Rattle.std.specs.Prelude.{◌≡◌, ◌++◌, ◌∷◌, [], map, decimal, OnOk};
 ghost use Rattle.std.specs.List.{flat_map};
-ghost use Rattle.deriv_log.specs.LogText.{part_words, naturals, sparse, vector};
-ghost use Rattle.deriv_log.specs.Printing.{spaced};
+ghost use Rattle.word_lines.specs.Parts.{part_words, naturals, sparse, vector};
+ghost use Rattle.word_lines.specs.Printing.{spaced};
 
 use frac128::{Frac, Spot};
 use sol_writer::{put_entries, put_natural, put_naturals, put_spots};

@@ -1,9 +1,10 @@
 use Rattle.std.proofs.Common.{[], refl, codes}
-use Rattle.deriv_log.specs.LineFault as form
-use Rattle.deriv_log.specs.LogText.{natural}
-use Rattle.deriv_log.proofs.Fronts.{none, more, fails}
+use Rattle.word_lines.specs.LineFault as form
+use Rattle.word_lines.specs.Parts.{natural}
+use Rattle.word_lines.proofs.Fronts.{none, more, fails}
+use Rattle.deriv_log.specs.LogGrammar.{log_grammar}
 use Rattle.deriv_log.proofs.line.take_add.Goals as goal
 
 pub returns-in_err-pairs : goal.returns-in_err-pairs
 returns-in_err-pairs c =
-    fails (codes "add") c.take_pairs.new.words form.pairs [] c.in_err-pairs.field-0.0 c.from_residual-in_err-pairs.result refl (more (natural c.in_ok-cut.cut) (none c.args.words.now) c.in_ok-cut.ensures) c.in_err-pairs.ensures c.from_residual-in_err-pairs.ensures
+    fails log_grammar (codes "add") c.take_pairs.new.words form.pairs [] c.in_err-pairs.field-0.0 c.from_residual-in_err-pairs.result refl (more (natural c.in_ok-cut.cut) (none c.args.words.now) c.in_ok-cut.ensures) c.in_err-pairs.ensures c.from_residual-in_err-pairs.ensures

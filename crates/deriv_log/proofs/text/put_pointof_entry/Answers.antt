@@ -1,6 +1,6 @@
 use Rattle.std.proofs.Common.{codes}
-use Rattle.deriv_log.specs.LogText.{natural, sparse}
-use Rattle.deriv_log.proofs.Printed.{named, then_part, whole_text}
+use Rattle.word_lines.specs.Parts.{natural, sparse}
+use Rattle.word_lines.proofs.Spaced.{named, then_part, whole_text}
 use Rattle.deriv_log.proofs.text.put_pointof_entry.Goals as goal
 
 pub returns : goal.returns

@@ -1,6 +1,6 @@
 use Rattle.std.proofs.Common.{codes}
-use Rattle.deriv_log.specs.LogText.{naturals, vector}
-use Rattle.deriv_log.proofs.Printed.{named, then_part, whole_text}
+use Rattle.word_lines.specs.Parts.{naturals, vector}
+use Rattle.word_lines.proofs.Spaced.{named, then_part, whole_text}
 use Rattle.deriv_log.proofs.text.put_start_entry.Goals as goal
 
 pub returns : goal.returns

@@ -1,7 +1,7 @@
 use Rattle.std.proofs.Common.{◌≡◌, List, [], sym, subst, ap, ◌∙◌, Bool, true, if◌then◌else◌}
 use Rattle.exact_field.specs.Rational.{zero_ℚ, lt_ℚ}
 use Rattle.polyhedra.specs.LiveList.{Numbered}
-use Rattle.deriv_log.specs.declared.entry.LogPair.{LogPair}
+use Rattle.word_lines.specs.declared.part.LogPair.{LogPair}
 use Rattle.log_rules.specs.Live.{value}
 use Rattle.log_live.specs.Adding.{Matches, negatives_of, pairs_with}
 use Rattle.log_live.specs.Live.{live_of, numbered_of}

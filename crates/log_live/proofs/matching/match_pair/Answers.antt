@@ -1,5 +1,5 @@
 use Rattle.std.proofs.Common.{[], ◌∷◌, ◌++◌, sym, ap, ◌∙◌, ◌+◌, drop, Bool, false, if◌then◌else◌}
-use Rattle.deriv_log.specs.declared.entry.LogPair.{LogPair}
+use Rattle.word_lines.specs.declared.part.LogPair.{LogPair}
 use Rattle.log_rules.specs.Events.{same_pairs}
 use Rattle.log_live.proofs.matching.match_pair.Goals as goal
 

@@ -1,5 +1,5 @@
 use Rattle.std.proofs.Common.{take, All, IsTrue}
-use Rattle.deriv_log.specs.Formed.{is_short}
+use Rattle.word_lines.specs.Parts.{is_short}
 use Rattle.overflows.proofs.written.naturals_are_written.Given as goal
 
 abbrev pub invariant-loop-n : goal.invariant-loop-n

@@ -2,7 +2,7 @@ use Rattle.std.proofs.Common.{rules}
 use Rattle.std.proofs.lemmas.Bool.{lt-ltb}
 use Rattle.polyhedra.proofs.Tests.{both_hold}
 use Rattle.frac128.specs.Held.{is_held}
-use Rattle.deriv_log.specs.Formed.{is_short}
+use Rattle.word_lines.specs.Parts.{is_short}
 use Rattle.overflows.proofs.written.spot_is_written.Goals as goal
 
 pub returns : goal.returns

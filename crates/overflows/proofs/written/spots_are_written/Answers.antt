@@ -2,7 +2,7 @@ use Rattle.std.proofs.Common.{List, All, IsTrue, subst}
 use Rattle.std.proofs.lemmas.List.{take_all}
 use Rattle.std.proofs.lemmas.List.Elements.{All-more}
 use Rattle.frac128.specs.declared.vectors.Spot.{Spot}
-use Rattle.deriv_log.specs.Formed.{is_formed_spot}
+use Rattle.word_lines.specs.Parts.{is_formed_spot}
 use Rattle.overflows.proofs.written.spots_are_written.Goals as goal
 
 pub loop-spot-preserved : goal.loop-spot-preserved

@@ -1,5 +1,5 @@
 use Rattle.std.proofs.Common.{take, All, IsTrue}
-use Rattle.deriv_log.specs.Formed.{is_formed_spot}
+use Rattle.word_lines.specs.Parts.{is_formed_spot}
 use Rattle.overflows.proofs.written.spots_are_written.Given as goal
 
 abbrev pub invariant-loop-spot : goal.invariant-loop-spot

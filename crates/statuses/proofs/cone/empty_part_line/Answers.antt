@@ -1,5 +1,5 @@
 use Rattle.std.proofs.Common.{◌∷◌, [], codes}
-use Rattle.deriv_log.specs.LogText.{part_words, sparse}
+use Rattle.word_lines.specs.Parts.{part_words, sparse}
 use Rattle.sol_writer.proofs.Written.{further, ended}
 use Rattle.statuses.specs.Text.{part_name}
 use Rattle.statuses.proofs.Written.{fault_begun}

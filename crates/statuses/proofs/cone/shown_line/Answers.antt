@@ -1,5 +1,5 @@
 use Rattle.std.proofs.Common.{◌∷◌, [], codes}
-use Rattle.deriv_log.specs.LogText.{part_words, sparse, vector}
+use Rattle.word_lines.specs.Parts.{part_words, sparse, vector}
 use Rattle.sol_writer.proofs.Written.{further, ended}
 use Rattle.statuses.proofs.Written.{fault_begun}
 use Rattle.statuses.proofs.cone.shown_line.Goals as goal

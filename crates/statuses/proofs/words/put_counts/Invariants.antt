@@ -1,6 +1,6 @@
 use Rattle.std.proofs.Common.{◌≡◌, ◌++◌, drop, ◌∷◌, [], decimal}
 use Rattle.std.specs.List.{flat_map}
-use Rattle.deriv_log.specs.Printing.{spaced}
+use Rattle.word_lines.specs.Printing.{spaced}
 use Rattle.statuses.proofs.words.put_counts.Given as goal
 
 -- what is appended so far and what is left make the whole

@@ -1,5 +1,0 @@
-use Rattle.deriv_log.proofs.Taken.{list_taken}
-use Rattle.deriv_log.proofs.items.take_list.Goals as goal
-
-pub returns : goal.returns
-returns g c = list_taken g.T.Printed.words_of g.T.Item.is_good g.T.Item.step c.args.words.now c.take.new.words c.take_items.new.words c.in_ok-count.count c.take_items.result c.in_ok-count.ensures c.take_items.ensures

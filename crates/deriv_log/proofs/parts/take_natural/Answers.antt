@@ -1,5 +1,0 @@
-use Rattle.deriv_log.proofs.Taken.{natural_taken}
-use Rattle.deriv_log.proofs.parts.take_natural.Goals as goal
-
-pub returns : goal.returns
-returns c = natural_taken c.args.words.now c.take.new.words c.take.result c.take.ensures

@@ -1,5 +1,0 @@
-use Rattle.deriv_log.proofs.Taken.{number_taken}
-use Rattle.deriv_log.proofs.parts.take_number.Goals as goal
-
-pub returns : goal.returns
-returns c = number_taken c.args.words.now c.take.new.words c.take.result c.take.ensures

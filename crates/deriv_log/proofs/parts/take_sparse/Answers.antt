@@ -1,5 +1,0 @@
-use Rattle.deriv_log.proofs.Taken.{sparse_taken}
-use Rattle.deriv_log.proofs.parts.take_sparse.Goals as goal
-
-pub returns : goal.returns
-returns c = sparse_taken c.args.words.now c.take.new.words c.take_spots.new.words c.in_ok-count.count c.take_spots.result c.in_ok-count.ensures c.take_spots.ensures

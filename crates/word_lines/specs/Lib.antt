@@ -1,0 +1,10 @@
+-- The subject: Parts, Numerals, LineFault, Grammar, FirstFault, Names. The statement of the law: Laws. For the code: Taking, Printing.
+pub mod Names
+pub mod Numerals
+pub mod Parts
+pub mod LineFault
+pub mod Grammar
+pub mod FirstFault
+pub mod Laws
+pub mod Taking
+pub mod Printing
