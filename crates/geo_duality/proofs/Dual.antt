@@ -16,7 +16,10 @@ use Rattle.polyhedra.specs.Exactness.{homogenised}
 use Rattle.polyhedra.proofs.Homogenised.{IsHomogenised, unhomogenised, dot-homogenised}
 use Rattle.polyhedra.proofs.Linear.{dot_comm}
 use Rattle.geo_duality.specs.Coupling.{front, last, inequality_of, joined, slack}
-use Rattle.geo_duality.specs.Exchange.{difference_steps, differences, dual_vector, entry_steps, exchanged}
+use Rattle.polyhedra.specs.Vectors.{scaled}
+use Rattle.tableaux.specs.Table.{minus}
+use Rattle.geo_duality.specs.Exchange.{difference_steps, dual_vector, entry_steps}
+use Rattle.geo_duality.specs.Rows.{exchange_row}
 
 -- ---- a vector and its last entry
 pub front-homogenised : (xs : List ℚ) (x : ℚ) → front (homogenised xs x) ≡ xs
@@ -53,7 +56,25 @@ coupling_is y star c some same =
     (length-front star (let e : 1 ≤ length star = omega arith in e) ∙ ap (λ n. n - 1) same ∙ sym (length-front y some)))
     ∙ ap (dot (inequality_of star c).normal) (sym (front_and_last y some)))
 
--- ---- the exchanged row over a dual vector
+-- ---- the row over a dual vector
+-- the entries of the row but the last two, one after the other
+abbrev pub differences : ℚ → List ℚ → List ℚ → List ℚ
+differences k [] cs = []
+differences k (y ∷ ys) [] = []
+differences k (y ∷ ys) (c ∷ cs) = (y -ℚ k *ℚ c) ∷ differences k ys cs
+
+differences_are : (k : ℚ) (ys cs : List ℚ) → length ys ≡ length cs → differences k ys cs ≡ minus ys (scaled k cs)
+differences_are k [] cs l = refl
+differences_are k (y ∷ ys) [] l = absurd (omega arith)
+differences_are k (y ∷ ys) (c ∷ cs) l = ap (λ (v : List ℚ). (y -ℚ k *ℚ c) ∷ v) (differences_are k ys cs (omega arith))
+
+pub row_is : (y c : List ℚ) (t : Bool) → length c ≡ length y →
+    differences (last y) (front y) (front c) ++ cond t (neg_ℚ one_ℚ) zero_ℚ ∷ last y ∷ [] ≡ exchange_row c y t
+row_is y c t same =
+    ap (λ (v : List ℚ). v ++ cond t (neg_ℚ one_ℚ) zero_ℚ ∷ last y ∷ [])
+    (differences_are (last y) (front y) (front c)
+    (length-take-le (length y - 1) y (omega arith) ∙ ap (λ (n : ℕ). n - 1) (sym same) ∙ sym (length-take-le (length c - 1) c (omega arith))))
+
 dot-differences : (k : ℚ) (ys cs ws : List ℚ) → length cs ≡ length ys → dot (differences k ys cs) ws ≡ dot ys ws -ℚ k *ℚ dot cs ws
 dot-differences k [] [] ws h = ring rationals (k ∷ []) (num (pos 0)) (num (pos 0) ⊝ v0 ⊗ num (pos 0)) refl
 dot-differences k [] (c ∷ cs) ws h = absurd (omega arith)
@@ -69,9 +90,10 @@ length-differences k (y ∷ ys) [] h = absurd (omega arith)
 length-differences k (y ∷ ys) (c ∷ cs) h = ap suc (length-differences k ys cs (omega arith))
 
 pub exchanged_is : (y c : List ℚ) (t : Bool) (normal : List ℚ) (bound : ℚ) → 1 ≤ length y → length c ≡ length y → entry c (length c) ≡ one_ℚ → length normal ≡ length y →
-    dot (exchanged y t c) (dual_vector normal bound c) ≡ dot normal y -ℚ cond t bound zero_ℚ
+    dot (exchange_row c y t) (dual_vector normal bound c) ≡ dot normal y -ℚ cond t bound zero_ℚ
 exchanged_is y c t normal bound some same one wide =
-    dot-append (differences (last y) (front y) (front c)) (front normal) (cond t (neg_ℚ one_ℚ) zero_ℚ ∷ last y ∷ []) (bound ∷ dot normal c ∷ [])
+    ap (λ (r : List ℚ). dot r (dual_vector normal bound c)) (sym (row_is y c t same))
+    ∙ dot-append (differences (last y) (front y) (front c)) (front normal) (cond t (neg_ℚ one_ℚ) zero_ℚ ∷ last y ∷ []) (bound ∷ dot normal c ∷ [])
     (length-differences (last y) (front y) (front c) (long c same ∙ sym (long y refl)) ∙ long y refl ∙ sym (long normal wide))
     ∙ ap₂ (λ a b. a +ℚ (cond t (neg_ℚ one_ℚ) zero_ℚ *ℚ bound +ℚ (last y *ℚ b +ℚ zero_ℚ)))
     (dot-differences (last y) (front y) (front c) (front normal) (long c same ∙ sym (long y refl))) over_c

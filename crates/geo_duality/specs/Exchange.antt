@@ -1,22 +1,12 @@
 -- Points and directions as rows over dual vectors.
 use Rattle.std.specs.Prelude.{List, [], ◌∷◌, ◌++◌, Bool, if◌then◌else◌}
-use Rattle.exact_field.specs.Rational.{ℚ, zero_ℚ, one_ℚ, neg_ℚ, ◌-ℚ◌, ◌*ℚ◌}
+use Rattle.exact_field.specs.Rational.{ℚ, zero_ℚ, one_ℚ, neg_ℚ, ◌*ℚ◌}
 use Rattle.exact_field.specs.Vector.{dot}
 use Rattle.exact_field.specs.declared.op.Op.TheVariants.{Sub, Mul}
 use Rattle.double_descr.specs.Steps.{Step, IsFirst}
 use Rattle.geo_duality.specs.Coupling.{front, last}
 use Rattle.geo_duality.specs.declared.exchanged.ExchangeFault.{ExchangeFault}
 use Rattle.geo_duality.specs.declared.exchanged.ExchangeFault.TheVariants.{Left as Stuck, NoMemory}
-
--- each entry y less k times the entry of c at its place
-abbrev pub differences : ℚ → List ℚ → List ℚ → List ℚ
-differences k [] cs = []
-differences k (y ∷ ys) [] = []
-differences k (y ∷ ys) (c ∷ cs) = (y -ℚ k *ℚ c) ∷ differences k ys cs
-
--- the row of a point or a direction
-abbrev pub exchanged : List ℚ → Bool → List ℚ → List ℚ
-exchanged y t c = differences (last y) (front y) (front c) ++ (if t then neg_ℚ one_ℚ else zero_ℚ) ∷ last y ∷ []
 
 -- the dual vector of an inequality: all entries of the normal but the last, the bound, and the product of the normal with c
 abbrev pub dual_vector : List ℚ → ℚ → List ℚ → List ℚ

@@ -1,3 +1,4 @@
 pub mod Coupling
 pub mod Exchange
 pub mod Facets
+pub mod Rows

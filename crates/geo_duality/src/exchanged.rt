@@ -3,7 +3,8 @@ ghost use Rattle.std.specs.Prelude.{◌≡◌, ◌≤◌, ◌<◌, ◌+◌, ◌*
 ghost use Rattle.exact_field.specs.Rational.{ℚ, zero_ℚ, one_ℚ, neg_ℚ, ◌-ℚ◌, ◌*ℚ◌};
 ghost use Rattle.exact_field.specs.Vector.{dot, entry};
 ghost use Rattle.double_descr.specs.Steps.{IsHeld, IsSoFar, Step};
-ghost use Rattle.geo_duality.specs.Exchange.{IsExchangeFault, dual_vector, entry_steps, exchange_steps, exchanged};
+ghost use Rattle.geo_duality.specs.Exchange.{IsExchangeFault, dual_vector, entry_steps, exchange_steps};
+ghost use Rattle.geo_duality.specs.Rows.{exchange_row};
 
 use exact_field::{Field, Left};
 use src_sink::{Items, NoMemory};
@@ -75,7 +76,8 @@ pub fn exchange<F: Field>(
     requires same { length c.now ≡ length y.now }
     requires narrow { length y.now < 4294967296 }
     requires normed { entry (map F.value c.now) (length c.now) ≡ one_ℚ }
-    ensures row { IfOk result (λ row. map F.value row ≡ exchanged (map F.value y.now) t (map F.value c.now)) }
+    ensures row { IfOk result
+        (λ row. map F.value row ≡ exchange_row (map F.value c.now) (map F.value y.now) t) }
     ensures slack { IfOk result (λ row. (normal : List ℚ) (bound : ℚ) → length normal ≡ length y.now → dot (map F.value row) (dual_vector normal bound (map F.value c.now)) ≡ dot normal (map F.value y.now) -ℚ (if t then bound else zero_ℚ)) }
     ensures held { OnOk result (All (IsHeld F.holds) (exchange_steps (map F.value y.now) (map F.value c.now))) }
     ensures left { IfErr result (λ fault. IsExchangeFault F.value F.holds (exchange_steps (map F.value y.now) (map F.value c.now)) fault) }

@@ -32,7 +32,8 @@ use Rattle.lp_form.specs.Programs.{feasible_system, weight_system}
 use Rattle.licence.specs.Base.{AreMultipliersOff, AreFirstMultipliersOff, IsBaseChoice, IsBaseRay, IsBaseRow, IsBaseWeight, IsBaseStart, IsFlat, IsSide, IsGeneratorOf, image_of, weight_of}
 use Rattle.licence.specs.Examples.{steep, n, minus, half, is_few, ones, trail_of, setting, at_start, base_rows, ray_row, OverflowsSteep, BaseExamples}
 use Rattle.licence.specs.Operands.{vector_of, IsAllowed, IsTrailEntry, IsChoiceOf, IsBaseX, AreElimRows, IsElimTable, IsMadeOver, IsAddition, IsPairStep, IsProgramStep, IsScaled, IsDivisor}
-use Rattle.licence.specs.Steps.{operation, exchange_row, exchange_steps, value_steps}
+use Rattle.licence.specs.Steps.{operation, exchange_steps, value_steps}
+use Rattle.geo_duality.specs.Rows.{exchange_row}
 use Rattle.licence.specs.Trails.{IsBaseTrail}
 use Rattle.licence.proofs.Given.{not_held, overflow_laws}
 use Rattle.licence.proofs.Making.{generator_laws}

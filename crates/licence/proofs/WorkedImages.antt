@@ -31,7 +31,8 @@ use Rattle.licence.specs.Base.{IsBaseRow, trail_normals}
 use Rattle.licence.specs.Examples.{plain, n, minus, half, is_few, ones}
 use Rattle.licence.specs.ImageExamples.{quarter, three_quarters, chain, in_chain, image_rows, parallel_rows, added_rows, OverflowsChain, ImageExamples}
 use Rattle.licence.specs.Operands.{standing, line_marks, AreElimRows, IsElimTable, IsAddition, IsPairStep, IsAdditionStep}
-use Rattle.licence.specs.Steps.{operation, exchange_row, value_steps, pair_steps}
+use Rattle.licence.specs.Steps.{operation, value_steps, pair_steps}
+use Rattle.geo_duality.specs.Rows.{exchange_row}
 use Rattle.licence.proofs.Given.{not_held, overflow_laws}
 use Rattle.licence.proofs.Values.{equal, apart, wide_test, two_below, step_is}
 use Rattle.licence.proofs.Worked.{no_names}

@@ -54,7 +54,8 @@ use Rattle.licence.specs.Examples.{n, minus, is_few, ones, trail_of}
 use Rattle.licence.specs.LineExamples.{half_plane, cuts, line, beside, along, in_along, OverflowsAlong, short_rows, full_rows, short_added, full_added, LineExamples}
 use Rattle.licence.specs.Licence.{StandsFor, Completes, Licensed}
 use Rattle.licence.specs.Operands.{standing, line_marks, AreElimRows, IsElimTable, IsElimStep, IsListStep, IsAddition, IsPairStep, IsAdditionStep, filled, IsRowOrWeight, IsStartOrGenerator, AreMultiplied}
-use Rattle.licence.specs.Steps.{operation, exchange_row, value_steps, pair_steps}
+use Rattle.licence.specs.Steps.{operation, value_steps, pair_steps}
+use Rattle.geo_duality.specs.Rows.{exchange_row}
 use Rattle.licence.specs.Trails.{IsBaseDirection, IsBaseEntry, IsBaseLine, IsBaseTrail}
 use Rattle.licence.proofs.FirstCut.{at_least_zero}
 use Rattle.licence.proofs.Given.{not_held, overflow_laws}

@@ -40,7 +40,8 @@ use Rattle.licence.specs.Examples.{n, minus, half, minus_half, is_few, ones, tra
 use Rattle.licence.specs.Licence.{IsOverflow}
 use Rattle.licence.specs.Operands.{Setting, vector_of, IsElimStep, IsListStep, IsMadeOver, IsAddition, IsBaseU, IsBaseW, IsTrailEntry, IsChoiceOf, AreSharesOf, IsBaseX, AreBaseShares, filled, IsRowOrWeight, IsStartOrGenerator, AreMultiplied}
 use Rattle.licence.specs.PairExamples.{narrow, in_dual_form, in_narrow, third, OverflowsNarrow, PairExamples}
-use Rattle.licence.specs.Steps.{operation, exchange_row, IsProductStep}
+use Rattle.licence.specs.Steps.{operation, IsProductStep}
+use Rattle.geo_duality.specs.Rows.{exchange_row}
 use Rattle.licence.specs.Trails.{IsBaseTrail}
 use Rattle.licence.proofs.FirstCut.{at_least_zero}
 use Rattle.licence.proofs.Given.{overflow_laws}

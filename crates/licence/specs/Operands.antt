@@ -29,12 +29,13 @@ use Rattle.deriv_log.specs.declared.entry.Entry.TheVariants.{Point, Ray, Whole, 
 use Rattle.deriv_log.specs.declared.licence.Program.{Program}
 use Rattle.deriv_log.specs.declared.licence.Program.TheVariants.{Feasible, Benson, Weight, Interior, Pointed}
 use Rattle.deriv_log.specs.declared.licence.Family.{Family}
-use Rattle.deriv_log.specs.declared.licence.Family.TheVariants.{Image, Exchanged, ConeRows}
+use Rattle.deriv_log.specs.declared.licence.Family.TheVariants.{Image, Exchanged, ConeRows, Rep}
 use Rattle.lineality.specs.Steps.{list_without}
 use Rattle.lineality.specs.Without.{marks, open_count, without, with_zeros}
 use Rattle.log_rules.specs.Live.{State, state, rows_in_use, cut_row, lines}
 use Rattle.lp_form.specs.Programs.{side_total, nonzero_vectors, generators, named_system, feasible_system, benson_system, choice_of, value_of, share_of}
-use Rattle.licence.specs.Steps.{operation, IsNumbered, IsProductStep, value_steps, pair_steps, exchange_row, exchange_steps}
+use Rattle.licence.specs.Steps.{operation, IsNumbered, IsProductStep, value_steps, pair_steps, exchange_steps}
+use Rattle.geo_duality.specs.Rows.{exchange_row}
 use Rattle.licence.specs.Base.{IsSolutionOff, AreMultipliersOff, AreFirstMultipliersOff, IsRayOff, IsBaseChoice, IsBaseRay, IsBaseRow, IsBaseWeight, IsBaseCut, IsBaseNormal, IsBaseStart, IsConeDirection, IsGeneratorOf, IsLiveAfter, trail_normals, image_of}
 use Rattle.licence.specs.Trails.{IsMuOff, IsBaseTrail}
 
@@ -252,6 +253,7 @@ abbrev pub filled : Setting → Family → List ℚ → List ℚ
 filled s Image v = with_zeros (line_marks s) v
 filled s Exchanged v = v
 filled s ConeRows v = v
+filled s Rep v = v
 
 -- a generator: live after the trail, or live over rows that an addition has, without the last or
 -- with it

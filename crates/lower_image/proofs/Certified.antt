@@ -138,7 +138,7 @@ done_of_mark value task dd live nums cuts marks g h e = λ v listed stands. (h.m
 
 -- ---- all facets
 -- other inequalities with the same members, whatever their order
-same_facets : (file : Problem) (c : List ℚ) (facets other : List Inequality) → AreAllFacets file c facets → AllPairs (λ a b. a ≡ b → ⊥) other →
+pub same_facets : (file : Problem) (c : List ℚ) (facets other : List Inequality) → AreAllFacets file c facets → AllPairs (λ a b. a ≡ b → ⊥) other →
     ((e : Inequality) → Contains facets e → Contains other e) → ((e : Inequality) → Contains other e → Contains facets e) → AreAllFacets file c other
 same_facets file c facets other h distinct there back = record {
   each = all_of_members (IsFacet file.objs (IsInWorkingImage file) c) other

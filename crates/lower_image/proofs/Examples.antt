@@ -22,7 +22,7 @@ use Rattle.upper_image.proofs.Solid.{duality_fits}
 use Rattle.upper_image.proofs.WorkingImage.{cut_valid}
 use Rattle.licence.specs.Base.{AreMultipliersOff, IsBaseChoice, image_of, weight_of}
 use Rattle.licence.specs.Examples.{n, minus, ones}
-use Rattle.licence.specs.Steps.{exchange_row}
+use Rattle.geo_duality.specs.Rows.{exchange_row}
 use Rattle.licence.proofs.Values.{apart, equal}
 use Rattle.licence.proofs.Pivots.{Pivots, table_after}
 use Rattle.licence.proofs.WorkedBase.{full_after}

@@ -16,7 +16,7 @@ use Rattle.polyhedra.proofs.Algebra.{neg_mul, neg_zero, one_mul, zero_mul, mul_z
 use Rattle.polyhedra.proofs.Linear.{dot_comm, dot-plus_left, dot-scaled_left, length-scaled}
 use Rattle.tableaux.specs.Table.{minus}
 use Rattle.upper_image.specs.UpperImage.{front}
-use Rattle.licence.specs.Steps.{exchange_row}
+use Rattle.geo_duality.specs.Rows.{exchange_row}
 use Rattle.licence.proofs.Violated.{dot-append, dot-take, minus-is, length-minus}
 use Rattle.lower_image.specs.Lower.{dual_at, weight_at}
 

@@ -9,7 +9,8 @@ use Rattle.exact_field.specs.declared.op.Op.TheVariants.{Sub, Mul}
 use Rattle.polyhedra.specs.Vectors.{scaled}
 use Rattle.tableaux.specs.Table.{minus}
 use Rattle.double_descr.specs.Steps.{IsFirst}
-use Rattle.geo_duality.specs.Exchange.{difference_steps, differences, exchanged}
+use Rattle.geo_duality.specs.Exchange.{difference_steps}
+use Rattle.geo_duality.specs.Rows.{exchange_row}
 use Rattle.geo_duality.specs.Exchange as calculated
 use Rattle.deriv_log.specs.declared.licence.Place.TheVariants.{Exchange}
 use Rattle.log_rules.specs.Events.{Event}
@@ -17,23 +18,12 @@ use Rattle.log_rules.specs.Events.Event.{step}
 use Rattle.licence.specs.Base.{IsBaseRow}
 use Rattle.licence.specs.Licence.{IsOverflow}
 use Rattle.licence.specs.Operands.{Setting, Knows}
-use Rattle.licence.specs.Steps.{exchange_row, in_numbers, operation}
+use Rattle.licence.specs.Steps.{in_numbers, operation}
 use Rattle.licence.proofs.Given.{overflow_laws}
 use Rattle.overflows.specs.Faults.{IsLeftAt, Overflows}
 use Rattle.overflows.specs.declared.fault.SolveFault.{SolveFault}
 use Rattle.overflows.proofs.Events.{event_of, same_exact}
 use Rattle.overflows.proofs.Starts.{left_overflows, same_operation}
-
-differences_are : (k : ℚ) (ys cs : List ℚ) → length ys ≡ length cs → differences k ys cs ≡ minus ys (scaled k cs)
-differences_are k [] cs l = refl
-differences_are k (y ∷ ys) [] l = absurd (omega arith)
-differences_are k (y ∷ ys) (c ∷ cs) l = ap (λ (v : List ℚ). (y -ℚ k *ℚ c) ∷ v) (differences_are k ys cs (omega arith))
-
-pub row_is : (y c : List ℚ) (t : Bool) → length c ≡ length y → exchanged y t c ≡ exchange_row c y t
-row_is y c t same =
-    ap (λ (v : List ℚ). v ++ (if t then neg_ℚ one_ℚ else zero_ℚ) ∷ entry y (length y) ∷ [])
-    (differences_are (entry y (length y)) (take (length y - 1) y) (take (length c - 1) c)
-    (length-take-le (length y - 1) y (omega arith) ∙ ap (λ (n : ℕ). n - 1) (sym same) ∙ sym (length-take-le (length c - 1) c (omega arith))))
 
 events : (k : ℚ) (ys cs : List ℚ) → map event_of (difference_steps k ys cs) ≡
     flat_map (λ e. step Mul k e.1 ∷ step Sub e.0 (k *ℚ e.1) ∷ []) (zip ys cs)

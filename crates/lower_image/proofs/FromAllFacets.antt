@@ -28,7 +28,7 @@ use Rattle.upper_image.specs.UpperImage.{normals, objectives, IsInWorkingImage, 
 use Rattle.deriv_log.specs.Formed.{IsLog}
 use Rattle.deriv_log.specs.declared.entry.Entry.{Entry}
 use Rattle.deriv_log.specs.declared.entry.Entry.TheVariants.{End}
-use Rattle.deriv_log.specs.declared.entry.EndKind.TheVariants as kind
+use Rattle.word_lines.specs.declared.part.EndKind.TheVariants as kind
 use Rattle.log_rules.specs.Laws.{listed, named_cuts}
 use Rattle.log_rules.specs.Live.{Stated, State, cut_at, duality_vector, in_use, inequality, lines, live_vectors, named, state}
 use Rattle.log_rules.specs.Proves.{AllMeet}

@@ -21,7 +21,7 @@ use Rattle.upper_image.specs.OrderingCone.{Fits, IsInDualCone, IsInOrderingCone}
 use Rattle.upper_image.specs.UpperImage.{front}
 use Rattle.upper_image.proofs.Absorbing.{zero_at_interior}
 use Rattle.licence.specs.Base.{image_of, weight_of}
-use Rattle.licence.specs.Steps.{exchange_row}
+use Rattle.geo_duality.specs.Rows.{exchange_row}
 use Rattle.lower_image.specs.Lower.{IsLower, dual_at, weight_at}
 use Rattle.lower_image.specs.Laws.{IsWeighted, LowerGeneratorLaws}
 use Rattle.lower_image.proofs.Exchange.{exchange_at, take-zeros, two_more, weight_long, weight_normed, dual_parts}

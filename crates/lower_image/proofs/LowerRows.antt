@@ -39,7 +39,7 @@ use Rattle.lp_form.proofs.Systems.{cone_wide, length-negated, length-unit}
 use Rattle.cone_rules.proofs.Ranks.{unit_nonneg}
 use Rattle.licence.specs.Base.{IsBaseRow, IsConeDirection, IsDirectionOf, image_of}
 use Rattle.licence.specs.Base.IsBaseRow.{of_choice, of_ray, of_cone}
-use Rattle.licence.specs.Steps.{exchange_row}
+use Rattle.geo_duality.specs.Rows.{exchange_row}
 use Rattle.licence.proofs.Making.{generator_laws}
 use Rattle.licence.proofs.Violated.{length-minus}
 use Rattle.lower_image.specs.Lower.{AreLowerRows, IsLower, dual_at, weight_at, dual_vector}

@@ -31,7 +31,7 @@ use Rattle.upper_image.proofs.ConvexCones.{ordering_cone_convex}
 use Rattle.lp_form.proofs.Systems.{cone_wide}
 use Rattle.licence.specs.Base.{IsBaseChoice, IsBaseRow, IsConeDirection, IsDirectionOf, image_of}
 use Rattle.licence.specs.Base.IsBaseRow.{of_choice, of_cone}
-use Rattle.licence.specs.Steps.{exchange_row}
+use Rattle.geo_duality.specs.Rows.{exchange_row}
 use Rattle.lower_image.specs.Lower.{AreLowerRows, AreSpanning, IsCertified, IsLower, dual_at, weight_at, dual_vector, inequality_of}
 use Rattle.lower_image.specs.Laws.{IsWeighted, LowerStartLaws}
 use Rattle.lower_image.proofs.Exchange.{exchange_at, weight_long}

@@ -13,7 +13,7 @@ use Rattle.deriv_log.specs.declared.licence.Family.TheVariants.{Exchanged}
 use Rattle.licence.specs.Base.{IsBaseChoice, IsBaseRow, IsConeDirection, image_of}
 use Rattle.licence.specs.Base.IsBaseRow.{of_choice, of_cone}
 use Rattle.licence.specs.Operands.{AreElimRows, IsAddition}
-use Rattle.licence.specs.Steps.{exchange_row}
+use Rattle.geo_duality.specs.Rows.{exchange_row}
 use Rattle.licence.proofs.Making.{generator_laws}
 use Rattle.cone_dual.specs.Generators.{IsDescriptionOf, MayDescribe, begun_with}
 use Rattle.cone_dual.proofs.Reordered.{begun_listed, picked_places, rows_begun}

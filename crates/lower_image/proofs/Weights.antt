@@ -17,7 +17,7 @@ use Rattle.lp_form.specs.declared.data.Data.{Data}
 use Rattle.vlp_reader.specs.declared.problem.Problem.{Problem}
 use Rattle.lp_form.specs.Programs.{weight_system, u_of, choice_of}
 use Rattle.licence.specs.Base.{AreMultipliersOff, AreFirstMultipliersOff, IsBaseChoice, IsBaseRay, IsBaseRow, IsGeneratorOf, image_of, weight_of}
-use Rattle.licence.specs.Steps.{exchange_row}
+use Rattle.geo_duality.specs.Rows.{exchange_row}
 use Rattle.licence.specs.Operands.{AreMultiplied}
 use Rattle.licence.specs.Turns.{IsRowTurn, said_exchange}
 use Rattle.benson_program.specs.Ends.{IsOptimumAt, IsEmptyAt}

@@ -20,13 +20,13 @@ use Rattle.upper_image.specs.OrderingCone.{Fits, IsInDualCone}
 use Rattle.upper_image.specs.UpperImage.{IsInWorkingImage}
 use Rattle.deriv_log.specs.declared.entry.Entry.{Entry}
 use Rattle.deriv_log.specs.declared.entry.Entry.TheVariants.{End}
-use Rattle.deriv_log.specs.declared.entry.EndKind.TheVariants as kind
+use Rattle.word_lines.specs.declared.part.EndKind.TheVariants as kind
 use Rattle.log_rules.specs.Live.{duality_vector, state, inequality, named}
 use Rattle.log_rules.specs.Proves.{AllMeet}
 use Rattle.deriv_log.specs.Formed.{IsLog}
 use Rattle.lp_form.specs.Programs.{benson_system, weight_system, u_of, value_of}
 use Rattle.licence.specs.Base.{AreMultipliersOff, AreFirstMultipliersOff, IsBaseChoice, IsBaseRow, IsBaseWeight, IsConeDirection, image_of, last_of, weight_of}
-use Rattle.licence.specs.Steps.{exchange_row}
+use Rattle.geo_duality.specs.Rows.{exchange_row}
 use Rattle.licence.specs.Turns.{IsRowTurn, said_exchange}
 use Rattle.lower_image.specs.Lower.{AreLowerRows, AreSpanning, AreAllFacets, IsLower, IsCertified, dual_at, dual_vector, inequality_of, weighted}
 

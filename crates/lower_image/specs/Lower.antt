@@ -14,7 +14,7 @@ use Rattle.upper_image.specs.OrderingCone.{IsInDualCone}
 use Rattle.upper_image.specs.UpperImage.{IsInWorkingImage, front}
 use Rattle.licence.specs.Base.{IsBaseRow, IsConeDirection, image_of, weight_of}
 use Rattle.licence.specs.Operands.{IsMadeOver}
-use Rattle.licence.specs.Steps.{exchange_row}
+use Rattle.geo_duality.specs.Rows.{exchange_row}
 
 -- ---- dual vectors
 -- a dual vector by its parts

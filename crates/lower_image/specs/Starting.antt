@@ -4,7 +4,7 @@ use Rattle.exact_field.specs.Rational.{ℚ}
 use Rattle.double_descr.specs.State.{State as Description}
 use Rattle.vlp_reader.specs.declared.problem.Problem.{Problem}
 use Rattle.licence.specs.Base.{image_of}
-use Rattle.licence.specs.Steps.{exchange_row}
+use Rattle.geo_duality.specs.Rows.{exchange_row}
 use Rattle.outer_approx.specs.Task.{Task}
 use Rattle.lower_image.specs.Lower.{IsLower}
 

@@ -4,8 +4,8 @@ use Rattle.exact_field.specs.Vector.{dot, entry}
 use Rattle.lin_rows.proofs.Errors.{err_holds}
 use Rattle.double_descr.proofs.StepLists.{at_last, at_number, same_left, write_on, written_all}
 use Rattle.geo_duality.specs.Coupling.{front, last}
-use Rattle.geo_duality.specs.Exchange.{IsExchangeFault, difference_steps, differences, dual_vector, exchange_steps}
-use Rattle.geo_duality.proofs.Dual.{difference_at, exchanged_is, front_from, length-front, mapped_last, row_done, steps_at}
+use Rattle.geo_duality.specs.Exchange.{IsExchangeFault, difference_steps, dual_vector, exchange_steps}
+use Rattle.geo_duality.proofs.Dual.{difference_at, differences, exchanged_is, front_from, length-front, mapped_last, row_done, row_is, steps_at}
 use Rattle.geo_duality.proofs.exchanged.exchange.Goals as goal
 
 pub returns-in_err-less_product-clause-left : goal.returns-in_err-less_product-clause-left
@@ -61,6 +61,7 @@ returns-clause-row g c =
     written_all value c.loop-i.row _ _ (ap (λ l. differences (last y) l (drop i (front normal))) end) c.loop-i.invariant.written in
     row_done value c.loop-i.row c.push-2.new.self c.push-3.new.self c.at_bound.result c.index-y-last-2.result _ _ _ c.in_ok-push-2.ensures.ok c.in_ok-push-3.ensures.ok front_row
     c.at_bound.ensures ly
+    ∙ row_is y normal c.args.t (length-map c.args.c.now value ∙ c.requires.same ∙ sym (length-map c.args.y.now value))
 
 pub returns-clause-slack : goal.returns-clause-slack
 returns-clause-slack g c = λ normal bound wide.

@@ -1,7 +1,8 @@
 use Rattle.std.proofs.Common.{◌≡◌, ◌*◌, ◌++◌, drop, map}
 use Rattle.double_descr.specs.Steps.{IsSoFar}
 use Rattle.geo_duality.specs.Coupling.{front, last}
-use Rattle.geo_duality.specs.Exchange.{difference_steps, differences, exchange_steps}
+use Rattle.geo_duality.specs.Exchange.{difference_steps, exchange_steps}
+use Rattle.geo_duality.proofs.Dual.{differences}
 use Rattle.geo_duality.proofs.exchanged.exchange.Given as goal
 
 abbrev pub invariant-loop-i : goal.invariant-loop-i

@@ -1,15 +1,11 @@
-use Rattle.std.proofs.Common.{map, sym, ◌∙◌, subst}
-use Rattle.std.proofs.lemmas.List.{length-map}
+use Rattle.std.proofs.Common.{map, subst}
 use Rattle.geo_duality.specs.Exchange.{IsExchangeFault, exchange_steps}
 use Rattle.geo_duality.specs.declared.exchanged.ExchangeFault.{ExchangeFault}
-use Rattle.lower_image.proofs.Exchanged.{exchange_overflows, row_is}
+use Rattle.lower_image.proofs.Exchanged.{exchange_overflows}
 use Rattle.lower_image.proofs.rows.exchanged_row.Goals as goal
 
 pub returns-in-Ok-clause-ok : goal.returns-in-Ok-clause-ok
-returns-in-Ok-clause-ok g c =
-    let value = g.F.Field.value in
-    c.in-Ok.ensures.row
-    ∙ row_is (map value c.args.y.now) (map value c.args.c.now) c.args.t (length-map c.args.c.now value ∙ c.requires.same ∙ sym (length-map c.args.y.now value))
+returns-in-Ok-clause-ok g c = c.in-Ok.ensures.row
 
 pub returns-in-Err-Left-clause-left : goal.returns-in-Err-Left-clause-left
 returns-in-Err-Left-clause-left g c = λ s known base.

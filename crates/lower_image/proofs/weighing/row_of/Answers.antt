@@ -4,7 +4,7 @@ use Rattle.std.proofs.lemmas.List.{length-map}
 use Rattle.exact_field.specs.Rational.{ℚ}
 use Rattle.licence.specs.Base.{IsBaseRow}
 use Rattle.licence.specs.Operands.{IsBaseX}
-use Rattle.licence.specs.Steps.{exchange_row}
+use Rattle.geo_duality.specs.Rows.{exchange_row}
 use Rattle.outer_approx.specs.Task.{behind}
 use Rattle.lower_image.proofs.LowerRows.{image_wide}
 use Rattle.lower_image.proofs.Weights.{c_wide, choice_is, row_said}
