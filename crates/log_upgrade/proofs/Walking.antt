@@ -1,20 +1,24 @@
 -- The walk along a whole log.
-use Rattle.std.proofs.Common.{◌≡◌, ℕ, ◌+◌, ◌<◌, ◌≤◌, List, [], ◌∷◌, ◌++◌, refl, sym, ap, ap₂, ◌∙◌, subst, arith, length, append-nil, append_assoc, take, drop, drop-cons, get_or, add-one, Bool, true, IsTrue}
+use Rattle.std.proofs.Common.{◌≡◌, ℕ, ◌+◌, ◌<◌, ◌≤◌, List, [], ◌∷◌, ◌++◌, refl, sym, ap, ap₂, ◌∙◌, subst, length, append-nil, append_assoc, take, drop, drop-cons, get_or, add-one, Result, Ok, Err}
+use Rattle.std.specs.Prelude.{OnOk}
 use Rattle.std.specs.List.{list_all}
-use Rattle.std.proofs.lemmas.Bool.{and_parts, and_from}
+use Rattle.std.proofs.lemmas.Bool.{and_from}
 use Rattle.std.proofs.lemmas.List.{take_more, take-append-drop, drop_all}
 use Rattle.std.proofs.lemmas.Grind.{flat_map-append}
 use Rattle.std.proofs.lemmas.List.Folds.{list_all-append}
-use Rattle.frac128.specs.declared.vectors.Spot.{Spot}
 use Rattle.src_sink.specs.Texts.{line_text}
 use Rattle.vlp_reader.specs.declared.problem.Problem.{Problem}
 use Rattle.deriv_log.specs.Formed.{is_formed}
 use Rattle.deriv_log.specs.LogText.{entry_words, log_text}
 use Rattle.deriv_log.specs.declared.entry.Entry.{Entry}
-use Rattle.log_versions.specs.Upgrade.{upgraded_entry, more_shared, upgraded_behind}
+use Rattle.log_versions.specs.Upgrade.{more_shared, upgraded_behind}
 use Rattle.log_upgrade.specs.Walk.{in_place, IsFirst, IsNext, StandsAt, IsUpgraded, IsWritten, IsWhole}
 use Rattle.log_upgrade.specs.declared.walk.Upgraded.{Upgraded}
 use Rattle.log_upgrade.specs.declared.walk.Upgrader.{Upgrader}
+
+pub on_ok : {T E A B : Type 0} (r : Result T E) → (A → B) → OnOk r A → OnOk r B
+on_ok (Ok x) f h = f h
+on_ok (Err e) f h = tt
 
 rest_is : (all : List Entry) (i : ℕ) (e : Entry) → i < length all → e ≡ get_or all i e → drop i all ≡ e ∷ drop (i + 1) all
 rest_is all i e h k = drop-cons all i e h ∙ ap₂ (λ (x : Entry) (xs : List Entry). x ∷ xs) (sym k) (ap (λ (j : ℕ). drop j all) (sym (add-one i)))

@@ -3,11 +3,12 @@ use Rattle.std.proofs.Common.{◌≡◌, ℕ, zero, suc, ◌+◌, ◌<◌, ◌�
 use Rattle.std.specs.List.{list_all}
 use Rattle.std.proofs.lemmas.Bool.{and_parts, and_from}
 use Rattle.frac128.specs.declared.vectors.Spot.{Spot}
-use Rattle.deriv_log.specs.Formed.{is_formed, is_formed_part, is_short}
-use Rattle.deriv_log.specs.LogText.{natural, number, vector, naturals, sparse, pairs}
+use Rattle.deriv_log.specs.Formed.{is_formed}
+use Rattle.word_lines.specs.Parts.{is_formed_part, is_short}
+use Rattle.word_lines.specs.Parts.{natural, number, vector, naturals, sparse, pairs}
 use Rattle.deriv_log.specs.declared.entry.Entry.{Entry}
 use Rattle.deriv_log.specs.declared.entry.Entry.TheVariants.{Version, Duality, Cut, Start, Add, Point, Ray, Farkas, Whole, Line, Facet, End, Share, CutOf, PointOf, RayOf, AddHints}
-use Rattle.deriv_log.specs.declared.entry.LogPair.{LogPair}
+use Rattle.word_lines.specs.declared.part.LogPair.{LogPair}
 use Rattle.log_versions.specs.Upgrade.{body, naming}
 
 -- ---- hints

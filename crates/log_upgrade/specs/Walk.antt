@@ -9,7 +9,7 @@ use Rattle.deriv_log.specs.LogText.{log_text}
 use Rattle.deriv_log.specs.declared.entry.Entry.{Entry}
 use Rattle.deriv_log.specs.declared.entry.Entry.TheVariants.{Share}
 use Rattle.log_versions.specs.Plain.{is_version_2}
-use Rattle.log_versions.specs.Upgrade.{naming, upgraded_entry, upgraded_behind}
+use Rattle.log_versions.specs.Upgrade.{naming, more_shared, upgraded_entry, upgraded_behind}
 use Rattle.log_versions.specs.WrittenEvents.{log_failure}
 use Rattle.cert_check.specs.StandsFor.{StandsFor}
 use Rattle.cert_check.specs.declared.checker.Checker.{Checker}
@@ -61,6 +61,14 @@ pub record IsUpgraded (q : ℕ) (all before : List Entry) (vectors : List (List 
     (u : Upgraded) : Type 0 where
   pub is : in_place e u ≡ upgraded_entry q all before vectors e
   pub formed : IsTrue (list_all is_formed (in_place e u))
+
+-- what stands in the place of the entry is appended, and the upgrader stands behind the entry
+pub record IsPut (file : Problem) (all before : List Entry) (vectors : List (List Spot))
+    (e : Entry) (old new : List Entry) (u : Upgrader) : Type 0 where
+  pub upgraded : Upgraded
+  pub is : IsUpgraded file.objs all before vectors e upgraded
+  pub appended : new ≡ old ++ in_place e upgraded
+  pub stands : StandsAt file all (before ++ e ∷ []) (more_shared all vectors e) u
 
 -- what stands in the places of the first i entries is written
 pub record IsWritten (file : Problem) (all : List Entry) (i : ℕ) (written : List Entry)

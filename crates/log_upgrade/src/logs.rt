@@ -40,14 +40,11 @@ pub(crate) fn upgraded(
     let list = entries.as_slice();
     let mut upgrader = Upgrader::new(alloc, problem, list)?;
     let mut upgrade = Items::new(alloc);
-    for entry in list {
-        let upgraded = upgrader.take(alloc, problem, entry)?;
-        upgraded.put(alloc, entry, &mut upgrade)?;
-    }
+    upgrader.put_all(alloc, problem, list, &mut upgrade)?;
     Ok(upgrade)
 }
 
-/// Its text: at each entry what stands in its place is printed, and then let go.
+/// Its text. The upgrade is held one entry at a time.
 pub(crate) fn upgraded_text(
     alloc: Global,
     problem: &Problem,
@@ -59,9 +56,6 @@ pub(crate) fn upgraded_text(
     let list = entries.as_slice();
     let mut upgrader = Upgrader::new(alloc, problem, list)?;
     let mut text = Bytes::new(alloc);
-    for entry in list {
-        let upgraded = upgrader.take(alloc, problem, entry)?;
-        upgraded.print(entry, &mut text)?;
-    }
+    upgrader.print_all(alloc, problem, list, &mut text)?;
     Ok(text)
 }

@@ -3,13 +3,14 @@ ghost use Rattle.std.specs.Prelude.{◌≡◌, ◌<◌, ◌++◌, ◌∷◌, [],
 ghost use Rattle.std.specs.List.{list_all};
 ghost use Rattle.frac128.specs.declared.vectors.Spot.{Spot};
 ghost use Rattle.vlp_reader.specs.declared.problem.Problem.{Problem};
-ghost use Rattle.deriv_log.specs.Formed.{is_formed, is_short};
+ghost use Rattle.deriv_log.specs.Formed.{is_formed};
+ghost use Rattle.word_lines.specs.Parts.{is_short};
 ghost use Rattle.src_sink.specs.Texts.{line_text};
 ghost use Rattle.deriv_log.specs.LogText.{entry_words, log_text};
 ghost use Rattle.deriv_log.specs.declared.entry.Entry.{Entry};
 ghost use Rattle.log_versions.specs.Upgrade.{body, naming, more_shared};
 ghost use Rattle.log_upgrade.specs.Repeats.{AreStandings};
-ghost use Rattle.log_upgrade.specs.Walk.{in_place, placed, IsNext, StandsAt, IsUpgraded};
+ghost use Rattle.log_upgrade.specs.Walk.{in_place, placed, IsFirst, IsNext, IsPut, StandsAt, IsUpgraded, IsWhole, IsWholeText};
 ghost use Rattle.log_upgrade.specs.declared.repeats.Repeats.{Repeats};
 
 use crate::repeats::{Place, Repeats, vector_of};
@@ -193,6 +194,83 @@ impl<'a> Upgrader<'a> {
         let upgraded = in_upgrade(alloc, &self.checker, &mut self.repeats, entry)?;
         self.checker.take(alloc, problem, entry)?;
         Ok(upgraded)
+    }
+
+    /// Appends what stands in the place of the next entry to the entries of an upgrade.
+    fn put_next(
+        &mut self,
+        alloc: Global,
+        problem: &Problem,
+        entry: &'a Entry,
+        upgrade: &mut Entries,
+    ) -> Result<(), NoMemory>
+        requires { (all before : List Entry) × (vectors : List (List Spot)) × (after : List Entry)
+            × IsNext problem.now all before vectors entry.now after self.old.checker self.old.repeats }
+        ensures { (all before : List Entry) (vectors : List (List Spot)) (after : List Entry)
+            → IsNext problem.now all before vectors entry.now after self.old.checker self.old.repeats
+            → OnOk result (IsPut problem.now all before vectors entry.now upgrade.old upgrade.new
+            self.new) }
+    {
+        let upgraded = self.take(alloc, problem, entry)?;
+        upgraded.put(alloc, entry, upgrade)
+    }
+
+    /// Puts the lines of what stands in the place of the next entry behind a text.
+    fn print_next(
+        &mut self,
+        alloc: Global,
+        problem: &Problem,
+        entry: &'a Entry,
+        text: &mut Bytes,
+    ) -> Result<(), NoMemory>
+        requires { (all before : List Entry) × (vectors : List (List Spot)) × (after : List Entry)
+            × IsNext problem.now all before vectors entry.now after self.old.checker self.old.repeats }
+        ensures { (all before : List Entry) (vectors : List (List Spot)) (after : List Entry)
+            → IsNext problem.now all before vectors entry.now after self.old.checker self.old.repeats
+            → OnOk result ((put : List Entry)
+            × IsPut problem.now all before vectors entry.now [] put self.new
+            × (text.new ≡ text.old ++ log_text put)) }
+    {
+        let upgraded = self.take(alloc, problem, entry)?;
+        upgraded.print(entry, text)
+    }
+
+    /// Appends the upgrade of a log to an empty list, from the state before its first entry on.
+    pub(crate) fn put_all(
+        &mut self,
+        alloc: Global,
+        problem: &Problem,
+        entries: &'a [Entry],
+        upgrade: &mut Entries,
+    ) -> Result<(), NoMemory>
+        requires first { IsFirst problem.now entries.now }
+        requires stands { StandsAt problem.now entries.now [] [] self.old }
+        requires empty { upgrade.old ≡ [] }
+        ensures { OnOk result (IsWhole problem.now.objs entries.now upgrade.new) }
+    {
+        for entry in entries {
+            self.put_next(alloc, problem, entry, upgrade)?;
+        }
+        Ok(())
+    }
+
+    /// Puts its text into an empty one: at each entry what stands in its place is printed, and let go.
+    pub(crate) fn print_all(
+        &mut self,
+        alloc: Global,
+        problem: &Problem,
+        entries: &'a [Entry],
+        text: &mut Bytes,
+    ) -> Result<(), NoMemory>
+        requires first { IsFirst problem.now entries.now }
+        requires stands { StandsAt problem.now entries.now [] [] self.old }
+        requires empty { text.old ≡ [] }
+        ensures { OnOk result (IsWholeText problem.now.objs entries.now text.new) }
+    {
+        for entry in entries {
+            self.print_next(alloc, problem, entry, text)?;
+        }
+        Ok(())
     }
 }
 

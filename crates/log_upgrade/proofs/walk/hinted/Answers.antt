@@ -1,9 +1,10 @@
 use Rattle.std.proofs.Common.{◌≡◌, ◌≤◌, ℕ, List, sym, subst, length, true}
 use Rattle.std.specs.List.{list_all}
-use Rattle.deriv_log.specs.Formed.{is_formed, is_short}
+use Rattle.deriv_log.specs.Formed.{is_formed}
+use Rattle.word_lines.specs.Parts.{is_short}
 use Rattle.deriv_log.specs.declared.entry.Entry.{Entry}
 use Rattle.deriv_log.specs.declared.entry.Entry.TheVariants.{AddHints}
-use Rattle.deriv_log.specs.declared.entry.LogPair.{LogPair}
+use Rattle.word_lines.specs.declared.part.LogPair.{LogPair}
 use Rattle.log_upgrade.proofs.WrittenEntries.{hints_written}
 use Rattle.log_upgrade.proofs.walk.hinted.Goals as goal
 

@@ -2,7 +2,7 @@ use Rattle.std.proofs.Common.{◌≡◌, List, sym, subst, ap, ◌∙◌, true}
 use Rattle.deriv_log.specs.Formed.{is_formed}
 use Rattle.deriv_log.specs.declared.entry.Entry.{Entry}
 use Rattle.deriv_log.specs.declared.entry.Entry.TheVariants.{Add, AddHints}
-use Rattle.deriv_log.specs.declared.entry.LogPair.{LogPair}
+use Rattle.word_lines.specs.declared.part.LogPair.{LogPair}
 use Rattle.cert_check.specs.StandsFor.{PassesAdd}
 use Rattle.log_versions.specs.Plain.{plain}
 use Rattle.log_upgrade.proofs.Steps.{hints_at, formed_next, passes_add, hinted_step, same_step}
