@@ -1,0 +1,19 @@
+pub mod Ends
+pub mod Joined
+pub mod TextRows
+pub mod Standing
+pub mod Pieces
+pub mod EntrySteps
+pub mod Between
+pub mod SameSets
+pub mod LinePlaces
+pub mod OpenRows
+pub mod NeededRows
+pub mod OneOther
+pub mod EventRules
+pub mod Marked
+pub mod FirstPlaces
+pub mod Behind
+pub mod Taken
+pub mod GivenRows
+mod Examples

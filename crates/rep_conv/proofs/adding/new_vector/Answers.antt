@@ -1,0 +1,97 @@
+use Rattle.std.proofs.Common.{rules, ◌≡◌, ◌≢◌, ◌+◌, ◌<◌, List, [], ◌∷◌, ◌++◌, length, sym, ap, ◌∙◌, subst, arith}
+use Rattle.exact_field.specs.Rational.{ℚ, zero_ℚ, neg_ℚ, ◌/ℚ◌}
+use Rattle.exact_field.specs.declared.op.Op.TheVariants as op
+use Rattle.frac128.specs.Held.{is_held}
+use Rattle.log_rules.specs.Events.{Event, meeting_point, meeting_steps}
+use Rattle.log_rules.specs.Events.Event.{step}
+use Rattle.log_rules.specs.Runs.{Runs, Stops, steps}
+use Rattle.log_tests.proofs.Going.{Passed, Stopped, passed-then, stopped-in, stopped-behind, Ran, ran-behind, room-in, room-behind}
+use Rattle.polyhedra.specs.DoubleDescription.{magnitude, norming}
+use Rattle.polyhedra.proofs.Norming.{magnitude-positive}
+use Rattle.polyhedra.proofs.Order.{not_zero_of_positive}
+use Rattle.rep_conv.specs.Adding.{quotients}
+use Rattle.rep_conv.specs.Events.{quotient_steps}
+use Rattle.log_live.specs.Adding.{quotients_events}
+use Rattle.rep_conv.proofs.Pieces.{came_as, stopped_as, quotients_as, quotients_made}
+use Rattle.rep_conv.proofs.adding.new_vector.Goals as goal
+
+pub div-requires-clause-divisor : goal.div-requires-clause-divisor
+div-requires-clause-divisor c e = c.requires.below (sym c.neg.ensures ∙ e)
+
+pub div-requires-clause-room : goal.div-requires-clause-room
+div-requires-clause-room c = let room = c.requires.room in omega (arith, room)
+
+pub returns-in_err-k : goal.returns-in_err-k
+returns-in_err-k c =
+    let k = c.args.at_plus /ℚ neg_ℚ c.args.at_minus in
+    let z = meeting_point k c.args.plus.now c.args.minus.now in
+    let here : Stopped (step op.Div c.args.at_plus (neg_ℚ c.args.at_minus) ∷ []) c.args.counter.now.taken c.in_err-k.field-0.0 =
+    stopped_as _ _ _ _ (ap (λ (d : ℚ). step op.Div c.args.at_plus d ∷ []) c.neg.ensures) c.in_err-k.ensures in
+    let stopped = (stopped-in (meeting_steps k c.args.plus.now c.args.minus.now ++ quotient_steps z) here).at in
+    search (stopped, rules)
+
+pub meeting-requires-clause-room : goal.meeting-requires-clause-room
+meeting-requires-clause-room c =
+    let k = c.args.at_plus /ℚ neg_ℚ c.args.at_minus in
+    let z = meeting_point k c.args.plus.now c.args.minus.now in
+    let k_is = c.in_ok-k.ensures.2 ∙ ap (λ (d : ℚ). c.args.at_plus /ℚ d) c.neg.ensures in
+    let came : Passed (step op.Div c.args.at_plus (neg_ℚ c.args.at_minus) ∷ []) c.args.counter.now.taken c.div.new.self.taken =
+    came_as _ _ _ _ (ap (λ (d : ℚ). step op.Div c.args.at_plus d ∷ []) c.neg.ensures) c.in_ok-k.ensures.0 c.in_ok-k.ensures.1 in
+    subst (λ (q : ℚ). c.div.new.self.taken + steps (meeting_steps q c.args.plus.now c.args.minus.now) < 9223372036854775808) (sym k_is)
+    (room-in (meeting_steps k c.args.plus.now c.args.minus.now) (quotient_steps z) c.div.new.self.taken _
+    (room-behind (meeting_steps k c.args.plus.now c.args.minus.now ++ quotient_steps z) _ came c.requires.room))
+
+pub returns-in_err-sum : goal.returns-in_err-sum
+returns-in_err-sum c =
+    let k = c.args.at_plus /ℚ neg_ℚ c.args.at_minus in
+    let z = meeting_point k c.args.plus.now c.args.minus.now in
+    let k_is = c.in_ok-k.ensures.2 ∙ ap (λ (d : ℚ). c.args.at_plus /ℚ d) c.neg.ensures in
+    let came : Passed (step op.Div c.args.at_plus (neg_ℚ c.args.at_minus) ∷ []) c.args.counter.now.taken c.div.new.self.taken =
+    came_as _ _ _ _ (ap (λ (d : ℚ). step op.Div c.args.at_plus d ∷ []) c.neg.ensures) c.in_ok-k.ensures.0 c.in_ok-k.ensures.1 in
+    let here : Stopped (meeting_steps k c.args.plus.now c.args.minus.now) c.div.new.self.taken c.in_err-sum.field-0.0 =
+    stopped_as _ _ _ _ (ap (λ (q : ℚ). meeting_steps q c.args.plus.now c.args.minus.now) k_is) c.in_err-sum.ensures in
+    let stopped = (stopped-behind came (stopped-in (quotient_steps z) here)).at in
+    search (stopped, rules)
+
+pub divided-requires-clause-divisor : goal.divided-requires-clause-divisor
+divided-requires-clause-divisor c e =
+    let k_is = c.in_ok-k.ensures.2 ∙ ap (λ (d : ℚ). c.args.at_plus /ℚ d) c.neg.ensures in
+    let z_is = c.as_slice-z.ensures.items ∙ c.in_ok-sum.ensures.2 ∙ ap (λ (q : ℚ). meeting_point q c.args.plus.now c.args.minus.now) k_is in
+    not_zero_of_positive (magnitude (norming c.as_slice-z.result.now))
+    (magnitude-positive (norming c.as_slice-z.result.now) (λ none. c.requires.not_zero (sym (ap norming z_is) ∙ none)))
+    (ap magnitude (sym c.norming.ensures) ∙ sym c.magnitude-by.ensures ∙ e)
+
+pub divided-requires-clause-room : goal.divided-requires-clause-room
+divided-requires-clause-room c =
+    let k = c.args.at_plus /ℚ neg_ℚ c.args.at_minus in
+    let z = meeting_point k c.args.plus.now c.args.minus.now in
+    let k_is = c.in_ok-k.ensures.2 ∙ ap (λ (d : ℚ). c.args.at_plus /ℚ d) c.neg.ensures in
+    let z_is = c.as_slice-z.ensures.items ∙ c.in_ok-sum.ensures.2 ∙ ap (λ (q : ℚ). meeting_point q c.args.plus.now c.args.minus.now) k_is in
+    let by_is = c.magnitude-by.ensures ∙ ap magnitude c.norming.ensures in
+    let came : Passed (step op.Div c.args.at_plus (neg_ℚ c.args.at_minus) ∷ []) c.args.counter.now.taken c.div.new.self.taken =
+    came_as _ _ _ _ (ap (λ (d : ℚ). step op.Div c.args.at_plus d ∷ []) c.neg.ensures) c.in_ok-k.ensures.0 c.in_ok-k.ensures.1 in
+    let met : Passed (meeting_steps k c.args.plus.now c.args.minus.now) c.div.new.self.taken c.meeting.new.counter.taken =
+    came_as _ _ _ _ (ap (λ (q : ℚ). meeting_steps q c.args.plus.now c.args.minus.now) k_is) c.in_ok-sum.ensures.0 c.in_ok-sum.ensures.1 in
+    subst (λ (es : List Event). c.meeting.new.counter.taken + steps es < 9223372036854775808)
+    (sym (quotients_as _ _ _ z_is by_is))
+    (room-behind (quotient_steps z) _ met (room-behind (meeting_steps k c.args.plus.now c.args.minus.now ++ quotient_steps z) _ came c.requires.room))
+
+pub returns : goal.returns
+returns c =
+    let k = c.args.at_plus /ℚ neg_ℚ c.args.at_minus in
+    let z = meeting_point k c.args.plus.now c.args.minus.now in
+    let k_is = c.in_ok-k.ensures.2 ∙ ap (λ (d : ℚ). c.args.at_plus /ℚ d) c.neg.ensures in
+    let z_is = c.as_slice-z.ensures.items ∙ c.in_ok-sum.ensures.2 ∙ ap (λ (q : ℚ). meeting_point q c.args.plus.now c.args.minus.now) k_is in
+    let by_is = c.magnitude-by.ensures ∙ ap magnitude c.norming.ensures in
+    let came : Passed (step op.Div c.args.at_plus (neg_ℚ c.args.at_minus) ∷ []) c.args.counter.now.taken c.div.new.self.taken =
+    came_as _ _ _ _ (ap (λ (d : ℚ). step op.Div c.args.at_plus d ∷ []) c.neg.ensures) c.in_ok-k.ensures.0 c.in_ok-k.ensures.1 in
+    let met : Passed (meeting_steps k c.args.plus.now c.args.minus.now) c.div.new.self.taken c.meeting.new.counter.taken =
+    came_as _ _ _ _ (ap (λ (q : ℚ). meeting_steps q c.args.plus.now c.args.minus.now) k_is) c.in_ok-sum.ensures.0 c.in_ok-sum.ensures.1 in
+    let last : Ran {X = List ℚ} (quotient_steps z) c.meeting.new.counter.taken c.divided.new.counter.taken (λ v. v ≡ quotients z) c.divided.result =
+    record {
+      runs = subst (λ (es : List Event). Runs {X = List ℚ} is_held es c.meeting.new.counter.taken c.divided.new.counter.taken (λ v. v ≡ quotients z) c.divided.result)
+          (quotients_as _ _ _ z_is by_is)
+          (subst (λ (w : List ℚ). Runs {X = List ℚ} is_held (quotients_events c.magnitude-by.result c.as_slice-z.result.now) c.meeting.new.counter.taken c.divided.new.counter.taken (λ v. v ≡ w) c.divided.result)
+          (quotients_made _ _ _ z_is by_is) c.divided.ensures);
+    } in
+    (ran-behind came (ran-behind met last)).runs

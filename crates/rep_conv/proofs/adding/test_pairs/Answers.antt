@@ -1,0 +1,13 @@
+use Rattle.log_rules.specs.Events.{same_pairs}
+use Rattle.log_rules.specs.Live.{required_pairs}
+use Rattle.log_rules.specs.declared.rule.Rule.TheVariants as rule
+use Rattle.log_tests.proofs.Going.{test-as}
+use Rattle.log_live.specs.Live.{live_of}
+use Rattle.rep_conv.proofs.adding.test_pairs.Goals as goal
+
+pub returns-in-Ok : goal.returns-in-Ok
+returns-in-Ok c width rows row taken a at_row =
+    test-as rule.Pairs c.in-Ok.asked
+    (same_pairs c.args.pairs.now (required_pairs rows (live_of c.args.generators.now) row)) taken
+    c.pass.result
+    (c.in-Ok.ensures width rows row a at_row) (c.pass.ensures taken)

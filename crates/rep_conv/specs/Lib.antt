@@ -1,0 +1,13 @@
+pub mod Sets
+pub mod Rows
+pub mod Live
+pub mod Meets
+pub mod Events
+pub mod Adding
+pub mod Converted
+pub mod Laws
+pub mod Starting
+pub mod Progress
+pub mod Checked
+pub mod Giving
+pub mod Examples

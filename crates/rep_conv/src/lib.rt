@@ -1,0 +1,25 @@
+//! The two representations of a polyhedron, by inequalities and by points, directions and lines: how
+//! double description turns one into the other, and the log of it.
+#![tactic(auto)]
+
+mod adding;
+mod check;
+mod firsts;
+mod giving;
+mod laws;
+mod line;
+mod progress;
+mod rows;
+mod start;
+
+pub use adding::{Change, change_at};
+pub use check::{ConvRefusal, check_conv, check_entries};
+pub use firsts::{first_generators, set_of};
+pub use giving::other;
+pub use laws::{
+    conversion_examples, conversion_is_right, conversion_keeps_set, events_are_rules, one_other,
+    rules_keep_description,
+};
+pub use line::check_line;
+pub use rows::text_rows;
+pub use start::check_start;

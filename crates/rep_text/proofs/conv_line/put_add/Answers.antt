@@ -1,0 +1,7 @@
+use Rattle.std.proofs.Common.{codes}
+use Rattle.word_lines.specs.Parts.{natural, pairs}
+use Rattle.word_lines.proofs.Spaced.{named, then_part, whole_text}
+use Rattle.rep_text.proofs.conv_line.put_add.Goals as goal
+
+pub returns : goal.returns
+returns c = whole_text (then_part (pairs c.args.pairs.now) (then_part (natural c.args.row) (named c.args.into.now (codes "add") c.append.new.self c.in_ok-append.ensures.ok) c.in_ok-put_natural.ensures) c.in_ok-put_pairs.ensures)
