@@ -3,6 +3,7 @@
 
 mod cut;
 mod ends;
+mod kept;
 mod laws;
 mod preimage;
 mod solving;
@@ -10,6 +11,7 @@ mod whole;
 
 pub use cut::cut_of;
 pub use ends::{BensonEnd, FeasibleEnd};
+pub use kept::Kept;
 pub use laws::{
     answers_exclude, benson_bounded, benson_cut, benson_preimage, benson_whole, feasible_ends,
 };

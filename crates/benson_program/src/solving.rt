@@ -12,14 +12,39 @@ ghost use Rattle.overflows.specs.Faults.{OnLicence, Overflows};
 ghost use Rattle.vlp_reader.specs.declared.problem.Problem.{Problem as File};
 
 use crate::ends::{BensonEnd, FeasibleEnd};
+use crate::kept::Kept;
 use exact_field::Field;
-use exact_simplex::{Kept, LpEnd, solve_lp_next};
+use exact_simplex::{Kept as Dictionary, LpEnd, solve_lp_next};
 use lp_form::{Data, LpName, program};
 use overflows::{SolveFault, program_fault};
+use shown_program::Optimum;
 use src_sink::{Items, NoMemory};
 use std::alloc::Global;
 
-/// How a named program ends, from where the last one ended.
+/// How a named program ends, written as a table, from where the last one of these ended.
+fn pivoted_end<F: Field>(
+    alloc: Global,
+    form: &Data<F>,
+    c: &[F],
+    name: &LpName<F>,
+    last: &mut Dictionary<F>,
+) -> Result<LpEnd<F>, SolveFault>
+    requires stands { StandForSome F.value form.now }
+    requires widths { HasWidths (length form.now.p) c.now name.now }
+    ensures certified { (file : File) → IsDataOf F.value file form.now → IfOk result (IsCertified F.value (named_system file (map F.value c.now) (named F.value name.now))) }
+    ensures read_off { (file : File) → IsDataOf F.value file form.now → IfOk result (IsReadOff F.value (named_system file (map F.value c.now) (named F.value name.now))) }
+    ensures left { (s : Setting) → IsDataOf F.value s.file form.now → IsAllowed s (named F.value name.now) → named_system s.file (map F.value c.now) (named F.value name.now) ≡ system_in s (named F.value name.now) → IfErr result (Overflows F.holds s []) }
+    ensures place { name.now ≡ name_of.Feasible →
+        IfErr result (λ fault. OnLicence fault (λ l. IsPivotOfFeasible l.place)) }
+{
+    let system = program(alloc, form, c, name)?;
+    match solve_lp_next(alloc, system, last) {
+        Ok(end) => Ok(end),
+        Err(fault) => Err(program_fault(alloc, name, fault, Items::new(alloc))),
+    }
+}
+
+/// How a named program ends: with the optimum that a guess shows, or else by the table.
 fn named_end<F: Field>(
     alloc: Global,
     form: &Data<F>,
@@ -35,10 +60,9 @@ fn named_end<F: Field>(
     ensures place { name.now ≡ name_of.Feasible →
         IfErr result (λ fault. OnLicence fault (λ l. IsPivotOfFeasible l.place)) }
 {
-    let system = program(alloc, form, c, name)?;
-    match solve_lp_next(alloc, system, kept) {
-        Ok(end) => Ok(end),
-        Err(fault) => Err(program_fault(alloc, name, fault, Items::new(alloc))),
+    match kept.guessed_optimum(alloc, form, c, name)? {
+        Some(Optimum { x, dual, basis }) => Ok(LpEnd::Optimal { x, dual, basis }),
+        None => pivoted_end(alloc, form, c, name, &mut kept.last),
     }
 }
 
@@ -50,7 +74,7 @@ pub fn feasible_end<F: Field>(alloc: Global, form: &Data<F>) -> Result<FeasibleE
     ensures place { IfErr result (λ fault. OnLicence fault (λ l. IsPivotOfFeasible l.place)) }
 {
     let name = LpName::Feasible;
-    let mut kept = Kept::new();
+    let mut kept = Kept::new(alloc);
     match named_end(alloc, form, &[], &name, &mut kept)? {
         LpEnd::Optimal { dual, .. } => Ok(FeasibleEnd::Point { x: dual }),
         LpEnd::Unbounded { ray, .. } => Ok(FeasibleEnd::Contradiction { u: ray }),

@@ -1,0 +1,129 @@
+//! The engine, which keeps its state from question to question.
+use crate::building::{dual_of_benson, dual_of_sides};
+use crate::limits::limits_at;
+use crate::meaning::Dual;
+use exact_field::Field;
+use lp_form::Data;
+use shown_program::Guess;
+use src_sink::NoMemory;
+use std::alloc::Global;
+use whole_simplex::Stop;
+
+/// An engine for guesses over one problem and one duality vector. With another problem it makes guesses
+/// that fail their test, if any.
+#[derive(Debug, Drop)]
+pub struct Engine {
+    alloc: Global,
+    /// The last basis, if the last question had a guess.
+    dual: Option<Dual>,
+}
+
+/// What came of a question.
+fn answered<F: Field>(guess: Result<Guess<F>, Stop>) -> Result<Option<Guess<F>>, NoMemory> {
+    match guess {
+        Ok(guess) => Ok(Some(guess)),
+        Err(Stop::Declined) => Ok(None),
+        Err(Stop::NoMemory) => Err(NoMemory),
+    }
+}
+
+/// The dual at a basis at which its costs have the right signs.
+fn started<F: Field>(alloc: Global, form: &Data<F>, c: &[F], v: &[F]) -> Result<Dual, Stop> {
+    let mut dual = dual_of_benson(alloc, form, c)?;
+    let limits = limits_at(&dual, form, v, true)?;
+    dual.solver.start(&limits)?;
+    Ok(dual)
+}
+
+/// The guess at a question, from a basis at which the costs have the right signs.
+fn asked<F: Field>(
+    dual: &mut Dual,
+    form: &Data<F>,
+    c: &[F],
+    v: &[F],
+    t: bool,
+) -> Result<Guess<F>, Stop> {
+    let limits = limits_at(dual, form, v, t)?;
+    dual.solver.solve(&limits)?;
+    dual.guess(form, c, v)
+}
+
+/// The guess at the first question.
+fn begun<F: Field>(
+    alloc: Global,
+    form: &Data<F>,
+    c: &[F],
+    v: &[F],
+    t: bool,
+) -> Result<(Dual, Guess<F>), Stop> {
+    let mut dual = started(alloc, form, c, v)?;
+    let guess = asked(&mut dual, form, c, v, t)?;
+    Ok((dual, guess))
+}
+
+/// A guess at a point of the sides.
+fn asked_feasible<F: Field>(alloc: Global, form: &Data<F>) -> Result<Guess<F>, Stop> {
+    let mut dual = dual_of_sides(alloc, form)?;
+    let limits = limits_at(&dual, form, &[], true)?;
+    dual.solver.solve(&limits)?;
+    dual.guess_feasible(form)
+}
+
+impl Engine {
+    /// An engine without a basis. No memory is taken yet.
+    pub fn new(alloc: Global) -> Engine {
+        Engine { alloc, dual: None }
+    }
+
+    /// Gives up the basis, so that the next question begins anew: where a guess failed its test.
+    pub fn forget(&mut self) {
+        self.dual = None;
+    }
+
+    /// A guess at the optimum of Benson's program at `v`, a point where `t` is true and a direction
+    /// otherwise. There is none where a number is too long, the steps are too many, or no optimum is
+    /// found. It is made for `shown_program::optimum_of`, which tests it.
+    ///
+    /// A question near the last one takes few steps. A step costs the entries of a row of the inverse
+    /// times those of a column, and of the rows of the file that have a part in it.
+    pub fn guess<F: Field>(
+        &mut self,
+        form: &Data<F>,
+        c: &[F],
+        v: &[F],
+        t: bool,
+    ) -> Result<Option<Guess<F>>, NoMemory> {
+        if let Some(mut dual) = self.dual.take() {
+            let guess = answered(asked(&mut dual, form, c, v, t))?;
+            if guess.is_some() {
+                self.dual = Some(dual);
+                return Ok(guess);
+            }
+        }
+        self.guess_anew(form, c, v, t)
+    }
+
+    /// The same from no basis.
+    fn guess_anew<F: Field>(
+        &mut self,
+        form: &Data<F>,
+        c: &[F],
+        v: &[F],
+        t: bool,
+    ) -> Result<Option<Guess<F>>, NoMemory> {
+        match begun(self.alloc, form, c, v, t) {
+            Ok((dual, guess)) => {
+                self.dual = Some(dual);
+                Ok(Some(guess))
+            }
+            Err(Stop::Declined) => Ok(None),
+            Err(Stop::NoMemory) => Err(NoMemory),
+        }
+    }
+
+    /// A guess at a point of the sides, as one at the optimum of the program `Feasible`, or none. It
+    /// takes a basis of its own.
+    pub fn guess_feasible<F: Field>(&self, form: &Data<F>) -> Result<Option<Guess<F>>, NoMemory> {
+        answered(asked_feasible(self.alloc, form))
+    }
+}

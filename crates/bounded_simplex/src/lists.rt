@@ -1,0 +1,100 @@
+//! Lists of places, one behind the other.
+use std::alloc::Global;
+use whole_simplex::{Stop, at, put};
+
+/// The sum of a first number and a place behind it, as a number from 1.
+pub(crate) fn numbered(base: usize, i: usize) -> Result<u32, Stop> {
+    let k = base.saturating_add(i);
+    if k < 4_294_967_294 {
+        Ok(k as u32 + 1)
+    } else {
+        Err(Stop::Declined)
+    }
+}
+
+/// Lists of places, from 0.
+#[derive(Debug, Drop)]
+pub(crate) struct Lists {
+    members: Vec<usize>,
+    /// Where each list ends.
+    ends: Vec<usize>,
+}
+
+impl Lists {
+    /// No list.
+    pub(crate) fn new(alloc: Global) -> Lists {
+        Lists {
+            members: Vec::new(alloc),
+            ends: Vec::new(alloc),
+        }
+    }
+
+    /// How many lists there are.
+    pub(crate) fn count(&self) -> usize {
+        self.ends.len()
+    }
+
+    /// Appends a member to the list that is being written.
+    pub(crate) fn push(&mut self, member: usize) -> Result<(), Stop> {
+        self.members.push(member)?;
+        Ok(())
+    }
+
+    /// Ends the list that is being written.
+    pub(crate) fn end(&mut self) -> Result<(), Stop> {
+        let end = self.members.len();
+        self.ends.push(end)?;
+        Ok(())
+    }
+
+    /// List `k`, from 0.
+    pub(crate) fn list(&self, k: usize) -> Result<&[usize], Stop> {
+        let end = at(&self.ends, k)?;
+        let start = start_of(&self.ends, k)?;
+        if start <= end && end <= self.members.len() {
+            Ok(&self.members[start..end])
+        } else {
+            Err(Stop::Declined)
+        }
+    }
+
+    /// For each of the places below `n` the lists that have it.
+    pub(crate) fn turned(&self, alloc: Global, n: usize) -> Result<Lists, Stop> {
+        let mut next = starts(alloc, &self.members, n)?;
+        let mut ends = Vec::new(alloc);
+        for k in 0..n {
+            ends.push(at(&next, k + 1)?)?;
+        }
+        let mut members = vec![in alloc; 0; self.members.len()]?;
+        for k in 0..self.count() {
+            for member in self.list(k)? {
+                let place = at(&next, *member)?;
+                put(&mut members, place, k)?;
+                put(&mut next, *member, place.saturating_add(1))?;
+            }
+        }
+        Ok(Lists { members, ends })
+    }
+}
+
+/// Where list `k` begins.
+fn start_of(ends: &[usize], k: usize) -> Result<usize, Stop> {
+    if k == 0 { Ok(0) } else { at(ends, k - 1) }
+}
+
+/// Where the list of each place below `n` begins, and where the last one ends.
+fn starts(alloc: Global, members: &[usize], n: usize) -> Result<Vec<usize>, Stop> {
+    let mut counts = vec![in alloc; 0; n]?;
+    for member in members {
+        let count: usize = at(&counts, *member)?;
+        put(&mut counts, *member, count.saturating_add(1))?;
+    }
+    let mut starts = Vec::new(alloc);
+    let mut sum = 0usize;
+    for count in &counts {
+        starts.push(sum)?;
+        sum = sum.saturating_add(*count);
+    }
+    starts.push(sum)?;
+    Ok(starts)
+}

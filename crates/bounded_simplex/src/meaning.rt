@@ -1,0 +1,61 @@
+//! What the variables of the dual of Benson's program stand for.
+use whole_simplex::{Ratio, Solver};
+
+/// What a variable stands for.
+#[derive(Clone, Copy, Debug, PartialEq, Eq)]
+pub(crate) enum Kind {
+    /// A column of the file.
+    Column,
+    /// The share of the duality vector, which is made the least.
+    Share,
+    /// The multiplier of a generator of the ordering cone.
+    Multiplier,
+    /// The product of a side's vector with the columns.
+    Side,
+    /// An entry of the objectives' vector, or its product with a vector of the cone's dual form.
+    Objective,
+}
+
+/// A side that bounds a variable.
+#[derive(Clone, Copy, Debug)]
+pub(crate) struct Bound {
+    /// The number of the side, from 0.
+    pub(crate) side: usize,
+    /// The bound, where the question is asked at a point.
+    pub(crate) value: Ratio,
+}
+
+/// A variable.
+#[derive(Clone, Copy, Debug)]
+pub(crate) struct Meaning {
+    pub(crate) kind: Kind,
+    /// The number of what it stands for, from 0.
+    pub(crate) number: usize,
+    /// A side that bounds it from below.
+    pub(crate) low: Option<Bound>,
+    /// A side that bounds it from above.
+    pub(crate) high: Option<Bound>,
+}
+
+impl Meaning {
+    /// A variable that no side bounds yet.
+    pub(crate) fn new(kind: Kind, number: usize) -> Meaning {
+        Meaning {
+            kind,
+            number,
+            low: None,
+            high: None,
+        }
+    }
+}
+
+/// The dual of Benson's program, or its part on the sides alone, at a basis.
+#[derive(Debug, Drop)]
+pub(crate) struct Dual {
+    pub(crate) solver: Solver,
+    /// One for each variable.
+    pub(crate) meanings: Vec<Meaning>,
+    /// The first of the multipliers, and the first of the variables of the objectives.
+    pub(crate) multipliers: usize,
+    pub(crate) objectives: usize,
+}

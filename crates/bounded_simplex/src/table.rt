@@ -1,0 +1,200 @@
+//! The columns of Benson's program, as a guess lists them.
+use crate::building::is_zero;
+use crate::lists::{Lists, numbered};
+use crate::ordering::order_of;
+use exact_field::Field;
+use lp_form::{At, ConeOf, Data};
+use shown_program::Guess;
+use src_sink::Items;
+use std::alloc::Global;
+use whole_simplex::{Stop, at, item};
+
+/// How the large program is laid out: the first number, from 0, of each kind of column, and how many
+/// equations there are.
+#[derive(Clone, Copy, Debug)]
+pub(crate) struct Layout {
+    weights: usize,
+    negatives: usize,
+    behind: usize,
+    artificial: usize,
+    /// The first equation of the cone.
+    pub(crate) cone: usize,
+    pub(crate) equations: usize,
+}
+
+impl Layout {
+    /// That of the program of the sides alone.
+    pub(crate) fn of_sides<F: Field>(form: &Data<F>) -> Layout {
+        let sides = form.sides.len();
+        let cols = form.cols as usize;
+        Layout {
+            weights: sides,
+            negatives: sides,
+            behind: sides,
+            artificial: sides,
+            cone: cols,
+            equations: cols,
+        }
+    }
+
+    /// That of Benson's program.
+    pub(crate) fn of_benson<F: Field>(form: &Data<F>) -> Layout {
+        let sides = form.sides.len();
+        let q = form.p.len();
+        let cols = form.cols as usize;
+        let (unknowns, equations) = match &form.cone {
+            ConeOf::Orthant => (q, q),
+            ConeOf::Gens(vectors) => (vectors.len(), vectors.len()),
+            ConeOf::Dual(vectors) => (vectors.len(), q),
+        };
+        Layout {
+            weights: sides,
+            negatives: sides + q,
+            behind: sides + q + q,
+            artificial: (sides + q + q).saturating_add(unknowns),
+            cone: cols,
+            equations: cols.saturating_add(equations).saturating_add(1),
+        }
+    }
+}
+
+/// The magnitude of a number.
+pub(crate) fn magnitude<F: Field>(x: F) -> F {
+    if x.sign() < 0 { x.neg() } else { x }
+}
+
+/// Appends the places of a vector's entries.
+fn push_places<F: Field>(lists: &mut Lists, vector: &[At<F>]) -> Result<(), Stop> {
+    for cell in vector {
+        lists.push((cell.at as usize).saturating_sub(1))?;
+    }
+    Ok(())
+}
+
+/// Appends the places of a list's numbers that are not 0, behind a first one.
+fn push_nonzero<F: Field>(lists: &mut Lists, base: usize, vector: &[F]) -> Result<(), Stop> {
+    for i in 0..vector.len() {
+        if !is_zero(vector[i]) {
+            lists.push(base.saturating_add(i))?;
+        }
+    }
+    Ok(())
+}
+
+/// The columns of a basis with their values, and the equations in which they have entries.
+#[derive(Drop)]
+pub(crate) struct Basis<'a, F: Field> {
+    pub(crate) form: &'a Data<F>,
+    pub(crate) layout: Layout,
+    columns: Items<u32>,
+    x: Items<F>,
+    lists: Lists,
+}
+
+impl<'a, F: Field> Basis<'a, F> {
+    pub(crate) fn new(alloc: Global, form: &'a Data<F>, layout: Layout) -> Basis<'a, F> {
+        Basis {
+            form,
+            layout,
+            columns: Items::new(alloc),
+            x: Items::new(alloc),
+            lists: Lists::new(alloc),
+        }
+    }
+
+    /// Ends the list of equations of a column, and appends it with its value.
+    fn push(&mut self, base: usize, number: usize, value: F) -> Result<(), Stop> {
+        self.lists.end()?;
+        self.columns.push(numbered(base, number)?)?;
+        self.x.push(value)?;
+        Ok(())
+    }
+
+    /// The column of a side's multiplier.
+    pub(crate) fn push_side(&mut self, side: usize, value: F) -> Result<(), Stop> {
+        let form = self.form;
+        push_places(
+            &mut self.lists,
+            item(form.sides.as_slice(), side)?.g.as_slice(),
+        )?;
+        self.push(0, side, value)
+    }
+
+    /// The artificial column of an equation.
+    pub(crate) fn push_artificial(&mut self, equation: usize) -> Result<(), Stop> {
+        let base = self.layout.artificial;
+        self.lists.push(equation)?;
+        self.push(base, equation, F::zero())
+    }
+
+    /// The column of an entry of the weight vector, by its sign.
+    pub(crate) fn push_weight(&mut self, c: &[F], i: usize, value: F) -> Result<(), Stop> {
+        let form = self.form;
+        push_places(&mut self.lists, item(form.p.as_slice(), i)?.as_slice())?;
+        self.push_members(i)?;
+        let layout = self.layout;
+        if !is_zero(at(c, i)?) {
+            self.lists.push(layout.equations.saturating_sub(1))?;
+        }
+        let base = if value.sign() < 0 {
+            layout.negatives
+        } else {
+            layout.weights
+        };
+        self.push(base, i, magnitude(value))
+    }
+
+    /// The equations of the cone in which an entry of the weight vector is.
+    fn push_members(&mut self, i: usize) -> Result<(), Stop> {
+        let form = self.form;
+        let base = self.layout.cone;
+        match &form.cone {
+            ConeOf::Orthant | ConeOf::Dual(_) => self.lists.push(base.saturating_add(i)),
+            ConeOf::Gens(vectors) => {
+                let vectors = vectors.as_slice();
+                for g in 0..vectors.len() {
+                    if !is_zero(at(vectors[g].as_slice(), i)?) {
+                        self.lists.push(base.saturating_add(g))?;
+                    }
+                }
+                Ok(())
+            }
+        }
+    }
+
+    /// The column of an unknown behind the weight vector.
+    pub(crate) fn push_behind(&mut self, d: usize, value: F) -> Result<(), Stop> {
+        let form = self.form;
+        let base = self.layout.cone;
+        let behind = self.layout.behind;
+        match &form.cone {
+            ConeOf::Orthant | ConeOf::Gens(_) => self.lists.push(base.saturating_add(d))?,
+            ConeOf::Dual(vectors) => {
+                let vector = item(vectors.as_slice(), d)?.as_slice();
+                push_nonzero(&mut self.lists, base, vector)?;
+            }
+        }
+        self.push(behind, d, value)
+    }
+
+    /// The guess with these multipliers, if there are as many columns as equations.
+    pub(crate) fn guess(self, alloc: Global, y: Items<F>) -> Result<Guess<F>, Stop> {
+        let Basis {
+            form: _,
+            layout,
+            columns,
+            x,
+            lists,
+        } = self;
+        if columns.len() != layout.equations {
+            return Err(Stop::Declined);
+        }
+        let order = order_of(alloc, lists)?;
+        Ok(Guess {
+            columns,
+            x,
+            y,
+            order,
+        })
+    }
+}

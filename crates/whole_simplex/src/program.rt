@@ -1,0 +1,123 @@
+//! The programs that are solved.
+use crate::lists::{at, item};
+use crate::stop::Stop;
+use crate::whole::{Ratio, common_multiple, entry};
+use exact_field::Field;
+use std::alloc::Global;
+
+/// A number of the field at a variable.
+#[derive(Clone, Copy, Debug)]
+pub struct Term<F> {
+    /// The variable, from 0.
+    pub at: usize,
+    pub value: F,
+}
+
+/// A whole number at a place, from 0.
+#[derive(Clone, Copy, Debug)]
+pub(crate) struct Entry {
+    pub(crate) at: usize,
+    pub(crate) value: i128,
+}
+
+/// A row: its own variable is the product of the entries with the variables at their places.
+#[derive(Debug, Drop)]
+pub(crate) struct Row {
+    pub(crate) variable: usize,
+    /// What makes the entries whole.
+    pub(crate) scale: i128,
+    pub(crate) entries: Vec<Entry>,
+}
+
+/// The rows of a program, and its variables. Each is the value of a row, or has a column.
+#[derive(Debug, Drop)]
+pub struct Program {
+    alloc: Global,
+    /// For each variable the row that it is the value of.
+    own_rows: Vec<Option<usize>>,
+    /// For each variable its entries in the rows, if it is not the value of one.
+    pub(crate) columns: Vec<Vec<Entry>>,
+    pub(crate) rows: Vec<Row>,
+}
+
+/// The least common denominator of terms.
+fn scale_of<F: Field>(terms: &[Term<F>]) -> Result<i128, Stop> {
+    let mut scale = 1;
+    for term in terms {
+        scale = entry(common_multiple(scale, term.value.den())?)?;
+    }
+    Ok(scale)
+}
+
+/// Appends an entry to a column.
+fn push_at(columns: &mut [Vec<Entry>], at: usize, entry: Entry) -> Result<(), Stop> {
+    if at < columns.len() {
+        columns[at].push(entry)?;
+        Ok(())
+    } else {
+        Err(Stop::Declined)
+    }
+}
+
+impl Program {
+    /// The program without a variable.
+    pub fn new(alloc: Global) -> Program {
+        Program {
+            alloc,
+            own_rows: Vec::new(alloc),
+            columns: Vec::new(alloc),
+            rows: Vec::new(alloc),
+        }
+    }
+
+    /// How many variables there are.
+    pub fn count(&self) -> usize {
+        self.own_rows.len()
+    }
+
+    /// The row that a variable is the value of.
+    pub(crate) fn own_row(&self, variable: usize) -> Result<Option<usize>, Stop> {
+        at(&self.own_rows, variable)
+    }
+
+    /// Appends a variable that is not the value of a row, and answers its number, from 0.
+    pub fn push_variable(&mut self) -> Result<usize, Stop> {
+        self.push_own(None)
+    }
+
+    fn push_own(&mut self, row: Option<usize>) -> Result<usize, Stop> {
+        let variable = self.own_rows.len();
+        self.own_rows.push(row)?;
+        self.columns.push(Vec::new(self.alloc))?;
+        Ok(variable)
+    }
+
+    /// Appends a row with its variable, and answers the variable. It declines where an entry is too
+    /// long once the row's are whole.
+    pub fn push_row<F: Field>(&mut self, terms: &[Term<F>]) -> Result<usize, Stop> {
+        let scale = scale_of(terms)?;
+        let row = self.rows.len();
+        let mut entries = Vec::new(self.alloc);
+        for term in terms {
+            let at = term.at;
+            let value = entry(Ratio::times(term.value, scale)?.over(1)?)?;
+            entries.push(Entry { at, value })?;
+            push_at(&mut self.columns, at, Entry { at: row, value })?;
+        }
+        let variable = self.push_own(Some(row))?;
+        self.rows.push(Row {
+            variable,
+            scale,
+            entries,
+        })?;
+        Ok(variable)
+    }
+
+    /// By what the value of a variable is multiplied: the scale of its row.
+    pub fn scale(&self, variable: usize) -> Result<i128, Stop> {
+        match self.own_row(variable)? {
+            None => Ok(1),
+            Some(row) => Ok(item(&self.rows, row)?.scale),
+        }
+    }
+}
