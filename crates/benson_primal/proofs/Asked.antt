@@ -21,9 +21,9 @@ use Rattle.outer_approx.specs.Preimages.{IsReached}
 use Rattle.outer_approx.specs.Standing.{IsOuter, rows_of_trail}
 use Rattle.outer_approx.specs.Task.{Task, IsFitting}
 use Rattle.outer_approx.proofs.Growing.{live_generator}
-use Rattle.recession.specs.Asking.{IsAskedCut}
+use Rattle.recession.specs.Asking.{IsAskedCut, IsKnown}
 use Rattle.lp_form.specs.declared.data.Data.{Data}
-use Rattle.benson_primal.specs.Search.{IsKnown, IsLiveVector, IsNextCut}
+use Rattle.benson_primal.specs.Search.{IsLiveVector, IsNextCut}
 
 -- the front of a mapped list
 pub map-take : {F : Type 0} (value : F → ℚ) (n : ℕ) (xs : List F) → map value (take n xs) ≡ take n (map value xs)

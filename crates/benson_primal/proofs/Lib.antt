@@ -1,5 +1,4 @@
 pub mod Asked
-pub mod Described
 pub mod Marked
 pub mod Searched
 pub mod Turned

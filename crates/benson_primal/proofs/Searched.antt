@@ -23,7 +23,8 @@ use Rattle.outer_approx.specs.Preimages.{AreMarks}
 use Rattle.outer_approx.specs.Standing.{HasPreimageMore, IsOpenTrail, IsOuter, rows_of_trail}
 use Rattle.outer_approx.specs.Task.{Task, behind}
 use Rattle.outer_approx.proofs.Growing.{outer_reached}
-use Rattle.benson_primal.specs.Search.{HasGrown, HasSameRows, IsFound, IsKnown, IsNextCut, IsSearching, Stopped}
+use Rattle.recession.specs.Asking.{IsKnown}
+use Rattle.benson_primal.specs.Search.{HasGrown, HasSameRows, IsFound, IsNextCut, IsSearching, Stopped}
 use Rattle.benson_primal.specs.declared.search.Found.{Found}
 use Rattle.benson_primal.specs.declared.search.Search.{Search}
 use Rattle.benson_primal.proofs.Marked.{marks_more, marks_stay}

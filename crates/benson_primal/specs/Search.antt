@@ -7,8 +7,6 @@ use Rattle.polyhedra.specs.LiveList.{numbers}
 use Rattle.deriv_log.specs.declared.entry.Entry.{Entry}
 use Rattle.double_descr.specs.State.{State as Description}
 use Rattle.log_rules.specs.Live.{preimages}
-use Rattle.lp_form.specs.Data.{IsDataOf}
-use Rattle.lp_form.specs.declared.data.Data.{Data}
 use Rattle.licence.specs.Base.{IsLiveAfter, last_of}
 use Rattle.licence.specs.Turns.{IsCutTurn, said_row}
 use Rattle.lp_form.specs.declared.shown.Cut.{Cut}
@@ -16,24 +14,16 @@ use Rattle.outer_approx.specs.Cuts.{IsCutFor, said_by}
 use Rattle.outer_approx.specs.Preimages.{AreMarks}
 use Rattle.outer_approx.specs.Lines.{line_places}
 use Rattle.outer_approx.specs.Standing.{IsOpenTrail, IsOuter, StandForSame, rows_of_trail}
-use Rattle.outer_approx.specs.Task.{Task, IsFitting, behind}
+use Rattle.outer_approx.specs.Task.{Task, behind}
 use Rattle.overflows.specs.Faults.{OnLicence, Overflows}
 use Rattle.overflows.specs.declared.fault.SolveFault.{SolveFault}
-use Rattle.recession.specs.Asking.{IsProper}
+use Rattle.recession.specs.Asking.{IsKnown}
 use Rattle.benson_primal.specs.declared.search.Found.{Found}
 use Rattle.benson_primal.specs.declared.search.Round.{Round}
 use Rattle.benson_primal.specs.declared.search.Round.TheVariants as round
 use Rattle.benson_primal.specs.declared.search.Scope.{Scope}
 use Rattle.benson_primal.specs.declared.search.Scope.TheVariants.{Both, Directions}
 use Rattle.benson_primal.specs.declared.search.Search.{Search}
-
--- the data, the duality vector and the weights are those of the task, which has an image to describe
-pub record IsKnown {F : Type 0} (value : F → ℚ) (holds : ℚ → Bool) (task : Task) (form : Data F) (c weights : List F) : Type 0 where
-  pub stands : IsDataOf value task.file form
-  pub c_is : map value c ≡ task.c
-  pub weights_is : map value weights ≡ task.weights
-  pub fitting : IsFitting holds task
-  pub proper : IsProper task
 
 -- a search stands: its data are those of the task, its trail and its double description stand for
 -- the same cuts, its places are those of the trail's lines, and its marks are those of the

@@ -1,73 +1,30 @@
 //! From data and a duality vector to the log that describes the image.
-ghost use Rattle.std.specs.Prelude.{◌≡◌, ◌≤◌, [], ℕ, List, map, length, IfOk, IfErr, OnOk};
-ghost use Rattle.exact_field.specs.Rational.{ℚ};
-ghost use Rattle.benson_program.specs.Ends.{IsContradiction};
-ghost use Rattle.benson_program.specs.Wholes.{IsWholeOf};
+ghost use Rattle.std.specs.Prelude.{[], map, IfOk, IfErr, OnOk};
 ghost use Rattle.cone_dual.specs.Fitting.{IsDualityOf};
-ghost use Rattle.deriv_log.specs.declared.entry.Entry.TheVariants as entry_of;
-ghost use Rattle.licence.specs.Base.{IsBaseChoice};
 ghost use Rattle.licence.specs.Licence.{Licensed};
-ghost use Rattle.licence.specs.Trails.{IsBaseDuality};
 ghost use Rattle.lp_form.specs.Data.{IsDataOf};
 ghost use Rattle.overflows.specs.Faults.{OnLicence, Overflows};
-ghost use Rattle.outer_approx.specs.Standing.{IsBegun, IsEnded, IsOpenTrail};
-ghost use Rattle.outer_approx.specs.Cuts.{said_by};
+ghost use Rattle.outer_approx.specs.Standing.{IsEnded, IsOpenTrail, IsOpening};
 ghost use Rattle.outer_approx.specs.Task.{Task, behind};
+ghost use Rattle.recession.specs.Asking.{IsKnown};
 ghost use Rattle.recession.specs.First.{AreFirstCuts};
-ghost use Rattle.log_rules.specs.Live.{preimages};
-ghost use Rattle.upper_image.specs.Shows.{ShowsFitting};
+ghost use Rattle.recession.specs.Logs.{IsOwnLog};
 ghost use Rattle.vlp_reader.specs.declared.problem.Problem.{Problem as File};
-ghost use Rattle.benson_primal.specs.Logs.{IsOwnLog};
-ghost use Rattle.benson_primal.specs.Search.{IsKnown, IsSearching};
+ghost use Rattle.benson_primal.specs.Search.{IsSearching};
 
 use crate::search::{Scope, Search};
-use benson_program::WholeParts;
+use benson_program::Kept;
 use cone_dual::Duality;
 use deriv_log::{Entries, Entry};
 use exact_field::Field;
-use exact_simplex::Kept;
 use incid_sets::Marks;
 use lp_form::{Cut, Data};
-use outer_approx::{Line, begun, infeasible_log, places_of, solved, started, whole_log};
-use overflows::{SolveFault, spots_of};
-use recession::{First, first_cuts};
-use src_sink::{Items, NoMemory};
+use outer_approx::{Line, begun, places_of, solved, started};
+use overflows::SolveFault;
+use recession::{First, contradiction_log, everything_log, first_cuts};
+use src_sink::Items;
 use std::alloc::Global;
 use std::mem::replace;
-
-/// The log that no point is feasible, by multipliers of the sides.
-fn contradiction_log<F: Field>(alloc: Global, u: &[F]) -> Result<Entries, NoMemory>
-    ghost file: { File }
-    requires short { length u.now ≤ 4294967294 }
-    requires contradiction { IsContradiction file (map F.value u.now) }
-    ensures { IfOk result (λ log. (c weights : List ℚ) → IsEnded (record { file = file; c = c; weights = weights }) log) }
-{
-    let spots = spots_of(alloc, u)?;
-    let log = infeasible_log(alloc, spots)?;
-    Ok(log)
-}
-
-/// The log that the image is everything, by a feasible point, and by a direction along which the objectives fall by the duality
-/// vector.
-fn everything_log<F: Field>(
-    alloc: Global,
-    opening: Entry,
-    x: &[F],
-    parts: &WholeParts<F>,
-) -> Result<Entries, NoMemory>
-    ghost task: { Task }
-    requires short { length x.now ≤ 4294967294 }
-    requires opening { (picks : List ℕ) × (inverse : List ℚ) × (opening ≡ entry_of.Duality task.c task.weights picks inverse) × ShowsFitting task.file task.c task.weights picks inverse × IsBaseDuality task.file task.file.cone task.file.duality task.c task.weights }
-    requires choice { IsBaseChoice task.file (map F.value x.now) }
-    requires whole { IsWholeOf F.value task.file task.c parts.now }
-    ensures { IfOk result (IsEnded task) }
-{
-    let x = spots_of(alloc, x)?;
-    let ray = spots_of(alloc, parts.ray.as_slice())?;
-    let m = spots_of(alloc, parts.m.as_slice())?;
-    let log = whole_log(alloc, opening, x, ray, m)?;
-    Ok(log)
-}
 
 /// Describes an image from the first state of its search on: first its directions, then its points.
 fn describe<F: Field>(search: &mut Search<'_, F>) -> Result<(), SolveFault>
@@ -113,7 +70,7 @@ fn described<F: Field>(
 ) -> Result<Entries, SolveFault>
     ghost task: { Task }
     requires known { IsKnown F.value F.holds task form.now c.now weights.now }
-    requires opening { (picks : List ℕ) × (inverse : List ℚ) × (opening ≡ entry_of.Duality task.c task.weights picks inverse) × ShowsFitting task.file task.c task.weights picks inverse × IsBaseDuality task.file task.file.cone task.file.duality task.c task.weights }
+    requires opening { IsOpening task opening }
     requires first { AreFirstCuts F.value task x.now lines.now cuts.now }
     ensures ok { IfOk result (IsEnded task) }
     ensures left { IfErr result (λ fault. OnLicence fault (Licensed F.holds task.file task.c)) }
@@ -124,7 +81,7 @@ fn described<F: Field>(
         Err(fault) => Err(fault.behind(trail)),
         Ok(dd) => {
             let reached = Marks::new(alloc, 0)?;
-            let kept = replace(kept, Kept::new());
+            let kept = replace(kept, Kept::new(alloc));
             searched(Search {
                 alloc,
                 form,
@@ -187,6 +144,6 @@ pub fn primal<F: Field>(
     ensures ok { IfOk result (IsOwnLog F.holds file (map F.value duality.c) (map F.value duality.weights)) }
     ensures left { IfErr result (λ fault. OnLicence fault (Licensed F.holds file (map F.value duality.c))) }
 {
-    let mut kept = Kept::new();
+    let mut kept = Kept::new(alloc);
     primal_with(alloc, form, duality, &mut kept)
 }

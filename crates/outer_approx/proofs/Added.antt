@@ -4,10 +4,11 @@ use Rattle.std.specs.Prelude.{OnOk}
 use Rattle.std.specs.List.{list_all}
 use Rattle.std.proofs.lemmas.Bool.{lt-ltb}
 use Rattle.polyhedra.proofs.Tests.{both_hold, true-list_all}
-use Rattle.deriv_log.specs.Formed.{is_formed, is_formed_pair, is_formed_part, is_short}
-use Rattle.deriv_log.specs.LogText.{pairs}
+use Rattle.deriv_log.specs.Formed.{is_formed}
+use Rattle.word_lines.specs.Parts.{is_formed_pair, is_formed_part, is_short}
+use Rattle.word_lines.specs.Parts.{pairs}
 use Rattle.deriv_log.specs.declared.entry.Entry.TheVariants.{Add}
-use Rattle.deriv_log.specs.declared.entry.LogPair.{LogPair}
+use Rattle.word_lines.specs.declared.part.LogPair.{LogPair}
 use Rattle.exact_field.specs.Rational.{ℚ}
 use Rattle.polyhedra.specs.LiveList.{LiveList}
 use Rattle.double_descr.specs.Adding.{IsChange}

@@ -21,7 +21,7 @@ use Rattle.deriv_log.specs.declared.entry.Entry.{Entry}
 use Rattle.deriv_log.specs.declared.entry.Entry.TheVariants.{Start}
 use Rattle.double_descr.specs.Starting.{IsStart}
 use Rattle.double_descr.specs.State.{State as Description}
-use Rattle.log_rules.specs.Live.{State, state, after, first_vectors, in_use, lines, preimages}
+use Rattle.log_rules.specs.Live.{State, state, after, first_vectors, in_use, inequality, lines, preimages}
 use Rattle.log_rules.specs.Order as order
 use Rattle.log_rules.proofs.Entries.{has_last, state-push}
 use Rattle.log_rules.proofs.KeepsDescription.{rules_keep_lines}
@@ -29,11 +29,18 @@ use Rattle.licence.specs.Operands.{AreElimRows}
 use Rattle.lp_form.specs.declared.shown.Cut.{Cut as CutOf}
 use Rattle.outer_approx.specs.Cuts.{said_by}
 use Rattle.outer_approx.specs.Lines.{line_places}
-use Rattle.outer_approx.specs.Standing.{IsBegun, IsOpenTrail, IsOuter, StandForSame}
+use Rattle.outer_approx.specs.Standing.{IsBegun, IsOpenTrail, IsOuter, StandForSame, cuts_of}
 use Rattle.outer_approx.specs.Task.{Task, behind}
 use Rattle.outer_approx.proofs.Growing.{grows, lines_stay, preimages_stay}
 use Rattle.outer_approx.specs.First.{HasStart}
 use Rattle.outer_approx.proofs.Beginning.{IsFirstCorner, exist, first_of_start, listed, meets_start, normals_listed, rows_listed, short_rank, start_in_order, starting_without, stated_many}
+
+-- a start states no cut
+pub started_cuts : (task : Task) (bs : List Bool) (vs : List (List ℚ)) (old new : List Entry) → HasStart bs vs old new → cuts_of task new ≡ cuts_of task old
+started_cuts task bs vs old new h =
+    ap (cuts_of task) h.appended
+    ∙ ap (λ (s : State). map inequality s.cuts)
+    (state-push task.file.objs old (Start (range_with_len 1 (open_count bs)) h.point h.directions))
 
 -- the lines of an open trail are in reduced echelon form
 pub trail_echelon : (task : Task) (trail : List Entry) → IsOpenTrail task trail → AreEchelon task.file.objs (lines trail)

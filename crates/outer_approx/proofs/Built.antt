@@ -6,9 +6,10 @@ use Rattle.frac128.specs.declared.vectors.Spot.{Spot}
 use Rattle.vlp_reader.specs.declared.problem.Problem.{Problem}
 use Rattle.upper_image.specs.Shows.{ShowsFitting}
 use Rattle.upper_image.specs.Spots.{dense}
-use Rattle.deriv_log.specs.Formed.{IsLog, is_formed, is_formed_part}
-use Rattle.deriv_log.specs.LogText.{sparse}
-use Rattle.deriv_log.specs.declared.entry.EndKind.TheVariants as kind
+use Rattle.deriv_log.specs.Formed.{IsLog, is_formed}
+use Rattle.word_lines.specs.Parts.{is_formed_part}
+use Rattle.word_lines.specs.Parts.{sparse}
+use Rattle.word_lines.specs.declared.part.EndKind.TheVariants as kind
 use Rattle.deriv_log.specs.declared.entry.Entry.{Entry}
 use Rattle.deriv_log.specs.declared.entry.Entry.TheVariants.{Version, Duality, Farkas, Whole, End}
 use Rattle.log_rules.specs.Events.{Failure, first_failing}

@@ -9,8 +9,9 @@ use Rattle.polyhedra.proofs.Members.{Contains-map}
 use Rattle.polyhedra.proofs.Tests.{both_hold}
 use Rattle.lineality.specs.Without.{open_count, with_zeros}
 use Rattle.upper_image.specs.Spots.{pieces}
-use Rattle.deriv_log.specs.Formed.{is_formed, is_formed_part}
-use Rattle.deriv_log.specs.LogText.{naturals, vector}
+use Rattle.deriv_log.specs.Formed.{is_formed}
+use Rattle.word_lines.specs.Parts.{is_formed_part}
+use Rattle.word_lines.specs.Parts.{naturals, vector}
 use Rattle.deriv_log.specs.declared.entry.Entry.{Entry}
 use Rattle.deriv_log.specs.declared.entry.Entry.TheVariants.{Start}
 use Rattle.outer_approx.specs.First.{AreFirst, HasStart, front_with}

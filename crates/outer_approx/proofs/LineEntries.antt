@@ -14,8 +14,9 @@ use Rattle.frac128.specs.declared.vectors.Spot.{Spot}
 use Rattle.vlp_reader.specs.Sides.{IsFeasible}
 use Rattle.upper_image.specs.Shows.{ShowsFeasible}
 use Rattle.upper_image.specs.Spots.{dense}
-use Rattle.deriv_log.specs.Formed.{is_formed, is_formed_part}
-use Rattle.deriv_log.specs.LogText.{sparse, vector}
+use Rattle.deriv_log.specs.Formed.{is_formed}
+use Rattle.word_lines.specs.Parts.{is_formed_part}
+use Rattle.word_lines.specs.Parts.{sparse, vector}
 use Rattle.deriv_log.specs.declared.entry.Entry.{Entry}
 use Rattle.deriv_log.specs.declared.entry.Entry.TheVariants.{Line}
 use Rattle.log_rules.specs.Live.{State, inequality, lines, preimages, state}

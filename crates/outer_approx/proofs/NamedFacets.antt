@@ -21,8 +21,9 @@ use Rattle.lineality.specs.Steps.{IsClear, numbered_without}
 use Rattle.lineality.specs.Without.{without}
 use Rattle.lineality.proofs.Marks.{length-marks}
 use Rattle.lineality.proofs.StepsWithout.{same_dot}
-use Rattle.deriv_log.specs.Formed.{is_end, is_formed, is_short}
-use Rattle.deriv_log.specs.declared.entry.EndKind.TheVariants as kind
+use Rattle.deriv_log.specs.Formed.{is_end, is_formed}
+use Rattle.word_lines.specs.Parts.{is_short}
+use Rattle.word_lines.specs.declared.part.EndKind.TheVariants as kind
 use Rattle.deriv_log.specs.declared.entry.Entry.{Entry}
 use Rattle.deriv_log.specs.declared.entry.Entry.TheVariants.{End, Facet}
 use Rattle.deriv_log.proofs.Lines.{ends_once-push}
@@ -35,12 +36,12 @@ use Rattle.log_rules.specs.Meets.{Meets, MeetsFacet, MeetsSolved}
 use Rattle.log_rules.specs.Order.{has, in_order}
 use Rattle.log_rules.specs.Order as order
 use Rattle.log_rules.proofs.CutsStay.{stated}
-use Rattle.log_rules.proofs.Entries.{has_more}
+use Rattle.log_rules.proofs.Entries.{has_more, state-push}
 use Rattle.log_rules.proofs.LiveNumbers.{pairs_from_map}
 use Rattle.licence.specs.Trails.{IsBaseTrail}
 use Rattle.licence.proofs.Growing.{grows}
 use Rattle.outer_approx.specs.Lines.{line_places}
-use Rattle.outer_approx.specs.Standing.{IsEnded, IsOpenTrail, IsOuter}
+use Rattle.outer_approx.specs.Standing.{IsEnded, IsOpenTrail, IsOuter, cuts_of}
 use Rattle.outer_approx.specs.Task.{Task}
 use Rattle.outer_approx.proofs.FacetsWithout.{facets_same}
 use Rattle.outer_approx.proofs.Growing.{open_stands}
@@ -70,6 +71,12 @@ fold_naming q s (k ∷ ks) = fold_naming q s ks
 
 state_naming : (q : ℕ) (trail : List Entry) (ks : List ℕ) → state q (trail ++ naming ks) ≡ state q trail
 state_naming q trail ks = fold-append (after q) nothing trail (naming ks) ∙ fold_naming q (state q trail) ks
+
+-- names and an end state no cut
+pub ended_cuts : (task : Task) (trail : List Entry) (ks : List ℕ) → cuts_of task ((trail ++ naming ks) ++ End kind.Solved ∷ []) ≡ cuts_of task trail
+ended_cuts task trail ks =
+    ap (λ (s : State). map inequality s.cuts)
+    (state-push task.file.objs (trail ++ naming ks) (End kind.Solved) ∙ state_naming task.file.objs trail ks)
 
 none_given : (j : ℕ) (ks : List ℕ) → filter_map (preimage_in j) (naming ks) ≡ []
 none_given j [] = refl

@@ -15,10 +15,10 @@ use Rattle.lineality.proofs.StepsWithout.{steps_without}
 use Rattle.deriv_log.specs.Formed.{is_formed}
 use Rattle.deriv_log.specs.declared.entry.Entry.{Entry}
 use Rattle.deriv_log.specs.declared.entry.Entry.TheVariants.{Add}
-use Rattle.deriv_log.specs.declared.entry.LogPair.{LogPair}
+use Rattle.word_lines.specs.declared.part.LogPair.{LogPair}
 use Rattle.deriv_log.specs.declared.licence.Family.TheVariants.{Image}
 use Rattle.double_descr.specs.State.{State as Description}
-use Rattle.log_rules.specs.Live.{State, state, after, rows_in_use, lines, live_vectors, log_pair, preimages, required_pairs}
+use Rattle.log_rules.specs.Live.{State, state, after, inequality, rows_in_use, lines, live_vectors, log_pair, preimages, required_pairs}
 use Rattle.log_rules.specs.Order.{has, in_order}
 use Rattle.log_rules.specs.Order as order
 use Rattle.log_rules.proofs.Entries.{state-push}
@@ -29,7 +29,7 @@ use Rattle.overflows.specs.declared.fault.SolveFault.TheVariants.{Left, NoMemory
 use Rattle.lp_form.specs.declared.shown.Cut.{Cut as CutOf}
 use Rattle.outer_approx.specs.Cuts.{said_by}
 use Rattle.outer_approx.specs.Lines.{line_places}
-use Rattle.outer_approx.specs.Standing.{HasCutMore, IsOpenTrail, IsOuter, StandForSame, rows_of_trail}
+use Rattle.outer_approx.specs.Standing.{HasCutMore, IsOpenTrail, IsOuter, StandForSame, cuts_of, rows_of_trail}
 use Rattle.outer_approx.specs.Task.{Task, behind}
 use Rattle.outer_approx.proofs.Growing.{grows, has_same, lines_stay, open_stands, preimages_stay, same_for}
 use Rattle.outer_approx.proofs.RowsOfCuts.{length-row}
@@ -40,6 +40,10 @@ add_in_order : (trail : List Entry) → IsTrue (has order.duality trail) → IsT
 add_in_order [] h k l = absurd (true≢false (sym h))
 add_in_order (t ∷ trail) h k l =
     both_hold _ _ (both_hold _ _ (both_hold _ _ (both_hold _ _ refl h) k) refl) (ap (λ (b : Bool). not b) l)
+
+-- an addition states no cut
+pub added_cuts : (task : Task) (trail : List Entry) (k : ℕ) (pairs : List LogPair) → cuts_of task (trail ++ Add k pairs ∷ []) ≡ cuts_of task trail
+added_cuts task trail k pairs = ap (λ (s : State). map inequality s.cuts) (state-push task.file.objs trail (Add k pairs))
 
 -- what holds without regard to a licence holds of each
 pub on_any : (P : Type 0) (fault : SolveFault) → P → OnLicence fault (λ licence. P)

@@ -14,8 +14,9 @@ use Rattle.frac128.specs.Held.{is_held}
 use Rattle.frac128.specs.declared.vectors.Spot.{Spot}
 use Rattle.upper_image.specs.Shows.{ShowsAbove, ShowsCut, ShowsFitting}
 use Rattle.upper_image.specs.Spots.{dense, IsVector}
-use Rattle.deriv_log.specs.Formed.{is_formed, is_formed_part, is_short, is_end}
-use Rattle.deriv_log.specs.LogText.{sparse, vector}
+use Rattle.deriv_log.specs.Formed.{is_formed, is_end}
+use Rattle.word_lines.specs.Parts.{is_formed_part, is_short}
+use Rattle.word_lines.specs.Parts.{sparse, vector}
 use Rattle.deriv_log.specs.declared.entry.Entry.{Entry}
 use Rattle.deriv_log.specs.declared.entry.Entry.TheVariants.{Version, Duality, Cut, Point, Ray}
 use Rattle.log_rules.specs.Live.{State, state, after, inequality, y_of, line_in, preimage_in, preimages}

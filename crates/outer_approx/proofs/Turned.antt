@@ -7,7 +7,7 @@ use Rattle.polyhedra.specs.Exactness.{row_of, rows_of, level}
 use Rattle.polyhedra.specs.Inequality.{Inequality}
 use Rattle.polyhedra.specs.LiveList.{LiveList, step}
 use Rattle.vlp_reader.specs.declared.problem.Problem.{Problem}
-use Rattle.deriv_log.specs.declared.entry.LogPair.{LogPair}
+use Rattle.word_lines.specs.declared.part.LogPair.{LogPair}
 use Rattle.deriv_log.specs.declared.entry.Entry.TheVariants.{Add}
 use Rattle.log_rules.specs.Live.{State, after, inequality, cut_row, in_use, rows_in_use, required_pairs}
 use Rattle.log_rules.specs.Meets.{MeetsAdd}

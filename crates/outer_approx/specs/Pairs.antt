@@ -1,5 +1,5 @@
 -- Pairs of generators of a double description, as entries name them.
-use Rattle.deriv_log.specs.declared.entry.LogPair.{LogPair}
+use Rattle.word_lines.specs.declared.part.LogPair.{LogPair}
 use Rattle.double_descr.specs.declared.fault.Pair.{Pair}
 use Rattle.log_rules.specs.Live.{log_pair}
 

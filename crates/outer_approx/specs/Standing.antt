@@ -4,16 +4,26 @@ use Rattle.exact_field.specs.Rational.{ℚ}
 use Rattle.std.specs.List.{range_with_len}
 use Rattle.polyhedra.specs.Inequality.{Inequality}
 use Rattle.deriv_log.specs.Formed.{is_formed, is_end, IsLog}
+use Rattle.upper_image.specs.Shows.{ShowsFitting}
 use Rattle.deriv_log.specs.declared.entry.Entry.{Entry}
+use Rattle.deriv_log.specs.declared.entry.Entry.TheVariants.{Duality}
 use Rattle.double_descr.specs.State.{State as Description}
 use Rattle.lineality.specs.Steps.{list_without}
 use Rattle.lineality.specs.Without.{open_count, without}
 use Rattle.log_rules.specs.Live.{state, inequality, rows_in_use, lines, preimages}
 use Rattle.log_rules.specs.Order.{has}
 use Rattle.log_rules.specs.Order as order
-use Rattle.licence.specs.Trails.{IsBaseTrail}
+use Rattle.licence.specs.Trails.{IsBaseDuality, IsBaseTrail}
 use Rattle.outer_approx.specs.Lines.{line_places}
 use Rattle.outer_approx.specs.Task.{Task}
+
+-- the entry is a duality entry with the task's c and weights, fits its file, and is read off
+abbrev pub IsOpening : Task → Entry → Type 0
+IsOpening task opening =
+    (picks : List ℕ) × (inverse : List ℚ)
+    × (opening ≡ Duality task.c task.weights picks inverse)
+    × ShowsFitting task.file task.c task.weights picks inverse
+    × IsBaseDuality task.file task.file.cone task.file.duality task.c task.weights
 
 -- a base trail of entries that can be written, with a duality entry, in which no facet is named and nothing is ended
 pub record IsOpenTrail (task : Task) (trail : List Entry) : Type 0 where

@@ -2,7 +2,7 @@
 ghost use Rattle.std.specs.Prelude.{◌≡◌, ◌≢◌, ◌++◌, [], All, map, OnOk};
 ghost use Rattle.deriv_log.specs.declared.entry.Entry.TheVariants as entry_of;
 ghost use Rattle.log_rules.specs.Live.{preimages};
-ghost use Rattle.outer_approx.specs.Standing.{IsEnded, IsOuter};
+ghost use Rattle.outer_approx.specs.Standing.{IsEnded, IsOuter, cuts_of};
 ghost use Rattle.outer_approx.specs.Task.{Task};
 
 use deriv_log::{EndKind, Entries, Entry};
@@ -28,7 +28,8 @@ pub fn solved<F: Field>(alloc: Global, trail: &mut Entries, dd: &Dd<F>) -> Resul
     ghost task: { Task }
     requires outer { IsOuter task trail.old dd.now }
     requires reached { All (λ g. preimages trail.old g.number ≢ []) dd.now.list.live }
-    ensures { OnOk result (IsEnded task trail.new) }
+    ensures ended { OnOk result (IsEnded task trail.new) }
+    ensures cuts { OnOk result (cuts_of task trail.new ≡ cuts_of task trail.old) }
 {
     let facets = facets_of(alloc, dd)?;
     naturals_are_written(facets.as_slice());

@@ -4,20 +4,19 @@ ghost use Rattle.lp_form.specs.Sparse.{IsSparseOf};
 ghost use Rattle.outer_approx.specs.Cuts.{said_by, IsCutFor, SaysCut};
 ghost use Rattle.outer_approx.specs.Lined.{SaysLine};
 ghost use Rattle.outer_approx.specs.Lines.{AreLinesFor, told_by};
-ghost use Rattle.deriv_log.specs.Formed.{is_formed, is_formed_part};
-ghost use Rattle.deriv_log.specs.LogText as part;
+ghost use Rattle.deriv_log.specs.Formed.{is_formed};
+ghost use Rattle.word_lines.specs.Parts.{is_formed_part};
+ghost use Rattle.word_lines.specs.Parts as part;
 ghost use Rattle.deriv_log.specs.declared.entry.Entry.{Entry as EntryOf};
 ghost use Rattle.deriv_log.specs.declared.entry.Entry.TheVariants as entry_of;
 ghost use Rattle.exact_field.specs.Rational.{ℚ};
 ghost use Rattle.licence.specs.Base.{IsBaseChoice};
-ghost use Rattle.licence.specs.Trails.{IsBaseDuality};
 ghost use Rattle.log_rules.specs.Live.{preimages};
 ghost use Rattle.log_rules.specs.Order.{has};
 ghost use Rattle.log_rules.specs.Order as order;
 ghost use Rattle.outer_approx.specs.Preimages.{IsReached};
-ghost use Rattle.outer_approx.specs.Standing.{HasCutMore, HasPreimageMore, IsBegun, IsOpenTrail};
+ghost use Rattle.outer_approx.specs.Standing.{HasCutMore, HasPreimageMore, IsBegun, IsOpenTrail, IsOpening};
 ghost use Rattle.outer_approx.specs.Task.{Task};
-ghost use Rattle.upper_image.specs.Shows.{ShowsFitting};
 
 use deriv_log::{Entries, Entry};
 use exact_field::Field;
@@ -160,7 +159,7 @@ fn push_line<F: Field>(
 /// The entries of a log that begins with a duality entry and has these cuts.
 fn with_cuts<F: Field>(alloc: Global, opening: Entry, cuts: &[Cut<F>]) -> Result<Entries, NoMemory>
     ghost task: { Task }
-    requires opening { (picks : List ℕ) × (inverse : List ℚ) × (opening ≡ entry_of.Duality task.c task.weights picks inverse) × ShowsFitting task.file task.c task.weights picks inverse × IsBaseDuality task.file task.file.cone task.file.duality task.c task.weights }
+    requires opening { IsOpening task opening }
     requires cuts { All (IsCutFor F.value task) cuts.now }
     ensures begun { IfOk result (IsBegun task [] (map (said_by F.value) cuts.now)) }
     ensures unreached { IfOk result (λ trail. (k : ℕ) → preimages trail k ≡ []) }
@@ -181,7 +180,7 @@ pub fn begun<F: Field>(
     cuts: &[Cut<F>],
 ) -> Result<Entries, NoMemory>
     ghost task: { Task }
-    requires opening { (picks : List ℕ) × (inverse : List ℚ) × (opening ≡ entry_of.Duality task.c task.weights picks inverse) × ShowsFitting task.file task.c task.weights picks inverse × IsBaseDuality task.file task.file.cone task.file.duality task.c task.weights }
+    requires opening { IsOpening task opening }
     requires cuts { All (IsCutFor F.value task) cuts.now }
     requires choice { IsBaseChoice task.file (map F.value x.now) }
     requires lines { AreLinesFor F.value task (map (λ cut. map F.value cut.w) cuts.now) lines.now }

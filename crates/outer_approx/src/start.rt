@@ -10,7 +10,7 @@ ghost use Rattle.outer_approx.specs.First.{AreFirst, HasStart, front_with};
 ghost use Rattle.outer_approx.specs.Lines.{line_places};
 ghost use Rattle.upper_image.specs.Spots.{pieces};
 ghost use Rattle.log_rules.specs.Live.{lines, preimages};
-ghost use Rattle.outer_approx.specs.Standing.{IsBegun, IsOpenTrail, IsOuter};
+ghost use Rattle.outer_approx.specs.Standing.{IsBegun, IsOpenTrail, IsOuter, cuts_of};
 ghost use Rattle.outer_approx.specs.Task.{Task, behind};
 ghost use Rattle.overflows.specs.Faults.{Overflows};
 ghost use Rattle.polyhedra.specs.Cone.{HasFullRank};
@@ -153,6 +153,7 @@ pub fn started<F: Field>(
     requires wide { All (λ cut. length cut.w ≡ task.file.objs) cuts.now }
     requires rank { HasFullRank (open_count places.now) (map (without places.now) (map (λ cut. map F.value cut.w) cuts.now)) }
     ensures ok { IfOk result (IsOuter task trail.new) }
+    ensures cuts { cuts_of task trail.new ≡ cuts_of task trail.old }
     ensures lines { lines trail.new ≡ lines trail.old }
     ensures preimages { OnOk result ((k : ℕ) → preimages trail.new k ≡ preimages trail.old k) }
     ensures trail { IsOpenTrail task trail.new }

@@ -1,13 +1,14 @@
 //! A cut that comes into use: its entries, and the step of the double description.
 ghost use Rattle.std.specs.Prelude.{◌≡◌, IfOk, IsTrue, map, ◌++◌, ◌∷◌, [], ℕ, false, IfErr, OnErr, OnOk};
-ghost use Rattle.deriv_log.specs.Formed.{is_formed_pair, is_formed_part, is_formed};
-ghost use Rattle.deriv_log.specs.LogText.{pairs as pairs_part};
+ghost use Rattle.deriv_log.specs.Formed.{is_formed};
+ghost use Rattle.word_lines.specs.Parts.{is_formed_pair, is_formed_part};
+ghost use Rattle.word_lines.specs.Parts.{pairs as pairs_part};
 ghost use Rattle.outer_approx.specs.Pairs.{named};
 ghost use Rattle.deriv_log.specs.declared.entry.Entry.TheVariants as entry_of;
 ghost use Rattle.log_rules.specs.Live.{lines, preimages};
 ghost use Rattle.outer_approx.specs.Cuts.{IsCutFor, said_by};
 ghost use Rattle.outer_approx.specs.Lines.{line_places};
-ghost use Rattle.outer_approx.specs.Standing.{IsOpenTrail, IsOuter, StandForSame, rows_of_trail};
+ghost use Rattle.outer_approx.specs.Standing.{IsOpenTrail, IsOuter, StandForSame, cuts_of, rows_of_trail};
 ghost use Rattle.outer_approx.specs.Task.{Task, behind};
 ghost use Rattle.overflows.specs.Faults.{OnLicence, Overflows};
 ghost use Rattle.polyhedra.specs.Exactness.{row_of};
@@ -71,6 +72,8 @@ pub fn take<F: Field>(
     requires cut { IsCutFor F.value task cut.now }
     ensures ok { OnOk result (IsOuter task trail.new dd.new) }
     ensures rows { OnOk result (rows_of_trail task trail.new ≡ rows_of_trail task trail.old ++ row_of (said_by F.value cut.now) ∷ []) }
+    ensures cuts { OnOk result
+        (cuts_of task trail.new ≡ cuts_of task trail.old ++ said_by F.value cut.now ∷ []) }
     ensures lines { lines trail.new ≡ lines trail.old }
     ensures preimages { OnOk result ((k : ℕ) → preimages trail.new k ≡ preimages trail.old k) }
     ensures trail { IsOpenTrail task trail.new }
@@ -100,6 +103,8 @@ pub fn try_take<F: Field>(
     requires cut { IsCutFor F.value task cut.now }
     ensures ok { OnOk result (IsOuter task trail.new dd.new) }
     ensures rows { IfOk result (λ taken. IsTrue taken → rows_of_trail task trail.new ≡ rows_of_trail task trail.old ++ row_of (said_by F.value cut.now) ∷ []) }
+    ensures cuts { IfOk result (λ taken. IsTrue taken
+        → cuts_of task trail.new ≡ cuts_of task trail.old ++ said_by F.value cut.now ∷ []) }
     ensures lines { lines trail.new ≡ lines trail.old }
     ensures preimages { OnOk result ((k : ℕ) → preimages trail.new k ≡ preimages trail.old k) }
     ensures as_before { IfOk result (λ taken. taken ≡ false → (trail.new ≡ trail.old) × (dd.new ≡ dd.old)) }

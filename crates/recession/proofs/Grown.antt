@@ -46,7 +46,7 @@ module _ {F : Type 0} (value : F → ℚ) (task : Task) where
 
   -- ---- what is level
   -- the normal of a cut is 0 along each vector of the lineality space
-  cut_level : (cut : Cut F) → IsCutFor value task cut → (d : List ℚ) → IsInLineality (IsWorkingDirection task.file) d → dot (map value cut.w) d ≡ zero_ℚ
+  pub cut_level : (cut : Cut F) → IsCutFor value task cut → (d : List ℚ) → IsInLineality (IsWorkingDirection task.file) d → dot (map value cut.w) d ≡ zero_ℚ
   cut_level cut h d k =
       let u = sparse_there value cut.u in
       let v = sparse_there value cut.v in

@@ -4,6 +4,7 @@ pub mod Behind
 pub mod Excluded
 pub mod Free
 pub mod Grown
+pub mod OwnLogs
 pub mod Tail
 pub mod Trails
 pub mod Whole

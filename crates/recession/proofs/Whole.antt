@@ -132,7 +132,7 @@ module _ (q : ℕ) (ls : List (List ℚ)) (echelon : AreEchelon q ls) where
 
 -- ---- a complement
 -- without the places of its vectors the normals have full rank
-rank_of_complement : (q : ℕ) (normals vs : List (List ℚ)) → AreComplement q normals vs →
+pub rank_of_complement : (q : ℕ) (normals vs : List (List ℚ)) → AreComplement q normals vs →
     HasFullRank (open_count (marks q vs)) (map (without (marks q vs)) normals)
 rank_of_complement q normals vs h z wide flat =
     let bs : List Bool = marks q vs in

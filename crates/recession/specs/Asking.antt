@@ -1,8 +1,10 @@
 -- What Benson's program says of a vector, where some point is feasible and some cut is valid.
-use Rattle.std.specs.Prelude.{ℕ, ◌≡◌, Bool, List}
+use Rattle.std.specs.Prelude.{ℕ, ◌≡◌, Bool, List, map}
 use Rattle.exact_field.specs.Rational.{ℚ, zero_ℚ, ◌<ℚ◌}
 use Rattle.polyhedra.specs.Exactness.{row_of}
 use Rattle.vlp_reader.specs.Sides.{IsFeasible}
+use Rattle.lp_form.specs.Data.{IsDataOf}
+use Rattle.lp_form.specs.declared.data.Data.{Data}
 use Rattle.lp_form.specs.Programs.{benson_system, value_of}
 use Rattle.licence.specs.Turns.{said_row}
 use Rattle.benson_program.specs.Laws.{IsCutNormal}
@@ -10,7 +12,7 @@ use Rattle.benson_program.specs.Ends.{IsOptimumAt}
 use Rattle.licence.specs.Preimages.{IsPreimageOf}
 use Rattle.lp_form.specs.declared.shown.Cut.{Cut as CutOf}
 use Rattle.outer_approx.specs.Cuts.{IsCutFor, said_by}
-use Rattle.outer_approx.specs.Task.{Task}
+use Rattle.outer_approx.specs.Task.{IsFitting, Task}
 use Rattle.recession.specs.declared.asking.Asked.{Asked}
 use Rattle.recession.specs.declared.asking.Asked.TheVariants.{Cut, Reached}
 
@@ -18,6 +20,14 @@ use Rattle.recession.specs.declared.asking.Asked.TheVariants.{Cut, Reached}
 pub record IsProper (task : Task) : Type 0 where
   pub feasible : (x : List ℚ) × IsFeasible task.file x
   pub bounded : (w : List ℚ) × IsCutNormal task.file task.c w
+
+-- the data, the duality vector and the weights are those of the task, which has an image to describe
+pub record IsKnown {F : Type 0} (value : F → ℚ) (holds : ℚ → Bool) (task : Task) (form : Data F) (c weights : List F) : Type 0 where
+  pub stands : IsDataOf value task.file form
+  pub c_is : map value c ≡ task.c
+  pub weights_is : map value weights ≡ task.weights
+  pub fitting : IsFitting holds task
+  pub proper : IsProper task
 
 -- the cut is that of an optimum of Benson's program at v whose value is positive: so v does not meet it
 pub record IsAskedCut {F : Type 0} (value : F → ℚ) (task : Task) (v : List ℚ) (t : Bool) (cut : CutOf F) : Type 0 where

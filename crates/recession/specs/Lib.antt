@@ -1,3 +1,4 @@
 pub mod Asking
 pub mod First
 pub mod Further
+pub mod Logs

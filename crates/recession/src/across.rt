@@ -29,8 +29,13 @@ fn normals<F: Field>(alloc: Global, q: u32, cuts: &[Cut<F>]) -> Result<Rows<F>, 
     Ok(rows)
 }
 
-/// The vectors at which the normal of each cut is 0, in reduced echelon form.
-fn level_vectors<F: Field>(alloc: Global, q: u32, cuts: &[Cut<F>]) -> Result<Rows<F>, SolveFault>
+/// The vectors at which the normal of each cut is 0, in reduced echelon form, by one elimination of
+/// the normals, which have `q` entries.
+pub fn level_vectors<F: Field>(
+    alloc: Global,
+    q: u32,
+    cuts: &[Cut<F>],
+) -> Result<Rows<F>, SolveFault>
     requires { All (λ cut. length cut.w ≡ q) cuts.now }
     ensures ok { IfOk result (λ rows.
         AreComplement q (normals_of F.value cuts.now) (numbers F.value rows.list)) }

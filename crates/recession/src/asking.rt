@@ -10,9 +10,8 @@ ghost use Rattle.outer_approx.specs.Task.{IsFitting, Task, behind};
 ghost use Rattle.overflows.specs.Faults.{Overflows};
 ghost use Rattle.recession.specs.Asking.{IsAsked, IsProper};
 
-use benson_program::{BensonEnd, benson_end, cut_of, preimage_of};
+use benson_program::{BensonEnd, Kept, benson_end, cut_of, preimage_of};
 use exact_field::Field;
-use exact_simplex::Kept;
 use lin_rows::cells::is_positive;
 use lp_form::{Cut, Data, Preimage};
 use overflows::SolveFault;

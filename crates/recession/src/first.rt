@@ -10,10 +10,9 @@ ghost use Rattle.recession.specs.First.{IsFirst};
 
 use crate::further::{Next, next_of};
 use benson_program::{
-    BensonEnd, FeasibleEnd, WholeParts, benson_end, cut_of, feasible_end, whole_of,
+    BensonEnd, FeasibleEnd, Kept, WholeParts, benson_end, cut_of, feasible_end, whole_of,
 };
 use exact_field::Field;
-use exact_simplex::Kept;
 use lp_form::{Cut, Data, zeros};
 use outer_approx::Line;
 use overflows::SolveFault;

@@ -16,9 +16,9 @@ ghost use Rattle.recession.specs.Further.{AreFound, IsNext, IsNextSide, SayCuts,
 
 use crate::across::across;
 use crate::asking::{Asked, ask};
+use benson_program::Kept;
 use deriv_log::Entries;
 use exact_field::Field;
-use exact_simplex::Kept;
 use lp_form::{Cut, Data, Preimage, negative};
 use outer_approx::{Line, push_cut_entry};
 use overflows::SolveFault;
@@ -97,8 +97,9 @@ fn found<F: Field>(
     }
 }
 
-/// The entries of cuts.
-fn entries_of<F: Field>(alloc: Global, cuts: &[Cut<F>]) -> Result<Entries, NoMemory>
+/// The entries of cuts, one each, in their order: with an overflow of an elimination of their normals
+/// they are its trail.
+pub fn entries_of<F: Field>(alloc: Global, cuts: &[Cut<F>]) -> Result<Entries, NoMemory>
     ensures { IfOk result (SayCuts F.value cuts.now) }
 {
     let mut entries = Entries::new(alloc);

@@ -1,4 +1,5 @@
-//! How the description of an image begins: its lines and first cuts, or what shows that it has none.
+//! How the description of an image begins: its lines and first cuts, or what shows that it has none,
+//! with the log that says so.
 #![tactic(auto)]
 
 mod across;
@@ -6,7 +7,11 @@ mod asking;
 mod first;
 mod further;
 mod laws;
+mod logs;
 
+pub use across::level_vectors;
 pub use asking::{Asked, ask};
 pub use first::{First, first_cuts};
+pub use further::entries_of;
 pub use laws::first_answers_exclude;
+pub use logs::{contradiction_log, everything_log};

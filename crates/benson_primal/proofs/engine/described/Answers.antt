@@ -12,7 +12,7 @@ use Rattle.outer_approx.specs.Lines.{told_by}
 use Rattle.outer_approx.specs.Standing.{IsBegun, IsOpenTrail}
 use Rattle.outer_approx.specs.Task.{behind}
 use Rattle.recession.specs.Further.{normals_of}
-use Rattle.benson_primal.proofs.Described.{carried, licensed}
+use Rattle.recession.proofs.OwnLogs.{carried, licensed}
 use Rattle.benson_primal.proofs.Marked.{no_marks}
 use Rattle.benson_primal.proofs.Searched.{on_any, places_stay}
 use Rattle.benson_primal.proofs.engine.described.Goals as goal

@@ -2,8 +2,8 @@ use Rattle.std.proofs.Common.{rules, sym, subst}
 use Rattle.std.specs.Prelude.{IfOk}
 use Rattle.outer_approx.specs.Standing.{IsEnded}
 use Rattle.recession.specs.First.{AreFirstCuts, IsFirst}
-use Rattle.benson_primal.specs.Logs.{IsOwnLog}
-use Rattle.benson_primal.proofs.Described.{base, fits, fitting, handed, known, opens, own_log, own_ok, task, task_is}
+use Rattle.recession.specs.Logs.{IsOwnLog}
+use Rattle.recession.proofs.OwnLogs.{base, fits, fitting, handed, known, opens, own_log, own_ok, task, task_is}
 use Rattle.benson_primal.proofs.engine.primal_with.Goals as goal
 
 pub returns-in-Infeasible-clause-ok : goal.returns-in-Infeasible-clause-ok
@@ -18,7 +18,7 @@ returns-in-Infeasible-clause-ok g c =
     let log = c.in_ok-contradiction_log-in-Infeasible.field-0 in
     handed value holds g.file d h cs ws c.as_slice-c.ensures.items c.as_slice-weights.ensures.items (λ c' weights'. IsOwnLog holds g.file c' weights' log)
     (own_log holds t (fitting value holds g.file d h cs ws c.as_slice-c.ensures.items c.as_slice-weights.ensures.items) log
-    (c.in_ok-contradiction_log-in-Infeasible.ensures t.c t.weights))
+    (c.in_ok-contradiction_log-in-Infeasible.ensures.ended t.c t.weights))
 
 pub returns-in-Whole-clause-ok : goal.returns-in-Whole-clause-ok
 returns-in-Whole-clause-ok g c =
@@ -33,7 +33,7 @@ returns-in-Whole-clause-ok g c =
     (own_log holds (task value holds g.file d h cs ws c.as_slice-c.ensures.items c.as_slice-weights.ensures.items)
     (fitting value holds g.file d h cs ws c.as_slice-c.ensures.items c.as_slice-weights.ensures.items) log
     (subst (λ t. IsEnded t log) (task_is value holds g.file d h cs ws c.as_slice-c.ensures.items c.as_slice-weights.ensures.items)
-    c.in_ok-everything_log-in-Whole.ensures))
+    c.in_ok-everything_log-in-Whole.ensures.ended))
 
 pub described-requires : goal.described-requires
 described-requires g c κs within =

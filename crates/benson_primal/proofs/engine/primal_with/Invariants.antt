@@ -1,5 +1,5 @@
 use Rattle.std.proofs.Common.{map}
-use Rattle.benson_primal.specs.Logs.{task_of}
+use Rattle.recession.specs.Logs.{task_of}
 use Rattle.benson_primal.proofs.engine.primal_with.Given as goal
 
 abbrev pub ghost-first_cuts : goal.ghost-first_cuts

@@ -3,7 +3,7 @@ use Rattle.deriv_log.specs.declared.entry.Entry.{Entry}
 use Rattle.overflows.specs.Faults.{OnLicence, Overflows, with_trail}
 use Rattle.outer_approx.specs.Standing.{IsOpenTrail}
 use Rattle.outer_approx.specs.Task.{behind}
-use Rattle.benson_primal.proofs.Described.{carried, licensed}
+use Rattle.recession.proofs.OwnLogs.{carried, licensed}
 use Rattle.benson_primal.proofs.engine.searched.Goals as goal
 
 pub returns-in-Err-clause-left : goal.returns-in-Err-clause-left

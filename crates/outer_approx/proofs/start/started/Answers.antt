@@ -2,9 +2,10 @@ use Rattle.std.proofs.Common.{List, ℕ, map, subst, sym, ◌∙◌}
 use Rattle.std.proofs.lemmas.List.{length-map}
 use Rattle.lin_rows.specs.Read.{numbers}
 use Rattle.lineality.specs.Without.{open_count}
+use Rattle.polyhedra.specs.LiveList.{vectors}
 use Rattle.double_descr.specs.Starting.{IsStart}
 use Rattle.outer_approx.specs.Task.{behind}
-use Rattle.outer_approx.proofs.AfterStart.{full_rank, is_outer, licensed, same_lines, square, unreached, wide_here}
+use Rattle.outer_approx.proofs.AfterStart.{full_rank, is_outer, licensed, same_lines, square, started_cuts, unreached, wide_here}
 use Rattle.outer_approx.proofs.Beginning.{are_first}
 use Rattle.outer_approx.proofs.start.started.Goals as goal
 
@@ -58,6 +59,10 @@ returns-clause-ok g c =
     is_outer g.F.Field.value g.task c.args.places.now c.args.trail.now c.args.cuts.now h.1.1.0 h.1.1.1.0 h.1.1.1.1.0 h.1.1.1.1.1.0 h.1.1.1.1.1.1.0 h.1.1.1.1.1.1.1
     rows.width (numbers g.F.Field.value rows.list) c.in_ok-rows.ensures.width c.in_ok-rows.ensures.rows c.in-Ok.dd c.in-Ok.ensures.ok c.push_start.new.trail
     c.in_ok-push_start-in-Ok.ensures.ok
+
+pub returns-clause-cuts : goal.returns-clause-cuts
+returns-clause-cuts g c =
+    started_cuts g.task c.args.places.now (vectors c.in-Ok.dd.list.live) c.args.trail.now c.push_start.new.trail c.in_ok-push_start-in-Ok.ensures.ok
 
 pub returns-clause-lines : goal.returns-clause-lines
 returns-clause-lines g c =

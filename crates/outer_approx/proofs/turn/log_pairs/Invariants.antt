@@ -1,5 +1,5 @@
 use Rattle.std.proofs.Common.{◌≡◌, All, IsTrue, map, take}
-use Rattle.deriv_log.specs.Formed.{is_formed_pair}
+use Rattle.word_lines.specs.Parts.{is_formed_pair}
 use Rattle.outer_approx.specs.Pairs.{named}
 use Rattle.outer_approx.proofs.turn.log_pairs.Given as goal
 

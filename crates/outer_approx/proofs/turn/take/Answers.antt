@@ -10,11 +10,11 @@ use Rattle.log_rules.specs.Live.{lines, preimages}
 use Rattle.licence.specs.Operands.{IsAddition}
 use Rattle.outer_approx.specs.Cuts.{said_by}
 use Rattle.outer_approx.specs.Lines.{line_places}
-use Rattle.outer_approx.specs.Standing.{IsOuter, StandForSame, rows_of_trail}
+use Rattle.outer_approx.specs.Standing.{IsOuter, StandForSame, cuts_of, rows_of_trail}
 use Rattle.outer_approx.specs.Task.{behind}
 use Rattle.outer_approx.specs.Pairs.{named}
 use Rattle.outer_approx.proofs.Added.{named_required}
-use Rattle.outer_approx.proofs.Outer.{is_addition, on_any, row_wide, stand_still, turned, turned_lines, turned_preimages, turned_rows}
+use Rattle.outer_approx.proofs.Outer.{added_cuts, is_addition, on_any, row_wide, stand_still, turned, turned_lines, turned_preimages, turned_rows}
 use Rattle.outer_approx.proofs.turn.take.Goals as goal
 
 pub cut_row-requires : goal.cut_row-requires
@@ -73,6 +73,12 @@ returns-in-Ok-clause-rows g c =
     c.row_count-number.result c.row_count-number.ensures pairs
     (named_required dd.rows dd.list row (without bs (row_of e)) c.in-Ok.change c.as_slice-in-Ok.result.now c.as_slice-in-Ok.ensures.items c.in-Ok.ensures.change row_is)
     c.in_ok-push_add-in-Ok.ensures.written
+
+pub returns-in-Ok-clause-cuts : goal.returns-in-Ok-clause-cuts
+returns-in-Ok-clause-cuts g c =
+    ap (cuts_of g.task) c.in_ok-push_add-in-Ok.ensures.ok
+    ∙ added_cuts g.task c.push_cut.new.trail c.row_count-number.result (map named c.as_slice-in-Ok.result.now)
+    ∙ c.in_ok-push_cut.ensures.more.cuts
 
 pub returns-in-Ok-clause-lines : goal.returns-in-Ok-clause-lines
 returns-in-Ok-clause-lines g c =

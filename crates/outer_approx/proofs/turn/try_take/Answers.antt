@@ -6,10 +6,10 @@ use Rattle.deriv_log.specs.declared.entry.Entry.{Entry}
 use Rattle.log_rules.specs.Live.{lines, preimages}
 use Rattle.outer_approx.specs.Cuts.{said_by}
 use Rattle.outer_approx.specs.Lines.{line_places}
-use Rattle.outer_approx.specs.Standing.{IsOuter, rows_of_trail}
+use Rattle.outer_approx.specs.Standing.{IsOuter, cuts_of, rows_of_trail}
 use Rattle.outer_approx.specs.Pairs.{named}
 use Rattle.outer_approx.proofs.Added.{named_required}
-use Rattle.outer_approx.proofs.Outer.{row_wide, turned, turned_lines, turned_preimages, turned_rows}
+use Rattle.outer_approx.proofs.Outer.{added_cuts, row_wide, turned, turned_lines, turned_preimages, turned_rows}
 use Rattle.outer_approx.proofs.turn.try_take.Goals as goal
 
 pub cut_row-requires : goal.cut_row-requires
@@ -68,6 +68,12 @@ returns-in-Ok-clause-rows g c = λ yes.
     c.row_count-cut_number.result c.row_count-cut_number.ensures pairs
     (named_required dd.rows dd.list row (without bs (row_of e)) c.in-Ok.change c.as_slice-in-Ok.result.now c.as_slice-in-Ok.ensures.items c.in-Ok.ensures.change row_is)
     c.in_ok-push_add-in-Ok.ensures.written
+
+pub returns-in-Ok-clause-cuts : goal.returns-in-Ok-clause-cuts
+returns-in-Ok-clause-cuts g c = λ yes.
+    ap (cuts_of g.task) c.in_ok-push_add-in-Ok.ensures.ok
+    ∙ added_cuts g.task c.push_cut.new.trail c.row_count-cut_number.result (map named c.as_slice-in-Ok.result.now)
+    ∙ c.in_ok-push_cut-in-Ok.ensures.more.cuts
 
 pub returns-in-Ok-clause-lines : goal.returns-in-Ok-clause-lines
 returns-in-Ok-clause-lines g c =

@@ -1,11 +1,12 @@
 use Rattle.std.proofs.Common.{◌≡◌, map, length, sym, ap, ◌∙◌, subst}
 use Rattle.std.proofs.lemmas.List.{length-map}
 use Rattle.upper_image.specs.Spots.{dense, IsVector}
-use Rattle.benson_primal.proofs.Described.{meets_farkas, ray_read}
-use Rattle.benson_primal.proofs.engine.contradiction_log.Goals as goal
+use Rattle.log_rules.specs.Live.{state}
+use Rattle.recession.proofs.OwnLogs.{meets_farkas, ray_read}
+use Rattle.recession.proofs.logs.contradiction_log.Goals as goal
 
-pub returns : goal.returns
-returns g c =
+pub returns-clause-ended : goal.returns-clause-ended
+returns-clause-ended g c =
     let value = g.F.Field.value in
     let list = c.args.u.now in
     let u = map value list in
@@ -17,3 +18,6 @@ returns g c =
     let made = c.in_ok-log.ensures in
     let meets = meets_farkas g.file u spots h vector same in
     λ d weights. record { log = made.log vector.sparse; base = made.base g.file d weights meets (ray_read g.file u spots h vector same) }
+
+pub returns-clause-cuts : goal.returns-clause-cuts
+returns-clause-cuts g c = λ q. ap (λ es. (state q es).cuts) c.in_ok-log.ensures.entries

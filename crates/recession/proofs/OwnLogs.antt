@@ -36,8 +36,8 @@ use Rattle.lp_form.specs.declared.data.Data.{Data}
 use Rattle.recession.specs.First.{AreFirstCuts}
 use Rattle.recession.proofs.Grown.{proper_of}
 use Rattle.lp_form.specs.declared.shown.Cut.{Cut}
-use Rattle.benson_primal.specs.Logs.{IsOwnLog, task_of}
-use Rattle.benson_primal.specs.Search.{IsKnown}
+use Rattle.recession.specs.Asking.{IsKnown}
+use Rattle.recession.specs.Logs.{IsOwnLog, task_of}
 
 -- a duality vector and its weights, as the lists that they are read as
 module _ {F : Type 0} (value : F → ℚ) (holds : ℚ → Bool) (file : Problem) (d : Duality F) (h : IsDualityOf value holds file d) (c weights : List F)

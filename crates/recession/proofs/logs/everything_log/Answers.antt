@@ -1,10 +1,12 @@
-use Rattle.std.proofs.Common.{refl}
+use Rattle.std.proofs.Common.{refl, ap, ◌∙◌}
 use Rattle.outer_approx.proofs.Pushed.{sparse_of}
-use Rattle.benson_primal.proofs.Described.{read_whole, shows_whole}
-use Rattle.benson_primal.proofs.engine.everything_log.Goals as goal
+use Rattle.log_rules.specs.Live.{state}
+use Rattle.outer_approx.specs.Unstarted.{whole_entries}
+use Rattle.recession.proofs.OwnLogs.{read_whole, shows_whole}
+use Rattle.recession.proofs.logs.everything_log.Goals as goal
 
-pub returns : goal.returns
-returns g c =
+pub returns-clause-ended : goal.returns-clause-ended
+returns-clause-ended g c =
     let value = g.F.Field.value in
     let task = g.task in
     let o = c.requires.1.1.0 in
@@ -23,3 +25,9 @@ returns g c =
       base = made.base task.file task.c task.weights shows
           (read_whole value task c.args.opening o.0 o.1 o.2 o.3 o.4 list c.requires.1.1.1.0 parts c.requires.1.1.1.1 x ray m x_is ray_is m_is);
     }
+
+-- a log that tells that the image is everything has no cut
+pub returns-clause-cuts : goal.returns-clause-cuts
+returns-clause-cuts g c = λ q.
+    ap (λ es. (state q es).cuts) c.in_ok-log.ensures.entries
+    ∙ ap (λ e. (state q (whole_entries e c.in_ok-x.x c.in_ok-ray.ray c.in_ok-m.m)).cuts) c.requires.1.1.0.2
