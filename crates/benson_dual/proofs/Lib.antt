@@ -1,0 +1,10 @@
+pub mod Agreeing
+pub mod AllInUse
+pub mod AllPicked
+pub mod Counted
+pub mod DualLines
+pub mod Images
+pub mod Listed
+pub mod LiveVectors
+pub mod Permuted
+pub mod Picked

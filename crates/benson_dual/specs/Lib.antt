@@ -1,0 +1,5 @@
+pub mod Images
+pub mod Logs
+pub mod Order
+pub mod Picking
+pub mod Reports
