@@ -1,4 +1,5 @@
--- The log that `solve FILE LOG` writes is accepted by `check FILE LOG`, with the same report.
+-- The log that `solve FILE LOG` or `dual FILE LOG` writes is accepted by `check FILE LOG`, with the
+-- same report.
 use Rattle.std.proofs.Common.{◌≡◌, ℕ, ◌≤◌, List, length, Option, Some, None, true, false, refl, inl, inr, subst, sym, ◌∙◌, ap, arith}
 use Rattle.vlp_reader.specs.FirstFault.{Reads}
 use Rattle.vlp_reader.specs.declared.problem.Problem.{Problem}
@@ -8,13 +9,13 @@ use Rattle.deriv_log.specs.declared.entry.Entry.{Entry}
 use Rattle.deriv_log.proofs.Laws.{one_reading}
 use Rattle.log_versions.specs.Upgrade.{upgraded}
 use Rattle.log_versions.specs.Written.{Proves}
-use Rattle.commands.specs.Tasks.{Shape, shape}
-use Rattle.commands.specs.Tasks.Task.{check, solve}
+use Rattle.commands.specs.Tasks.{Shape, Task, shape}
+use Rattle.commands.specs.Tasks.Task.{check, dual, solve}
 use Rattle.commands.specs.Tasks.Files.{logged}
 use Rattle.solver.specs.Accepted.{PassesAs}
-use Rattle.solver.specs.Replies.{Solved}
+use Rattle.solver.specs.Replies.{SolveVerdict, Solved}
 use Rattle.solver.proofs.Accepted.{is_accepted}
-use Rattle.solver.proofs.Replies.{unsolved_not_done}
+use Rattle.solver.proofs.Replies.{dual_solves, unsolved_not_done}
 use Rattle.statuses.specs.Codes.{code_of}
 use Rattle.statuses.specs.declared.reply.Reply.{Reply}
 use Rattle.statuses.specs.declared.status.Status.{Status}
@@ -24,6 +25,7 @@ use Rattle.bensolve_main.specs.Check.{CheckVerdict, Proved}
 use Rattle.bensolve_main.specs.Deliver.{Delivers, DeliversWith, Sends}
 use Rattle.bensolve_main.specs.Outcome.{HaltsFor, Outcome, RepliesTo, TellsOfLog}
 use Rattle.bensolve_main.specs.Reading.{FileRefused, GoodFile, problem_limit, log_limit}
+use Rattle.bensolve_main.specs.Tasks.{TellsFile}
 use Rattle.bensolve_main.specs.Tasks.Texts.{problem, problem_and_log}
 use Rattle.bensolve_main.specs.World.{Channel, World, Written, sources_of}
 use Rattle.bensolve_main.proofs.Complete.{PassingTexts, same_bytes, texts_answered, told_reads}
@@ -107,7 +109,7 @@ module _ (report problem : List ℕ) (entries : List Entry) (passing : PassesByt
         | inr halts ↦ inr halts
       ]
 
--- ---- a run of `solve FILE LOG`
+-- ---- a run of `solve FILE LOG` or `dual FILE LOG`
 -- both texts were written whole
 both_written : (text log : List ℕ) (v w : World) → DeliversWith (Some log) Done text Done v w →
     Written text v.out w.out × Written log v.log_out w.log_out
@@ -143,13 +145,15 @@ solved_accepted file r v w good solved delivers =
       });
     }
 
-replied_accepted : (r : Reply) (v w : World) → RepliesTo problem solve true r (sources_of v) (sources_of w) →
+-- of a task of which such a reply says what one of `solve` says
+replied_accepted : (t : Task) → ((file : Problem) (r : Reply) → TellsFile t true file r → SolveVerdict true file r) →
+    (r : Reply) (v w : World) → RepliesTo problem t true r (sources_of v) (sources_of w) →
     Delivers r Done v w → WritesAccepted v w
-replied_accepted r v w replies delivers =
+replied_accepted t solves r v w replies delivers =
     let done : Done ≡ r.status = delivered_as r.log r.status Done r.text v w (λ h. h) delivers in
     elim replies [
       | inl refused ↦ absurd (refused_not_done r v.problem w.problem (sym done) refused.refused)
-      | inr tells ↦ elim tells.verdict [
+      | inr tells ↦ elim (solves tells.file r tells.verdict) [
         | inl solved ↦
             solved_accepted tells.file r v w tells.good solved
             (subst (λ (s : Status). DeliversWith r.log s r.text Done v w) (sym done) delivers)
@@ -164,12 +168,23 @@ halts_not_done v w (inr failed) = omega (arith, ap (λ (s : Status). code_of s) 
 solve_accepted : (file log : List ℕ) (v w : World) → Outcome (shape solve (logged file log)) Done v w → WritesAccepted v w
 solve_accepted file log v w outcome =
     elim outcome [
-      | inl made ↦ replied_accepted made.0 v w made.1 made.2
+      | inl made ↦ replied_accepted solve (λ f r told. told) made.0 v w made.1 made.2
+      | inr halts ↦ absurd (halts_not_done v w halts.cause)
+    ]
+
+dual_accepted : (file log : List ℕ) (v w : World) → Outcome (shape dual (logged file log)) Done v w → WritesAccepted v w
+dual_accepted file log v w outcome =
+    elim outcome [
+      | inl made ↦ replied_accepted dual (dual_solves true) made.0 v w made.1 made.2
       | inr halts ↦ absurd (halts_not_done v w halts.cause)
     ]
 
 -- ---- each shape
 pub accepts : (shape : Shape) (result : Status) (v w : World) → Outcome shape result v w → Accepted shape result v w
-accepts s result v w outcome = λ file log is done.
-    let of_solve : Outcome (shape solve (logged file log)) result v w = subst (λ (x : Shape). Outcome x result v w) is outcome in
-    solve_accepted file log v w (subst (λ (x : Status). Outcome (shape solve (logged file log)) x v w) done of_solve)
+accepts s result v w outcome = λ t file log solves is done.
+    let ended : Outcome (shape t (logged file log)) Done v w =
+    subst (λ (x : Status). Outcome (shape t (logged file log)) x v w) done (subst (λ (x : Shape). Outcome x result v w) is outcome) in
+    elim solves [
+      | inl same ↦ solve_accepted file log v w (subst (λ (x : Task). Outcome (shape x (logged file log)) Done v w) same ended)
+      | inr same ↦ dual_accepted file log v w (subst (λ (x : Task). Outcome (shape x (logged file log)) Done v w) same ended)
+    ]

@@ -12,7 +12,7 @@ use Rattle.commands.specs.Seen.{files_seen, shape_seen, task_seen}
 use Rattle.commands.specs.Shapes.{columns_log_shape, columns_shape, log_shape, number_shape, second_shape, shape_of, weights_shape}
 use Rattle.commands.specs.Tasks.{Shape, Task, shape}
 use Rattle.commands.specs.Tasks.Files.{none, one, two, logged}
-use Rattle.commands.specs.Tasks.Task.{check, relog, solve, sample, project, associate, meet, sum, join, map, weights, weigh}
+use Rattle.commands.specs.Tasks.Task.{check, relog, solve, dual, sample, project, associate, meet, sum, join, map, weights, weigh}
 use Rattle.commands.specs.Weights.{are_weights}
 use Rattle.commands.specs.declared.command.Command.{Command}
 use Rattle.commands.specs.declared.command.Files.{Files as Named}
@@ -72,37 +72,42 @@ one_more : (b : Bool) (s rest : Option Shape) → Fits s → Fits rest → Fits 
 one_more true s rest h more = h
 one_more false s rest h more = more
 
-logged_fits : (b : Bool) (s : Option Shape) → Fits s → Fits (if b then s else None)
-logged_fits true s h = h
-logged_fits false s h = unread
+one_only : (b : Bool) (s : Option Shape) → Fits s → Fits (if b then s else None)
+one_only true s h = h
+one_only false s h = unread
 
 -- ---- all words
 fits_of : (words : List (List ℕ)) → Fits (shape_of words)
 fits_of [] = unread
 fits_of (w ∷ []) = unread
 fits_of (w ∷ f ∷ []) =
-    four_shapes (bytes_eq w (codes "solve")) (bytes_eq w (codes "map")) (bytes_eq w (codes "weights")) (bytes_eq w (codes "sample"))
-    (Some (shape solve (one f))) (Some (shape map (one f))) (Some (shape weights (one f))) (number_shape f) None
-    (plain (shape solve (one f)) tt tt) (plain (shape map (one f)) tt tt) (plain (shape weights (one f)) tt tt)
-    (numbered 1000 f (λ n. shape (sample n) none) (λ n h. record { files = tt; task = tt })) unread
+    one_more (bytes_eq w (codes "solve")) (Some (shape solve (one f))) _ (plain (shape solve (one f)) tt tt)
+    (four_shapes (bytes_eq w (codes "dual")) (bytes_eq w (codes "map")) (bytes_eq w (codes "weights")) (bytes_eq w (codes "sample"))
+    (Some (shape dual (one f))) (Some (shape map (one f))) (Some (shape weights (one f))) (number_shape f) None
+    (plain (shape dual (one f)) tt tt) (plain (shape map (one f)) tt tt) (plain (shape weights (one f)) tt tt)
+    (numbered 1000 f (λ n. shape (sample n) none) (λ n h. record { files = tt; task = tt })) unread)
 fits_of (w ∷ f ∷ o ∷ []) =
     one_more (bytes_eq w (codes "check")) (second_shape check f o) _ (seconds check f o tt tt)
     (four_shapes (bytes_eq w (codes "relog")) (bytes_eq w (codes "meet")) (bytes_eq w (codes "sum")) (bytes_eq w (codes "join"))
     (second_shape relog f o) (second_shape meet f o) (second_shape sum f o) (second_shape join f o)
     (if bytes_eq w (codes "solve") then log_shape solve f o
+    else if bytes_eq w (codes "dual") then log_shape dual f o
     else if bytes_eq w (codes "project") then columns_shape project f o
     else if bytes_eq w (codes "associate") then columns_shape associate f o
     else if bytes_eq w (codes "weigh") then weights_shape f o
     else None)
     (seconds relog f o tt tt) (seconds meet f o tt tt) (seconds sum f o tt tt) (seconds join f o tt tt)
-    (four_shapes (bytes_eq w (codes "solve")) (bytes_eq w (codes "project")) (bytes_eq w (codes "associate")) (bytes_eq w (codes "weigh"))
-    (log_shape solve f o) (columns_shape project f o) (columns_shape associate f o) (weights_shape f o) None
+    (four_shapes (bytes_eq w (codes "solve")) (bytes_eq w (codes "dual")) (bytes_eq w (codes "project")) (bytes_eq w (codes "associate"))
+    (log_shape solve f o) (log_shape dual f o) (columns_shape project f o) (columns_shape associate f o)
+    (if bytes_eq w (codes "weigh") then weights_shape f o else None)
     (differing (bytes_eq f o) (Some (shape solve (logged f o))) (plain (shape solve (logged f o)) tt tt))
+    (differing (bytes_eq f o) (Some (shape dual (logged f o))) (plain (shape dual (logged f o)) tt tt))
     (numbered 19 o (λ k. shape (project k) (one f)) (λ k h. record { files = tt; task = h }))
     (numbered 19 o (λ k. shape (associate k) (one f)) (λ k h. record { files = tt; task = h }))
-    (tested (are_weights o) (shape (weigh o) (one f)) (λ is. record { files = tt; task = is })) unread))
+    (one_only (bytes_eq w (codes "weigh")) (weights_shape f o)
+    (tested (are_weights o) (shape (weigh o) (one f)) (λ is. record { files = tt; task = is })))))
 fits_of (w ∷ f ∷ c ∷ l ∷ []) =
-    logged_fits (bytes_eq w (codes "project")) (columns_log_shape project f c l)
+    one_only (bytes_eq w (codes "project")) (columns_log_shape project f c l)
     (differing (bytes_eq f l) (option_map (λ k. shape (project k) (logged f l)) (number_of 19 c))
     (numbered 19 c (λ k. shape (project k) (logged f l)) (λ k h. record { files = tt; task = h })))
 fits_of (v ∷ w ∷ f ∷ c ∷ l ∷ r) = unread

@@ -3,8 +3,8 @@
 use Rattle.std.proofs.Common.{◌≡◌, ℕ, List, Bool, false, None}
 use Rattle.vlp_reader.specs.declared.problem.Problem.{Problem}
 use Rattle.commands.specs.Tasks.{Task}
-use Rattle.commands.specs.Tasks.Task.{check, relog, solve, sample, project, associate, meet, sum, join, map, weights, weigh}
-use Rattle.solver.proofs.Replies.{solve_answered, solve_never_words, solve_quiet}
+use Rattle.commands.specs.Tasks.Task.{check, relog, solve, dual, sample, project, associate, meet, sum, join, map, weights, weigh}
+use Rattle.solver.proofs.Replies.{dual_answered, dual_never_words, dual_quiet, solve_answered, solve_never_words, solve_quiet}
 use Rattle.described.proofs.Answered.{project_answered, project_never_words, project_quiet, associate_answered, associate_never_words, associate_quiet, meet_answered, meet_never_words, meet_quiet, sum_answered, sum_never_words, sum_quiet, join_answered, join_never_words, join_quiet, map_answered, map_never_words, map_quiet}
 use Rattle.weighing.proofs.Answered.{weights_answered, weights_never_words, weights_quiet, weigh_answered, weigh_never_words, weigh_quiet}
 use Rattle.statuses.specs.declared.reply.Reply.{Reply}
@@ -19,6 +19,7 @@ alone_answered (sample n) r h v = sample_answered n r h v
 alone_answered check r h v = absurd v
 alone_answered relog r h v = absurd v
 alone_answered solve r h v = absurd v
+alone_answered dual r h v = absurd v
 alone_answered (project k) r h v = absurd v
 alone_answered (associate k) r h v = absurd v
 alone_answered meet r h v = absurd v
@@ -30,6 +31,7 @@ alone_answered (weigh w) r h v = absurd v
 
 pub file_answered : (t : Task) (logs : Bool) (file : Problem) (r : Reply) → AnswersFile t file → TellsFile t logs file r → r.status ≡ Done
 file_answered solve logs file r h v = solve_answered logs file r h v
+file_answered dual logs file r h v = dual_answered logs file r h v
 file_answered (project k) logs file r h v = project_answered k logs file r h v
 file_answered (associate k) logs file r h v = associate_answered k file r h v
 file_answered map logs file r h v = map_answered file r h v
@@ -46,6 +48,7 @@ pub log_answered : (t : Task) (file : Problem) (bytes : List ℕ) (r : Reply) �
 log_answered check file bytes r h v = check_answered file bytes r h v
 log_answered relog file bytes r h v = relog_answered file bytes r h v
 log_answered solve file bytes r h v = absurd v
+log_answered dual file bytes r h v = absurd v
 log_answered (sample n) file bytes r h v = absurd v
 log_answered (project k) file bytes r h v = absurd v
 log_answered (associate k) file bytes r h v = absurd v
@@ -63,6 +66,7 @@ two_answered join a b r h v = join_answered a b r h v
 two_answered check a b r h v = absurd v
 two_answered relog a b r h v = absurd v
 two_answered solve a b r h v = absurd v
+two_answered dual a b r h v = absurd v
 two_answered (sample n) a b r h v = absurd v
 two_answered (project k) a b r h v = absurd v
 two_answered (associate k) a b r h v = absurd v
@@ -76,6 +80,7 @@ alone_never_words (sample n) r v same = sample_never_words n r v same
 alone_never_words check r v same = v
 alone_never_words relog r v same = v
 alone_never_words solve r v same = v
+alone_never_words dual r v same = v
 alone_never_words (project k) r v same = v
 alone_never_words (associate k) r v same = v
 alone_never_words meet r v same = v
@@ -87,6 +92,7 @@ alone_never_words (weigh w) r v same = v
 
 pub file_never_words : (t : Task) (logs : Bool) (file : Problem) (r : Reply) → TellsFile t logs file r → Words ≡ r.status → ⊥
 file_never_words solve logs file r v same = solve_never_words logs file r v same
+file_never_words dual logs file r v same = dual_never_words logs file r v same
 file_never_words (project k) logs file r v same = project_never_words k logs file r v same
 file_never_words (associate k) logs file r v same = associate_never_words k file r v same
 file_never_words map logs file r v same = map_never_words file r v same
@@ -103,6 +109,7 @@ pub log_never_words : (t : Task) (file : Problem) (bytes : List ℕ) (r : Reply)
 log_never_words check file bytes r v same = check_never_words file bytes r v same
 log_never_words relog file bytes r v same = relog_never_words file bytes r v same
 log_never_words solve file bytes r v same = v
+log_never_words dual file bytes r v same = v
 log_never_words (sample n) file bytes r v same = v
 log_never_words (project k) file bytes r v same = v
 log_never_words (associate k) file bytes r v same = v
@@ -120,6 +127,7 @@ two_never_words join a b r v same = join_never_words a b r v same
 two_never_words check a b r v same = v
 two_never_words relog a b r v same = v
 two_never_words solve a b r v same = v
+two_never_words dual a b r v same = v
 two_never_words (sample n) a b r v same = v
 two_never_words (project k) a b r v same = v
 two_never_words (associate k) a b r v same = v
@@ -133,6 +141,7 @@ alone_quiet (sample n) r v = sample_quiet n r v
 alone_quiet check r v = absurd v
 alone_quiet relog r v = absurd v
 alone_quiet solve r v = absurd v
+alone_quiet dual r v = absurd v
 alone_quiet (project k) r v = absurd v
 alone_quiet (associate k) r v = absurd v
 alone_quiet meet r v = absurd v
@@ -144,6 +153,7 @@ alone_quiet (weigh w) r v = absurd v
 
 pub file_quiet : (t : Task) (file : Problem) (r : Reply) → TellsFile t false file r → r.log ≡ None
 file_quiet solve file r v = solve_quiet file r v
+file_quiet dual file r v = dual_quiet file r v
 file_quiet (project k) file r v = project_quiet k file r v
 file_quiet (associate k) file r v = associate_quiet k file r v
 file_quiet map file r v = map_quiet file r v
@@ -160,6 +170,7 @@ pub log_quiet : (t : Task) (file : Problem) (bytes : List ℕ) (r : Reply) → T
 log_quiet check file bytes r v = check_quiet file bytes r v
 log_quiet relog file bytes r v = relog_quiet file bytes r v
 log_quiet solve file bytes r v = absurd v
+log_quiet dual file bytes r v = absurd v
 log_quiet (sample n) file bytes r v = absurd v
 log_quiet (project k) file bytes r v = absurd v
 log_quiet (associate k) file bytes r v = absurd v
@@ -177,6 +188,7 @@ two_quiet join a b r v = join_quiet a b r v
 two_quiet check a b r v = absurd v
 two_quiet relog a b r v = absurd v
 two_quiet solve a b r v = absurd v
+two_quiet dual a b r v = absurd v
 two_quiet (sample n) a b r v = absurd v
 two_quiet (project k) a b r v = absurd v
 two_quiet (associate k) a b r v = absurd v

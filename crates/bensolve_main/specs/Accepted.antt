@@ -1,8 +1,9 @@
--- What `check FILE LOG` says of the log that `solve FILE LOG` wrote, by the bytes alone.
+-- What `check FILE LOG` says of the log that `solve FILE LOG` or `dual FILE LOG` wrote, by the bytes
+-- alone.
 use Rattle.std.specs.Prelude.{◌≡◌, ℕ, ◌≤◌, ◌⊎◌, false, List, length, Some}
 use Rattle.cert_check.specs.Streams.{ReadsWhole}
-use Rattle.commands.specs.Tasks.{Shape, shape}
-use Rattle.commands.specs.Tasks.Task.{check, solve}
+use Rattle.commands.specs.Tasks.{Shape, Task, shape}
+use Rattle.commands.specs.Tasks.Task.{check, dual, solve}
 use Rattle.commands.specs.Tasks.Files.{two, logged}
 use Rattle.statuses.specs.declared.status.Status.{Status}
 use Rattle.statuses.specs.declared.status.Status.TheVariants.{Done}
@@ -38,7 +39,7 @@ pub record WritesAccepted (old new : World) : Type 0 where
   pub logged : Written log old.log_out new.log_out
   pub accepted : IsAcceptedAs report problem log
 
--- what `solve FILE LOG` has written where it ends with an answer
+-- what `solve FILE LOG` or `dual FILE LOG` has written where it ends with an answer
 abbrev pub Accepted : Shape → Status → World → World → Type 0
-Accepted s result old new = (file log : List ℕ) → s ≡ shape solve (logged file log) →
-    result ≡ Done → WritesAccepted old new
+Accepted s result old new = (t : Task) (file log : List ℕ) → (t ≡ solve) ⊎ (t ≡ dual) →
+    s ≡ shape t (logged file log) → result ≡ Done → WritesAccepted old new

@@ -9,7 +9,7 @@ use Rattle.deriv_log.specs.declared.entry.Entry.{Entry}
 use Rattle.log_versions.specs.WrittenEvents.{log_failure}
 use Rattle.commands.specs.Paths.{writes_log}
 use Rattle.commands.specs.Tasks.{Task, Shape}
-use Rattle.commands.specs.Tasks.Task.{solve, sample, project, associate, meet, sum, join, map, weights, weigh}
+use Rattle.commands.specs.Tasks.Task.{solve, dual, sample, project, associate, meet, sum, join, map, weights, weigh}
 use Rattle.described.specs.Calculus.{CanMeet, CanSum, CanJoin, CanMap}
 use Rattle.described.specs.Projected.{IsProjectable}
 use Rattle.solver.specs.Replies.{IsSolvable}
@@ -29,6 +29,7 @@ AnswersAlone _ = ⊥
 
 abbrev pub AnswersFile : Task → Problem → Type 0
 AnswersFile solve file = IsSolvable file
+AnswersFile dual file = IsSolvable file
 AnswersFile (project k) file = IsProjectable k file
 AnswersFile (associate k) file = k ≤ file.cols
 AnswersFile map file = CanMap file

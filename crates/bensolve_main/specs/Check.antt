@@ -5,7 +5,7 @@ use Rattle.vlp_reader.specs.declared.problem.Problem.{Problem}
 use Rattle.deriv_log.specs.FirstFault.{FirstFault as FirstLogFault}
 use Rattle.deriv_log.specs.Laws.{IsTextOf}
 use Rattle.deriv_log.specs.declared.entry.Entry.{Entry}
-use Rattle.deriv_log.specs.declared.fault.LogFault.{LogFault as ALogFault}
+use Rattle.word_lines.specs.declared.fault.LogFault.{LogFault as ALogFault}
 use Rattle.deriv_log.specs.declared.licence.Licence.{Licence}
 use Rattle.deriv_log.specs.declared.licence.Place.TheVariants.{Step}
 use Rattle.log_rules.specs.Events.Failure.{wrong, left}

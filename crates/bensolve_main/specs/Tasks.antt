@@ -2,10 +2,10 @@
 use Rattle.std.specs.Prelude.{ℕ, Bool, List}
 use Rattle.vlp_reader.specs.declared.problem.Problem.{Problem}
 use Rattle.commands.specs.Tasks.{Task}
-use Rattle.commands.specs.Tasks.Task.{check, relog, solve, sample, project, associate, meet, sum, join, map, weights, weigh}
+use Rattle.commands.specs.Tasks.Task.{check, relog, solve, dual, sample, project, associate, meet, sum, join, map, weights, weigh}
 use Rattle.described.specs.Calculus.{MeetVerdict, SumVerdict, JoinVerdict, MapVerdict}
 use Rattle.described.specs.Projected.{ProjectVerdict, AssociateVerdict}
-use Rattle.solver.specs.Replies.{SolveVerdict}
+use Rattle.solver.specs.Replies.{DualVerdict, SolveVerdict}
 use Rattle.statuses.specs.declared.reply.Reply.{Reply}
 use Rattle.weighing.specs.Replies.{WeightsVerdict, WeighVerdict}
 use Rattle.bensolve_main.specs.Check.{CheckVerdict}
@@ -36,6 +36,7 @@ TellsAlone _ r = ⊥
 -- what is told of a problem, with a log that is written or without
 abbrev pub TellsFile : Task → Bool → Problem → Reply → Type 0
 TellsFile solve logs file r = SolveVerdict logs file r
+TellsFile dual logs file r = DualVerdict logs file r
 TellsFile (project k) logs file r = ProjectVerdict k logs file r
 TellsFile (associate k) logs file r = AssociateVerdict k file r
 TellsFile map logs file r = MapVerdict file r

@@ -17,7 +17,7 @@ use crate::relog::relog;
 use crate::sampling::sample_reply;
 use commands::{Command, Files, Task};
 use described::{associate_reply, join_reply, map_reply, meet_reply, project_reply, sum_reply};
-use solver::solve_reply;
+use solver::{dual_reply, solve_reply};
 use src_sink::{NoMemory, Source};
 use statuses::{Reply, Status};
 use std::alloc::Global;
@@ -45,6 +45,7 @@ fn file_reply(alloc: Global, task: Task<'_>, file: &Problem, logs: bool) -> Resu
 {
     match task {
         Task::Solve => solve_reply(alloc, file, logs),
+        Task::Dual => dual_reply(alloc, file, logs),
         Task::Project { columns } => project_reply(alloc, file, columns, logs),
         Task::Associate { columns } => associate_reply(alloc, file, columns),
         Task::Map => map_reply(alloc, file),

@@ -24,6 +24,8 @@ use std::alloc::Global;
 ///   same. It keeps all entries, and the text that it writes.
 /// - `solve FILE` reads the problem, solves it, and reports its answer; `solve FILE LOG` then writes
 ///   a log of version 2 that proves the answer.
+/// - `dual FILE` and `dual FILE LOG` do the same by the facets, and the log has a cut for each facet
+///   alone.
 /// - `sample N` makes the sample file of a number from 1 to 1000, solves it, and tells in five lines
 ///   how many points, directions and facets its image has.
 /// - `project FILE K` describes the projection of the feasible set on its first K columns, from 1 to
@@ -36,8 +38,8 @@ use std::alloc::Global;
 ///   it is least; `weigh FILE W` tells the points that are least for the weights that W writes.
 ///
 /// The text goes to `out`; where there is no answer, it is the one fault line of the status. The log
-/// of `solve` or `project` goes to `log_out`, where there is an answer. Everything is read, and every
-/// text made, before anything is written. A log or a second problem is read from `log_in`.
+/// of `solve`, `dual` or `project` goes to `log_out`, where there is an answer. Everything is read,
+/// and every text made, before anything is written. A log or a second problem is read from `log_in`.
 pub fn run<S: Source, L: Source, T: Sink, K: Sink>(
     alloc: Global,
     words: &[String],
@@ -85,8 +87,8 @@ pub fn run<S: Source, L: Source, T: Sink, K: Sink>(
         (channel (K.held log_out.new) (K.faults log_out.new)))
         → Completes result) }
 
-    // With the same problem, `check` accepts the log that `solve FILE LOG` writes, and reports the
-    // same.
+    // With the same problem, `check` accepts the log that `solve FILE LOG` or `dual FILE LOG` writes,
+    // and reports the same.
     ensures accepted { IfSome (shape_of (map string_bytes words.now)) (λ shape.
         Accepted shape result
         (world

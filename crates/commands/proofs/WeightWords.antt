@@ -10,9 +10,9 @@ use Rattle.exact_field.specs.Rational.{ℚ}
 use Rattle.frac128.specs.Held.{is_held}
 use Rattle.frac128.specs.Text.{frac_text}
 use Rattle.frac128.proofs.TextLaw.{one_number_per_text}
-use Rattle.deriv_log.specs.Numerals.{number_fault}
-use Rattle.deriv_log.specs.declared.fault.LogKind.{LogKind}
-use Rattle.deriv_log.proofs.Fractions.{number_passes, number_text}
+use Rattle.word_lines.specs.Numerals.{number_fault}
+use Rattle.word_lines.specs.declared.fault.LogKind.{LogKind}
+use Rattle.word_lines.proofs.Fractions.{number_passes, number_text}
 use Rattle.commands.specs.Weights.{pieces, are_weights, AreWeightsOf, FewWeightsOf}
 
 -- whether a piece is a fraction

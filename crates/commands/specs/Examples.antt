@@ -5,7 +5,7 @@ use Rattle.commands.specs.Numbers.{number_of}
 use Rattle.commands.specs.Paths.{files_of, problem_path, log_in_path, log_out_path}
 use Rattle.commands.specs.Shapes.{shape_of}
 use Rattle.commands.specs.Tasks.{shape}
-use Rattle.commands.specs.Tasks.Task.{check, relog, solve, sample, project, associate, meet, sum, join, map, weights, weigh}
+use Rattle.commands.specs.Tasks.Task.{check, relog, solve, dual, sample, project, associate, meet, sum, join, map, weights, weigh}
 use Rattle.commands.specs.Tasks.Files.{none, one, two, logged}
 use Rattle.commands.specs.Weights.{are_weights, AreWeightsOf}
 
@@ -56,6 +56,9 @@ pub record ShapeExamples : Type 0 where
   pub solve_file : shape_of (codes "solve" ∷ codes "f" ∷ []) ≡ Some (shape solve (one (codes "f")))
   pub solve_to_log : shape_of (codes "solve" ∷ codes "f" ∷ codes "g" ∷ [])
       ≡ Some (shape solve (logged (codes "f") (codes "g")))
+  pub dual_file : shape_of (codes "dual" ∷ codes "f" ∷ []) ≡ Some (shape dual (one (codes "f")))
+  pub dual_to_log : shape_of (codes "dual" ∷ codes "f" ∷ codes "g" ∷ [])
+      ≡ Some (shape dual (logged (codes "f") (codes "g")))
   pub sample_number : shape_of (codes "sample" ∷ codes "1000" ∷ [])
       ≡ Some (shape (sample 1000) none)
   pub project_file : shape_of (codes "project" ∷ codes "f" ∷ codes "3" ∷ [])
@@ -91,6 +94,10 @@ pub record NoShapeExamples : Type 0 where
   pub relogged_as_itself : shape_of (codes "relog" ∷ codes "f" ∷ codes "f" ∷ []) ≡ None
   pub relog_many : shape_of (codes "relog" ∷ codes "f" ∷ codes "g" ∷ codes "h" ∷ []) ≡ None
   pub same_log : shape_of (codes "solve" ∷ codes "f" ∷ codes "f" ∷ []) ≡ None
+  pub dual_nothing : shape_of (codes "dual" ∷ []) ≡ None
+  pub dual_capital : shape_of (codes "Dual" ∷ codes "f" ∷ []) ≡ None
+  pub same_dual_log : shape_of (codes "dual" ∷ codes "f" ∷ codes "f" ∷ []) ≡ None
+  pub dual_many : shape_of (codes "dual" ∷ codes "f" ∷ codes "g" ∷ codes "h" ∷ []) ≡ None
   pub met_with_itself : shape_of (codes "meet" ∷ codes "a" ∷ codes "a" ∷ []) ≡ None
   pub one_file : shape_of (codes "join" ∷ codes "f" ∷ []) ≡ None
   pub two_files : shape_of (codes "map" ∷ codes "f" ∷ codes "g" ∷ []) ≡ None
@@ -119,6 +126,8 @@ pub record PathExamples : Type 0 where
   pub relog_writes_none : log_out_path (files_of (shape_of (codes "relog" ∷ codes "f" ∷ codes "g" ∷ [])))
       ≡ None
   pub written : log_out_path (files_of (shape_of (codes "solve" ∷ codes "f" ∷ codes "g" ∷ [])))
+      ≡ Some (codes "g")
+  pub dual_written : log_out_path (files_of (shape_of (codes "dual" ∷ codes "f" ∷ codes "g" ∷ [])))
       ≡ Some (codes "g")
   pub not_read : log_in_path (files_of (shape_of (codes "solve" ∷ codes "f" ∷ codes "g" ∷ []))) ≡ None
   pub second : log_in_path (files_of (shape_of (codes "sum" ∷ codes "f" ∷ codes "g" ∷ [])))

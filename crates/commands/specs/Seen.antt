@@ -5,13 +5,14 @@ use Rattle.commands.specs.declared.command.Files.TheVariants as named
 use Rattle.commands.specs.declared.command.Task.{Task as Made}
 use Rattle.commands.specs.declared.command.Task.TheVariants as made
 use Rattle.commands.specs.Tasks.{Task, Files, Shape, shape}
-use Rattle.commands.specs.Tasks.Task.{check, relog, solve, sample, project, associate, meet, sum, join, map, weights, weigh}
+use Rattle.commands.specs.Tasks.Task.{check, relog, solve, dual, sample, project, associate, meet, sum, join, map, weights, weigh}
 use Rattle.commands.specs.Tasks.Files.{none, one, two, logged}
 
 abbrev pub task_seen : Made → Task
 task_seen made.Check = check
 task_seen made.Relog = relog
 task_seen made.Solve = solve
+task_seen made.Dual = dual
 task_seen (made.Sample number) = sample number
 task_seen (made.Project columns) = project columns
 task_seen (made.Associate columns) = associate columns

@@ -5,7 +5,7 @@ use Rattle.std.specs.Str.{bytes_eq}
 use Rattle.commands.specs.Numbers.{number_of}
 use Rattle.commands.specs.Weights.{are_weights}
 use Rattle.commands.specs.Tasks.{Task, Shape, shape}
-use Rattle.commands.specs.Tasks.Task.{check, relog, solve, sample, project, associate, meet, sum, join, map, weights, weigh}
+use Rattle.commands.specs.Tasks.Task.{check, relog, solve, dual, sample, project, associate, meet, sum, join, map, weights, weigh}
 use Rattle.commands.specs.Tasks.Files.{none, one, two, logged}
 
 -- ---- the words after a name
@@ -40,6 +40,7 @@ weights_shape file word = if are_weights word then Some (shape (weigh word) (one
 abbrev pub shape_of : List (List ℕ) → Option Shape
 shape_of (word ∷ file ∷ []) =
     if bytes_eq word (codes "solve") then Some (shape solve (one file))
+    else if bytes_eq word (codes "dual") then Some (shape dual (one file))
     else if bytes_eq word (codes "map") then Some (shape map (one file))
     else if bytes_eq word (codes "weights") then Some (shape weights (one file))
     else if bytes_eq word (codes "sample") then number_shape file
@@ -51,6 +52,7 @@ shape_of (word ∷ file ∷ other ∷ []) =
     else if bytes_eq word (codes "sum") then second_shape sum file other
     else if bytes_eq word (codes "join") then second_shape join file other
     else if bytes_eq word (codes "solve") then log_shape solve file other
+    else if bytes_eq word (codes "dual") then log_shape dual file other
     else if bytes_eq word (codes "project") then columns_shape project file other
     else if bytes_eq word (codes "associate") then columns_shape associate file other
     else if bytes_eq word (codes "weigh") then weights_shape file other

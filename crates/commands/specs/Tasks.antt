@@ -7,6 +7,7 @@ pub data Task : Type 0 where
   check : Task
   relog : Task
   solve : Task
+  dual : Task
   sample : (number : ℕ) → Task
   project : (columns : ℕ) → Task
   associate : (columns : ℕ) → Task

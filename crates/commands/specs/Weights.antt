@@ -6,7 +6,7 @@ use Rattle.std.specs.Str.{byte}
 use Rattle.exact_field.specs.Rational.{ℚ}
 use Rattle.frac128.specs.Held.{is_held}
 use Rattle.frac128.specs.Text.{frac_text}
-use Rattle.deriv_log.specs.Numerals.{number_fault}
+use Rattle.word_lines.specs.Numerals.{number_fault}
 
 -- what stands between the commas of a word
 abbrev pub pieces : List ℕ → List (List ℕ)

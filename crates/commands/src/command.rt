@@ -19,6 +19,8 @@ pub enum Task<'a> {
     Relog,
     /// To solve a problem, and report its answer.
     Solve,
+    /// The same, with a log over the facets of the image alone.
+    Dual,
     /// To solve a sample file, and count what its image has.
     Sample { number: u32 },
     /// To describe the projection of the feasible set on its first columns.
@@ -160,6 +162,8 @@ fn command_of_one<'a>(word: &str, one: &'a str) -> Option<Command<'a>>
 {
     if word == "solve" {
         file_command(Task::Solve, one)
+    } else if word == "dual" {
+        file_command(Task::Dual, one)
     } else if word == "map" {
         file_command(Task::Map, one)
     } else if word == "weights" {
@@ -187,6 +191,8 @@ fn command_of_two<'a>(word: &str, one: &'a str, two: &'a str) -> Option<Command<
         second_command(Task::Join, one, two)
     } else if word == "solve" {
         log_command(Task::Solve, one, two)
+    } else if word == "dual" {
+        log_command(Task::Dual, one, two)
     } else if word == "project" {
         project_command(one, two)
     } else if word == "associate" {

@@ -3,7 +3,7 @@ ghost use Rattle.std.specs.Prelude.{◌≡◌, IfOk, IsTrue, None};
 ghost use Rattle.std.specs.Option.{is_none};
 ghost use Rattle.frac128.specs.Held.{is_held};
 ghost use Rattle.frac128.specs.Text.{frac_text};
-ghost use Rattle.deriv_log.specs.Numerals.{number_fault};
+ghost use Rattle.word_lines.specs.Numerals.{number_fault};
 ghost use Rattle.commands.specs.Weights.{are_weights, AreWeightsOf};
 
 use deriv_log::fraction;

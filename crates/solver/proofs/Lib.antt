@@ -3,4 +3,6 @@ pub mod Plainly
 pub mod Ended
 pub mod Upgraded
 pub mod Accepted
+pub mod Named
 pub mod Replies
+pub mod Agree

@@ -11,8 +11,10 @@ use Rattle.statuses.specs.declared.reply.Reply.{Reply}
 use Rattle.statuses.specs.declared.status.Status.{Status}
 use Rattle.statuses.specs.declared.status.Status.TheVariants.{Done, Words, ConeFault}
 use Rattle.statuses.specs.declared.status.Status.TheVariants as status
-use Rattle.solver.specs.Replies.{IsSolvable, SolveVerdict, Unsolved}
-use Rattle.solver.specs.Solving.{EndsSolving}
+use Rattle.log_rules.specs.Report.{report_text}
+use Rattle.solver.specs.Replies.{DualVerdict, IsLogged, IsSolvable, SolveVerdict, Unsolved}
+use Rattle.solver.specs.Solving.{EndsSolving, IsSolutionOf, NamesAllCuts}
+use Rattle.solver.specs.declared.end.Solution.{Solution}
 use Rattle.solver.specs.declared.end.SolveEnd.TheVariants.{Cone, Left}
 
 -- ---- the reply where there is no solution
@@ -27,6 +29,35 @@ left_told file l (Err e) ends status told = tt
 pub unsolved_verdict : (logs : Bool) (file : Problem) (x : Result Reply NoMemory) → IfOk x (Unsolved file) → IfOk x (SolveVerdict logs file)
 unsolved_verdict logs file (Ok r) unsolved = inr unsolved
 unsolved_verdict logs file (Err e) unsolved = tt
+
+-- ---- with a log over the facets
+pub dual_solved : (logs : Bool) (file : Problem) (s : Solution) (x : Result Reply NoMemory) →
+    IsSolutionOf file s → NamesAllCuts file s.entries →
+    IfOk x (λ r. r.status ≡ Done) → IfOk x (λ r. r.text ≡ report_text file s.answer) →
+    IfOk x (λ r. IsLogged logs file s r.log) → IfOk x (DualVerdict logs file)
+dual_solved logs file s (Ok r) right named status report logged =
+    inl (record {
+      solved = record {
+        status = status;
+        solution = s;
+        right = right;
+        report = report;
+        logged = logged;
+      };
+      named = named;
+    })
+dual_solved logs file s (Err e) right named status report logged = tt
+
+pub dual_unsolved : (logs : Bool) (file : Problem) (x : Result Reply NoMemory) →
+    IfOk x (Unsolved file) → IfOk x (DualVerdict logs file)
+dual_unsolved logs file (Ok r) unsolved = inr unsolved
+dual_unsolved logs file (Err e) unsolved = tt
+
+-- what such a reply says is what one of `solve` says
+pub dual_solves : (logs : Bool) (file : Problem) (r : Reply) → DualVerdict logs file r →
+    SolveVerdict logs file r
+dual_solves logs file r (inl dual) = inl dual.solved
+dual_solves logs file r (inr unsolved) = inr unsolved
 
 -- ---- where nothing stands against an answer
 pub unsolved_answered : (file : Problem) (r : Reply) → IsSolvable file → Unsolved file r → ⊥
@@ -80,3 +111,17 @@ solve_quiet file r verdict =
       | inl solved ↦ solved.logged.printed
       | inr unsolved ↦ unsolved_quiet file r unsolved
     ]
+
+-- ---- the same of logs over the facets
+pub dual_answered : (logs : Bool) (file : Problem) (r : Reply) → IsSolvable file →
+    DualVerdict logs file r → r.status ≡ Done
+dual_answered logs file r solvable verdict =
+    solve_answered logs file r solvable (dual_solves logs file r verdict)
+
+pub dual_never_words : (logs : Bool) (file : Problem) (r : Reply) → DualVerdict logs file r →
+    Words ≡ r.status → ⊥
+dual_never_words logs file r verdict same =
+    solve_never_words logs file r (dual_solves logs file r verdict) same
+
+pub dual_quiet : (file : Problem) (r : Reply) → DualVerdict false file r → r.log ≡ None
+dual_quiet file r verdict = solve_quiet file r (dual_solves false file r verdict)

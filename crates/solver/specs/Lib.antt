@@ -3,3 +3,4 @@ pub mod Own
 pub mod Solving
 pub mod Accepted
 pub mod Replies
+pub mod Agree

@@ -13,7 +13,7 @@ use Rattle.licence.specs.Licence.{LicensedAnyhow}
 use Rattle.statuses.specs.Replies.{TellsFault, log_for}
 use Rattle.statuses.specs.declared.reply.Reply.{Reply}
 use Rattle.statuses.specs.declared.status.Status.TheVariants.{Done, ConeFault, Left}
-use Rattle.solver.specs.Solving.{IsSolutionOf}
+use Rattle.solver.specs.Solving.{IsSolutionOf, NamesAllCuts}
 use Rattle.solver.specs.declared.end.Solution.{Solution}
 
 -- the log of a solution, where one is wanted: the text of the upgrade of its entries, which is a
@@ -32,6 +32,11 @@ pub record Solved (logs : Bool) (file : Problem) (r : Reply) : Type 0 where
   pub right : IsSolutionOf file solution
   pub report : r.text ≡ report_text file solution.answer
   pub logged : IsLogged logs file solution r.log
+
+-- .. and where the log of the solution ends as solved, it names each of its cuts as a facet
+pub record DualSolved (logs : Bool) (file : Problem) (r : Reply) : Type 0 where
+  pub solved : Solved logs file r
+  pub named : NamesAllCuts file solved.solution.entries
 
 -- the ordering cone has this first fault
 pub record ConeRefused (file : Problem) (r : Reply) : Type 0 where
@@ -53,6 +58,10 @@ Unsolved file r = ConeRefused file r ⊎ Overflowed file r
 -- what is replied of a problem, with a log or without
 abbrev pub SolveVerdict : Bool → Problem → Reply → Type 0
 SolveVerdict logs file r = Solved logs file r ⊎ Unsolved file r
+
+-- .. and the same where the log is written over the facets
+abbrev pub DualVerdict : Bool → Problem → Reply → Type 0
+DualVerdict logs file r = DualSolved logs file r ⊎ Unsolved file r
 
 -- nothing stands against an answer: the cone has no fault, and no overflow is licensed
 pub record IsSolvable (file : Problem) : Type 0 where

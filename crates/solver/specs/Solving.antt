@@ -1,13 +1,17 @@
 -- What a solution of a problem is, and why there may be none.
-use Rattle.std.specs.Prelude.{Bool}
+use Rattle.std.specs.Prelude.{Bool, List, Contains}
 use Rattle.exact_field.specs.Rational.{ℚ}
 use Rattle.frac128.specs.Held.{is_held}
 use Rattle.deriv_log.specs.Formed.{IsLog}
+use Rattle.word_lines.specs.declared.part.EndKind.TheVariants as kind
+use Rattle.deriv_log.specs.declared.entry.Entry.{Entry}
+use Rattle.deriv_log.specs.declared.entry.Entry.TheVariants.{End}
 use Rattle.vlp_reader.specs.declared.problem.Problem.{Problem}
 use Rattle.cone_rules.specs.Faults.{IsSound, HasFault}
 use Rattle.log_rules.specs.Proves.{PlainProves}
 use Rattle.cert_check.specs.Verdict.{Accepts}
 use Rattle.licence.specs.Licence.{LicensedAnyhow}
+use Rattle.benson_dual.specs.Logs.{AreAllNamed, IsFacetLog}
 use Rattle.solver.specs.declared.end.Solution.{Solution}
 use Rattle.solver.specs.declared.end.SolveEnd.{SolveEnd}
 use Rattle.solver.specs.declared.end.SolveEnd.TheVariants.{Cone, Left, NoMemory}
@@ -19,6 +23,14 @@ pub record IsSolutionOf (file : Problem) (s : Solution) : Type 0 where
   pub log : IsLog s.entries
   pub accepts : Accepts file s.entries s.answer
   pub plainly : PlainProves file s.entries s.answer
+
+-- the log over the facets, for some duality vector and weights
+abbrev pub IsFacetLogAnyhow : (ℚ → Bool) → Problem → List Entry → Type 0
+IsFacetLogAnyhow holds file entries = (c weights : List ℚ) × IsFacetLog holds file c weights entries
+
+-- where entries end as solved, they name each of their cuts as a facet
+abbrev pub NamesAllCuts : Problem → List Entry → Type 0
+NamesAllCuts file entries = Contains entries (End kind.Solved) → AreAllNamed file.objs entries
 
 -- the first fault of the cone; or an overflow of an operation on numbers that these are, which is
 -- licensed; nothing of want of memory

@@ -1,16 +1,15 @@
 //! The solver.
-ghost use Rattle.std.specs.Prelude.{◌≡◌, IfOk, IfErr, OnOk, IsTrue};
+ghost use Rattle.std.specs.Prelude.{◌≡◌, IfOk, IfErr, IsTrue};
 ghost use Rattle.frac128.specs.Held.{is_held};
 ghost use Rattle.cone_rules.specs.Faults.{IsSound};
 ghost use Rattle.lp_form.specs.Data.{IsDataOf, RefusesNumber};
-ghost use Rattle.benson_primal.specs.Logs.{IsOwnLogAnyhow};
-ghost use Rattle.solver.specs.Solving.{IsSolutionOf, EndsIn, EndsSolving};
+ghost use Rattle.recession.specs.Logs.{IsOwnLogAnyhow};
+ghost use Rattle.solver.specs.Solving.{IsSolutionOf, NamesAllCuts, EndsSolving};
 ghost use Rattle.solver.specs.Accepted.{IsAccepted};
 
 use crate::end::{Solution, SolveEnd};
+use crate::logs::{dual_log_of, log_of};
 use crate::own::check_own;
-use benson_primal::primal;
-use cone_dual::cone_facts;
 use deriv_log::Entries;
 use exact_field::Field;
 use frac128::Frac;
@@ -53,36 +52,18 @@ pub fn data_of(alloc: Global, problem: &Problem) -> Result<Data<Frac>, NoMemory>
 fn checked(alloc: Global, problem: &Problem, entries: Entries) -> Result<Solution, SolveEnd>
     requires sound { IsSound problem.now }
     requires own { IsOwnLogAnyhow is_held problem.now entries }
+    ensures same { IfOk result (λ solution. solution.entries ≡ entries) }
     ensures ok { IfOk result (IsSolutionOf problem.now) }
     ensures end { IfErr result (EndsSolving problem.now) }
 {
     Ok(check_own(alloc, problem, entries)?)
 }
 
-/// The log of a problem, by its data in some field: a duality vector, and then Benson's outer
-/// approximation with it. In place of a log comes the first fault of the ordering cone, or the
-/// licence of the first overflow.
-pub fn log_of<F: Field>(
-    alloc: Global,
-    problem: &Problem,
-    form: &Data<F>,
-) -> Result<Entries, SolveEnd>
-    ghost file: { Problem }
-    requires same { file ≡ problem.now }
-    requires stands { IsDataOf F.value file form.now }
-    ensures sound { OnOk result (IsSound file) }
-    ensures own { IfOk result (IsOwnLogAnyhow F.holds file) }
-    ensures end { IfErr result (EndsIn F.holds file) }
-{
-    let duality = cone_facts(alloc, form)?;
-    let log = primal(alloc, form, duality)?;
-    Ok(log)
-}
-
 /// The answer of a problem with the log that proves it, or the first fault of its ordering cone.
 /// It costs two linear programs over the cone, one over the sides for each vertex, extreme
 /// direction and cut of the image, the additions of the cuts to a double description, and the
-/// check of the log.
+/// check of the log. Where one of these overflows before the check, `solve_dual`'s way is gone from
+/// the cone's programs on, and the first overflow is told where that overflows too.
 pub fn solve(alloc: Global, problem: &Problem) -> Result<Solution, SolveEnd>
     ensures ok { IfOk result (IsSolutionOf problem.now) }
     ensures accepted { IfOk result (IsAccepted problem.now) }
@@ -90,5 +71,21 @@ pub fn solve(alloc: Global, problem: &Problem) -> Result<Solution, SolveEnd>
 {
     let form = data_of(alloc, problem)?;
     let entries = log_of(alloc, problem, &form)?;
+    checked(alloc, problem, entries)
+}
+
+/// The same by the other way: the facets are found first, by an outer approximation of the lower
+/// image, and the log is written over them alone, so that it names each of its cuts. It costs two
+/// linear programs over the cone, one over the sides for each facet and each further row of the
+/// lower image, the additions of these rows and of the facets to double descriptions, one program
+/// for each vertex and extreme direction of the image, and the check of the log.
+pub fn solve_dual(alloc: Global, problem: &Problem) -> Result<Solution, SolveEnd>
+    ensures ok { IfOk result (IsSolutionOf problem.now) }
+    ensures named { IfOk result (λ solution. NamesAllCuts problem.now solution.entries) }
+    ensures accepted { IfOk result (IsAccepted problem.now) }
+    ensures end { IfErr result (EndsSolving problem.now) }
+{
+    let form = data_of(alloc, problem)?;
+    let entries = dual_log_of(alloc, problem, &form)?;
     checked(alloc, problem, entries)
 }

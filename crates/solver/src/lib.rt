@@ -3,10 +3,12 @@
 
 mod answering;
 mod end;
+mod logs;
 mod own;
 mod reply;
 
-pub use answering::{data_of, log_of, solve};
+pub use answering::{data_of, solve, solve_dual};
 pub use end::{Solution, SolveEnd};
+pub use logs::{dual_log_of, log_of};
 pub use own::check_own;
-pub use reply::{log_text, solve_reply, unsolved_reply};
+pub use reply::{dual_reply, log_text, solve_reply, unsolved_reply};

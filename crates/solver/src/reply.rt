@@ -1,11 +1,11 @@
 //! What is replied of a problem.
 ghost use Rattle.std.specs.Prelude.{◌≡◌, IfOk};
 ghost use Rattle.log_rules.specs.Report.{report_text};
-ghost use Rattle.solver.specs.Replies.{IsLogged, SolveVerdict, Unsolved};
+ghost use Rattle.solver.specs.Replies.{DualVerdict, IsLogged, SolveVerdict, Unsolved};
 ghost use Rattle.solver.specs.Solving.{EndsSolving, IsSolutionOf};
 ghost use Rattle.vlp_reader.specs.declared.problem.Problem.{Problem as AProblem};
 
-use crate::answering::solve;
+use crate::answering::{solve, solve_dual};
 use crate::end::{Solution, SolveEnd};
 use log_upgrade::upgrade_text;
 use sol_writer::report;
@@ -70,6 +70,16 @@ pub fn solve_reply(alloc: Global, file: &Problem, logs: bool) -> Result<Reply, N
 {
     match solve(alloc, file) {
         Ok(solution) => solved_reply(alloc, file, &solution, logs),
+        Err(end) => unsolved_reply(alloc, end),
+    }
+}
+
+/// The same by the approximation of the lower image, with a log over the facets alone.
+pub fn dual_reply(alloc: Global, file: &Problem, logs: bool) -> Result<Reply, NoMemory>
+    ensures { IfOk result (DualVerdict logs file.now) }
+{
+    match solve_dual(alloc, file) {
+        Ok(found) => solved_reply(alloc, file, &found, logs),
         Err(end) => unsolved_reply(alloc, end),
     }
 }
