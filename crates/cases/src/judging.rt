@@ -71,7 +71,8 @@ fn log_difference(
     seen: &Seen,
 ) -> Result<Option<&'static str>, Fault> {
     match command {
-        "solve" => solved_difference(alloc, trial, seen),
+        "solve" => solved_difference(alloc, trial, "solve file", seen),
+        "dual" => dual_difference(alloc, trial, seen),
         "relog" => relogged_difference(alloc, trial, seen),
         _ => Ok(None),
     }
@@ -167,19 +168,66 @@ fn calm_run<'a>(
     Ok(trial.seen(alloc)?)
 }
 
-/// What differs where `check` reads the log that was written, or where no log is named.
+/// What differs where `check` reads the log that was written, or where the words name no log.
 fn solved_difference(
     alloc: Global,
     trial: Trial<'_>,
+    without: &str,
     seen: &Seen,
 ) -> Result<Option<&'static str>, Fault> {
     let (file, log, most) = (trial.file, seen.log_out.contents(), trial.most);
     let checked = calm_run(alloc, "check file log", file, log, most)?;
-    let unlogged = calm_run(alloc, "solve file", file, &[], most)?;
+    let unlogged = calm_run(alloc, without, file, &[], most)?;
     Ok(first_wrong(&[
         (is_same_report(&checked, seen), "what the log proves"),
         (is_same_report(&unlogged, seen), "the output without a log"),
     ]))
+}
+
+/// The same of a log over the facets; and what `solve` tells otherwise, where it has an answer.
+fn dual_difference(
+    alloc: Global,
+    trial: Trial<'_>,
+    seen: &Seen,
+) -> Result<Option<&'static str>, Fault> {
+    let solved = calm_run(alloc, "solve file", trial.file, &[], trial.most)?;
+    let is_solved = matches!(&solved.status, Status::Done);
+    let found = first_wrong(&[
+        (
+            !is_solved || image_part(&solved.out) == image_part(&seen.out),
+            "the image that `solve` tells",
+        ),
+        (
+            has_facets_alone(text_in(&seen.log_out)),
+            "a cut that is no facet",
+        ),
+    ]);
+    match found {
+        None => solved_difference(alloc, trial, "dual file", seen),
+        Some(_) => Ok(found),
+    }
+}
+
+/// What a report tells before its witnesses.
+fn image_part(sink: &MemSink) -> &str {
+    match text_in(sink).split_once("\nwitnesses\n") {
+        None => "no report",
+        Some((front, _)) => front,
+    }
+}
+
+/// Whether a log has as many cuts as facets that it names.
+fn has_facets_alone(log: &str) -> bool {
+    let mut cuts = 0_u64;
+    let mut facets = 0_u64;
+    for line in log.lines() {
+        if line.starts_with("cut") {
+            cuts = cuts.saturating_add(1);
+        } else if line.starts_with("facet ") {
+            facets = facets.saturating_add(1);
+        }
+    }
+    cuts == facets
 }
 
 /// What differs where `check` reads the log that was written and that which was read, or where it is

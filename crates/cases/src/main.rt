@@ -27,9 +27,10 @@
 //!
 //! An object that the words do not name fails at its first call. Of every case the program tries that fault lines begin with their
 //! status, that nothing is written with the statuses 2, 6 and 7, and to the log's output only behind a report, and that `sent` is
-//! the length of what was written. Where `solve FILE LOG` ends with 0, `check` accepts the log with the same report, and
-//! without LOG the report is the same; where `project FILE K LOG` does, it accepts the log with the text of `associate FILE K`, and
-//! without LOG the text is the same. Where `relog FILE LOG` does, `check` has the same report of what was written as
+//! the length of what was written. Where `solve FILE LOG` or `dual FILE LOG` ends with 0, `check` accepts the log with the same
+//! report, and without LOG the report is the same; the log of `dual` has as many cuts as facets, and what it tells before the
+//! witnesses is what `solve` tells. Where `project FILE K LOG` ends with 0, `check` accepts the log with the text of
+//! `associate FILE K`, and without LOG the text is the same. Where `relog FILE LOG` does, `check` has the same report of what was written as
 //! of what was read, and `relog` of that writes it once more. What `print problem` writes is printed alike when it is read again.
 #![tactic(auto)]
 
