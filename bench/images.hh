@@ -39,7 +39,8 @@ static mpq_class number(std::string text) {
     if (point != std::string::npos) power -= static_cast<long>(text.size() - point - 1), text.erase(point, 1);
     mpz_class ten;
     mpz_ui_pow_ui(ten.get_mpz_t(), 10, static_cast<unsigned long>(std::labs(power)));
-    mpq_class value = power < 0 ? mpq_class(mpz_class(text), ten) : mpq_class(mpz_class(text) * ten);
+    mpz_class digits(text, 10);
+    mpq_class value = power < 0 ? mpq_class(digits, ten) : mpq_class(digits * ten);
     value.canonicalize();
     return value;
 }

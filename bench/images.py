@@ -18,6 +18,8 @@ import tempfile
 LIMIT = 60
 TRIES = 3
 ENOUGH = 2.0
+# What is left of a run that was ended for its time: by itself, and as GNU time tells it.
+ENDED = [-signal.SIGXCPU, -signal.SIGKILL, 128 + signal.SIGXCPU, 128 + signal.SIGKILL]
 
 File = collections.namedtuple("File", "name constraints columns objectives text")
 Run = collections.namedtuple("Run", "status time output")
@@ -109,8 +111,7 @@ def run(words, limit=LIMIT):
         child.returncode = os.waitstatus_to_exitcode(status)
         out.seek(0)
         text = out.read().decode()
-    ended = child.returncode in (-signal.SIGXCPU, -signal.SIGKILL)
-    return Run(None if ended else child.returncode, used.ru_utime + used.ru_stime, text)
+    return Run(None if child.returncode in ENDED else child.returncode, used.ru_utime + used.ru_stime, text)
 
 
 def best_of_turns(commands):
