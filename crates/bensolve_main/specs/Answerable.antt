@@ -13,7 +13,7 @@ use Rattle.commands.specs.Tasks.Task.{solve, dual, sample, project, associate, m
 use Rattle.described.specs.Calculus.{CanMeet, CanSum, CanJoin, CanMap}
 use Rattle.described.specs.Projected.{IsProjectable}
 use Rattle.solver.specs.Replies.{IsSolvable}
-use Rattle.weighing.specs.Replies.{CanWeigh}
+use Rattle.described.specs.Weights.{CanWeigh}
 use Rattle.statuses.specs.declared.status.Status.{Status}
 use Rattle.statuses.specs.declared.status.Status.TheVariants.{Done, NoMemory}
 use Rattle.bensolve_main.specs.Reading.{problem_limit, log_limit}

@@ -7,7 +7,7 @@ use Rattle.described.specs.Calculus.{MeetVerdict, SumVerdict, JoinVerdict, MapVe
 use Rattle.described.specs.Projected.{ProjectVerdict, AssociateVerdict}
 use Rattle.solver.specs.Replies.{DualVerdict, SolveVerdict}
 use Rattle.statuses.specs.declared.reply.Reply.{Reply}
-use Rattle.weighing.specs.Replies.{WeightsVerdict, WeighVerdict}
+use Rattle.described.specs.Weights.{WeightsVerdict, WeighVerdict}
 use Rattle.bensolve_main.specs.Check.{CheckVerdict}
 use Rattle.bensolve_main.specs.Relog.{RelogVerdict}
 use Rattle.bensolve_main.specs.Sample.{SampleVerdict}

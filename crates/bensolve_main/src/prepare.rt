@@ -16,13 +16,15 @@ use crate::reading::{read_problem, reply_at};
 use crate::relog::relog;
 use crate::sampling::sample_reply;
 use commands::{Command, Files, Task};
-use described::{associate_reply, join_reply, map_reply, meet_reply, project_reply, sum_reply};
+use described::{
+    associate_reply, join_reply, map_reply, meet_reply, project_reply, sum_reply, weigh_reply,
+    weights_reply,
+};
 use solver::{dual_reply, solve_reply};
 use src_sink::{NoMemory, Source};
 use statuses::{Reply, Status};
 use std::alloc::Global;
 use vlp_reader::Problem;
-use weighing::{weigh_reply, weights_reply};
 
 /// The reply of a task that reads nothing.
 fn alone_reply(alloc: Global, task: Task<'_>) -> Result<Reply, NoMemory>

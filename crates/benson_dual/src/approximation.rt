@@ -12,14 +12,13 @@ ghost use Rattle.overflows.specs.Faults.{OnLicence, Overflows};
 ghost use Rattle.polyhedra.specs.LiveList.{numbers};
 
 use crate::image::Image;
-use benson_program::Kept;
 use deriv_log::Entries;
 use double_descr::Dd;
 use exact_field::Field;
 use lin_rows::cells::is_zero;
 use outer_approx::{filled, push_preimage, solved};
 use overflows::SolveFault;
-use recession::{Asked, ask};
+use recession::{Asked, Kept, ask};
 
 /// Whether a generator is a point: its last entry is not 0.
 fn is_point<F: Field>(generator: &[F]) -> bool

@@ -16,7 +16,6 @@ ghost use Rattle.vlp_reader.specs.declared.problem.Problem.{Problem as File};
 
 use crate::image::Image;
 use crate::order::orders;
-use benson_program::Kept;
 use cone_dual::Duality;
 use deriv_log::Entries;
 use exact_field::Field;
@@ -24,7 +23,7 @@ use lower_image::{AllFacets, all_facets};
 use lp_form::Data;
 use outer_approx::{Line, places_of};
 use overflows::SolveFault;
-use recession::{First, contradiction_log, everything_log, first_cuts};
+use recession::{First, Kept, contradiction_log, everything_log, first_cuts};
 use src_sink::{Items, NoMemory};
 use std::alloc::Global;
 

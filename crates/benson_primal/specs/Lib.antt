@@ -1,1 +1,2 @@
+pub use Rattle.recession.specs.Logs
 pub mod Search

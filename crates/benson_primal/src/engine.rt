@@ -13,7 +13,6 @@ ghost use Rattle.vlp_reader.specs.declared.problem.Problem.{Problem as File};
 ghost use Rattle.benson_primal.specs.Search.{IsSearching};
 
 use crate::search::{Scope, Search};
-use benson_program::Kept;
 use cone_dual::Duality;
 use deriv_log::{Entries, Entry};
 use exact_field::Field;
@@ -21,7 +20,7 @@ use incid_sets::Marks;
 use lp_form::{Cut, Data};
 use outer_approx::{Line, begun, places_of, solved, started};
 use overflows::SolveFault;
-use recession::{First, contradiction_log, everything_log, first_cuts};
+use recession::{First, Kept, contradiction_log, everything_log, first_cuts};
 use src_sink::Items;
 use std::alloc::Global;
 use std::mem::replace;

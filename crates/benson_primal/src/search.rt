@@ -10,7 +10,6 @@ ghost use Rattle.lineality.specs.Without.{with_zeros};
 ghost use Rattle.benson_primal.specs.Search.{AreDirectionsReached, AreReached, HasGrown, HasSameRows, IsDone, IsFound, IsInScope, IsLiveVector, IsNextCut, IsRound, IsSearching, Stopped};
 
 use crate::nearby::{is_point, vector_nearby, violates};
-use benson_program::Kept;
 use deriv_log::Entries;
 use double_descr::Dd;
 use exact_field::Field;
@@ -18,7 +17,7 @@ use incid_sets::Marks;
 use lp_form::{Cut, Data};
 use outer_approx::{filled, push_preimage, take, try_take};
 use overflows::SolveFault;
-use recession::{Asked, ask};
+use recession::{Asked, Kept, ask};
 use src_sink::{Items, NoMemory};
 use std::alloc::Global;
 

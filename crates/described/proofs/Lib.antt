@@ -3,3 +3,5 @@ mod Asked
 mod Associated
 mod Told
 mod Words
+mod WeightVerdicts
+pub mod WeightsAnswered

@@ -1,5 +1,5 @@
-//! Feasible sets and what is made of them, described by points, directions, lines and sides: what is
-//! replied of one problem or of two.
+//! What is replied of what is read off a solution: of feasible sets and what is made of them, by
+//! points, directions, lines and sides, for one problem or two; and of weights.
 #![tactic(auto)]
 
 mod describe;
@@ -7,7 +7,9 @@ mod joined;
 mod mapped;
 mod parts;
 mod projected;
+mod weights;
 
 pub use joined::{join_reply, meet_reply, sum_reply};
 pub use mapped::map_reply;
 pub use projected::{associate_reply, project_reply};
+pub use weights::{weigh_reply, weights_reply};

@@ -1,3 +1,5 @@
+pub use Rattle.benson_program.specs.Ends
+pub use Rattle.benson_program.specs.Wholes
 pub mod Asking
 pub mod First
 pub mod Further

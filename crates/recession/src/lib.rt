@@ -11,6 +11,7 @@ mod logs;
 
 pub use across::level_vectors;
 pub use asking::{Asked, ask};
+pub use benson_program::Kept;
 pub use first::{First, first_cuts};
 pub use further::entries_of;
 pub use laws::first_answers_exclude;

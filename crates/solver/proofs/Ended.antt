@@ -14,7 +14,7 @@ use Rattle.overflows.specs.declared.fault.SolveFault.TheVariants.{Left, NoMemory
 use Rattle.licence.specs.Operands.{Setting}
 use Rattle.std.proofs.Common.{refl}
 use Rattle.solver.specs.Ends.{IsSameFault}
-use Rattle.recession.specs.Logs.{IsOwnLogAnyhow}
+use Rattle.benson_primal.specs.Logs.{IsOwnLogAnyhow}
 use Rattle.solver.specs.Solving.{EndsIn}
 use Rattle.solver.specs.declared.end.SolveEnd.{SolveEnd}
 

@@ -3,7 +3,7 @@ ghost use Rattle.std.specs.Prelude.{◌≡◌, IfOk, IfErr, IsTrue};
 ghost use Rattle.frac128.specs.Held.{is_held};
 ghost use Rattle.cone_rules.specs.Faults.{IsSound};
 ghost use Rattle.lp_form.specs.Data.{IsDataOf, RefusesNumber};
-ghost use Rattle.recession.specs.Logs.{IsOwnLogAnyhow};
+ghost use Rattle.benson_primal.specs.Logs.{IsOwnLogAnyhow};
 ghost use Rattle.solver.specs.Solving.{IsSolutionOf, NamesAllCuts, EndsSolving};
 ghost use Rattle.solver.specs.Accepted.{IsAccepted};
 

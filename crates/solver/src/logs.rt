@@ -1,6 +1,6 @@
 //! The log of a problem: by the outer approximation of the image, or by that of the lower image.
 ghost use Rattle.std.specs.Prelude.{◌≡◌, ◌⊎◌, IfOk, IfErr, OnOk};
-ghost use Rattle.recession.specs.Logs.{IsOwnLogAnyhow};
+ghost use Rattle.benson_primal.specs.Logs.{IsOwnLogAnyhow};
 ghost use Rattle.cone_dual.specs.Fitting.{IsDualityOf};
 ghost use Rattle.cone_rules.specs.Faults.{IsSound};
 ghost use Rattle.licence.specs.Licence.{LicensedAnyhow};

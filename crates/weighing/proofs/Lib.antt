@@ -8,6 +8,4 @@ pub mod Below
 pub mod Numbers
 pub mod Found
 pub mod Told
-pub mod Verdicts
-pub mod Answered
 pub mod WorkedExamples

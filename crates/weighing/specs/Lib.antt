@@ -1,11 +1,10 @@
 -- The subject: Sets (which lists hold a number), Weighing (what is least for weights, and for which
--- weights a point is), Stages (which products are taken, and where that ends), Text, Replies (what
--- `weights` and `weigh` reply), Laws, Examples.
+-- weights a point is), Stages (which products are taken, and where that ends), Text, Laws,
+-- Examples.
 pub mod Sets
 pub mod Weighing
 pub mod Stages
 pub mod Walk
 pub mod Laws
 pub mod Text
-pub mod Replies
 pub mod Examples

@@ -4,7 +4,6 @@
 mod laws;
 mod least;
 mod lines;
-mod reply;
 mod sets;
 mod text;
 mod walk;
@@ -15,6 +14,6 @@ pub use laws::{
     weights_are_hull, worked_sets, worked_texts, worked_weighing,
 };
 pub use least::weigh;
-pub use reply::{weigh_reply, weights_reply};
 pub use sets::weight_sets;
+pub use text::{weighed_text, weights_text};
 pub use weighed::{WeighEnd, Weighed};

@@ -99,7 +99,7 @@ fn put_solution(alloc: Global, answer: &Answer, into: &mut Bytes) -> Result<(), 
 }
 
 /// The text of an answer's points, each with the facets that are tight at it, and of its facets.
-pub(crate) fn weights_text(alloc: Global, answer: &Answer) -> Result<Bytes, NoMemory>
+pub fn weights_text(alloc: Global, answer: &Answer) -> Result<Bytes, NoMemory>
     ensures { IfOk result (λ text. text ≡ weights_text answer.now) }
 {
     let mut text = Bytes::new(alloc);
@@ -180,11 +180,7 @@ fn points_of(answer: &Answer) -> &[Gen]
 }
 
 /// The text of a weighing, with the points of the answer.
-pub(crate) fn weighed_text(
-    alloc: Global,
-    answer: &Answer,
-    weighed: &Weighed,
-) -> Result<Bytes, NoMemory>
+pub fn weighed_text(alloc: Global, answer: &Answer, weighed: &Weighed) -> Result<Bytes, NoMemory>
     ensures { IfOk result (λ text. text ≡ weighed_text answer.now weighed.now) }
 {
     let mut text = Bytes::new(alloc);

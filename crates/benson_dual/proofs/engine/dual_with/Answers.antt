@@ -4,8 +4,8 @@ use Rattle.licence.specs.Base.{IsBaseChoice}
 use Rattle.licence.specs.Licence.{Licensed}
 use Rattle.lin_rows.proofs.Errors.{err_holds}
 use Rattle.lp_form.specs.declared.shown.Cut.{Cut}
-use Rattle.benson_program.specs.Ends.{IsContradiction}
-use Rattle.benson_program.specs.Wholes.{IsWholeOf}
+use Rattle.recession.specs.Ends.{IsContradiction}
+use Rattle.recession.specs.Wholes.{IsWholeOf}
 use Rattle.outer_approx.specs.Standing.{IsEnded, IsOpening}
 use Rattle.outer_approx.specs.Task.{IsFitting, Task}
 use Rattle.outer_approx.specs.declared.log.Line.{Line}

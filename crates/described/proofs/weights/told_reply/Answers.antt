@@ -1,6 +1,6 @@
 use Rattle.std.proofs.Common.{refl}
 use Rattle.weighing.proofs.ProvedSets.{proved_are_weight_sets}
-use Rattle.weighing.proofs.reply.told_reply.Goals as goal
+use Rattle.described.proofs.weights.told_reply.Goals as goal
 
 pub returns : goal.returns
 returns c = λ file right.

@@ -1,6 +1,6 @@
 use Rattle.std.proofs.Common.{◌∙◌, sym}
-use Rattle.weighing.proofs.Verdicts.{verdict_counted, verdict_weighed, verdict_unsolved}
-use Rattle.weighing.proofs.reply.weigh_reply.Goals as goal
+use Rattle.described.proofs.WeightVerdicts.{verdict_counted, verdict_weighed, verdict_unsolved}
+use Rattle.described.proofs.weights.weigh_reply.Goals as goal
 
 pub returns-then-len-file : goal.returns-then-len-file
 returns-then-len-file c =

@@ -3,11 +3,8 @@ ghost use Rattle.std.specs.Prelude.{◌≡◌, ◌⊎◌, ◌≢◌, IfOk, IsTru
 ghost use Rattle.commands.specs.Weights.{are_weights};
 ghost use Rattle.solver.specs.Solving.{IsSolutionOf};
 ghost use Rattle.vlp_reader.specs.declared.problem.Problem.{Problem as AProblem};
-ghost use Rattle.weighing.specs.Replies.{WeighVerdict, WeighingStopped, WeighingTold, WeightsCounted, WeightsTold, WeightsVerdict};
+ghost use Rattle.described.specs.Weights.{WeighVerdict, WeighingStopped, WeighingTold, WeightsCounted, WeightsTold, WeightsVerdict};
 
-use crate::least::weigh;
-use crate::text::{weighed_text, weights_text};
-use crate::weighed::WeighEnd;
 use commands::weights_of;
 use frac128::Vector;
 use solver::{Solution, solve, unsolved_reply};
@@ -15,6 +12,7 @@ use src_sink::NoMemory;
 use statuses::{Reply, Status, fault_reply};
 use std::alloc::Global;
 use vlp_reader::Problem;
+use weighing::{WeighEnd, weigh, weighed_text, weights_text};
 
 /// The reply of a solution: its points with the facets that are told of them.
 fn told_reply(alloc: Global, solution: &Solution) -> Result<Reply, NoMemory>

@@ -1,5 +1,5 @@
-use Rattle.weighing.proofs.Verdicts.{sets_told, sets_unsolved}
-use Rattle.weighing.proofs.reply.weights_reply.Goals as goal
+use Rattle.described.proofs.WeightVerdicts.{sets_told, sets_unsolved}
+use Rattle.described.proofs.weights.weights_reply.Goals as goal
 
 pub returns-in-Ok : goal.returns-in-Ok
 returns-in-Ok c = sets_told c.args.file.now c.told_reply.result (c.told_reply.ensures c.args.file.now c.in-Ok.ensures.ok)

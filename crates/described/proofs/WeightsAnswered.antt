@@ -10,7 +10,7 @@ use Rattle.statuses.specs.Codes.{code_of}
 use Rattle.statuses.specs.declared.reply.Reply.{Reply}
 use Rattle.statuses.specs.declared.status.Status.{Status}
 use Rattle.statuses.specs.declared.status.Status.TheVariants.{Done, Words}
-use Rattle.weighing.specs.Replies.{WeightsVerdict, WeightsCounted, WeighingDone, WeighingStopped, WeighingTold, WeighVerdict, CanWeigh}
+use Rattle.described.specs.Weights.{WeightsVerdict, WeightsCounted, WeighingDone, WeighingStopped, WeighingTold, WeighVerdict, CanWeigh}
 use Rattle.weighing.specs.Stages.{StopsWeighing}
 
 -- ---- weights

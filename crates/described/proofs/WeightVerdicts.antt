@@ -12,7 +12,7 @@ use Rattle.solver.specs.declared.end.Solution.{Solution}
 use Rattle.statuses.specs.Replies.{TellsFault}
 use Rattle.statuses.specs.declared.reply.Reply.{Reply}
 use Rattle.statuses.specs.declared.status.Status.TheVariants.{WeighLeft, Weights}
-use Rattle.weighing.specs.Replies.{WeightsTold, WeightsVerdict, WeightsCounted, WeighingStopped, WeighingTold, WeighVerdict}
+use Rattle.described.specs.Weights.{WeightsTold, WeightsVerdict, WeightsCounted, WeighingStopped, WeighingTold, WeighVerdict}
 use Rattle.weighing.specs.Stages.{StopsWeighing}
 
 -- ---- weights

@@ -1,7 +1,7 @@
 use Rattle.std.proofs.Common.{◌≡◌, ℕ, IfOk, subst}
 use Rattle.statuses.specs.declared.status.Status.TheVariants.{Weights}
-use Rattle.weighing.proofs.Verdicts.{counted_told}
-use Rattle.weighing.proofs.reply.counted_reply.Goals as goal
+use Rattle.described.proofs.WeightVerdicts.{counted_told}
+use Rattle.described.proofs.weights.counted_reply.Goals as goal
 
 pub returns : goal.returns
 returns c =

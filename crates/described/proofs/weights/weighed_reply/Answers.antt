@@ -4,8 +4,8 @@ use Rattle.weighing.specs.Stages.{IsWeighedFrom, StopsWeighing}
 use Rattle.weighing.specs.Walk.{WeighStops}
 use Rattle.weighing.specs.Weighing.{IsWeighed}
 use Rattle.weighing.specs.declared.weighed.WeighEnd.{WeighEnd}
-use Rattle.weighing.proofs.Verdicts.{stopped_told}
-use Rattle.weighing.proofs.reply.weighed_reply.Goals as goal
+use Rattle.described.proofs.WeightVerdicts.{stopped_told}
+use Rattle.described.proofs.weights.weighed_reply.Goals as goal
 
 pub returns-in_ok-weighed_text-in-Ok : goal.returns-in_ok-weighed_text-in-Ok
 returns-in_ok-weighed_text-in-Ok c =
