@@ -3,11 +3,15 @@
 #![tactic(auto)]
 
 mod begin;
+mod conversion;
+mod ends;
 mod fault;
 mod lines;
 mod log;
 mod places;
 mod products;
 mod start;
+mod turn;
 
+pub use conversion::convert;
 pub use fault::{ConvFault, Converted};

@@ -121,7 +121,7 @@ fn described(
 }
 
 /// The generators of a start with zeros at the places of lines.
-fn filled_generators(
+pub(crate) fn filled_generators(
     alloc: Global,
     places: &[bool],
     dd: &Dd<Frac>,
