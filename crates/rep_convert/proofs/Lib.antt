@@ -5,3 +5,11 @@ pub mod Overflowed
 pub mod Ordered
 pub mod Named
 pub mod Ended
+pub mod HeldProducts
+pub mod Joined
+pub mod FullRank
+pub mod Filled
+pub mod Reading
+pub mod Growing
+pub mod LineEntries
+pub mod StartEntry

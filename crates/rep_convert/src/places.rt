@@ -1,5 +1,5 @@
 //! Rows without the entries at the places of lines, and generators with zeros there again.
-ghost use Rattle.std.specs.Prelude.{◌≡◌, ◌≤◌, IfOk, length};
+ghost use Rattle.std.specs.Prelude.{◌≡◌, ◌≤◌, ◌==◌, false, slice_index_or, IfOk, length};
 ghost use Rattle.lineality.specs.Without.{is_line_place, marks, open_count, with_zeros, without};
 ghost use Rattle.lineality.specs.Lines.{leading_place};
 
@@ -20,16 +20,18 @@ fn leading_place(v: &[Frac]) -> usize
     v.len() + 1
 }
 
+/// Whether a vector is the line of a place.
+fn is_at(line: &Vector, place: usize) -> bool
+    ensures { result ≡ (leading_place line.now == place) }
+{
+    leading_place(line.as_slice()) == place
+}
+
 /// Whether a place is that of a line.
 fn is_line_place(lines: &[Vector], place: usize) -> bool
     ensures { result ≡ is_line_place lines.now place }
 {
-    for i in 0..lines.len() {
-        if leading_place(lines[i].as_slice()) == place {
-            return true;
-        }
-    }
-    false
+    lines.iter().any(|line| is_at(line, place))
 }
 
 /// For each of the places from 1 to `width` whether it is that of a line.
@@ -61,6 +63,13 @@ pub(crate) fn open_places(places: &[bool]) -> u32
     count
 }
 
+/// Whether a place, counted from 0, is marked.
+fn is_marked(places: &[bool], k: usize) -> bool
+    ensures { result ≡ slice_index_or places.now k false }
+{
+    k < places.len() && places[k]
+}
+
 /// A row without the entries at the places of lines.
 pub(crate) fn row_without(
     alloc: Global,
@@ -71,7 +80,7 @@ pub(crate) fn row_without(
 {
     let mut short = Items::new(alloc);
     for k in 0..row.len() {
-        if k >= places.len() || !places[k] {
+        if !is_marked(places, k) {
             short.push(row[k])?;
         }
     }
