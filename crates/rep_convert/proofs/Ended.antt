@@ -16,7 +16,7 @@ use Rattle.log_rules.specs.declared.rule.Rule.{Rule}
 use Rattle.log_rules.specs.declared.rule.Rule.TheVariants as rule
 use Rattle.word_lines.specs.Grammar.{IsWhole, ends_once, is_formed}
 use Rattle.rep_conv.specs.Converted.{Gives}
-use Rattle.rep_conv.specs.Events.{AllHeld, IsHeldStep, all_used}
+use Rattle.rep_conv.specs.Events.{AllHeld, IsHeldStep, all_used, events}
 use Rattle.rep_conv.specs.Giving.{IsGiven}
 use Rattle.rep_conv.specs.Live.{State, state}
 use Rattle.rep_conv.specs.Meets.{AllMeet, Meets, MeetsEnd, has_start, in_order}
@@ -31,7 +31,7 @@ use Rattle.rep_text.specs.declared.conv.ConvEntry.TheVariants.{Conv, End}
 use Rattle.rep_text.specs.declared.rep.Rep.{Rep}
 use Rattle.rep_convert.specs.Standing.{IsConversion, StandsAt, line_places}
 use Rattle.rep_convert.specs.declared.fault.Converted.{Converted}
-use Rattle.rep_convert.proofs.OneMore.{held_more, met_more, state-push}
+use Rattle.rep_convert.proofs.Growing.{each_more, each_none, state_more}
 
 -- ---- the one end
 ends_last : (log : List ConvEntry) → All (λ (e : ConvEntry). IsTrue (not (is_conv_end e))) log → ends_once is_conv_end (log ++ End ∷ []) ≡ true
@@ -42,6 +42,10 @@ ends_last (e ∷ f ∷ log) h =
     both_hold (not (is_conv_end e)) (ends_once is_conv_end (f ∷ (log ++ End ∷ [])))
     (All-head (λ (g : ConvEntry). IsTrue (not (is_conv_end g))) e (f ∷ log) h)
     (ends_last (f ∷ log) (All-tail (λ (g : ConvEntry). IsTrue (not (is_conv_end g))) e (f ∷ log) h))
+
+-- the steps of an entry are held
+abbrev Held : Rep → List ConvEntry → ConvEntry → Type 0
+Held rep before e = All (IsHeldStep is_held) (events rep before e)
 
 -- tests have no step
 tests_held : (r q : Rule) (a b : Bool) → All (IsHeldStep is_held) (test r a ∷ test q b ∷ [])
@@ -76,13 +80,13 @@ module _ (rep : Rep) (log : List ConvEntry) (dd : Description) (h : StandsAt rep
   }
 
   met : AllMeet rep (log ++ End ∷ [])
-  met = met_more rep log End h.met meets
+  met = each_more (Meets rep) log End h.met meets
 
   held : AllHeld is_held rep (log ++ End ∷ [])
-  held = held_more rep log End h.held (tests_held rule.Order rule.Missing (in_order (has_rows rep) log End) (all_used rep (state rep log)))
+  held = each_more (Held rep) log End h.held (tests_held rule.Order rule.Missing (in_order (has_rows rep) log End) (all_used rep (state rep log)))
 
   stands : state rep (log ++ End ∷ []) ≡ state rep log
-  stands = state-push rep log End
+  stands = state_more rep log End
 
   abbrev s : State
   s = state rep log
@@ -121,14 +125,6 @@ module _ (rep : Rep) (none : text_rows rep ≡ []) where
   pub no_rows : has_rows rep ≡ false
   no_rows = ap (λ (rows : List (List ℚ)). not (length rows == 0)) none
 
-  nothing_met : AllMeet rep []
-  nothing_met [] e rest same = absurd cc
-  nothing_met (f ∷ before) e rest same = absurd cc
-
-  nothing_held : AllHeld is_held rep []
-  nothing_held [] e rest same = absurd cc
-  nothing_held (f ∷ before) e rest same = absurd cc
-
   conv_meets : Meets rep [] (Conv 1)
   conv_meets = record { order = refl; rules = refl }
 
@@ -154,8 +150,8 @@ module _ (rep : Rep) (none : text_rows rep ≡ []) where
   pub short_conversion : (new : List ConvEntry) → new ≡ short_log → (found : Rep) → Gives rep short_log found → IsConversion rep (record { rep = found; log = new })
   short_conversion new is found g = subst (λ (es : List ConvEntry). IsConversion rep (record { rep = found; log = es })) (sym is)
       (conversion rep (Conv 1 ∷ [])
-      (met_more rep (Conv 1 ∷ []) End (met_more rep [] (Conv 1) nothing_met conv_meets) end_meets)
-      (held_more rep (Conv 1 ∷ []) End (held_more rep [] (Conv 1) nothing_held (tests_held rule.Order rule.Version (in_order (has_rows rep) [] (Conv 1)) (1 == 1)))
+      (each_more (Meets rep) (Conv 1 ∷ []) End (each_more (Meets rep) [] (Conv 1) (each_none (Meets rep)) conv_meets) end_meets)
+      (each_more (Held rep) (Conv 1 ∷ []) End (each_more (Held rep) [] (Conv 1) (each_none (Held rep)) (tests_held rule.Order rule.Version (in_order (has_rows rep) [] (Conv 1)) (1 == 1)))
       (tests_held rule.Order rule.Missing (in_order (has_rows rep) (Conv 1 ∷ []) End) (all_used rep (state rep (Conv 1 ∷ [])))))
       (All-cons (λ (e : ConvEntry). IsTrue (is_formed conv_grammar e)) (Conv 1) [] refl (All-nil (λ (e : ConvEntry). IsTrue (is_formed conv_grammar e))))
       (All-cons (λ (e : ConvEntry). IsTrue (not (is_conv_end e))) (Conv 1) [] refl (All-nil (λ (e : ConvEntry). IsTrue (not (is_conv_end e)))))

@@ -1,5 +1,4 @@
 pub mod HeldSteps
-pub mod OneMore
 pub mod Turned
 pub mod Overflowed
 pub mod Ordered

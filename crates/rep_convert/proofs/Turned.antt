@@ -1,7 +1,8 @@
 -- A conversion after one more row has come into use.
-use Rattle.std.proofs.Common.{◌≡◌, ℕ, suc, ◌<◌, List, [], ◌∷◌, ◌++◌, map, length, All, Bool, Contains, IsTrue, refl, sym, ap, ap₂, ◌∙◌, subst, arith, true, false, not, ◌&&◌, nat_lt}
+use Rattle.std.proofs.Common.{◌≡◌, ℕ, suc, ◌<◌, List, [], ◌∷◌, ◌++◌, map, length, All, Bool, Contains, IsTrue, refl, sym, ap, ap₂, ◌∙◌, subst, arith, true, false, not, ◌&&◌, ◌||◌, nat_lt}
 use Rattle.std.proofs.lemmas.List.{map-append}
 use Rattle.std.proofs.lemmas.List.Elements.{All-cons}
+use Rattle.std.proofs.lemmas.List.Folds.{list_any-append}
 use Rattle.exact_field.specs.Rational.{ℚ}
 use Rattle.frac128.specs.Held.{is_held, held_zero}
 use Rattle.polyhedra.specs.LiveList.{LiveList, Numbered, step, vectors}
@@ -23,7 +24,7 @@ use Rattle.licence.specs.Operands.{IsMadeOver}
 use Rattle.licence.proofs.Making.{generator_laws}
 use Rattle.rep_conv.specs.Events.{IsHeldStep, add_events, added_events, events}
 use Rattle.rep_conv.specs.Live.{State, after, rows_in_use, state}
-use Rattle.rep_conv.specs.Meets.{Meets, in_order}
+use Rattle.rep_conv.specs.Meets.{Meets, has_start, in_order, is_start}
 use Rattle.rep_conv.specs.Rows.{has_rows, row_at, text_rows}
 use Rattle.rep_conv.proofs.Standing.{rules_keep_description}
 use Rattle.rep_text.specs.ConvText.{conv_grammar}
@@ -33,7 +34,10 @@ use Rattle.rep_text.specs.declared.rep.Rep.{Rep}
 use Rattle.rep_convert.specs.Lines.{AreLinesOf, marks_of}
 use Rattle.rep_convert.specs.Standing.{IsOpenLog, StandsAt, line_places}
 use Rattle.rep_convert.proofs.HeldSteps.{added_held}
-use Rattle.rep_convert.proofs.OneMore.{open_more, start_stays, state-push}
+use Rattle.rep_convert.proofs.Growing.{open_more, state_more}
+
+start_stays : (log : List ConvEntry) (k : ℕ) (pairs : List LogPair) → IsTrue (has_start log) → IsTrue (has_start (log ++ Add k pairs ∷ []))
+start_stays log k pairs h = list_any-append is_start log (Add k pairs ∷ []) ∙ ap (λ (b : Bool). b || false) h
 
 module _ (rep : Rep) (log : List ConvEntry) (dd : Description) (h : StandsAt rep log dd) (k : ℕ) (exists : k < length (text_rows rep))
     (unused : Contains (state rep log).used k → ⊥) where
@@ -93,7 +97,7 @@ module _ (rep : Rep) (log : List ConvEntry) (dd : Description) (h : StandsAt rep
     turned_open = open_more rep log (Add k pairs) h.open_log meets steps_held written refl
 
     stands : state rep new_log ≡ after rep s (Add k pairs)
-    stands = state-push rep log (Add k pairs)
+    stands = state_more rep log (Add k pairs)
 
     pub turned_lines : (state rep new_log).lines ≡ s.lines
     turned_lines = ap (λ (a : State). a.lines) stands
@@ -115,7 +119,7 @@ module _ (rep : Rep) (log : List ConvEntry) (dd : Description) (h : StandsAt rep
         StandsAt rep new_log new
     turned new grown = subst (λ (d : Description). StandsAt rep new_log d) (sym grown) (record {
       open_log = turned_open;
-      started = start_stays log (Add k pairs) h.started;
+      started = start_stays log k pairs h.started;
       lines = subst (AreLinesOf rep) (sym turned_lines) h.lines;
       wide = subst (λ (list : LiveList). AreWide (suc rep.width) (vectors list.live)) (sym turned_list)
           (subst (λ (n : ℕ). AreWide (suc n) (vectors (step (rows_in_use rep s) s.list row).live)) (length-marks rep.width s.lines) both_steps.wide);
