@@ -4,6 +4,7 @@
 
 mod begin;
 mod fault;
+mod licences;
 mod lines;
 mod log;
 mod places;
