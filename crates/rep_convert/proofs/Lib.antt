@@ -12,3 +12,4 @@ pub mod Reading
 pub mod Growing
 pub mod LineEntries
 pub mod StartEntry
+pub mod Licences

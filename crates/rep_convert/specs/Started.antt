@@ -1,11 +1,13 @@
 -- The rows that a conversion starts with, by the parts that the calls go through.
-use Rattle.std.specs.Prelude.{◌≡◌, ℕ, ◌<◌, List, map, length, All, AllPairs}
+use Rattle.std.specs.Prelude.{◌≡◌, ⊤, ℕ, ◌<◌, List, map, length, All, AllPairs, IsTrue}
 use Rattle.exact_field.specs.Rational.{ℚ}
 use Rattle.frac128.specs.Held.{is_held}
 use Rattle.polyhedra.specs.Cone.{HasFullRank}
 use Rattle.polyhedra.specs.LiveList.{vectors}
 use Rattle.lineality.specs.Without.{with_zeros, without}
 use Rattle.lin_rows.specs.Sums.{AreHeld}
+use Rattle.lin_rows.specs.declared.fault.RowFault.{RowFault}
+use Rattle.lin_rows.specs.declared.fault.RowFault.TheVariants.{Left as Stuck, NoMemory as Want}
 use Rattle.double_descr.specs.Starting.{IsStart}
 use Rattle.double_descr.specs.State.{State as Description}
 use Rattle.rep_conv.specs.Rows.{row_at, text_rows}
@@ -34,3 +36,8 @@ pub record IsStarted (rep : Rep) (lines : List (List ℚ)) (picks : List ℕ) (g
   pub filled : gens ≡ map (with_zeros (marks_of rep lines)) (vectors dd.list.live)
   pub held :
       All (λ r. All (λ g. AreHeld is_held r g (length r)) gens) (map (row_at rep) picks)
+
+-- the first operand of the operation of a fault is held
+abbrev pub HasHeldOperand : RowFault ℚ → Type 0
+HasHeldOperand (Stuck basis row col step left) = IsTrue (is_held left.a)
+HasHeldOperand Want = ⊤

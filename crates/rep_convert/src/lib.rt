@@ -6,6 +6,7 @@ mod begin;
 mod conversion;
 mod ends;
 mod fault;
+mod licences;
 mod lines;
 mod log;
 mod places;

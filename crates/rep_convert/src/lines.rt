@@ -7,10 +7,10 @@ ghost use Rattle.rep_convert.specs.Licensed.{IsConvLeft};
 ghost use Rattle.rep_convert.specs.Lines.{AreLinesOf};
 
 use crate::fault::ConvFault;
+use crate::licences::row_left;
 use crate::products::try_products;
 use frac128::{Frac, Vector, Vectors};
 use lin_rows::{Rows, complement};
-use overflows::elimination_fault;
 use rep_text::Rep;
 use src_sink::{Items, NoMemory};
 use std::alloc::Global;
@@ -52,12 +52,7 @@ fn found_lines(alloc: Global, rep: &Rep, rows: &[Vector]) -> Result<Vectors, Con
     let whole = whole_rows(alloc, width, rows)?;
     match complement(alloc, &whole, width) {
         Ok(lines) => Ok(vectors_of(alloc, &lines)?),
-        Err(fault) => Err(ConvFault::from(elimination_fault(
-            alloc,
-            &whole,
-            fault,
-            Items::new(alloc),
-        ))),
+        Err(fault) => Err(row_left(alloc, &whole, fault)),
     }
 }
 

@@ -6,9 +6,9 @@ ghost use Rattle.rep_convert.specs.Licensed.{AreMultiplied, IsConvLeft};
 ghost use Rattle.rep_text.specs.declared.rep.Rep.{Rep};
 
 use crate::fault::ConvFault;
+use crate::licences::term_left;
 use frac128::{Frac, Vector};
-use overflows::{sum_of_products, term_fault};
-use src_sink::Items;
+use overflows::sum_of_products;
 use std::alloc::Global;
 
 /// Forms the product of a row and a vector.
@@ -21,7 +21,7 @@ fn try_product(alloc: Global, row: &[Frac], v: &[Frac]) -> Result<(), ConvFault>
 {
     match sum_of_products(row, v) {
         Ok(_) => Ok(()),
-        Err(fault) => Err(ConvFault::from(term_fault(alloc, fault, Items::new(alloc)))),
+        Err(fault) => Err(term_left(alloc, fault)),
     }
 }
 

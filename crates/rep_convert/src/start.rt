@@ -10,12 +10,12 @@ ghost use Rattle.rep_convert.specs.Started.{AreStarts, IsStarted, picked_without
 ghost use Rattle.double_descr.specs.Starting.{IsStart};
 
 use crate::fault::ConvFault;
+use crate::licences::row_left;
 use crate::places::{filled, open_places, row_without};
 use crate::products::try_products;
-use double_descr::Dd;
+use double_descr::{Dd, DdFault};
 use frac128::{Frac, Vector, Vectors};
 use lin_rows::{Indep, Rows, independent};
-use overflows::{elimination_fault, start_fault};
 use rep_text::Rep;
 use src_sink::{Items, NoMemory};
 use std::alloc::Global;
@@ -74,12 +74,7 @@ fn start_numbers(
     match independent(alloc, short, short.width()) {
         Ok(Indep::Basis(numbers)) => Ok(from_zero(alloc, numbers.as_slice())?),
         Ok(Indep::Orthogonal(_)) => unreachable!(),
-        Err(fault) => Err(ConvFault::from(elimination_fault(
-            alloc,
-            short,
-            fault,
-            Items::new(alloc),
-        ))),
+        Err(fault) => Err(row_left(alloc, short, fault)),
     }
 }
 
@@ -116,7 +111,9 @@ fn described(
     let rows = picked_rows(alloc, short, picks)?;
     match Dd::start(alloc, &rows) {
         Ok(dd) => Ok(dd),
-        Err(fault) => Err(ConvFault::from(start_fault(alloc, &rows, fault))),
+        Err(DdFault::NoMemory) => Err(ConvFault::NoMemory),
+        Err(DdFault::Elim(fault)) => Err(row_left(alloc, &rows, fault)),
+        Err(DdFault::Left { .. }) => unreachable!(),
     }
 }
 
