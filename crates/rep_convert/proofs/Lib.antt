@@ -12,4 +12,4 @@ pub mod Reading
 pub mod Growing
 pub mod LineEntries
 pub mod StartEntry
-pub mod Licences
+pub mod LicensedFaults
