@@ -7,3 +7,5 @@ pub mod Growing
 pub mod LineEntries
 pub mod StartEntry
 pub mod Licences
+pub mod Lists
+pub mod Starting
