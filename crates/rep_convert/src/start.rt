@@ -85,6 +85,7 @@ fn picked_rows(alloc: Global, rows: &Rows<Frac>, picks: &[u32]) -> Result<Rows<F
     ensures rows { IfOk result
         (λ out. out.list ≡ map (λ k. slice_index_or rows.now.list k []) picks.now) }
 {
+    let _count = rows.count();
     let mut out = Rows::new(alloc, rows.width());
     for i in 0..picks.len() {
         out.push_row(rows.row(picks[i] + 1))?;
@@ -118,11 +119,7 @@ fn described(
 }
 
 /// The generators of a start with zeros at the places of lines.
-fn filled_generators(
-    alloc: Global,
-    places: &[bool],
-    dd: &Dd<Frac>,
-) -> Result<Vectors, NoMemory>
+fn filled_generators(alloc: Global, places: &[bool], dd: &Dd<Frac>) -> Result<Vectors, NoMemory>
     ensures { IfOk result
         (λ gens. gens ≡ map (with_zeros places.now) (vectors dd.now.list.live)) }
 {
