@@ -64,5 +64,6 @@ pub(crate) fn push_start(
     naturals_are_written(picks);
     let mut rows = Items::new(alloc);
     rows.append(picks)?;
+    let _count = rows.len();
     log.push(ConvEntry::Start { rows, gens })
 }

@@ -71,11 +71,7 @@ fn is_marked(places: &[bool], k: usize) -> bool
 }
 
 /// A row without the entries at the places of lines.
-pub(crate) fn row_without(
-    alloc: Global,
-    places: &[bool],
-    row: &[Frac],
-) -> Result<Vector, NoMemory>
+pub(crate) fn row_without(alloc: Global, places: &[bool], row: &[Frac]) -> Result<Vector, NoMemory>
     ensures { IfOk result (λ short. short ≡ without places.now row.now) }
 {
     let mut short = Items::new(alloc);

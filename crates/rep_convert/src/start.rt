@@ -85,6 +85,7 @@ fn picked_rows(alloc: Global, rows: &Rows<Frac>, picks: &[u32]) -> Result<Rows<F
     ensures rows { IfOk result
         (λ out. out.list ≡ map (λ k. slice_index_or rows.now.list k []) picks.now) }
 {
+    let _count = rows.count();
     let mut out = Rows::new(alloc, rows.width());
     for i in 0..picks.len() {
         out.push_row(rows.row(picks[i] + 1))?;

@@ -150,20 +150,23 @@ start_licensed rep lines rows (Stuck basis row col step left) told result held i
         licensed rep (Elim rows basis row col step) left told result is same
         (not_held is_held left zero_held (still (exact left.op left.a left.b) (entry v col /ℚ magnitude (norming v))
         (same_exact left.op Div left.a (entry v col) left.b (magnitude (norming v)) h.op h.dividend h.divisor) h.not_held))
-        (inr (zero_row, IsListStep.normed (record {
-          lines = lines;
-          short = short;
-          square = square;
-          inverse = h.inverse;
-          is = h.is;
-          corner = h.corner;
-          corner_from_one = h.corner_from_one;
-          corner_to_end = h.corner_to_end;
-          from_one = h.from_one;
-          to_end = h.to_end;
-          first = one;
-          same = same_left;
-        })))
+        (inr (
+          zero_row,
+          IsListStep.normed (record {
+            lines = lines;
+            short = short;
+            square = square;
+            inverse = h.inverse;
+            is = h.is;
+            corner = h.corner;
+            corner_from_one = h.corner_from_one;
+            corner_to_end = h.corner_to_end;
+            from_one = h.from_one;
+            to_end = h.to_end;
+            first = one;
+            same = same_left;
+          }),
+        ))
 start_licensed rep lines rows Want told result held is same short square h = absurd h
 
 -- of a term of a sum
