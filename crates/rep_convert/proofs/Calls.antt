@@ -1,6 +1,6 @@
 -- What the calls of a start hand on, by the rows of the text.
-use Rattle.std.proofs.Common.{◌≡◌, ℕ, suc, ◌+◌, ◌-◌, ◌<◌, List, [], map, length, All, Contains, slice_index_or, refl, sym, ap, ap₂, ◌∙◌, subst, true}
-use Rattle.std.proofs.lemmas.List.{length-map, map-id}
+use Rattle.std.proofs.Common.{◌≡◌, ℕ, suc, ◌-◌, List, [], map, length, All, Contains, slice_index_or, refl, sym, ap, ◌∙◌, subst, true}
+use Rattle.std.proofs.lemmas.List.{length-map}
 use Rattle.exact_field.specs.Rational.{ℚ}
 use Rattle.frac128.specs.Held.{is_held}
 use Rattle.polyhedra.specs.Cone.{HasFullRank}

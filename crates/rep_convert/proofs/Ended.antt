@@ -1,6 +1,5 @@
 -- A conversion that has ended, with rows and without.
-use Rattle.std.proofs.Common.{◌≡◌, ◌≢◌, ℕ, suc, ◌<◌, ◌==◌, List, [], ◌∷◌, ◌++◌, map, length, All, AllPairs, Bool, true, false, true≢false, not, ◌&&◌, IsTrue, None, refl, sym, ap, ap₂, ◌∙◌, subst, arith}
-use Rattle.std.specs.List.{list_all}
+use Rattle.std.proofs.Common.{◌≡◌, ◌≢◌, ℕ, suc, ◌<◌, ◌==◌, List, [], ◌∷◌, ◌++◌, map, length, All, Bool, true, false, true≢false, not, IsTrue, refl, sym, ap, ap₂, ◌∙◌, subst, arith}
 use Rattle.std.proofs.lemmas.Bool.{ne_eqb}
 use Rattle.std.proofs.lemmas.List.Elements.{All-cons, All-head, All-nil, All-push, All-tail}
 use Rattle.exact_field.specs.Rational.{ℚ}
@@ -9,12 +8,12 @@ use Rattle.polyhedra.specs.LiveList.{LiveList, Numbered, vectors}
 use Rattle.polyhedra.proofs.Members.{pairs-nil}
 use Rattle.polyhedra.proofs.Tests.{both_hold, true-list_all}
 use Rattle.lineality.specs.Steps.{IsClear, numbered_without}
-use Rattle.lineality.specs.Without.{with_zeros, without}
+use Rattle.lineality.specs.Without.{with_zeros}
 use Rattle.double_descr.specs.State.{State as Description}
 use Rattle.log_rules.specs.Events.Event.{test}
 use Rattle.log_rules.specs.declared.rule.Rule.{Rule}
 use Rattle.log_rules.specs.declared.rule.Rule.TheVariants as rule
-use Rattle.word_lines.specs.Grammar.{IsWhole, ends_once, is_formed}
+use Rattle.word_lines.specs.Grammar.{ends_once, is_formed}
 use Rattle.rep_conv.specs.Converted.{Gives}
 use Rattle.rep_conv.specs.Events.{AllHeld, IsHeldStep, all_used, events}
 use Rattle.rep_conv.specs.Giving.{IsGiven}
@@ -30,7 +29,6 @@ use Rattle.rep_text.specs.declared.conv.ConvEntry.{ConvEntry}
 use Rattle.rep_text.specs.declared.conv.ConvEntry.TheVariants.{Conv, End}
 use Rattle.rep_text.specs.declared.rep.Rep.{Rep}
 use Rattle.rep_convert.specs.Standing.{IsConversion, StandsAt, line_places}
-use Rattle.rep_convert.specs.declared.fault.Converted.{Converted}
 use Rattle.rep_convert.proofs.Growing.{each_more, each_none, state_more}
 
 -- ---- the one end

@@ -1,12 +1,9 @@
 -- Vectors with zeros at the places of lines, as generators.
-use Rattle.std.proofs.Common.{◌≡◌, ℕ, suc, ◌+◌, Bool, true, false, List, [], ◌∷◌, map, length, All, refl, sym, ap, ap₂, ◌∙◌, subst, arith}
+use Rattle.std.proofs.Common.{◌≡◌, ℕ, suc, ◌+◌, Bool, true, false, List, [], ◌∷◌, map, length, refl, sym, ap, ap₂, ◌∙◌, arith}
 use Rattle.std.proofs.lemmas.List.{length-map}
-use Rattle.std.proofs.lemmas.List.Elements.{All-map, All-weaker}
 use Rattle.exact_field.specs.Rational.{ℚ}
 use Rattle.polyhedra.specs.DoubleDescription.{IsNormed, magnitude, norming}
 use Rattle.polyhedra.specs.LiveList.{Numbered, numbered, starting}
-use Rattle.polyhedra.specs.Vectors.{AreWide}
-use Rattle.polyhedra.proofs.Lists.{HasWidth}
 use Rattle.lineality.specs.Steps.{IsClear, list_without}
 use Rattle.lineality.specs.Without.{open_count, with_zeros, without}
 use Rattle.lineality.proofs.Masks.{without-with}

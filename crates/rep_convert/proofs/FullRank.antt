@@ -1,5 +1,5 @@
 -- Without the entries at the places of their lines rows have full rank.
-use Rattle.std.proofs.Common.{◌≡◌, ℕ, List, map, length, All, sym, ap, ◌∙◌, subst}
+use Rattle.std.proofs.Common.{◌≡◌, ℕ, List, map, length, All, sym, ap, ◌∙◌}
 use Rattle.std.proofs.lemmas.List.Elements.{All-weaker}
 use Rattle.exact_field.specs.Rational.{ℚ, zero_ℚ}
 use Rattle.exact_field.specs.Vector.{dot}

@@ -1,5 +1,5 @@
 -- A log with one more entry.
-use Rattle.std.proofs.Common.{◌≡◌, List, [], ◌∷◌, ◌++◌, All, IsTrue, not, refl, sym, ap, ap₂, ◌∙◌, subst, ◌⊎◌, inl, inr}
+use Rattle.std.proofs.Common.{◌≡◌, List, [], ◌∷◌, ◌++◌, All, IsTrue, not, refl, ap, ap₂, subst, ◌⊎◌, inl, inr}
 use Rattle.std.specs.List.{flat_map}
 use Rattle.std.proofs.lemmas.List.Elements.{All-nil, All-cons, All-append}
 use Rattle.std.proofs.lemmas.List.Sums.{fold-append}
@@ -11,9 +11,9 @@ use Rattle.word_lines.specs.Grammar.{is_formed}
 use Rattle.rep_text.specs.ConvText.{conv_grammar, is_conv_end}
 use Rattle.rep_text.specs.declared.conv.ConvEntry.{ConvEntry}
 use Rattle.rep_text.specs.declared.rep.Rep.{Rep}
-use Rattle.rep_conv.specs.Events.{AllHeld, IsHeldStep, events}
+use Rattle.rep_conv.specs.Events.{IsHeldStep, events}
 use Rattle.rep_conv.specs.Live.{after, nothing, state}
-use Rattle.rep_conv.specs.Meets.{AllMeet, Meets}
+use Rattle.rep_conv.specs.Meets.{Meets}
 use Rattle.rep_convert.specs.Standing.{IsOpenLog}
 
 -- ---- one more entry

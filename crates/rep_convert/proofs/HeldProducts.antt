@@ -1,5 +1,5 @@
 -- The steps of a product of two vectors are held where each product and each sum so far is.
-use Rattle.std.proofs.Common.{◌≡◌, ℕ, zero, suc, ◌+◌, ◌-◌, ◌<◌, ◌≤◌, Bool, true, false, ◌||◌, if◌then◌else◌, IsTrue, List, [], ◌∷◌, length, take, zip, All, slice_index_or, refl, sym, ap, ap₂, ◌∙◌, subst, arith, ◌⊎◌, inl, inr}
+use Rattle.std.proofs.Common.{◌≡◌, ℕ, suc, ◌-◌, ◌<◌, Bool, true, false, ◌||◌, if◌then◌else◌, IsTrue, List, [], ◌∷◌, length, take, zip, All, slice_index_or, refl, sym, ap, ap₂, ◌∙◌, subst, arith, ◌⊎◌, inl, inr}
 use Rattle.std.proofs.lemmas.List.Elements.{All-nil, All-cons}
 use Rattle.exact_field.specs.Rational.{ℚ, zero_ℚ, ◌+ℚ◌, ◌*ℚ◌}
 use Rattle.exact_field.specs.Vector.{dot, entry}
@@ -9,8 +9,8 @@ use Rattle.polyhedra.proofs.Algebra.{mul_zero, zero_add, zero_mul}
 use Rattle.polyhedra.proofs.Laws.{add_assoc, add_zero}
 use Rattle.polyhedra.proofs.Tests.{either_true, or_left, or_right}
 use Rattle.lin_rows.specs.Sums.{AreHeld, partial}
-use Rattle.log_rules.specs.Events.{Event, dot_steps, exact, sum_from}
-use Rattle.log_rules.specs.Events.Event.{test, step}
+use Rattle.log_rules.specs.Events.{dot_steps, sum_from}
+use Rattle.log_rules.specs.Events.Event.{step}
 use Rattle.log_rules.proofs.PassedTests.{zero_number, zero_passes}
 use Rattle.rep_conv.specs.Events.{IsHeldStep}
 

@@ -1,6 +1,6 @@
 -- The steps of an addition that are held without the entries at marked places are held with them,
 -- where all generators are 0 there: what is left are products and sums of 0, and 0 divided.
-use Rattle.std.proofs.Common.{◌≡◌, ℕ, suc, List, [], ◌∷◌, ◌++◌, map, length, All, AllPairs, Contains, Bool, true, false, cond, ◌||◌, IsTrue, Option, Some, None, refl, sym, ap, ap₂, ◌∙◌, subst, arith}
+use Rattle.std.proofs.Common.{◌≡◌, ℕ, List, [], ◌∷◌, ◌++◌, map, length, All, AllPairs, Contains, Bool, true, false, cond, ◌||◌, IsTrue, Option, Some, None, refl, sym, ap, ap₂, ◌∙◌, subst, arith}
 use Rattle.std.specs.Prelude.{zip}
 use Rattle.std.specs.List.{flat_map}
 use Rattle.std.proofs.lemmas.List.Elements.{All-nil, All-cons, All-head, All-tail, All-append}
@@ -20,7 +20,7 @@ use Rattle.polyhedra.proofs.Tests.{same_tests, test_of_zero, zero_of_test}
 use Rattle.double_descr.specs.Adding.{Block, AreHeld, value_block, pair_block, add_blocks}
 use Rattle.double_descr.specs.Steps.{Step, IsHeld, term_steps, multiple_steps}
 use Rattle.double_descr.specs.Steps as description
-use Rattle.double_descr.proofs.StepLists.{no_product, no_term, a_term}
+use Rattle.double_descr.proofs.StepLists.{no_product, a_term}
 use Rattle.lineality.specs.Steps.{IsClear, numbered_without}
 use Rattle.lineality.specs.Without.{without, with_zeros}
 use Rattle.lineality.proofs.Masks.{without-plus, without-scaled}

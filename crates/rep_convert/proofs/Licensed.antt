@@ -1,5 +1,5 @@
 -- What eliminations and sums of products tell of their overflows, as licences of a conversion.
-use Rattle.std.proofs.Common.{◌≡◌, ◌≢◌, ℕ, ◌+◌, ◌-◌, ◌≤◌, Bool, List, [], ◌∷◌, map, length, refl, sym, ap, ap₂, ◌∙◌, subst, true≢false, IsTrue, ◌⊎◌, inl, inr}
+use Rattle.std.proofs.Common.{◌≡◌, ◌≢◌, ℕ, ◌+◌, ◌-◌, ◌≤◌, List, [], ◌∷◌, length, refl, sym, ap, ap₂, ◌∙◌, subst, true≢false, IsTrue, ◌⊎◌, inl, inr}
 use Rattle.std.specs.Prelude.{IsFalse}
 use Rattle.std.proofs.lemmas.List.{map-id}
 use Rattle.exact_field.specs.Rational.{ℚ, zero_ℚ, ◌+ℚ◌, ◌-ℚ◌, ◌*ℚ◌, ◌/ℚ◌, inverse_ℚ, whole, fraction}
@@ -27,7 +27,7 @@ use Rattle.deriv_log.specs.declared.licence.Place.{Place}
 use Rattle.deriv_log.specs.declared.licence.Place.TheVariants.{Elim}
 use Rattle.log_rules.specs.Events.{exact}
 use Rattle.licence.specs.Laws.{term_number}
-use Rattle.licence.specs.Steps.{operation, in_numbers, IsNotHeld, IsProductStep}
+use Rattle.licence.specs.Steps.{operation, IsNotHeld}
 use Rattle.licence.proofs.Given.{not_held}
 use Rattle.overflows.specs.Faults.{IsEliminationLeft, IsLeftAt, IsTermAt}
 use Rattle.overflows.specs.declared.fault.SolveFault.{SolveFault}
@@ -39,7 +39,6 @@ use Rattle.rep_convert.specs.Licensed.{AreMultiplied, AreShort, IsAt, IsConvLeft
 use Rattle.rep_convert.specs.Lines.{width_without}
 use Rattle.rep_convert.specs.Started.{HasHeldOperand}
 use Rattle.rep_convert.specs.declared.fault.ConvFault.{ConvFault}
-use Rattle.rep_convert.specs.declared.fault.ConvFault.TheVariants as converting
 
 -- ---- numbers
 pub same_numbers : (rows : List (List ℚ)) → numbers (λ (q : ℚ). q) rows ≡ rows

@@ -1,5 +1,5 @@
 -- The entries of lines.
-use Rattle.std.proofs.Common.{◌≡◌, ℕ, suc, ◌<◌, ◌==◌, ◌&&◌, List, [], ◌∷◌, ◌++◌, map, length, All, AllPairs, Contains, Bool, true, false, not, IsTrue, refl, sym, ap, ◌∙◌, subst, fold, append_assoc, append-nil}
+use Rattle.std.proofs.Common.{◌≡◌, suc, ◌<◌, ◌==◌, ◌&&◌, List, [], ◌∷◌, ◌++◌, map, length, All, AllPairs, Contains, true, false, not, IsTrue, refl, sym, ap, ◌∙◌, subst, fold, append_assoc, append-nil}
 use Rattle.std.specs.List.{flat_map}
 use Rattle.std.proofs.lemmas.List.{map-append}
 use Rattle.std.proofs.lemmas.List.Elements.{All-nil, All-cons, All-append, Contains-append_right}
@@ -8,7 +8,6 @@ use Rattle.exact_field.specs.Vector.{dot, entry}
 use Rattle.frac128.specs.Held.{is_held}
 use Rattle.frac128.specs.Sparse.{is_zero}
 use Rattle.polyhedra.specs.DoubleDescription.{leading}
-use Rattle.polyhedra.specs.TightSets.{IsTight}
 use Rattle.polyhedra.proofs.Lists.{Contains-here, HasWidth}
 use Rattle.polyhedra.proofs.Members.{member_of, pairs-head, pairs-tail}
 use Rattle.polyhedra.proofs.Tests.{both_hold}
@@ -22,9 +21,9 @@ use Rattle.rep_text.specs.ConvText.{conv_grammar, is_conv_end}
 use Rattle.rep_text.specs.declared.conv.ConvEntry.{ConvEntry}
 use Rattle.rep_text.specs.declared.conv.ConvEntry.TheVariants.{Conv, Line}
 use Rattle.rep_text.specs.declared.rep.Rep.{Rep}
-use Rattle.rep_conv.specs.Events.{IsHeldStep, events, line_events, tight_events}
+use Rattle.rep_conv.specs.Events.{IsHeldStep, events, tight_events}
 use Rattle.rep_conv.specs.Live.{State, after, nothing, state}
-use Rattle.rep_conv.specs.Meets.{Meets, MeetsKind, MeetsLine, has_begun, has_start, in_order}
+use Rattle.rep_conv.specs.Meets.{Meets, MeetsLine, has_begun, has_start, in_order}
 use Rattle.rep_conv.specs.Rows.{has_rows, text_rows}
 use Rattle.rep_conv.proofs.SameSets.{some_is}
 use Rattle.rep_conv.proofs.TextRows.{text_rows_wide}

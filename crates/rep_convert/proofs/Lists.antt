@@ -1,6 +1,6 @@
 -- Lists that are gone through in their order.
-use Rattle.std.proofs.Common.{◌≡◌, ℕ, suc, ◌+◌, ◌-◌, ◌<◌, ◌≤◌, Bool, true, false, List, [], ◌∷◌, ◌++◌, map, length, take, drop, All, AllPairs, Contains, slice_index_or, refl, sym, ap, ap₂, ◌∙◌, subst, arith, append_assoc, append-nil}
-use Rattle.std.proofs.lemmas.List.{drop_all, get_or-map, length-map, map-append, map-id, take_all, take_more}
+use Rattle.std.proofs.Common.{◌≡◌, ℕ, suc, ◌+◌, ◌<◌, ◌≤◌, Bool, true, false, List, [], ◌∷◌, ◌++◌, map, length, take, All, Contains, slice_index_or, refl, sym, ap, ap₂, ◌∙◌, subst, arith}
+use Rattle.std.proofs.lemmas.List.{get_or-map, length-map, map-append, map-id, take_all, take_more}
 use Rattle.std.proofs.lemmas.List.Elements.{All-nil, All-cons, All-append, Contains-get_or}
 use Rattle.exact_field.specs.Rational.{ℚ}
 use Rattle.polyhedra.specs.LiveList.{Numbered, numbers, vectors}

@@ -1,14 +1,13 @@
 -- Overflows of the addition of a row to a double description of rows of the text.
-use Rattle.std.proofs.Common.{◌≡◌, ℕ, suc, ◌+◌, ◌-◌, ◌<◌, ◌≤◌, List, [], ◌∷◌, ◌++◌, length, map, All, Bool, Contains, IsTrue, refl, sym, ap, ap₂, ◌∙◌, subst, arith, ◌⊎◌, inl, inr, slice_get, Some}
+use Rattle.std.proofs.Common.{◌≡◌, ℕ, suc, ◌+◌, ◌-◌, ◌<◌, List, [], ◌∷◌, ◌++◌, length, map, All, Bool, Contains, refl, sym, ap, ap₂, ◌∙◌, subst, arith, ◌⊎◌, inl, inr, slice_get, Some}
 use Rattle.std.specs.Prelude.{IsFalse}
-use Rattle.std.proofs.Math.Seq.{get_or-append_seam}
 use Rattle.std.proofs.lemmas.List.{length-map, map-append}
 use Rattle.std.proofs.lemmas.List.Elements.{Contains-append_cases, Contains-append_right, Contains-get_or}
-use Rattle.exact_field.specs.Rational.{ℚ, zero_ℚ}
+use Rattle.exact_field.specs.Rational.{ℚ}
 use Rattle.exact_field.specs.declared.op.Op.{Op}
 use Rattle.exact_field.specs.declared.op.Left.{Left}
 use Rattle.frac128.specs.Held.{is_held, held_zero}
-use Rattle.polyhedra.specs.LiveList.{LiveList, LivePair, Numbered, live_pairs}
+use Rattle.polyhedra.specs.LiveList.{LiveList, live_pairs}
 use Rattle.polyhedra.proofs.Lists.{Contains-here}
 use Rattle.polyhedra.proofs.Members.{Contains-map_source, all_of_members, member_of}
 use Rattle.lineality.specs.Without.{without}

@@ -1,16 +1,15 @@
 -- The entry of a start: it meets its rules, its steps are held, and the double description stands for the same rows.
-use Rattle.std.proofs.Common.{◌≡◌, if◌then◌else◌, ℕ, suc, ◌+◌, ◌*◌, ◌<◌, ◌≤◌, ◌==◌, ◌&&◌, List, [], ◌∷◌, ◌++◌, map, length, All, AllPairs, Contains, Bool, true, false, not, IsTrue, slice_index_or, refl, sym, ap, ap₂, ◌∙◌, subst, arith}
+use Rattle.std.proofs.Common.{◌≡◌, if◌then◌else◌, ℕ, suc, ◌+◌, ◌*◌, ◌<◌, ◌≤◌, ◌==◌, ◌&&◌, List, [], ◌∷◌, ◌++◌, map, length, All, Contains, Bool, true, not, IsTrue, slice_index_or, refl, sym, ap, ◌∙◌, subst, arith}
 use Rattle.std.specs.List.{enumerate_from, flat_map}
 use Rattle.std.proofs.lemmas.List.{get_or-map, length-map}
 use Rattle.std.proofs.lemmas.List.Elements.{All-nil, All-cons, All-append, All-map, Contains-get_or}
 use Rattle.std.proofs.lemmas.List.Folds.{list_any-append}
-use Rattle.exact_field.specs.Rational.{ℚ, zero_ℚ, one_ℚ, ◌<ℚ◌, lt_ℚ}
-use Rattle.exact_field.specs.Vector.{dot, entry}
+use Rattle.exact_field.specs.Rational.{ℚ, zero_ℚ, ◌<ℚ◌, lt_ℚ}
+use Rattle.exact_field.specs.Vector.{dot}
 use Rattle.frac128.specs.Held.{is_held}
 use Rattle.frac128.specs.Sparse.{is_zero}
-use Rattle.polyhedra.specs.Dependence.{AreCorners}
 use Rattle.polyhedra.specs.DoubleDescription.{IsNormed}
-use Rattle.polyhedra.specs.LiveList.{LiveList, Numbered, starting, vectors}
+use Rattle.polyhedra.specs.LiveList.{LiveList, starting, vectors}
 use Rattle.polyhedra.specs.Vectors.{AreWide}
 use Rattle.polyhedra.proofs.Lists.{HasWidth}
 use Rattle.polyhedra.proofs.LiveList.{vectors-numbered}
@@ -18,14 +17,13 @@ use Rattle.polyhedra.proofs.Members.{Contains-map, all_of_members, member_of}
 use Rattle.polyhedra.proofs.Tests.{both_hold, or_right}
 use Rattle.lineality.specs.Lines.{IsReduced, leading_place}
 use Rattle.lineality.specs.Steps.{IsClear, list_without}
-use Rattle.lineality.specs.Without.{marks, open_count, with_zeros, without}
+use Rattle.lineality.specs.Without.{with_zeros, without}
 use Rattle.lineality.proofs.Echelon.{IsFlatAt, echelon_of}
 use Rattle.lineality.proofs.Marks.{length-marks, with_flat}
 use Rattle.lineality.proofs.Masks.{dot-without}
 use Rattle.lineality.proofs.OpenPlaces.{open_places}
 use Rattle.lineality.proofs.Reduction.{reduced_of}
 use Rattle.lin_rows.specs.Sums.{AreHeld}
-use Rattle.double_descr.specs.Starting.{IsStart}
 use Rattle.double_descr.specs.State.{State as Description}
 use Rattle.upper_image.specs.Spots.{pieces}
 use Rattle.log_rules.specs.Events.{Event, dot_steps, rises}
@@ -36,11 +34,11 @@ use Rattle.log_tests.specs.Parts.{corner_events}
 use Rattle.word_lines.specs.Grammar.{is_formed}
 use Rattle.licence.specs.Operands.{IsMadeOver}
 use Rattle.licence.proofs.Making.{generator_laws}
-use Rattle.rep_text.specs.ConvText.{conv_grammar, is_conv_end}
+use Rattle.rep_text.specs.ConvText.{conv_grammar}
 use Rattle.rep_text.specs.declared.conv.ConvEntry.{ConvEntry}
 use Rattle.rep_text.specs.declared.conv.ConvEntry.TheVariants.{Start}
 use Rattle.rep_text.specs.declared.rep.Rep.{Rep}
-use Rattle.rep_conv.specs.Events.{IsHeldStep, all_below, is_first, corners_events, events, generator_events, start_events}
+use Rattle.rep_conv.specs.Events.{IsHeldStep, all_below, is_first, corners_events, events, generator_events}
 use Rattle.rep_conv.specs.Laws.{LinesStand}
 use Rattle.rep_conv.specs.Live.{State, after, nothing, rows_in_use, state}
 use Rattle.rep_conv.specs.Meets.{Meets, MeetsStart, has_begun, has_start, in_order, is_start}
@@ -49,7 +47,7 @@ use Rattle.rep_conv.proofs.LinePlaces.{line_within}
 use Rattle.rep_conv.proofs.OpenRows.{same_count, same_with}
 use Rattle.rep_conv.proofs.TextRows.{text_rows_wide}
 use Rattle.rep_convert.specs.Lines.{AreLinesOf, marks_of, width_without}
-use Rattle.rep_convert.specs.Standing.{IsOpenLog, StandForSame, StandsAt}
+use Rattle.rep_convert.specs.Standing.{IsOpenLog, StandsAt}
 use Rattle.rep_convert.specs.Started.{IsStarted, picked_without}
 use Rattle.rep_convert.proofs.Filled.{clear_filled, length-filled, normed_filled, starting_without}
 use Rattle.rep_convert.proofs.Growing.{flat_held, open_more, state_more}

@@ -1,22 +1,21 @@
 -- The rows that a conversion starts with.
-use Rattle.std.proofs.Common.{◌≡◌, ℕ, zero, suc, ◌+◌, ◌-◌, ◌<◌, ◌≤◌, ◌==◌, not, true, List, [], ◌∷◌, map, length, All, AllPairs, Contains, slice_index_or, refl, sym, ap, ap₂, ◌∙◌, subst, arith}
+use Rattle.std.proofs.Common.{◌≡◌, ℕ, zero, suc, ◌-◌, ◌<◌, ◌≤◌, ◌==◌, not, true, List, [], ◌∷◌, map, length, All, Contains, slice_index_or, refl, sym, ap, ap₂, ◌∙◌, subst, arith}
 use Rattle.std.proofs.lemmas.List.{get_or-map, length-map, map-id}
 use Rattle.std.proofs.lemmas.List.Elements.{All-head, All-map, All-tail, All-weaker, Contains-get_or}
-use Rattle.exact_field.specs.Rational.{ℚ, zero_ℚ, one_ℚ}
+use Rattle.exact_field.specs.Rational.{ℚ, one_ℚ}
 use Rattle.exact_field.specs.Vector.{dot, entry}
 use Rattle.frac128.specs.Held.{is_held}
 use Rattle.polyhedra.specs.Cone.{HasFullRank}
 use Rattle.polyhedra.specs.LiveList.{LiveList, Numbered, vectors}
-use Rattle.polyhedra.specs.Vectors.{AreWide, zeros}
+use Rattle.polyhedra.specs.Vectors.{zeros}
 use Rattle.polyhedra.proofs.Laws.{zero_lt_one}
 use Rattle.polyhedra.proofs.Lists.{HasWidth}
 use Rattle.polyhedra.proofs.LiveList.{vectors-numbered}
-use Rattle.polyhedra.proofs.Members.{Contains-map, Contains-map_source, all_of_members, member_of, pairs-map, pairs-weaker}
+use Rattle.polyhedra.proofs.Members.{Contains-map, all_of_members, member_of, pairs-map, pairs-weaker}
 use Rattle.polyhedra.proofs.Order.{not_zero_of_positive}
 use Rattle.lineality.specs.Without.{marks, open_count, with_zeros, without}
 use Rattle.lineality.proofs.Marks.{length-marks}
 use Rattle.lineality.proofs.Places.{at-zeros}
-use Rattle.lin_rows.specs.Answers.{IsIndep}
 use Rattle.lin_rows.specs.Read.{numbers}
 use Rattle.lin_rows.specs.Sums.{AreHeld}
 use Rattle.tableaux.specs.Elimination.{AreIndependent, IsSpanning}
@@ -35,10 +34,9 @@ use Rattle.rep_conv.proofs.SameSets.{some_is}
 use Rattle.rep_conv.proofs.TextRows.{text_rows_wide}
 use Rattle.rep_convert.specs.Licensed.{AreInUse, AreMultiplied, AreShort, IsElimTable}
 use Rattle.rep_convert.specs.Lines.{AreLinesOf, marks_of, rows_without, width_without}
-use Rattle.rep_convert.specs.Started.{AreStarts, IsStarted, picked_without}
+use Rattle.rep_convert.specs.Started.{AreStarts, picked_without}
 use Rattle.rep_convert.proofs.Filled.{length-filled}
 use Rattle.rep_convert.proofs.FullRank.{full_rank}
-use Rattle.rep_convert.proofs.Licensed.{same_numbers}
 use Rattle.rep_convert.proofs.StartEntry.{within}
 
 -- a fault of a sum, over the lists themselves

@@ -10,7 +10,7 @@ use Rattle.polyhedra.specs.Vectors.{AreWide}
 use Rattle.polyhedra.proofs.Lists.{HasWidth}
 use Rattle.polyhedra.proofs.Members.{Contains-map, member_of}
 use Rattle.lineality.specs.Steps.{IsClear, IsStepWithout, list_without}
-use Rattle.lineality.specs.Without.{marks, open_count, without}
+use Rattle.lineality.specs.Without.{open_count, without}
 use Rattle.lineality.proofs.Marks.{length-marks}
 use Rattle.lineality.proofs.StepsWithout.{IsGood, steps_without}
 use Rattle.double_descr.specs.Adding.{AreHeld, add_blocks}
@@ -20,7 +20,6 @@ use Rattle.word_lines.specs.declared.part.LogPair.{LogPair}
 use Rattle.log_rules.specs.Events.Event.{test}
 use Rattle.log_rules.specs.Live.{contains, log_pair, required_pairs}
 use Rattle.log_rules.specs.declared.rule.Rule.TheVariants as rule
-use Rattle.licence.specs.Operands.{IsMadeOver}
 use Rattle.licence.proofs.Making.{generator_laws}
 use Rattle.rep_conv.specs.Events.{IsHeldStep, add_events, added_events, events}
 use Rattle.rep_conv.specs.Live.{State, after, rows_in_use, state}

@@ -69,6 +69,12 @@ pub(crate) fn finish(
     )?;
     let generators = filled_generators(alloc, places, &begun.dd)?;
     begun.log.push(ConvEntry::End)?;
-    let found = other(alloc, rep, true, begun.lines.as_slice(), generators.as_slice())?;
+    let found = other(
+        alloc,
+        rep,
+        true,
+        begun.lines.as_slice(),
+        generators.as_slice(),
+    )?;
     Ok(found)
 }

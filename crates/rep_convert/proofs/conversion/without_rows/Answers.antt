@@ -1,4 +1,4 @@
-use Rattle.std.proofs.Common.{List, [], sym, ◌∙◌, subst}
+use Rattle.std.proofs.Common.{List, sym, ◌∙◌, subst}
 use Rattle.exact_field.specs.Rational.{ℚ}
 use Rattle.rep_conv.specs.Giving.{IsGiven}
 use Rattle.rep_conv.specs.Live.{state}

@@ -1,4 +1,4 @@
-use Rattle.std.proofs.Common.{ℕ, ◌<◌, List, [], ◌∷◌, ◌++◌, Bool, length, map, sym, ap, ◌∙◌, subst}
+use Rattle.std.proofs.Common.{◌<◌, List, [], ◌∷◌, ◌++◌, Bool, length, map, sym, ap, ◌∙◌, subst}
 use Rattle.exact_field.specs.Rational.{ℚ}
 use Rattle.polyhedra.specs.LiveList.{vectors}
 use Rattle.lineality.specs.Without.{with_zeros}

@@ -1,4 +1,4 @@
-use Rattle.std.proofs.Common.{◌≡◌, ◌++◌, ◌∷◌, [], Ok, Err, Bool, List, ℕ, sym, ◌∙◌, ap, Result}
+use Rattle.std.proofs.Common.{◌≡◌, ◌++◌, ◌∷◌, [], Ok, Err, sym, ◌∙◌, ap, Result}
 use Rattle.std.specs.Prelude.{OnOk, not}
 use Rattle.log_rules.proofs.PassedTests.{contained, not_contained}
 use Rattle.rep_convert.specs.Order.{IsOrder}

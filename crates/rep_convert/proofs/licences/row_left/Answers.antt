@@ -1,4 +1,4 @@
-use Rattle.std.proofs.Common.{◌≡◌, List, [], ap, subst}
+use Rattle.std.proofs.Common.{List, subst}
 use Rattle.exact_field.specs.Rational.{ℚ}
 use Rattle.deriv_log.specs.declared.entry.Entry.{Entry}
 use Rattle.overflows.specs.Faults.{IsEliminationLeft}

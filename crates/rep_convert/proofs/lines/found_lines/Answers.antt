@@ -1,4 +1,4 @@
-use Rattle.std.proofs.Common.{◌≡◌, ◌+◌, List, All, length, suc, ℕ, sym, subst, ap, ◌∙◌, arith}
+use Rattle.std.proofs.Common.{◌≡◌, ◌+◌, List, All, length, suc, ℕ, sym, subst, ◌∙◌, arith}
 use Rattle.exact_field.specs.Rational.{ℚ}
 use Rattle.rep_conv.proofs.TextRows.{text_rows_wide}
 use Rattle.rep_convert.proofs.Calls.{complement_here, fault_here, whole_table}

@@ -1,6 +1,5 @@
-use Rattle.std.proofs.Common.{◌≡◌, ◌≤◌, ◌++◌, List, ℕ, length, refl, sym, ap, ◌∙◌, subst, IsTrue}
+use Rattle.std.proofs.Common.{◌≤◌, ◌++◌, List, ℕ, length, refl, ap, ◌∙◌, subst, IsTrue}
 use Rattle.exact_field.specs.Rational.{ℚ}
-use Rattle.std.specs.Result.{OnOk}
 use Rattle.word_lines.specs.Grammar.{is_formed}
 use Rattle.rep_text.specs.ConvText.{conv_grammar}
 use Rattle.rep_text.specs.declared.conv.ConvEntry.TheVariants.{Start}

@@ -1,4 +1,4 @@
-use Rattle.rep_convert.proofs.Starting.{held_same, term_same}
+use Rattle.rep_convert.proofs.Starting.{term_same}
 use Rattle.rep_convert.proofs.products.try_product.Goals as goal
 
 pub returns-in-Err-clause-left : goal.returns-in-Err-clause-left

@@ -1,4 +1,4 @@
-use Rattle.std.proofs.Common.{◌≡◌, List, All, length, subst, sym, ap, ◌∙◌}
+use Rattle.std.proofs.Common.{List, All, length, subst, sym, ◌∙◌}
 use Rattle.exact_field.specs.Rational.{ℚ}
 use Rattle.frac128.specs.Held.{is_held}
 use Rattle.lin_rows.specs.Sums.{AreHeld}

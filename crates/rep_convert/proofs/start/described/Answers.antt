@@ -1,8 +1,7 @@
-use Rattle.std.proofs.Common.{◌≡◌, List, sym, subst, ap, ◌∙◌}
+use Rattle.std.proofs.Common.{subst}
 use Rattle.exact_field.specs.Rational.{ℚ}
 use Rattle.frac128.specs.Held.{is_held}
 use Rattle.double_descr.specs.Starting.{IsStartFault}
-use Rattle.double_descr.specs.declared.fault.DdFault.{DdFault}
 use Rattle.double_descr.specs.declared.fault.DdFault.TheVariants.{Elim as Starting}
 use Rattle.lin_rows.specs.Read.{numbers}
 use Rattle.rep_convert.proofs.Calls.{picked_many, picked_rank, short_picked, start_fault_here, start_here}

@@ -1,4 +1,4 @@
-use Rattle.std.proofs.Common.{◌≡◌, ◌<◌, List, ℕ, length, slice_index_or, sym, subst, ap, ◌∙◌}
+use Rattle.std.proofs.Common.{◌<◌, List, ℕ, length, slice_index_or, subst, ap, ◌∙◌}
 use Rattle.polyhedra.specs.LiveList.{numbers}
 use Rattle.rep_conv.proofs.Ends.{same_place}
 use Rattle.rep_convert.proofs.Lists.{gens_more}

@@ -1,9 +1,7 @@
-use Rattle.std.proofs.Common.{◌≡◌, ◌-◌, map, List, ℕ, sym, subst, ap, ◌∙◌}
+use Rattle.std.proofs.Common.{◌-◌, map, List, ℕ, subst, ap, ◌∙◌}
 use Rattle.exact_field.specs.Rational.{ℚ}
-use Rattle.frac128.specs.Held.{is_held}
 use Rattle.lin_rows.specs.Answers.{IsIndep}
 use Rattle.lin_rows.specs.Read.{numbers}
-use Rattle.lin_rows.specs.declared.answer.Indep.{Indep}
 use Rattle.rep_convert.specs.Lines.{width_without}
 use Rattle.rep_convert.proofs.Calls.{fault_here, none_here, short_here, starts_here}
 use Rattle.rep_convert.proofs.Starting.{some_rows}
