@@ -35,10 +35,10 @@ parted {X} (y ∷ xs) x (b ∷ before) e after h =
     ]
 
 -- what holds of each entry behind those before it
-abbrev Each : (List ConvEntry → ConvEntry → Type 0) → List ConvEntry → Type 0
+abbrev pub Each : (List ConvEntry → ConvEntry → Type 0) → List ConvEntry → Type 0
 Each P log = (before : List ConvEntry) (e : ConvEntry) (after : List ConvEntry) → log ≡ before ++ e ∷ after → P before e
 
-each_more : (P : List ConvEntry → ConvEntry → Type 0) (log : List ConvEntry) (e : ConvEntry) → Each P log → P log e → Each P (log ++ e ∷ [])
+pub each_more : (P : List ConvEntry → ConvEntry → Type 0) (log : List ConvEntry) (e : ConvEntry) → Each P log → P log e → Each P (log ++ e ∷ [])
 each_more P log e each more before d after same = elim (parted log e before d after same) [
   | inl p ↦ each before d p.0 p.1
   | inr p ↦ subst (λ (b : List ConvEntry). P b d) p.0 (subst (λ (x : ConvEntry). P log x) p.1 more)

@@ -1,3 +1,9 @@
+pub mod HeldSteps
+pub mod Turned
+pub mod Overflowed
+pub mod Ordered
+pub mod Named
+pub mod Ended
 pub mod HeldProducts
 pub mod Joined
 pub mod FullRank
@@ -6,9 +12,9 @@ pub mod Reading
 pub mod Growing
 pub mod LineEntries
 pub mod StartEntry
-pub mod Licensed
 pub mod Lists
 pub mod Starting
 pub mod Written
 pub mod Calls
 pub mod Begun
+pub mod LicensedFaults

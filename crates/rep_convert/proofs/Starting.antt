@@ -38,7 +38,7 @@ use Rattle.rep_convert.specs.Lines.{AreLinesOf, marks_of, rows_without, width_wi
 use Rattle.rep_convert.specs.Started.{AreStarts, IsStarted, picked_without}
 use Rattle.rep_convert.proofs.Filled.{length-filled}
 use Rattle.rep_convert.proofs.FullRank.{full_rank}
-use Rattle.rep_convert.proofs.Licensed.{same_numbers}
+use Rattle.rep_convert.proofs.LicensedFaults.{same_numbers}
 use Rattle.rep_convert.proofs.StartEntry.{within}
 
 -- a fault of a sum, over the lists themselves

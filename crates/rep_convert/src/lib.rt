@@ -3,6 +3,8 @@
 #![tactic(auto)]
 
 mod begin;
+mod conversion;
+mod ends;
 mod fault;
 mod licences;
 mod lines;
@@ -10,5 +12,7 @@ mod log;
 mod places;
 mod products;
 mod start;
+mod turn;
 
+pub use conversion::convert;
 pub use fault::{ConvFault, Converted};

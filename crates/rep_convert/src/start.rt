@@ -119,7 +119,7 @@ fn described(
 }
 
 /// The generators of a start with zeros at the places of lines.
-fn filled_generators(alloc: Global, places: &[bool], dd: &Dd<Frac>) -> Result<Vectors, NoMemory>
+pub(crate) fn filled_generators(alloc: Global, places: &[bool], dd: &Dd<Frac>) -> Result<Vectors, NoMemory>
     ensures { IfOk result
         (λ gens. gens ≡ map (with_zeros places.now) (vectors dd.now.list.live)) }
 {
