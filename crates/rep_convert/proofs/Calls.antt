@@ -23,7 +23,7 @@ use Rattle.rep_conv.proofs.TextRows.{text_rows_wide}
 use Rattle.rep_convert.specs.Licensed.{AreMultiplied, AreShort, IsElimTable}
 use Rattle.rep_convert.specs.Lines.{AreLinesOf, marks_of, rows_without, width_without}
 use Rattle.rep_convert.specs.Started.{AreStarts, IsStarted, picked_without}
-use Rattle.rep_convert.proofs.Licensed.{same_numbers}
+use Rattle.rep_convert.proofs.LicensedFaults.{same_numbers}
 use Rattle.rep_convert.proofs.Starting.{gens_long, multiplied, none_orthogonal, picked_is, picked_short, rows_long, same_widths, short_table, starts_are}
 
 -- ---- whole rows

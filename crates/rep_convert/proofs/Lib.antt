@@ -12,9 +12,9 @@ pub mod Reading
 pub mod Growing
 pub mod LineEntries
 pub mod StartEntry
-pub mod Licensed
 pub mod Lists
 pub mod Starting
 pub mod Written
 pub mod Calls
 pub mod Begun
+pub mod LicensedFaults

@@ -2,7 +2,7 @@ use Rattle.std.proofs.Common.{List, subst}
 use Rattle.exact_field.specs.Rational.{ℚ}
 use Rattle.deriv_log.specs.declared.entry.Entry.{Entry}
 use Rattle.overflows.specs.Faults.{IsEliminationLeft}
-use Rattle.rep_convert.proofs.Licensed.{elimination_licensed, same_numbers, start_licensed}
+use Rattle.rep_convert.proofs.LicensedFaults.{elimination_licensed, same_numbers, start_licensed}
 use Rattle.rep_convert.proofs.licences.row_left.Goals as goal
 
 pub returns-clause-elim : goal.returns-clause-elim
