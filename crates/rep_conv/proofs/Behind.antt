@@ -1,5 +1,5 @@
 -- What the checker keeps, behind one more entry.
-use Rattle.std.proofs.Common.{◌≡◌, ℕ, suc, ◌+◌, ◌<◌, ◌≤◌, ◌==◌, Bool, true, false, true≢false, not, ◌&&◌, ◌||◌, nat_lt, Contains, List, [], ◌∷◌, ◌++◌, length, map, All, AllPairs, slice_set, None, sym, ap, ap₂, ◌∙◌, subst, refl, arith}
+use Rattle.std.proofs.Common.{◌≡◌, ℕ, suc, ◌+◌, ◌<◌, ◌≤◌, Bool, true, false, true≢false, not, ◌&&◌, ◌||◌, nat_lt, Contains, List, [], ◌∷◌, ◌++◌, length, map, All, AllPairs, slice_set, None, sym, ap, ap₂, ◌∙◌, subst, refl, arith}
 use Rattle.std.proofs.lemmas.Bool.{ne_eqb}
 use Rattle.std.proofs.lemmas.Bool.Decides.{Decides-ltb}
 use Rattle.std.proofs.lemmas.List.{length-map, map-append}

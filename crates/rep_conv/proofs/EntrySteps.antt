@@ -1,32 +1,29 @@
 -- How many steps the entries `line` and `start` have at most, and parts of their events.
-use Rattle.std.proofs.Common.{◌≡◌, ℕ, zero, suc, ◌+◌, ◌*◌, ◌<◌, ◌≤◌, ◌==◌, Bool, true, false, cond, ◌&&◌, nat_lt, List, [], ◌∷◌, ◌++◌, length, map, All, slice_index_or, refl, sym, ap, ap₂, ◌∙◌, subst, arith, None}
-use Rattle.std.specs.List.{flat_map, list_all, enumerate_from}
-use Rattle.std.proofs.lemmas.Bool.{eqb-true}
+use Rattle.std.proofs.Common.{◌≡◌, ℕ, suc, ◌+◌, ◌*◌, ◌<◌, ◌≤◌, ◌==◌, Bool, true, false, cond, nat_lt, List, [], ◌∷◌, length, All, slice_index_or, refl, sym, ap, ◌∙◌, subst, arith, None}
+use Rattle.std.specs.List.{flat_map, enumerate_from}
 use Rattle.std.proofs.lemmas.Bool.Decides.{Decides-ltb}
 use Rattle.std.proofs.lemmas.List.{get_or_default}
 use Rattle.std.proofs.lemmas.List.Elements.{All-nil, All-cons, All-head, All-tail, All-get_or}
 use Rattle.std.proofs.lemmas.List.Sums.{AllPass-from_list_all}
-use Rattle.exact_field.specs.Rational.{ℚ, zero_ℚ, lt_ℚ}
+use Rattle.exact_field.specs.Rational.{ℚ}
 use Rattle.exact_field.specs.Vector.{dot, entry}
 use Rattle.frac128.specs.Held.{is_held}
 use Rattle.frac128.specs.Sparse.{is_zero}
 use Rattle.polyhedra.specs.DoubleDescription as double
 use Rattle.polyhedra.specs.DoubleDescription.{leading, norming}
 use Rattle.polyhedra.specs.Vectors.{AreWide}
-use Rattle.polyhedra.proofs.Tests.{both_true}
 use Rattle.upper_image.specs.Spots.{pieces}
-use Rattle.log_rules.specs.Events.{Event, dot_steps, first_failure, goes_on, rises}
+use Rattle.log_rules.specs.Events.{dot_steps, first_failure}
 use Rattle.log_rules.specs.Events.Event.{test}
 use Rattle.log_rules.specs.Runs.{steps}
 use Rattle.log_rules.specs.declared.rule.Rule.{Rule}
 use Rattle.log_rules.specs.declared.rule.Rule.TheVariants as rule
-use Rattle.log_rules.proofs.Failures.{steps-append}
 use Rattle.log_tests.specs.Parts.{corner_events}
-use Rattle.log_tests.proofs.Going.{Passed, first-passed}
+use Rattle.log_tests.proofs.Going.{first-passed}
 use Rattle.log_tests.proofs.RisingNumbers.{length-numbered, length-pieces, numbered-next}
-use Rattle.log_tests.proofs.StepBounds.{steps-dot, steps-each, steps-all, steps-tested, short_pieces, short_numbered}
+use Rattle.log_tests.proofs.StepBounds.{steps-dot, steps-each, steps-all, steps-tested}
 use Rattle.log_live.proofs.NewVectors.{same_zero}
-use Rattle.rep_conv.specs.Events.{tight_events, line_events, is_first, corners_events, generator_events, all_below, start_events}
+use Rattle.rep_conv.specs.Events.{tight_events, corners_events, generator_events, all_below}
 use Rattle.rep_conv.specs.Rows.{text_rows, row_at}
 use Rattle.rep_text.specs.declared.rep.Rep.{Rep}
 use Rattle.rep_conv.proofs.TextRows.{text_rows_wide}

@@ -1,5 +1,5 @@
 -- What a conversion gives, from the parts that the calls go through.
-use Rattle.std.proofs.Common.{◌≡◌, ◌≢◌, ℕ, suc, ◌-◌, ◌<◌, ◌==◌, Bool, true, false, cond, not, if◌then◌else◌, replicate, List, [], ◌∷◌, ◌++◌, map, filter, length, take, All, AllPairs, Contains, refl, sym, ap, ap₂, ◌∙◌, subst, arith, length-append, append_assoc}
+use Rattle.std.proofs.Common.{◌≡◌, ◌≢◌, ℕ, suc, ◌-◌, ◌<◌, ◌==◌, Bool, true, false, cond, not, if◌then◌else◌, replicate, List, [], ◌∷◌, ◌++◌, map, filter, length, take, All, AllPairs, refl, sym, ap, ap₂, ◌∙◌, subst, arith, length-append, append_assoc}
 use Rattle.std.specs.List.{flat_map, list_all}
 use Rattle.std.proofs.lemmas.Bool.{eq-eqb}
 use Rattle.std.proofs.lemmas.List.{length-replicate}
@@ -8,22 +8,20 @@ use Rattle.exact_field.specs.Rational.{ℚ, zero_ℚ, one_ℚ}
 use Rattle.exact_field.specs.Order.{same_ℚ}
 use Rattle.exact_field.specs.Vector.{entry}
 use Rattle.exact_field.proofs.Comparison.{same_ℚ-is}
-use Rattle.frac128.specs.Sparse.{is_zero}
 use Rattle.polyhedra.specs.DoubleDescription as double
 use Rattle.polyhedra.specs.Exactness.{homogenised}
 use Rattle.polyhedra.specs.LiveList.{Numbered, vectors}
 use Rattle.polyhedra.specs.TightSets.{AreApart, IsTight, LiesIn}
-use Rattle.polyhedra.proofs.Lists.{all_from_map}
 use Rattle.polyhedra.proofs.Members.{all_of_members, member_of, pairs-filter, pairs-map, pairs-nil, pairs-weaker, Contains-filter_source}
 use Rattle.polyhedra.proofs.Tests.{both_hold, both_true}
 use Rattle.log_rules.specs.Proves.{IsSorting}
-use Rattle.log_live.specs.Live.{live_of, numbered_of}
+use Rattle.log_live.specs.Live.{live_of}
 use Rattle.log_live.specs.declared.generator.Generator.{Generator}
 use Rattle.log_live.proofs.NewVectors.{same_zero}
 use Rattle.rep_conv.specs.Converted.{as_rows, at_height, with_normal, GivesGenerators, GivesInequalities, GivesRows}
 use Rattle.rep_conv.specs.Giving.{IsGiven, front_at, side_of}
 use Rattle.representations.specs.Lined.{pinned}
-use Rattle.rep_conv.specs.Laws.{readers}
+use Rattle.rep_conv.specs.Laws.{Stands, readers}
 use Rattle.rep_conv.specs.Live.{State, state, rows_in_use}
 use Rattle.rep_conv.specs.Progress.{StandsBehind}
 use Rattle.rep_conv.specs.declared.progress.Standing.{Standing}
@@ -35,26 +33,26 @@ use Rattle.rep_text.specs.declared.rep.RepKind.TheVariants.{Side, Equal, Line, P
 use Rattle.rep_text.specs.declared.rep.RepRow.{RepRow}
 use Rattle.rep_conv.proofs.Ends.{by_parts, front_width}
 
-abbrev IsWide : ℕ → Generator → Type 0
-IsWide width g = length g.vector ≡ suc width
+abbrev IsWide : ℕ → List ℚ → Type 0
+IsWide width v = length v ≡ suc width
 
 -- ---- the lists
 module _ (width : ℕ) (t : ℚ) where
   abbrev At : List ℚ → Bool
   At v = same_ℚ (entry v (suc width)) t
 
-  pub heights_are : (gens : List Generator) → All (λ (g : Generator). length g.vector ≡ suc width) gens →
-      flat_map (λ (g : Generator). front_at t g.vector) gens ≡ map (take width) (filter (λ v. same_ℚ (entry v (suc width)) t) (vectors (live_of gens)))
+  pub heights_are : (vs : List (List ℚ)) → All (λ v. length v ≡ suc width) vs →
+      flat_map (front_at t) vs ≡ map (take width) (filter (λ v. same_ℚ (entry v (suc width)) t) vs)
   heights_are [] h = refl
-  heights_are (g ∷ gens) h =
-      let here : length g.vector ≡ suc width = All-head (IsWide width) g gens h in
-      ap₂ (λ (n k : ℕ). (if same_ℚ (entry g.vector n) t then take k g.vector ∷ [] else []) ++ flat_map (λ (x : Generator). front_at t x.vector) gens) here (let e : length g.vector - 1 ≡ width = omega (arith, here) in e)
-      ∙ go (same_ℚ (entry g.vector (suc width)) t) (heights_are gens (All-tail (IsWide width) g gens h))
+  heights_are (v ∷ vs) h =
+      let here : length v ≡ suc width = All-head (IsWide width) v vs h in
+      ap₂ (λ (n k : ℕ). (if same_ℚ (entry v n) t then take k v ∷ [] else []) ++ flat_map (front_at t) vs) here (let e : length v - 1 ≡ width = omega (arith, here) in e)
+      ∙ go (same_ℚ (entry v (suc width)) t) (heights_are vs (All-tail (IsWide width) v vs h))
     where
-      go : (b : Bool) → flat_map (λ (x : Generator). front_at t x.vector) gens ≡ map (take width) (filter (λ v. same_ℚ (entry v (suc width)) t) (vectors (live_of gens))) →
-          (if b then take width g.vector ∷ [] else []) ++ flat_map (λ (x : Generator). front_at t x.vector) gens
-          ≡ map (take width) (cond b (g.vector ∷ filter (λ v. same_ℚ (entry v (suc width)) t) (vectors (live_of gens))) (filter (λ v. same_ℚ (entry v (suc width)) t) (vectors (live_of gens))))
-      go true e = ap (λ vs. take width g.vector ∷ vs) e
+      go : (b : Bool) → flat_map (front_at t) vs ≡ map (take width) (filter (λ u. same_ℚ (entry u (suc width)) t) vs) →
+          (if b then take width v ∷ [] else []) ++ flat_map (front_at t) vs
+          ≡ map (take width) (cond b (v ∷ filter (λ u. same_ℚ (entry u (suc width)) t) vs) (filter (λ u. same_ℚ (entry u (suc width)) t) vs))
+      go true e = ap (λ us. take width v ∷ us) e
       go false e = e
 
   pub heights_differ : (vs : List (List ℚ)) → All (λ v. length v ≡ suc width) vs → AllPairs (λ a b. a ≢ b) vs →
@@ -70,20 +68,20 @@ module _ (width : ℕ) (t : ℚ) where
       ∙ sym (by_parts width b (member_of (λ v. length v ≡ suc width) vs b wide kb.0))))
       (pairs-filter (λ a b. a ≢ b) (λ v. same_ℚ (entry v (suc width)) t) vs apart))
 
-pub sides_are : (width : ℕ) (gens : List Generator) → All (λ (g : Generator). length g.vector ≡ suc width) gens →
-    flat_map (λ (g : Generator). side_of g.vector) gens ≡ filter (λ v. not (list_all double.is_zero (take width v))) (vectors (live_of gens))
+pub sides_are : (width : ℕ) (vs : List (List ℚ)) → All (λ v. length v ≡ suc width) vs →
+    flat_map side_of vs ≡ filter (λ v. not (list_all double.is_zero (take width v))) vs
 sides_are width [] h = refl
-sides_are width (g ∷ gens) h =
-    let here : length g.vector ≡ suc width = All-head (IsWide width) g gens h in
-    ap₂ (λ (k : ℕ) (z : ℚ → Bool). (if list_all z (take k g.vector) then [] else g.vector ∷ []) ++ flat_map (λ (x : Generator). side_of x.vector) gens)
-    (let e : length g.vector - 1 ≡ width = omega (arith, here) in e) (λ i x. same_zero x i)
-    ∙ go (list_all double.is_zero (take width g.vector)) (sides_are width gens (All-tail (IsWide width) g gens h))
+sides_are width (v ∷ vs) h =
+    let here : length v ≡ suc width = All-head (IsWide width) v vs h in
+    ap₂ (λ (k : ℕ) (z : ℚ → Bool). (if list_all z (take k v) then [] else v ∷ []) ++ flat_map side_of vs)
+    (let e : length v - 1 ≡ width = omega (arith, here) in e) (λ i x. same_zero x i)
+    ∙ go (list_all double.is_zero (take width v)) (sides_are width vs (All-tail (IsWide width) v vs h))
   where
-    go : (b : Bool) → flat_map (λ (x : Generator). side_of x.vector) gens ≡ filter (λ v. not (list_all double.is_zero (take width v))) (vectors (live_of gens)) →
-        (if b then [] else g.vector ∷ []) ++ flat_map (λ (x : Generator). side_of x.vector) gens
-        ≡ cond (not b) (g.vector ∷ filter (λ v. not (list_all double.is_zero (take width v))) (vectors (live_of gens))) (filter (λ v. not (list_all double.is_zero (take width v))) (vectors (live_of gens)))
+    go : (b : Bool) → flat_map side_of vs ≡ filter (λ u. not (list_all double.is_zero (take width u))) vs →
+        (if b then [] else v ∷ []) ++ flat_map side_of vs
+        ≡ cond (not b) (v ∷ filter (λ u. not (list_all double.is_zero (take width u))) vs) (filter (λ u. not (list_all double.is_zero (take width u))) vs)
     go true e = e
-    go false e = ap (λ vs. g.vector ∷ vs) e
+    go false e = ap (λ us. v ∷ us) e
 
 pub fronts_are : (width : ℕ) (vs : List (List ℚ)) → All (λ v. length v ≡ suc width) vs → map (λ v. take (length v - 1) v) vs ≡ map (take width) vs
 fronts_are width [] h = refl
@@ -138,39 +136,36 @@ module _ (width : ℕ) (s : State) (lines_wide : All (λ v. length v ≡ suc wid
       member_of (λ u. length u ≡ suc width) (vectors s.list.live) v wide (Contains-filter_source (λ u. not (list_all double.is_zero (take width u))) (vectors s.list.live) v c).0))))
 
 -- ---- from the lines and live generators that stand
-module _ (width : ℕ) (s : State) (lines : List (List ℚ)) (gens : List Generator) (h : IsGiven width s lines gens) where
-  live_wide : All (λ v. length v ≡ suc width) (vectors (live_of gens))
-  live_wide = All-map (λ v. length v ≡ suc width) (λ (g : Numbered). g.vector) (live_of gens) (All-map (λ (g : Numbered). length g.vector ≡ suc width) numbered_of gens h.wide)
-
-  pub height_sorted : (t : ℚ) (list listed : List (List ℚ)) → list ≡ flat_map (λ (g : Generator). front_at t g.vector) gens →
+module _ (width : ℕ) (s : State) (lines vs : List (List ℚ)) (h : IsGiven width s lines vs) where
+  pub height_sorted : (t : ℚ) (list listed : List (List ℚ)) → list ≡ flat_map (front_at t) vs →
       (AllPairs (λ a b. a ≢ b) list → IsSorting (λ v. v) list listed) → IsSorting (λ v. v) (at_height width t s) listed
   height_sorted t list listed e sort =
-      let found : list ≡ map (take width) (filter (λ v. same_ℚ (entry v (suc width)) t) (vectors (live_of gens))) = e ∙ heights_are width t gens h.wide in
-      subst (λ (vs : List (List ℚ)). IsSorting (λ v. v) vs listed)
-      (found ∙ ap (λ (l : List Numbered). map (take width) (filter (λ v. same_ℚ (entry v (suc width)) t) (vectors l))) h.live_are)
-      (sort (subst (λ (vs : List (List ℚ)). AllPairs (λ a b. a ≢ b) vs) (sym found) (heights_differ width t (vectors (live_of gens)) live_wide h.apart)))
+      let found : list ≡ map (take width) (filter (λ v. same_ℚ (entry v (suc width)) t) vs) = e ∙ heights_are width t vs h.wide in
+      subst (λ (us : List (List ℚ)). IsSorting (λ v. v) us listed)
+      (found ∙ ap (λ (us : List (List ℚ)). map (take width) (filter (λ v. same_ℚ (entry v (suc width)) t) us)) h.live_are)
+      (sort (subst (λ (us : List (List ℚ)). AllPairs (λ a b. a ≢ b) us) (sym found) (heights_differ width t vs h.wide h.apart)))
 
-  pub side_sorted : (list listed : List (List ℚ)) → list ≡ flat_map (λ (g : Generator). side_of g.vector) gens →
+  pub side_sorted : (list listed : List (List ℚ)) → list ≡ flat_map side_of vs →
       (AllPairs (λ a b. a ≢ b) list → IsSorting (λ v. v) list listed) → IsSorting (λ v. v) (with_normal width s) listed
   side_sorted list listed e sort =
-      let found : list ≡ filter (λ v. not (list_all double.is_zero (take width v))) (vectors (live_of gens)) = e ∙ sides_are width gens h.wide in
-      subst (λ (vs : List (List ℚ)). IsSorting (λ v. v) vs listed)
-      (found ∙ ap (λ (l : List Numbered). filter (λ v. not (list_all double.is_zero (take width v))) (vectors l)) h.live_are)
-      (sort (subst (λ (vs : List (List ℚ)). AllPairs (λ a b. a ≢ b) vs) (sym found)
-      (pairs-filter (λ a b. a ≢ b) (λ v. not (list_all double.is_zero (take width v))) (vectors (live_of gens)) h.apart)))
+      let found : list ≡ filter (λ v. not (list_all double.is_zero (take width v))) vs = e ∙ sides_are width vs h.wide in
+      subst (λ (us : List (List ℚ)). IsSorting (λ v. v) us listed)
+      (found ∙ ap (λ (us : List (List ℚ)). filter (λ v. not (list_all double.is_zero (take width v))) us) h.live_are)
+      (sort (subst (λ (us : List (List ℚ)). AllPairs (λ a b. a ≢ b) us) (sym found)
+      (pairs-filter (λ a b. a ≢ b) (λ v. not (list_all double.is_zero (take width v))) vs h.apart)))
 
   pub line_fronts : map (λ v. take (length v - 1) v) lines ≡ map (take width) s.lines
   line_fronts = fronts_are width lines h.lines_wide ∙ ap (λ vs. map (take width) vs) h.lines_are
 
-  pub some_entries : All (λ (g : Generator). 0 < length g.vector) gens
-  some_entries = All-weaker (λ (g : Generator). length g.vector ≡ suc width) (λ (g : Generator). 0 < length g.vector) (λ g e. omega (arith, e)) gens h.wide
+  pub some_entries : All (λ v. 0 < length v) vs
+  some_entries = All-weaker (λ v. length v ≡ suc width) (λ v. 0 < length v) (λ v e. omega (arith, e)) vs h.wide
 
   pub line_entries : All (λ v. 0 < length v) lines
   line_entries = All-weaker (λ v. length v ≡ suc width) (λ v. 0 < length v) (λ v e. omega (arith, e)) lines h.lines_wide
 
   pub rows_fit : (gens_given some : Bool) (rows : List RepRow) → GivesRows gens_given some width s rows → list_all (row_fits (not gens_given) width) rows ≡ true
   rows_fit true true rows g = inequalities_fit width s (subst (λ (ls : List (List ℚ)). All (λ v. length v ≡ suc width) ls) h.lines_are h.lines_wide)
-      (subst (λ (l : List Numbered). All (λ v. length v ≡ suc width) (vectors l)) h.live_are live_wide) rows g
+      (subst (λ (us : List (List ℚ)). All (λ v. length v ≡ suc width) us) h.live_are h.wide) rows g
   rows_fit true false rows g = ap (list_all (row_fits false width)) g
       ∙ fits_as false width Side ((replicate width zero_ℚ ++ one_ℚ ∷ []) ∷ []) refl
       (All-cons (λ v. length v ≡ suc width) (replicate width zero_ℚ ++ one_ℚ ∷ []) [] (long width) (All-nil (λ v. length v ≡ suc width)))
@@ -178,9 +173,9 @@ module _ (width : ℕ) (s : State) (lines : List (List ℚ)) (gens : List Genera
       long : (n : ℕ) → length (replicate n zero_ℚ ++ one_ℚ ∷ []) ≡ suc n
       long n = let a = length-append (replicate n zero_ℚ) (one_ℚ ∷ []) in let b = length-replicate n zero_ℚ in omega (arith, a, b)
   rows_fit false true rows g = generators_fit width s (subst (λ (ls : List (List ℚ)). All (λ v. length v ≡ suc width) ls) h.lines_are h.lines_wide)
-      (subst (λ (l : List Numbered). All (λ v. length v ≡ suc width) (vectors l)) h.live_are live_wide) rows g
+      (subst (λ (us : List (List ℚ)). All (λ v. length v ≡ suc width) us) h.live_are h.wide) rows g
   rows_fit false false rows g = generators_fit width s (subst (λ (ls : List (List ℚ)). All (λ v. length v ≡ suc width) ls) h.lines_are h.lines_wide)
-      (subst (λ (l : List Numbered). All (λ v. length v ≡ suc width) (vectors l)) h.live_are live_wide) rows g
+      (subst (λ (us : List (List ℚ)). All (λ v. length v ≡ suc width) us) h.live_are h.wide) rows g
 
 -- rows that are listed one kind behind the other
 pub three_kinds : (r0 r1 r2 r3 : List RepRow) (a b d A B D : List (List ℚ)) → r0 ≡ [] → r1 ≡ r0 ++ as_rows Line a → r2 ≡ r1 ++ as_rows Point b → r3 ≡ r2 ++ as_rows Direction d →
@@ -195,26 +190,36 @@ two_kinds r0 r1 r2 a b A B e0 e1 e2 f1 f2 =
     e2 ∙ ap₂ (λ (r : List RepRow) (v : List (List ℚ)). r ++ as_rows Side v) (e1 ∙ ap₂ (λ (r : List RepRow) (v : List (List ℚ)). r ++ as_rows Equal v) e0 f1) f2
 
 -- ---- so it is behind all entries
-module _ (rep : Rep) (entries : List ConvEntry) (standing : Standing) (h : StandsBehind rep entries standing) where
-  vectors_wide : (b : Bool) → standing.started ≡ b → All (λ v. length v ≡ suc rep.width) (vectors (state rep entries).list.live)
-  vectors_wide true e = (h.holds.stands.begun e).live.described.generators_wide.wide
-  vectors_wide false e = subst (λ (l : List Numbered). All (λ v. length v ≡ suc rep.width) (vectors l)) (sym (h.early e)) (All-nil (λ v. length v ≡ suc rep.width))
+module _ (rep : Rep) (s : State) (started : Bool) (stands : Stands rep s started) (early : started ≡ false → s.list.live ≡ []) where
+  vectors_wide : (b : Bool) → started ≡ b → All (λ v. length v ≡ suc rep.width) (vectors s.list.live)
+  vectors_wide true e = (stands.begun e).live.described.generators_wide.wide
+  vectors_wide false e = subst (λ (l : List Numbered). All (λ v. length v ≡ suc rep.width) (vectors l)) (sym (early e)) (All-nil (λ v. length v ≡ suc rep.width))
 
-  vectors_apart : (b : Bool) → standing.started ≡ b → AllPairs (λ a c. a ≢ c) (vectors (state rep entries).list.live)
+  vectors_apart : (b : Bool) → started ≡ b → AllPairs (λ a c. a ≢ c) (vectors s.list.live)
   vectors_apart true e =
-      let stand = h.holds.stands.begun e in
-      pairs-weaker (AreApart (pinned (readers rep (state rep entries)) (rows_in_use rep (state rep entries)))) (λ a c. a ≢ c) (vectors (state rep entries).list.live)
-      (λ a c a_in c_in two same. two.first (subst (λ (v : List ℚ). LiesIn (pinned (readers rep (state rep entries)) (rows_in_use rep (state rep entries))) a v) same
-      (all_of_members (λ r. IsTight r a → IsTight r a) (pinned (readers rep (state rep entries)) (rows_in_use rep (state rep entries))) (λ r k t. t)))) stand.live.described.apart
-  vectors_apart false e = subst (λ (l : List Numbered). AllPairs (λ a c. a ≢ c) (vectors l)) (sym (h.early e)) (pairs-nil (λ a c. a ≢ c))
+      pairs-weaker (AreApart (pinned (readers rep s) (rows_in_use rep s))) (λ a c. a ≢ c) (vectors s.list.live)
+      (λ a c a_in c_in two same. two.first (subst (λ (v : List ℚ). LiesIn (pinned (readers rep s) (rows_in_use rep s)) a v) same
+      (all_of_members (λ r. IsTight r a → IsTight r a) (pinned (readers rep s) (rows_in_use rep s)) (λ r k t. t)))) (stands.begun e).live.described.apart
+  vectors_apart false e = subst (λ (l : List Numbered). AllPairs (λ a c. a ≢ c) (vectors l)) (sym (early e)) (pairs-nil (λ a c. a ≢ c))
 
-  pub given : IsGiven rep.width (state rep entries) standing.lines standing.generators.items
+  pub given : IsGiven rep.width s s.lines (vectors s.list.live)
   given = record {
-    lines_are = h.holds.keeps.lines;
-    live_are = h.holds.keeps.list.live;
-    lines_wide = subst (λ (ls : List (List ℚ)). All (λ v. length v ≡ suc rep.width) ls) (sym h.holds.keeps.lines) h.holds.stands.lines.echelon.wide.wide;
-    wide = all_from_map (λ (g : Numbered). length g.vector ≡ suc rep.width) numbered_of standing.generators.items
-        (all_from_map (λ v. length v ≡ suc rep.width) (λ (g : Numbered). g.vector) (live_of standing.generators.items)
-        (subst (λ (l : List Numbered). All (λ v. length v ≡ suc rep.width) (vectors l)) (sym h.holds.keeps.list.live) (vectors_wide standing.started refl)));
-    apart = subst (λ (l : List Numbered). AllPairs (λ a c. a ≢ c) (vectors l)) (sym h.holds.keeps.list.live) (vectors_apart standing.started refl);
+    lines_are = refl;
+    live_are = refl;
+    lines_wide = stands.lines.echelon.wide.wide;
+    wide = vectors_wide started refl;
+    apart = vectors_apart started refl;
   }
+
+-- the vectors of the generators that are kept
+pub kept_vectors : (gens : List Generator) → map (λ (g : Generator). g.vector) gens ≡ vectors (live_of gens)
+kept_vectors [] = refl
+kept_vectors (g ∷ gens) = ap (λ vs. g.vector ∷ vs) (kept_vectors gens)
+
+pub given_behind : (rep : Rep) (entries : List ConvEntry) (standing : Standing) → StandsBehind rep entries standing → (vs : List (List ℚ)) →
+    vs ≡ map (λ (g : Generator). g.vector) standing.generators.items → IsGiven rep.width (state rep entries) standing.lines vs
+given_behind rep entries standing h vs e =
+    let s : State = state rep entries in
+    subst (λ (p : List (List ℚ) × List (List ℚ)). IsGiven rep.width s p.0 p.1)
+    (λ i. (sym h.holds.keeps.lines i, sym (e ∙ kept_vectors standing.generators.items ∙ ap vectors h.holds.keeps.list.live) i))
+    (given rep s standing.started h.holds.stands h.early)

@@ -1,5 +1,5 @@
 -- How calls go through pieces of events.
-use Rattle.std.proofs.Common.{◌≡◌, ℕ, suc, ◌+◌, List, [], ◌∷◌, ◌++◌, sym, ap, ◌∙◌, subst, map, None}
+use Rattle.std.proofs.Common.{◌≡◌, ℕ, suc, ◌+◌, List, ap, ◌∙◌, subst, map, None}
 use Rattle.exact_field.specs.Rational.{ℚ, ◌/ℚ◌}
 use Rattle.frac128.specs.Held.{is_held}
 use Rattle.polyhedra.specs.DoubleDescription.{magnitude, norming}

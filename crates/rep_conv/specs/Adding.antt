@@ -1,6 +1,6 @@
 -- What an `add` entry of a conversion does to the live generators, by the parts that the calls go
 -- through.
-use Rattle.std.specs.Prelude.{◌≡◌, ℕ, suc, ◌+◌, ◌≤◌, ◌<◌, List, [], ◌∷◌, ◌++◌, length, map, All, AllPairs}
+use Rattle.std.specs.Prelude.{◌≡◌, ℕ, suc, ◌+◌, ◌≤◌, ◌<◌, List, ◌∷◌, ◌++◌, length, map, All, AllPairs}
 use Rattle.exact_field.specs.Rational.{ℚ, neg_ℚ, ◌/ℚ◌}
 use Rattle.exact_field.specs.Vector.{dot}
 use Rattle.exact_field.specs.declared.op.Op.TheVariants as op

@@ -6,8 +6,6 @@ use Rattle.exact_field.specs.Order.{same_ℚ}
 use Rattle.exact_field.specs.Vector.{entry}
 use Rattle.frac128.specs.Sparse.{is_zero}
 use Rattle.polyhedra.specs.LiveList.{vectors}
-use Rattle.log_live.specs.Live.{live_of}
-use Rattle.log_live.specs.declared.generator.Generator.{Generator}
 use Rattle.rep_conv.specs.Live.{State}
 
 -- a vector without its last entry, where that is t
@@ -18,11 +16,10 @@ front_at t v = if same_ℚ (entry v (length v)) t then take (length v - 1) v ∷
 abbrev pub side_of : List ℚ → List (List ℚ)
 side_of v = if list_all is_zero (take (length v - 1) v) then [] else v ∷ []
 
--- the lines and live generators that stand, of width + 1 entries each
-pub record IsGiven (width : ℕ) (s : State) (lines : List (List ℚ)) (gens : List Generator)
-    : Type 0 where
+-- the lines and the vectors of the live generators that stand, of width + 1 entries each
+pub record IsGiven (width : ℕ) (s : State) (lines generators : List (List ℚ)) : Type 0 where
   pub lines_are : lines ≡ s.lines
-  pub live_are : live_of gens ≡ s.list.live
+  pub live_are : generators ≡ vectors s.list.live
   pub lines_wide : All (λ v. length v ≡ suc width) lines
-  pub wide : All (λ g. length g.vector ≡ suc width) gens
-  pub apart : AllPairs (λ a b. a ≢ b) (vectors (live_of gens))
+  pub wide : All (λ v. length v ≡ suc width) generators
+  pub apart : AllPairs (λ a b. a ≢ b) generators

@@ -8,8 +8,9 @@ ghost use Rattle.exact_field.specs.Order.{cmp_ℚ};
 ghost use Rattle.log_rules.specs.Proves.{IsSorting};
 ghost use Rattle.rep_conv.specs.Converted.{Gives, GivesGenerators, GivesInequalities, GivesRows, as_rows, at_height, nothing_meets, with_normal};
 ghost use Rattle.rep_conv.specs.Giving.{IsGiven, front_at, side_of};
-ghost use Rattle.rep_conv.specs.Live.{State};
+ghost use Rattle.rep_conv.specs.Live.{State, state};
 ghost use Rattle.rep_conv.specs.Progress.{StandsBehind};
+ghost use Rattle.rep_conv.specs.Rows.{has_rows};
 ghost use Rattle.rep_text.specs.declared.conv.ConvEntry.{ConvEntry};
 
 use crate::firsts::copied;
@@ -52,13 +53,13 @@ fn push_at(alloc: Global, t: Frac, v: &[Frac], list: &mut Vectors) -> Result<(),
 }
 
 /// The vectors with this last entry, without it.
-fn found_at(alloc: Global, t: Frac, generators: &[Generator]) -> Result<Vectors, NoMemory>
-    requires { All (λ g. 0 < length g.vector) generators.now }
-    ensures { IfOk result (λ list. list ≡ flat_map (λ g. front_at t g.vector) generators.now) }
+fn found_at(alloc: Global, t: Frac, generators: &[Vector]) -> Result<Vectors, NoMemory>
+    requires { All (λ v. 0 < length v) generators.now }
+    ensures { IfOk result (λ list. list ≡ flat_map (front_at t) generators.now) }
 {
     let mut list = Items::new(alloc);
     for generator in generators {
-        push_at(alloc, t, generator.vector.as_slice(), &mut list)?;
+        push_at(alloc, t, generator.as_slice(), &mut list)?;
     }
     Ok(list)
 }
@@ -84,13 +85,13 @@ fn push_side(alloc: Global, v: &[Frac], list: &mut Vectors) -> Result<(), NoMemo
 }
 
 /// The vectors of the inequalities whose normal is not 0.
-fn found_sides(alloc: Global, generators: &[Generator]) -> Result<Vectors, NoMemory>
-    requires { All (λ g. 0 < length g.vector) generators.now }
-    ensures { IfOk result (λ list. list ≡ flat_map (λ g. side_of g.vector) generators.now) }
+fn found_sides(alloc: Global, generators: &[Vector]) -> Result<Vectors, NoMemory>
+    requires { All (λ v. 0 < length v) generators.now }
+    ensures { IfOk result (λ list. list ≡ flat_map side_of generators.now) }
 {
     let mut list = Items::new(alloc);
     for generator in generators {
-        push_side(alloc, generator.vector.as_slice(), &mut list)?;
+        push_side(alloc, generator.as_slice(), &mut list)?;
     }
     Ok(list)
 }
@@ -132,7 +133,7 @@ fn push_as(
 }
 
 /// Points or directions in rising order, by the last entry.
-fn heights(alloc: Global, t: Frac, generators: &[Generator]) -> Result<Vectors, NoMemory>
+fn heights(alloc: Global, t: Frac, generators: &[Vector]) -> Result<Vectors, NoMemory>
     requires { (width : ℕ) × (s : State) × (lines : List (List ℚ))
         × IsGiven width s lines generators.now }
     ensures { (width : ℕ) (s : State) (lines : List (List ℚ))
@@ -144,7 +145,7 @@ fn heights(alloc: Global, t: Frac, generators: &[Generator]) -> Result<Vectors, 
 }
 
 /// The inequalities whose normal is not 0, in rising order.
-fn sides(alloc: Global, generators: &[Generator]) -> Result<Vectors, NoMemory>
+fn sides(alloc: Global, generators: &[Vector]) -> Result<Vectors, NoMemory>
     requires { (width : ℕ) × (s : State) × (lines : List (List ℚ))
         × IsGiven width s lines generators.now }
     ensures { (width : ℕ) (s : State) (lines : List (List ℚ))
@@ -159,7 +160,7 @@ fn sides(alloc: Global, generators: &[Generator]) -> Result<Vectors, NoMemory>
 fn generator_rows(
     alloc: Global,
     lines: &[Vector],
-    generators: &[Generator],
+    generators: &[Vector],
 ) -> Result<Items<RepRow>, NoMemory>
     requires { (width : ℕ) × (s : State) × IsGiven width s lines.now generators.now }
     ensures { (width : ℕ) (s : State) → IsGiven width s lines.now generators.now
@@ -182,7 +183,7 @@ fn generator_rows(
 fn inequality_rows(
     alloc: Global,
     lines: &[Vector],
-    generators: &[Generator],
+    generators: &[Vector],
 ) -> Result<Items<RepRow>, NoMemory>
     requires { (width : ℕ) × (s : State) × IsGiven width s lines.now generators.now }
     ensures { (width : ℕ) (s : State) → IsGiven width s lines.now generators.now
@@ -216,7 +217,7 @@ fn other_rows(
     some: bool,
     width: u32,
     lines: &[Vector],
-    generators: &[Generator],
+    generators: &[Vector],
 ) -> Result<Items<RepRow>, NoMemory>
     requires { (s : State) × IsGiven width s lines.now generators.now }
     ensures { (s : State) → IsGiven width s lines.now generators.now
@@ -231,19 +232,54 @@ fn other_rows(
     inequality_rows(alloc, lines, generators)
 }
 
-/// The other representation, by what stands behind all entries.
-pub fn other(alloc: Global, rep: &Rep, standing: &Standing) -> Result<Rep, NoMemory>
-    requires { (entries : List ConvEntry) × StandsBehind rep.now entries standing.now }
-    ensures { (entries : List ConvEntry) → StandsBehind rep.now entries standing.now
+/// The other representation, by whether there are rows, and by the lines and the vectors of the live
+/// generators that stand behind all entries. The cost is that of two sorts.
+pub fn other(
+    alloc: Global,
+    rep: &Rep,
+    some: bool,
+    lines: &[Vector],
+    generators: &[Vector],
+) -> Result<Rep, NoMemory>
+    requires some { some ≡ has_rows rep.now }
+    requires given { (entries : List ConvEntry)
+        × IsGiven rep.now.width (state rep.now entries) lines.now generators.now }
+    ensures { (entries : List ConvEntry)
+        → IsGiven rep.now.width (state rep.now entries) lines.now generators.now
         → IfOk result (Gives rep.now entries) }
 {
-    let some = standing.rows.len() != 0;
-    let lines = standing.lines.as_slice();
-    let generators = standing.generators.as_slice();
     let rows = other_rows(alloc, rep.gens, some, rep.width, lines, generators)?;
     Ok(Rep {
         gens: !rep.gens,
         width: rep.width,
         rows,
     })
+}
+
+/// The vectors of generators.
+fn vectors_of(alloc: Global, generators: &[Generator]) -> Result<Vectors, NoMemory>
+    ensures { IfOk result (λ list. list ≡ map (λ g. g.vector) generators.now) }
+{
+    let mut list = Items::new(alloc);
+    for generator in generators {
+        list.push(copied(alloc, generator.vector.as_slice())?)?;
+    }
+    Ok(list)
+}
+
+/// The other representation, by what stands behind all entries.
+pub fn other_behind(alloc: Global, rep: &Rep, standing: &Standing) -> Result<Rep, NoMemory>
+    requires { (entries : List ConvEntry) × StandsBehind rep.now entries standing.now }
+    ensures { (entries : List ConvEntry) → StandsBehind rep.now entries standing.now
+        → IfOk result (Gives rep.now entries) }
+{
+    let some = standing.rows.len() != 0;
+    let generators = vectors_of(alloc, standing.generators.as_slice())?;
+    other(
+        alloc,
+        rep,
+        some,
+        standing.lines.as_slice(),
+        generators.as_slice(),
+    )
 }

@@ -1,17 +1,13 @@
-use Rattle.std.proofs.Common.{rules, ◌≡◌, ◌+◌, ℕ, suc, List, [], ◌∷◌, ◌++◌, length, sym, ap, ◌∙◌, subst, arith}
+use Rattle.std.proofs.Common.{rules, ◌≡◌, [], ◌∷◌, ◌∙◌, arith}
 use Rattle.std.specs.List.{flat_map}
-use Rattle.exact_field.specs.Rational.{ℚ}
-use Rattle.frac128.specs.Held.{is_held}
-use Rattle.log_rules.specs.Events.{Event, dot_steps, same_pairs}
+use Rattle.log_rules.specs.Events.{dot_steps, same_pairs}
 use Rattle.log_rules.specs.Events.Event.{test}
 use Rattle.log_rules.specs.Live.{required_pairs}
-use Rattle.log_rules.specs.Runs.{Stops, steps}
 use Rattle.log_rules.specs.declared.rule.Rule.TheVariants as rule
-use Rattle.log_rules.proofs.TightTests.{pairs_are}
-use Rattle.log_tests.proofs.Going.{Passed, Stopped, passed-then, stopped-after, stopped-behind, stopped-in, test-passed}
+use Rattle.log_tests.proofs.Going.{Passed, Stopped, passed-then, stopped-after, stopped-behind, stopped-in}
 use Rattle.log_live.specs.Live.{live_of}
 use Rattle.log_live.specs.declared.generator.Generator.{Generator}
-use Rattle.rep_conv.specs.Adding.{AreAtRow, values_at}
+use Rattle.rep_conv.specs.Adding.{values_at}
 use Rattle.rep_conv.specs.Events.{added_events, pair_of}
 use Rattle.rep_conv.proofs.Between.{few_values, row_widths, paired, as_added, as_added_stop}
 use Rattle.rep_conv.proofs.adding.change_at.Goals as goal

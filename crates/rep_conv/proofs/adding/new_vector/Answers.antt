@@ -1,11 +1,11 @@
-use Rattle.std.proofs.Common.{rules, ◌≡◌, ◌≢◌, ◌+◌, ◌<◌, List, [], ◌∷◌, ◌++◌, length, sym, ap, ◌∙◌, subst, arith}
-use Rattle.exact_field.specs.Rational.{ℚ, zero_ℚ, neg_ℚ, ◌/ℚ◌}
+use Rattle.std.proofs.Common.{rules, ◌≡◌, ◌+◌, ◌<◌, List, [], ◌∷◌, ◌++◌, sym, ap, ◌∙◌, subst, arith}
+use Rattle.exact_field.specs.Rational.{ℚ, neg_ℚ, ◌/ℚ◌}
 use Rattle.exact_field.specs.declared.op.Op.TheVariants as op
 use Rattle.frac128.specs.Held.{is_held}
 use Rattle.log_rules.specs.Events.{Event, meeting_point, meeting_steps}
 use Rattle.log_rules.specs.Events.Event.{step}
-use Rattle.log_rules.specs.Runs.{Runs, Stops, steps}
-use Rattle.log_tests.proofs.Going.{Passed, Stopped, passed-then, stopped-in, stopped-behind, Ran, ran-behind, room-in, room-behind}
+use Rattle.log_rules.specs.Runs.{Runs, steps}
+use Rattle.log_tests.proofs.Going.{Passed, Stopped, stopped-in, stopped-behind, Ran, ran-behind, room-in, room-behind}
 use Rattle.polyhedra.specs.DoubleDescription.{magnitude, norming}
 use Rattle.polyhedra.proofs.Norming.{magnitude-positive}
 use Rattle.polyhedra.proofs.Order.{not_zero_of_positive}

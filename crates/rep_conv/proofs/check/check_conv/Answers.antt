@@ -1,15 +1,14 @@
-use Rattle.std.proofs.Common.{◌≡◌, List, None, sym, subst, ◌∙◌}
+use Rattle.std.proofs.Common.{◌≡◌, List, None, subst, ◌∙◌}
 use Rattle.frac128.specs.Held.{is_held}
 use Rattle.rep_conv.specs.Converted.{Gives}
 use Rattle.rep_conv.specs.Events.{conv_failure}
-use Rattle.rep_conv.specs.Progress.{StandsBehind}
 use Rattle.rep_text.specs.declared.conv.ConvEntry.{ConvEntry}
 use Rattle.rep_conv.proofs.EventRules.{events_are_rules}
 use Rattle.rep_conv.proofs.NeededRows.{conversion_is_right}
 use Rattle.rep_conv.proofs.check.check_conv.Goals as goal
 
-pub other-requires : goal.other-requires
-other-requires c = (c.as_slice.result.now, c.in_ok-standing.ensures.ok.1)
+pub other_behind-requires : goal.other_behind-requires
+other_behind-requires c = (c.as_slice.result.now, c.in_ok-standing.ensures.ok.1)
 
 pub returns-clause-ok : goal.returns-clause-ok
 returns-clause-ok c = subst (λ (log : List ConvEntry). (conv_failure is_held c.args.rep.now log ≡ None) × Gives c.args.rep.now log c.in_ok-found.found) c.as_slice.ensures.items

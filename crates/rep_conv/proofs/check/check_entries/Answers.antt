@@ -1,4 +1,4 @@
-use Rattle.std.proofs.Common.{arith, ◌≡◌, length}
+use Rattle.std.proofs.Common.{arith}
 use Rattle.rep_conv.proofs.Taken.{all_taken, none_taken}
 use Rattle.rep_conv.proofs.check.check_entries.Goals as goal
 

@@ -1,4 +1,4 @@
-use Rattle.std.proofs.Common.{◌≡◌, arith, take, length, sym}
+use Rattle.std.proofs.Common.{arith, take}
 use Rattle.log_live.proofs.LivePairs.{length-take_to}
 use Rattle.rep_conv.proofs.Taken.{one_taken}
 use Rattle.rep_conv.proofs.check.take_at.Goals as goal

@@ -1,4 +1,4 @@
-use Rattle.std.proofs.Common.{rules, ◌≡◌, ℕ, ◌+◌, ◌-◌, ◌*◌, ◌<◌, List, [], length, take, drop, slice_index_or, sym, ap, ◌∙◌, subst, arith}
+use Rattle.std.proofs.Common.{◌≡◌, ℕ, ◌+◌, ◌-◌, ◌*◌, List, [], take, drop, slice_index_or, sym, ap, ◌∙◌, subst, arith}
 use Rattle.exact_field.specs.Rational.{ℚ}
 use Rattle.upper_image.specs.Spots.{pieces}
 use Rattle.log_tests.proofs.RisingNumbers.{length-pieces, pieces-at}

@@ -4,4 +4,4 @@ use Rattle.rep_conv.specs.Giving.{front_at}
 use Rattle.rep_conv.proofs.giving.found_at.Given as goal
 
 abbrev pub invariant-loop-generator : goal.invariant-loop-generator
-invariant-loop-generator l = l.list ≡ flat_map (λ g. front_at l.fn.t g.vector) (take l.generator-index l.generators)
+invariant-loop-generator l = l.list ≡ flat_map (front_at l.fn.t) (take l.generator-index l.generators)

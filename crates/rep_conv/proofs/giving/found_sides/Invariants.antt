@@ -4,4 +4,4 @@ use Rattle.rep_conv.specs.Giving.{side_of}
 use Rattle.rep_conv.proofs.giving.found_sides.Given as goal
 
 abbrev pub invariant-loop-generator : goal.invariant-loop-generator
-invariant-loop-generator l = l.list ≡ flat_map (λ g. side_of g.vector) (take l.generator-index l.generators)
+invariant-loop-generator l = l.list ≡ flat_map side_of (take l.generator-index l.generators)

@@ -1,10 +1,10 @@
-use Rattle.std.proofs.Common.{◌≡◌, ℕ, ◌==◌, ◌++◌, Bool, true, false, if◌then◌else◌, List, [], map, take, length, sym, ap, ◌∙◌, subst, arith}
+use Rattle.std.proofs.Common.{◌≡◌, ◌++◌, Bool, if◌then◌else◌, [], map, take, length, sym, ap, ◌∙◌, subst, arith}
 use Rattle.std.proofs.lemmas.Bool.{eq-eqb, ne_eqb}
 use Rattle.exact_field.specs.Rational.{ℚ}
 use Rattle.log_rules.specs.Proves.{IsSorting}
 use Rattle.rep_conv.specs.Converted.{as_rows, at_height}
 use Rattle.rep_text.specs.declared.rep.RepKind.TheVariants.{Line, Point, Direction}
-use Rattle.rep_conv.proofs.GivenRows.{line_entries, line_fronts, three_kinds}
+use Rattle.rep_conv.proofs.GivenRows.{line_fronts, three_kinds}
 use Rattle.rep_conv.proofs.giving.generator_rows.Goals as goal
 
 pub returns-then-len-eq0 : goal.returns-then-len-eq0

@@ -1,4 +1,4 @@
-use Rattle.std.proofs.Common.{◌≡◌, Bool, IfOk, sym, subst}
+use Rattle.std.proofs.Common.{Bool, IfOk, sym, subst}
 use Rattle.rep_conv.specs.Converted.{GivesRows}
 use Rattle.rep_conv.proofs.giving.other_rows.Goals as goal
 

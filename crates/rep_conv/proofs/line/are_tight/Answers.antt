@@ -1,4 +1,4 @@
-use Rattle.std.proofs.Common.{rules, ◌≡◌, List, ap, sym, ◌∙◌, subst, arith, length}
+use Rattle.std.proofs.Common.{rules, ◌≡◌, List, ap, ◌∙◌, subst, arith, length}
 use Rattle.std.proofs.lemmas.List.Elements.{All-get_or}
 use Rattle.exact_field.specs.Rational.{ℚ}
 use Rattle.frac128.specs.Held.{is_held}

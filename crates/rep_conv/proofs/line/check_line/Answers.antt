@@ -1,4 +1,4 @@
-use Rattle.std.proofs.Common.{rules, ◌≡◌, ℕ, suc, ◌+◌, ◌<◌, ◌==◌, Bool, true, List, [], ◌∷◌, ◌++◌, length, All, sym, ap, ap₂, ◌∙◌, subst, arith}
+use Rattle.std.proofs.Common.{rules, ◌≡◌, ℕ, suc, ◌+◌, ◌==◌, Bool, List, [], ◌∷◌, length, All, sym, ap, ap₂, subst, arith}
 use Rattle.std.specs.Prelude.{⊤}
 use Rattle.std.specs.List.{flat_map}
 use Rattle.std.proofs.lemmas.Bool.{eqb-true}
@@ -6,7 +6,7 @@ use Rattle.exact_field.specs.Rational.{ℚ}
 use Rattle.frac128.specs.Held.{is_held}
 use Rattle.log_rules.specs.Events.{Event, goes_on}
 use Rattle.log_rules.specs.Events.Event.{test}
-use Rattle.log_rules.specs.Runs.{Runs, Stops, steps}
+use Rattle.log_rules.specs.Runs.{Runs, steps}
 use Rattle.log_rules.specs.declared.rule.Rule.TheVariants as rule
 use Rattle.log_tests.proofs.Going.{Passed, Stopped, stopped-in, Ran, ran-behind, whole-run, first-passed}
 use Rattle.rep_conv.specs.Events.{line_events, tight_events}

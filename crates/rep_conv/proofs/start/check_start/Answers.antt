@@ -1,4 +1,4 @@
-use Rattle.std.proofs.Common.{rules, ◌≡◌, ℕ, suc, ◌+◌, ◌*◌, ◌<◌, ◌≤◌, ◌==◌, Bool, true, ◌&&◌, List, [], ◌∷◌, length, sym, ap, ap₂, ◌∙◌, subst, arith}
+use Rattle.std.proofs.Common.{rules, ◌≡◌, ℕ, suc, ◌+◌, ◌*◌, ◌≤◌, ◌==◌, Bool, true, ◌&&◌, List, [], ◌∷◌, length, ap, ap₂, ◌∙◌, arith}
 use Rattle.std.specs.Prelude.{⊤}
 use Rattle.std.specs.List.{flat_map, enumerate_from}
 use Rattle.std.proofs.lemmas.Bool.{eqb-true}
@@ -7,7 +7,6 @@ use Rattle.polyhedra.proofs.Tests.{both_true}
 use Rattle.upper_image.specs.Spots.{pieces}
 use Rattle.log_rules.specs.Events.{Event, rises}
 use Rattle.log_rules.specs.Events.Event.{test}
-use Rattle.log_rules.specs.Runs.{steps}
 use Rattle.log_rules.specs.declared.rule.Rule.TheVariants as rule
 use Rattle.log_tests.proofs.Going.{Passed, Stopped, stopped-in, Ran, ran-behind, whole-run, first-passed}
 use Rattle.rep_conv.specs.Events.{all_below, generator_events, start_events}

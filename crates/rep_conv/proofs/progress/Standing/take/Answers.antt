@@ -1,4 +1,4 @@
-use Rattle.std.proofs.Common.{rules, ◌≡◌, ℕ, ◌==◌, ◌||◌, not, Bool, true, List, [], ◌∷◌, ◌++◌, length, sym, ap, ◌∙◌, subst}
+use Rattle.std.proofs.Common.{rules, ◌≡◌, ◌==◌, ◌||◌, not, Bool, List, [], ◌∷◌, ◌++◌, length, sym, ap, ◌∙◌}
 use Rattle.exact_field.specs.Rational.{ℚ}
 use Rattle.log_rules.specs.Events.{Event}
 use Rattle.log_rules.specs.Events.Event.{test}

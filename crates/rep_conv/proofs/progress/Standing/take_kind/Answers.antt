@@ -1,9 +1,6 @@
-use Rattle.std.proofs.Common.{◌≡◌, ℕ, ◌==◌, ◌||◌, Bool, true, false, List, [], ◌∷◌, refl, sym, ap, ap₂, ◌∙◌, subst}
+use Rattle.std.proofs.Common.{◌≡◌, ◌==◌, ◌||◌, Bool, true, false, [], ◌∷◌, refl, sym, ap, ap₂, ◌∙◌, subst}
 use Rattle.std.specs.Prelude.{⊤, Result}
-use Rattle.exact_field.specs.Rational.{ℚ}
 use Rattle.frac128.specs.Held.{is_held}
-use Rattle.word_lines.specs.declared.part.LogPair.{LogPair}
-use Rattle.log_rules.specs.Events.{Event}
 use Rattle.log_rules.specs.Events.Event.{test}
 use Rattle.log_rules.specs.Runs.{Runs, steps}
 use Rattle.log_rules.specs.declared.rule.Rule.{Rule}
@@ -12,7 +9,7 @@ use Rattle.log_rules.specs.declared.stop.Stop.{Stop}
 use Rattle.rep_conv.specs.Events.{all_used, kind_events}
 use Rattle.rep_conv.specs.Live.{State, after}
 use Rattle.rep_conv.specs.Meets.{is_start, needs_start}
-use Rattle.rep_conv.specs.Progress.{Keeps, Holds}
+use Rattle.rep_conv.specs.Progress.{Keeps}
 use Rattle.rep_conv.specs.declared.progress.Standing.{Standing}
 use Rattle.rep_text.specs.declared.rep.Rep.{Rep}
 use Rattle.rep_text.specs.declared.conv.ConvEntry.{ConvEntry}

@@ -1,0 +1,7 @@
+use Rattle.std.proofs.Common.{All, length, take}
+use Rattle.frac128.specs.Held.{is_held}
+use Rattle.lin_rows.specs.Sums.{AreHeld}
+use Rattle.rep_convert.proofs.products.try_products.Given as goal
+
+abbrev pub invariant-loop-k : goal.invariant-loop-k
+invariant-loop-k l = All (λ r. All (λ v. AreHeld is_held r v (length r)) l.vectors) (take l.k l.rows)

@@ -1,0 +1,14 @@
+use Rattle.std.proofs.Common.{◌<◌, List, ℕ, length, slice_index_or, subst, ap, ◌∙◌}
+use Rattle.polyhedra.specs.LiveList.{numbers}
+use Rattle.rep_conv.proofs.Ends.{same_place}
+use Rattle.rep_convert.proofs.Lists.{gens_more}
+use Rattle.rep_convert.proofs.start.filled_generators.Goals as goal
+
+pub loop-i-preserved : goal.loop-i-preserved
+loop-i-preserved c =
+    let live = c.args.dd.now.list.live in
+    let named = c.live-numbers.ensures.live in
+    let inside : c.loop-i.i < length (numbers live) = subst (λ (ks : List ℕ). c.loop-i.i < length ks) named c.loop-i-test.true in
+    gens_more c.args.places.now live c.loop-i.i (slice_index_or c.live-numbers.result.now c.loop-i.i 0) c.loop-i.gens c.push.new.self c.in_ok-filled.field-0 c.generator.result.now
+    inside (ap (λ (ks : List ℕ). slice_index_or ks c.loop-i.i 0) named ∙ same_place (numbers live) c.loop-i.i 0 (slice_index_or c.live-numbers.result.now c.loop-i.i 0) inside)
+    c.in_ok-push.ensures.ok c.in_ok-filled.ensures c.generator.ensures.only c.loop-i.invariant

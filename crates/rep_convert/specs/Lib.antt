@@ -1,0 +1,7 @@
+-- The subject: Lines, Licensed, Standing. What only serves proofs: Started, Order, Pairs.
+pub mod Lines
+pub mod Licensed
+pub mod Standing
+pub mod Started
+pub mod Order
+pub mod Pairs
