@@ -18,3 +18,4 @@ pub mod Written
 pub mod Calls
 pub mod Begun
 pub mod LicensedFaults
+pub mod Worked

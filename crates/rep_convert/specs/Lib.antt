@@ -1,7 +1,8 @@
--- The subject: Lines, Licensed, Standing. What only serves proofs: Started, Order, Pairs.
+-- The subject: Lines, Licensed, Standing; Examples. What only serves proofs: Started, Order, Pairs.
 pub mod Lines
 pub mod Licensed
 pub mod Standing
 pub mod Started
+pub mod Examples
 pub mod Order
 pub mod Pairs

@@ -11,7 +11,8 @@ use Rattle.rep_text.specs.declared.rep.Rep.{Rep}
 abbrev pub AreLinesOf : Rep → List (List ℚ) → Type 0
 AreLinesOf rep lines = AreComplement (suc rep.width) (text_rows rep) lines
 
--- for each place but the last, which is that of no line, whether it is that of a line
+-- for each place but the last, which is that of no line where there are rows, whether it is that
+-- of a line
 abbrev pub marks_of : Rep → List (List ℚ) → List Bool
 marks_of rep lines = marks rep.width lines
 

@@ -6,6 +6,7 @@ mod begin;
 mod conversion;
 mod ends;
 mod fault;
+mod laws;
 mod licences;
 mod lines;
 mod log;
@@ -16,3 +17,4 @@ mod turn;
 
 pub use conversion::convert;
 pub use fault::{ConvFault, Converted};
+pub use laws::licence_examples;
