@@ -9,7 +9,7 @@ use Rattle.deriv_log.specs.declared.entry.Entry.{Entry}
 use Rattle.deriv_log.proofs.Laws.{one_reading}
 use Rattle.log_versions.specs.Upgrade.{upgraded}
 use Rattle.log_versions.specs.Written.{Proves}
-use Rattle.commands.specs.Tasks.{Shape, Task, shape}
+use Rattle.commands.specs.Tasks.{Task, shape}
 use Rattle.commands.specs.Tasks.Task.{check, dual, solve}
 use Rattle.commands.specs.Tasks.Files.{logged}
 use Rattle.solver.specs.Accepted.{PassesAs}
@@ -20,7 +20,7 @@ use Rattle.statuses.specs.Codes.{code_of}
 use Rattle.statuses.specs.declared.reply.Reply.{Reply}
 use Rattle.statuses.specs.declared.status.Status.{Status}
 use Rattle.statuses.specs.declared.status.Status.TheVariants.{Done}
-use Rattle.bensolve_main.specs.Accepted.{TellsBoth, IsAcceptedAs, WritesAccepted, Accepted}
+use Rattle.bensolve_main.specs.Accepted.{TellsBoth, IsAcceptedAs, WritesAccepted}
 use Rattle.bensolve_main.specs.Check.{CheckVerdict, Proved}
 use Rattle.bensolve_main.specs.Deliver.{Delivers, DeliversWith, Sends}
 use Rattle.bensolve_main.specs.Outcome.{HaltsFor, Outcome, RepliesTo, TellsOfLog}
@@ -102,7 +102,7 @@ module _ (report problem : List ℕ) (entries : List Entry) (passing : PassesByt
       (subst (λ (t : List ℕ). Sends false t r.status result v.out w.out)
       (same_report r v w tells done (log_read r v w done replies)) sent.0)
 
-  accepted_as : IsAcceptedAs report problem (log_text entries)
+  accepted_as : IsAcceptedAs check report problem (log_text entries)
   accepted_as = λ path log_path result v w tells outcome.
       elim outcome [
         | inl made ↦ inl (sends_report made.0 result v w tells made.1 made.2)
@@ -111,7 +111,7 @@ module _ (report problem : List ℕ) (entries : List Entry) (passing : PassesByt
 
 -- ---- a run of `solve FILE LOG` or `dual FILE LOG`
 -- both texts were written whole
-both_written : (text log : List ℕ) (v w : World) → DeliversWith (Some log) Done text Done v w →
+pub both_written : (text log : List ℕ) (v w : World) → DeliversWith (Some log) Done text Done v w →
     Written text v.out w.out × Written log v.log_out w.log_out
 both_written text log v w delivers =
     elim delivers [
@@ -123,7 +123,7 @@ both_written text log v w delivers =
     ]
 
 solved_accepted : (file : Problem) (r : Reply) (v w : World) → GoodFile file v.problem w.problem →
-    Solved true file r → DeliversWith r.log Done r.text Done v w → WritesAccepted v w
+    Solved true file r → DeliversWith r.log Done r.text Done v w → WritesAccepted check v w
 solved_accepted file r v w good solved delivers =
     let s = solved.solution in
     let entries = upgraded file.objs s.entries in
@@ -148,7 +148,7 @@ solved_accepted file r v w good solved delivers =
 -- of a task of which such a reply says what one of `solve` says
 replied_accepted : (t : Task) → ((file : Problem) (r : Reply) → TellsFile t true file r → SolveVerdict true file r) →
     (r : Reply) (v w : World) → RepliesTo problem t true r (sources_of v) (sources_of w) →
-    Delivers r Done v w → WritesAccepted v w
+    Delivers r Done v w → WritesAccepted check v w
 replied_accepted t solves r v w replies delivers =
     let done : Done ≡ r.status = delivered_as r.log r.status Done r.text v w (λ h. h) delivers in
     elim replies [
@@ -165,26 +165,16 @@ halts_not_done : (v w : World) → HaltsFor problem Done (sources_of v) (sources
 halts_not_done v w (inl none) = omega (arith, ap (λ (s : Status). code_of s) none)
 halts_not_done v w (inr failed) = omega (arith, ap (λ (s : Status). code_of s) failed.failed.status)
 
-solve_accepted : (file log : List ℕ) (v w : World) → Outcome (shape solve (logged file log)) Done v w → WritesAccepted v w
+pub solve_accepted : (file log : List ℕ) (v w : World) → Outcome (shape solve (logged file log)) Done v w → WritesAccepted check v w
 solve_accepted file log v w outcome =
     elim outcome [
       | inl made ↦ replied_accepted solve (λ f r told. told) made.0 v w made.1 made.2
       | inr halts ↦ absurd (halts_not_done v w halts.cause)
     ]
 
-dual_accepted : (file log : List ℕ) (v w : World) → Outcome (shape dual (logged file log)) Done v w → WritesAccepted v w
+pub dual_accepted : (file log : List ℕ) (v w : World) → Outcome (shape dual (logged file log)) Done v w → WritesAccepted check v w
 dual_accepted file log v w outcome =
     elim outcome [
       | inl made ↦ replied_accepted dual (dual_solves true) made.0 v w made.1 made.2
       | inr halts ↦ absurd (halts_not_done v w halts.cause)
-    ]
-
--- ---- each shape
-pub accepts : (shape : Shape) (result : Status) (v w : World) → Outcome shape result v w → Accepted shape result v w
-accepts s result v w outcome = λ t file log solves is done.
-    let ended : Outcome (shape t (logged file log)) Done v w =
-    subst (λ (x : Status). Outcome (shape t (logged file log)) x v w) done (subst (λ (x : Shape). Outcome x result v w) is outcome) in
-    elim solves [
-      | inl same ↦ solve_accepted file log v w (subst (λ (x : Task). Outcome (shape x (logged file log)) Done v w) same ended)
-      | inr same ↦ dual_accepted file log v w (subst (λ (x : Task). Outcome (shape x (logged file log)) Done v w) same ended)
     ]

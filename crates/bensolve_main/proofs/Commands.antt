@@ -10,7 +10,7 @@ use Rattle.bensolve_main.specs.Accepted.{Accepted}
 use Rattle.bensolve_main.specs.Answerable.{Completes, Honest}
 use Rattle.bensolve_main.specs.Outcome.{Outcome}
 use Rattle.bensolve_main.specs.World.{World}
-use Rattle.bensolve_main.proofs.Accepted.{accepts}
+use Rattle.bensolve_main.proofs.Checkers.{accepts}
 use Rattle.bensolve_main.proofs.Complete.{completes}
 use Rattle.bensolve_main.proofs.Fits.{seen}
 use Rattle.bensolve_main.proofs.Outcomes.{never_words}

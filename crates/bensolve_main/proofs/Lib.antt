@@ -4,6 +4,8 @@ mod Tables
 mod Outcomes
 mod Complete
 mod Accepted
+mod Reaccepted
+mod Checkers
 mod Stages
 mod Relogged
 mod Sampled

@@ -1,6 +1,7 @@
 -- From what the steps of a run tell to what its result says.
 use Rattle.std.proofs.Common.{◌≡◌, ℕ, List, Bool, true, false, None, Result, Ok, Err, IfOk, IfErr, subst, sym, refl, inl, inr}
 use Rattle.vlp_reader.specs.declared.problem.Problem.{Problem}
+use Rattle.rep_text.specs.declared.rep.Rep.{Rep}
 use Rattle.cert_check.specs.Streams.{ReadsWhole, StreamEnds, TextAccepts}
 use Rattle.cert_check.specs.declared.fault.Refusal.TheVariants as refusal
 use Rattle.cert_check.specs.declared.fault.StreamEnd.{StreamEnd}
@@ -10,18 +11,18 @@ use Rattle.log_rules.specs.declared.answer.Answer.{Answer}
 use Rattle.commands.specs.Paths.{log_out_path, writes_log}
 use Rattle.commands.specs.Tasks.{Files, Shape, Task}
 use Rattle.commands.specs.Tasks.Files.{none, one, two, logged}
-use Rattle.commands.specs.Tasks.Task.{check, relog}
+use Rattle.commands.specs.Tasks.Task.{check, reconv, relog}
 use Rattle.statuses.specs.declared.reply.Reply.{Reply}
 use Rattle.statuses.specs.declared.status.Status.{Status}
 use Rattle.statuses.specs.declared.status.Status.TheVariants.{Done}
-use Rattle.bensolve_main.specs.Outcome.{Replies, RepliesTo}
-use Rattle.bensolve_main.specs.Reading.{GoodFile, problem_limit, log_limit}
-use Rattle.bensolve_main.specs.Stages.{EndsReading, FileTold, HaltsEnd, HaltsReading, LogTold, RefusesLog, SecondTold, TellsEnd, TwoHalts, TwoTold, WithLogHalts, WithLogTold}
+use Rattle.bensolve_main.specs.Outcome.{HaltsFor, Replies, RepliesTo}
+use Rattle.bensolve_main.specs.Reading.{GoodFile, GoodRep, problem_limit, log_limit}
+use Rattle.bensolve_main.specs.Stages.{ConvTold, EndsReading, EndsRep, EndsText, FileTold, HaltsEnd, HaltsReading, LogTold, OneTold, ReadsOne, RefusesLog, RepTold, SecondTold, TellsEnd, TwoHalts, TwoTold, WithConvHalts, WithConvTold, WithLogHalts, WithLogTold}
 use Rattle.bensolve_main.specs.Tasks.{TellsLog, Texts, texts_of}
-use Rattle.bensolve_main.specs.Tasks.Texts.{problem}
+use Rattle.bensolve_main.specs.Tasks.Texts.{nothing, problem, problem_and_log, two_problems, representation, representation_and_log}
 use Rattle.bensolve_main.specs.World.{Channel, Sources, Uncalled}
-use Rattle.bensolve_main.specs.declared.reading.ProblemEnd.{ProblemEnd}
-use Rattle.bensolve_main.specs.declared.reading.ProblemEnd.TheVariants.{Told, Halted}
+use Rattle.bensolve_main.specs.declared.reading.TextEnd.{TextEnd}
+use Rattle.bensolve_main.specs.declared.reading.TextEnd.TheVariants.{Told, Halted}
 use Rattle.bensolve_main.proofs.Outcomes.{quiet}
 
 pub uncalled : (a : Channel) → Uncalled a a
@@ -127,16 +128,16 @@ answer_told file answer r old new (bytes, read, text) status report no_log =
 
 -- ---- the problem and then another text
 -- the problem is refused
-pub log_refused : (t : Task) (e : ProblemEnd) (v w : Sources) (x : Result Reply Status) → EndsReading false e v.problem w.problem → Uncalled v.log_in w.log_in →
+pub log_refused : (t : Task) (e : TextEnd) (v w : Sources) (x : Result Reply Status) → EndsReading false e v.problem w.problem → Uncalled v.log_in w.log_in →
     IfOk x (λ r. e ≡ Told r) → IfOk x (λ r. WithLogTold t r v w)
-log_refused t e v w (Ok r) h log_in is = inl (record { refused = subst (λ (y : ProblemEnd). EndsReading false y v.problem w.problem) is h; log_in = log_in })
+log_refused t e v w (Ok r) h log_in is = inl (record { refused = subst (λ (y : TextEnd). EndsReading false y v.problem w.problem) is h; log_in = log_in })
 log_refused t e v w (Err s) h log_in is = tt
 
-pub log_unread : (e : ProblemEnd) (v w : Sources) (x : Result Reply Status) → EndsReading false e v.problem w.problem → Uncalled v.log_in w.log_in →
+pub log_unread : (e : TextEnd) (v w : Sources) (x : Result Reply Status) → EndsReading false e v.problem w.problem → Uncalled v.log_in w.log_in →
     IfErr x (λ s. e ≡ Halted s) → IfErr x (λ s. WithLogHalts s v w)
 log_unread e v w (Ok r) h log_in is = tt
 log_unread e v w (Err s) h log_in is =
-    elim (subst (λ (y : ProblemEnd). EndsReading false y v.problem w.problem) is h) [
+    elim (subst (λ (y : TextEnd). EndsReading false y v.problem w.problem) is h) [
       | inl wanting ↦ inl wanting
       | inr failed ↦ inr (inl (record { failed = failed; log_in = log_in }))
     ]
@@ -156,16 +157,16 @@ log_halted file v w (Err s) good (inl wanting) = inl wanting
 log_halted file v w (Err s) good (inr failed) = inr (inr (record { file = file; good = good; failed = failed }))
 
 -- ---- two problems
-pub two_refused : (t : Task) (e : ProblemEnd) (v w : Sources) (x : Result Reply Status) → EndsReading false e v.problem w.problem → Uncalled v.log_in w.log_in →
+pub two_refused : (t : Task) (e : TextEnd) (v w : Sources) (x : Result Reply Status) → EndsReading false e v.problem w.problem → Uncalled v.log_in w.log_in →
     IfOk x (λ r. e ≡ Told r) → IfOk x (λ r. TwoTold t r v w)
-two_refused t e v w (Ok r) h log_in is = inl (record { refused = subst (λ (y : ProblemEnd). EndsReading false y v.problem w.problem) is h; log_in = log_in })
+two_refused t e v w (Ok r) h log_in is = inl (record { refused = subst (λ (y : TextEnd). EndsReading false y v.problem w.problem) is h; log_in = log_in })
 two_refused t e v w (Err s) h log_in is = tt
 
-pub two_unread : (e : ProblemEnd) (v w : Sources) (x : Result Reply Status) → EndsReading false e v.problem w.problem → Uncalled v.log_in w.log_in →
+pub two_unread : (e : TextEnd) (v w : Sources) (x : Result Reply Status) → EndsReading false e v.problem w.problem → Uncalled v.log_in w.log_in →
     IfErr x (λ s. e ≡ Halted s) → IfErr x (λ s. TwoHalts s v w)
 two_unread e v w (Ok r) h log_in is = tt
 two_unread e v w (Err s) h log_in is =
-    elim (subst (λ (y : ProblemEnd). EndsReading false y v.problem w.problem) is h) [
+    elim (subst (λ (y : TextEnd). EndsReading false y v.problem w.problem) is h) [
       | inl wanting ↦ inl wanting
       | inr failed ↦ inr (inl (record { failed = failed; log_in = log_in }))
     ]
@@ -185,37 +186,117 @@ two_halted first v w (Err s) good (inl wanting) = inl wanting
 two_halted first v w (Err s) good (inr failed) = inr (inr (record { file = first; good = good; failed = failed }))
 
 -- the second problem is refused, or was read
-pub second_refused : (t : Task) (first : Problem) (e : ProblemEnd) (old new : Channel) (x : Result Reply Status) → EndsReading true e old new →
+pub second_refused : (t : Task) (first : Problem) (e : TextEnd) (old new : Channel) (x : Result Reply Status) → EndsReading true e old new →
     IfOk x (λ r. e ≡ Told r) → IfOk x (λ r. SecondTold t first r old new)
 second_refused t first e old new (Ok r) h is =
-    elim (subst (λ (y : ProblemEnd). EndsReading true y old new) is h) [
+    elim (subst (λ (y : TextEnd). EndsReading true y old new) is h) [
       | inl much ↦ inl much
       | inr wanting ↦ inr (inl wanting)
     ]
 second_refused t first e old new (Err s) h is = tt
 
 -- ---- the end of the reading of one problem
-pub unread : (second : Bool) (e : ProblemEnd) (old new : Channel) (x : Result Reply Status) → EndsReading second e old new → IfErr x (λ s. e ≡ Halted s) →
+pub unread : (second : Bool) (e : TextEnd) (old new : Channel) (x : Result Reply Status) → EndsReading second e old new → IfErr x (λ s. e ≡ Halted s) →
     IfErr x (λ s. HaltsReading second problem_limit s old new)
 unread second e old new (Ok r) h is = tt
-unread second e old new (Err s) h is = subst (λ (y : ProblemEnd). EndsReading second y old new) is h
+unread second e old new (Err s) h is = subst (λ (y : TextEnd). EndsReading second y old new) is h
 
-pub file_refused : (t : Task) (logs : Bool) (e : ProblemEnd) (old new : Channel) (x : Result Reply Status) → EndsReading false e old new →
+pub file_refused : (t : Task) (logs : Bool) (e : TextEnd) (old new : Channel) (x : Result Reply Status) → EndsReading false e old new →
     IfOk x (λ r. e ≡ Told r) → IfOk x (λ r. FileTold t logs r old new)
-file_refused t logs e old new (Ok r) h is = inl (subst (λ (y : ProblemEnd). EndsReading false y old new) is h)
+file_refused t logs e old new (Ok r) h is = inl (subst (λ (y : TextEnd). EndsReading false y old new) is h)
 file_refused t logs e old new (Err s) h is = tt
 
+-- ---- the bytes of a text
+pub problem_unread : (second : Bool) (e : TextEnd) (old new : Channel) → EndsText second problem_limit e old new → EndsReading second e old new
+problem_unread second (Told r) old new h = inl h
+problem_unread second (Halted s) old new h = h
+
+pub rep_unread : (e : TextEnd) (old new : Channel) → EndsText false problem_limit e old new → EndsRep e old new
+rep_unread (Told r) old new h = inl h
+rep_unread (Halted s) old new h = h
+
+-- ---- a representation
+pub rep_refused : (t : Task) (logs : Bool) (e : TextEnd) (old new : Channel) (x : Result Reply Status) → EndsRep e old new →
+    IfOk x (λ r. e ≡ Told r) → IfOk x (λ r. RepTold t logs r old new)
+rep_refused t logs e old new (Ok r) h is = inl (subst (λ (y : TextEnd). EndsRep y old new) is h)
+rep_refused t logs e old new (Err s) h is = tt
+
+pub rep_halted : (e : TextEnd) (old new : Channel) (x : Result Reply Status) → EndsRep e old new → IfErr x (λ s. e ≡ Halted s) →
+    IfErr x (λ s. HaltsReading false problem_limit s old new)
+rep_halted e old new (Ok r) h is = tt
+rep_halted e old new (Err s) h is = subst (λ (y : TextEnd). EndsRep y old new) is h
+
+-- the log of a conversion is too long, or was not read
+pub conv_refused : (t : Task) (rep : Rep) (e : TextEnd) (old new : Channel) (x : Result Reply Status) → EndsText true log_limit e old new →
+    IfOk x (λ r. e ≡ Told r) → IfOk x (λ r. ConvTold t rep r old new)
+conv_refused t rep e old new (Ok r) h is = inl (subst (λ (y : TextEnd). EndsText true log_limit y old new) is h)
+conv_refused t rep e old new (Err s) h is = tt
+
+pub conv_unread : (e : TextEnd) (old new : Channel) (x : Result Reply Status) → EndsText true log_limit e old new → IfErr x (λ s. e ≡ Halted s) →
+    IfErr x (λ s. HaltsReading true log_limit s old new)
+conv_unread e old new (Ok r) h is = tt
+conv_unread e old new (Err s) h is = subst (λ (y : TextEnd). EndsText true log_limit y old new) is h
+
+-- a representation and then the log of a conversion
+pub with_rep_refused : (e : TextEnd) (v w : Sources) (x : Result Reply Status) → EndsRep e v.problem w.problem → Uncalled v.log_in w.log_in →
+    IfOk x (λ r. e ≡ Told r) → IfOk x (λ r. WithConvTold r v w)
+with_rep_refused e v w (Ok r) h log_in is = inl (record { refused = subst (λ (y : TextEnd). EndsRep y v.problem w.problem) is h; log_in = log_in })
+with_rep_refused e v w (Err s) h log_in is = tt
+
+pub with_rep_unread : (e : TextEnd) (v w : Sources) (x : Result Reply Status) → EndsRep e v.problem w.problem → Uncalled v.log_in w.log_in →
+    IfErr x (λ s. e ≡ Halted s) → IfErr x (λ s. WithConvHalts s v w)
+with_rep_unread e v w (Ok r) h log_in is = tt
+with_rep_unread e v w (Err s) h log_in is =
+    elim (subst (λ (y : TextEnd). EndsRep y v.problem w.problem) is h) [
+      | inl wanting ↦ inl wanting
+      | inr failed ↦ inr (inl (record { failed = failed; log_in = log_in }))
+    ]
+
+pub with_conv_told : (rep : Rep) (v w : Sources) (x : Result Reply Status) → GoodRep rep v.problem w.problem →
+    IfOk x (λ r. ConvTold reconv rep r v.log_in w.log_in) → IfOk x (λ r. WithConvTold r v w)
+with_conv_told rep v w (Ok r) good (inl much) = inr (inl (record { rep = rep; good = good; much = much }))
+with_conv_told rep v w (Ok r) good (inr (bytes, read, verdict)) =
+    inr (inr (record { rep = rep; good = good; bytes = bytes; read = read; verdict = verdict }))
+with_conv_told rep v w (Err s) good told = tt
+
+pub with_conv_halted : (rep : Rep) (v w : Sources) (x : Result Reply Status) → GoodRep rep v.problem w.problem →
+    IfErr x (λ s. HaltsReading true log_limit s v.log_in w.log_in) → IfErr x (λ s. WithConvHalts s v w)
+with_conv_halted rep v w (Ok r) good halts = tt
+with_conv_halted rep v w (Err s) good (inl wanting) = inl wanting
+with_conv_halted rep v w (Err s) good (inr failed) = inr (inr (record { rep = rep; good = good; failed = failed }))
+
 -- ---- what is told of all texts
-pub file_replies : (t : Task) (logs made : Bool) (v w : Sources) (x : Result Reply Status) → texts_of t ≡ problem → logs ≡ made → Uncalled v.log_in w.log_in →
-    IfOk x (λ r. FileTold t made r v.problem w.problem) → IfOk x (λ r. RepliesTo (texts_of t) t logs r v w)
-file_replies t logs made v w (Ok r) reads is log_in told =
-    subst (λ (y : Texts). RepliesTo y t logs r v w) (sym reads)
-    (subst (λ (b : Bool). RepliesTo problem t b r v w) (sym is)
-    (elim told as (λ (_ : FileTold t made r v.problem w.problem). RepliesTo problem t made r v w) [
-      | inl refused ↦ inl (record { refused = refused; log_in = log_in })
-      | inr (file, good, verdict) ↦ inr (record { file = file; good = good; log_in = log_in; verdict = verdict })
-    ]))
-file_replies t logs made v w (Err s) reads is log_in told = tt
+one_told : (x : Texts) (t : Task) (logs : Bool) (r : Reply) (v w : Sources) → Uncalled v.log_in w.log_in →
+    OneTold x t logs r v.problem w.problem → RepliesTo x t logs r v w
+one_told nothing t logs r v w log_in told = absurd told
+one_told problem t logs r v w log_in (inl refused) = inl (record { refused = refused; log_in = log_in })
+one_told problem t logs r v w log_in (inr (file, good, verdict)) =
+    inr (record { file = file; good = good; log_in = log_in; verdict = verdict })
+one_told problem_and_log t logs r v w log_in told = absurd told
+one_told two_problems t logs r v w log_in told = absurd told
+one_told representation t logs r v w log_in (inl refused) = inl (record { refused = refused; log_in = log_in })
+one_told representation t logs r v w log_in (inr (rep, good, verdict)) =
+    inr (record { rep = rep; good = good; log_in = log_in; verdict = verdict })
+one_told representation_and_log t logs r v w log_in told = absurd told
+
+pub one_replies : (t : Task) (logs made : Bool) (v w : Sources) (x : Result Reply Status) → logs ≡ made → Uncalled v.log_in w.log_in →
+    IfOk x (λ r. OneTold (texts_of t) t made r v.problem w.problem) → IfOk x (λ r. RepliesTo (texts_of t) t logs r v w)
+one_replies t logs made v w (Ok r) is log_in told =
+    subst (λ (b : Bool). RepliesTo (texts_of t) t b r v w) (sym is) (one_told (texts_of t) t made r v w log_in told)
+one_replies t logs made v w (Err s) is log_in told = tt
+
+one_failed : (t : Task) (s : Status) (v w : Sources) → ReadsOne t → Uncalled v.log_in w.log_in →
+    HaltsReading false problem_limit s v.problem w.problem → HaltsFor (texts_of t) s v w
+one_failed t s v w reads log_in (inl wanting) = inl wanting
+one_failed t s v w (inl is) log_in (inr failed) =
+    subst (λ (y : Texts). HaltsFor y s v w) (sym is) (inr (record { failed = failed; log_in = log_in }))
+one_failed t s v w (inr is) log_in (inr failed) =
+    subst (λ (y : Texts). HaltsFor y s v w) (sym is) (inr (record { failed = failed; log_in = log_in }))
+
+pub one_halts : (t : Task) (v w : Sources) (x : Result Reply Status) → ReadsOne t → Uncalled v.log_in w.log_in →
+    IfErr x (λ s. HaltsReading false problem_limit s v.problem w.problem) → IfErr x (λ s. HaltsFor (texts_of t) s v w)
+one_halts t v w (Ok r) reads log_in halts = tt
+one_halts t v w (Err s) reads log_in halts = one_failed t s v w reads log_in halts
 
 -- ---- a run
 -- where the words name no log, wanting is written

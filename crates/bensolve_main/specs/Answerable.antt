@@ -1,5 +1,5 @@
 -- When nothing stands against an answer, and how a command then ends.
-use Rattle.std.specs.Prelude.{◌⊎◌, ◌≡◌, ℕ, ◌≤◌, Bool, List, length, Some, None, IsTrue}
+use Rattle.std.specs.Prelude.{◌⊎◌, ◌≡◌, ℕ, ◌≤◌, Bool, true, false, List, length, Some, None, IsTrue}
 use Rattle.src_sink.specs.Outside.{Rose}
 use Rattle.frac128.specs.Held.{is_held}
 use Rattle.vlp_reader.specs.FirstFault.{Reads}
@@ -9,7 +9,11 @@ use Rattle.deriv_log.specs.declared.entry.Entry.{Entry}
 use Rattle.log_versions.specs.WrittenEvents.{log_failure}
 use Rattle.commands.specs.Paths.{writes_log}
 use Rattle.commands.specs.Tasks.{Task, Shape}
-use Rattle.commands.specs.Tasks.Task.{solve, dual, sample, project, associate, meet, sum, join, map, weights, weigh}
+use Rattle.commands.specs.Tasks.Task.{solve, dual, sample, project, associate, meet, sum, join, map, weights, weigh, vertices, facets}
+use Rattle.rep_text.specs.RepText.{IsRepText}
+use Rattle.rep_text.specs.declared.rep.Rep.{Rep}
+use Rattle.rep_replies.specs.Checking.{CanReconvert}
+use Rattle.rep_replies.specs.Turning.{CanTurn}
 use Rattle.described.specs.Calculus.{CanMeet, CanSum, CanJoin, CanMap}
 use Rattle.described.specs.Projected.{IsProjectable}
 use Rattle.solver.specs.Replies.{IsSolvable}
@@ -19,7 +23,7 @@ use Rattle.statuses.specs.declared.status.Status.TheVariants.{Done, NoMemory}
 use Rattle.bensolve_main.specs.Reading.{problem_limit, log_limit}
 use Rattle.bensolve_main.specs.Sample.{IsSampleHeld}
 use Rattle.bensolve_main.specs.Tasks.{Texts, texts_of}
-use Rattle.bensolve_main.specs.Tasks.Texts.{nothing, problem, problem_and_log, two_problems}
+use Rattle.bensolve_main.specs.Tasks.Texts.{nothing, problem, problem_and_log, two_problems, representation, representation_and_log}
 use Rattle.bensolve_main.specs.World.{Channel, World}
 
 -- ---- of each task
@@ -43,6 +47,11 @@ AnswersTwo sum a b = CanSum a b
 AnswersTwo join a b = CanJoin a b
 AnswersTwo _ a b = ⊥
 
+abbrev pub AnswersRep : Task → Rep → Type 0
+AnswersRep vertices rep = CanTurn false rep
+AnswersRep facets rep = CanTurn true rep
+AnswersRep _ rep = ⊥
+
 -- ---- of the outside
 -- a source told these bytes, within the limit, and did not fail
 pub record ToldWhole (limit : ℕ) (bytes : List ℕ) (old new : Channel) : Type 0 where
@@ -55,6 +64,12 @@ pub record ToldFile (bytes : List ℕ) (old new : Channel) : Type 0 where
   pub whole : ToldWhole problem_limit bytes old new
   pub file : Problem
   pub reads : Reads bytes file
+
+-- .. and they are the text of some representation
+pub record ToldRep (bytes : List ℕ) (old new : Channel) : Type 0 where
+  pub whole : ToldWhole problem_limit bytes old new
+  pub rep : Rep
+  pub is_text : IsRepText bytes rep
 
 -- the outputs that are called did not fail
 pub record SteadyOutputs (logs : Bool) (old new : World) : Type 0 where
@@ -86,11 +101,27 @@ pub record HonestTwo (t : Task) (old new : World) : Type 0 where
   pub second_told : ToldFile second_bytes old.log_in new.log_in
   pub answers : (a b : Problem) → Reads bytes a → Reads second_bytes b → AnswersTwo t a b
 
+-- a representation was told, and of each of which the bytes are the text there is an answer
+pub record HonestRep (t : Task) (old new : World) : Type 0 where
+  pub bytes : List ℕ
+  pub told : ToldRep bytes old.problem new.problem
+  pub answers : (rep : Rep) → IsRepText bytes rep → AnswersRep t rep
+
+-- a representation and the log of a conversion were told, and no event of the log's entries fails
+pub record HonestConv (old new : World) : Type 0 where
+  pub bytes : List ℕ
+  pub told : ToldRep bytes old.problem new.problem
+  pub log_bytes : List ℕ
+  pub log_told : ToldWhole log_limit log_bytes old.log_in new.log_in
+  pub can : (rep : Rep) → IsRepText bytes rep → CanReconvert rep log_bytes
+
 abbrev pub HonestTexts : Texts → Task → World → World → Type 0
 HonestTexts nothing t old new = AnswersAlone t
 HonestTexts problem t old new = HonestFile t old new
 HonestTexts problem_and_log t old new = HonestLog old new
 HonestTexts two_problems t old new = HonestTwo t old new
+HonestTexts representation t old new = HonestRep t old new
+HonestTexts representation_and_log t old new = HonestConv old new
 
 -- nothing stands against an answer: the outside did not fail in this call, what it told is right
 -- and within its limits, and no exact number that is wanted is too large to be held

@@ -1,7 +1,8 @@
--- What the result of a command says, by the stages of its work: the problem is read, then the log or
--- the second problem, then the task is done, and then its reply is written.
+-- What the result of a command says, by the stages of its work: the problem or representation is read,
+-- then the log or the second problem, then the task is done, and then its reply is written.
 use Rattle.std.specs.Prelude.{◌⊎◌, ◌≡◌, Bool, true, false, List, ℕ}
 use Rattle.vlp_reader.specs.declared.problem.Problem.{Problem}
+use Rattle.rep_text.specs.declared.rep.Rep.{Rep}
 use Rattle.cert_check.specs.Streams.{ReadsWhole}
 use Rattle.commands.specs.Paths.{writes_log}
 use Rattle.commands.specs.Tasks.{Task, Shape}
@@ -9,9 +10,9 @@ use Rattle.statuses.specs.declared.reply.Reply.{Reply}
 use Rattle.statuses.specs.declared.status.Status.{Status}
 use Rattle.statuses.specs.declared.status.Status.TheVariants.{NoMemory, SecondFile}
 use Rattle.bensolve_main.specs.Deliver.{Delivers}
-use Rattle.bensolve_main.specs.Reading.{problem_limit, log_limit, GoodFile, TooMuch, NoFile, FileRefused, SourceFailed}
-use Rattle.bensolve_main.specs.Tasks.{Texts, texts_of, TellsAlone, TellsFile, TellsLog, TellsTwo}
-use Rattle.bensolve_main.specs.Tasks.Texts.{nothing, problem, problem_and_log, two_problems}
+use Rattle.bensolve_main.specs.Reading.{problem_limit, log_limit, GoodFile, TooMuch, NoFile, FileRefused, GoodRep, RepRefused, SourceFailed}
+use Rattle.bensolve_main.specs.Tasks.{Texts, texts_of, TellsAlone, TellsFile, TellsLog, TellsTwo, TellsRep, TellsConv}
+use Rattle.bensolve_main.specs.Tasks.Texts.{nothing, problem, problem_and_log, two_problems, representation, representation_and_log}
 use Rattle.bensolve_main.specs.World.{Sources, World, Uncalled, sources_of}
 
 -- ---- the problem
@@ -56,6 +57,33 @@ pub record TellsOfTwo (t : Task) (r : Reply) (old new : Sources) : Type 0 where
   pub good_second : GoodFile second old.log_in new.log_in
   pub verdict : TellsTwo t first second r
 
+-- ---- a representation
+-- it is refused, and nothing else was read
+pub record RefusesRep (r : Reply) (old new : Sources) : Type 0 where
+  pub refused : RepRefused r old.problem new.problem
+  pub log_in : Uncalled old.log_in new.log_in
+
+-- it was read, nothing else, and the task tells this of it
+pub record TellsOfRep (t : Task) (logs : Bool) (r : Reply) (old new : Sources) : Type 0 where
+  pub rep : Rep
+  pub good : GoodRep rep old.problem new.problem
+  pub log_in : Uncalled old.log_in new.log_in
+  pub verdict : TellsRep t logs rep r
+
+-- after it more bytes of a log were taken than its limit
+pub record ConvTooMuch (r : Reply) (old new : Sources) : Type 0 where
+  pub rep : Rep
+  pub good : GoodRep rep old.problem new.problem
+  pub much : TooMuch true log_limit r old.log_in new.log_in
+
+-- a log was read to its end, and the task tells this of both
+pub record TellsOfConv (t : Task) (r : Reply) (old new : Sources) : Type 0 where
+  pub rep : Rep
+  pub good : GoodRep rep old.problem new.problem
+  pub bytes : List ℕ
+  pub read : ReadsWhole old.log_in.bytes new.log_in.bytes log_limit bytes
+  pub verdict : TellsConv t rep bytes r
+
 -- ---- what a reply says of what was read
 abbrev pub RepliesTo : Texts → Task → Bool → Reply → Sources → Sources → Type 0
 RepliesTo nothing t logs r old new =
@@ -66,13 +94,16 @@ RepliesTo problem_and_log t logs r old new =
 RepliesTo two_problems t logs r old new =
     Refuses r old new ⊎ (SecondTooMuch problem_limit r old new
     ⊎ (RefusesSecond r old new ⊎ TellsOfTwo t r old new))
+RepliesTo representation t logs r old new = RefusesRep r old new ⊎ TellsOfRep t logs r old new
+RepliesTo representation_and_log t logs r old new =
+    RefusesRep r old new ⊎ (ConvTooMuch r old new ⊎ TellsOfConv t r old new)
 
 abbrev pub Replies : Shape → Reply → Sources → Sources → Type 0
 Replies s r old new = RepliesTo (texts_of s.task) s.task (writes_log s.files) r old new
 
 -- ---- why a command halts without a reply
--- the source of the problem failed, and nothing else was read
-pub record ProblemFailed (s : Status) (old new : Sources) : Type 0 where
+-- the source of the problem or representation failed, and nothing else was read
+pub record FirstFailed (s : Status) (old new : Sources) : Type 0 where
   pub failed : SourceFailed false problem_limit s old.problem new.problem
   pub log_in : Uncalled old.log_in new.log_in
 
@@ -82,11 +113,19 @@ pub record SecondFailed (limit : ℕ) (s : Status) (old new : Sources) : Type 0 
   pub good : GoodFile file old.problem new.problem
   pub failed : SourceFailed true limit s old.log_in new.log_in
 
+-- after a representation, the source of the log failed
+pub record ConvFailed (s : Status) (old new : Sources) : Type 0 where
+  pub rep : Rep
+  pub good : GoodRep rep old.problem new.problem
+  pub failed : SourceFailed true log_limit s old.log_in new.log_in
+
 abbrev pub Fails : Texts → Status → Sources → Sources → Type 0
 Fails nothing s old new = ⊥
-Fails problem s old new = ProblemFailed s old new
-Fails problem_and_log s old new = ProblemFailed s old new ⊎ SecondFailed log_limit s old new
-Fails two_problems s old new = ProblemFailed s old new ⊎ SecondFailed problem_limit s old new
+Fails problem s old new = FirstFailed s old new
+Fails problem_and_log s old new = FirstFailed s old new ⊎ SecondFailed log_limit s old new
+Fails two_problems s old new = FirstFailed s old new ⊎ SecondFailed problem_limit s old new
+Fails representation s old new = FirstFailed s old new
+Fails representation_and_log s old new = FirstFailed s old new ⊎ ConvFailed s old new
 
 -- memory was wanting, or a source failed
 abbrev pub HaltsFor : Texts → Status → Sources → Sources → Type 0

@@ -1,16 +1,20 @@
--- How texts are read: the problem, and the log or the second problem after it.
+-- How texts are read: the problem or representation, and the log or the second problem after it.
 use Rattle.std.specs.Prelude.{◌≡◌, ◌⊎◌, ℕ, Bool, false, List}
 use Rattle.vlp_reader.specs.FirstFault.{FirstFault, Reads}
 use Rattle.vlp_reader.specs.declared.fault.FileFault.{FileFault as AFileFault}
 use Rattle.vlp_reader.specs.declared.problem.Problem.{Problem}
+use Rattle.word_lines.specs.declared.fault.LogFault.{LogFault}
+use Rattle.rep_text.specs.RepFault.{RepFirstFault}
+use Rattle.rep_text.specs.RepText.{IsRepText}
+use Rattle.rep_text.specs.declared.rep.Rep.{Rep}
 use Rattle.cert_check.specs.Streams.{ReadsWhole}
 use Rattle.statuses.specs.Replies.{TellsFault}
 use Rattle.statuses.specs.declared.reply.Reply.{Reply}
 use Rattle.statuses.specs.declared.status.Status.{Status}
-use Rattle.statuses.specs.declared.status.Status.TheVariants.{FileFault, ReadFault, TooLong}
+use Rattle.statuses.specs.declared.status.Status.TheVariants.{FileFault, ReadFault, RepFault, TooLong}
 use Rattle.bensolve_main.specs.World.{Channel, ReadPast, ReadFailed}
 
--- the most bytes that are read of a problem, and of a log: 16 MiB and 384 MiB
+-- the most bytes that are read of a problem or representation, and of a log: 16 MiB and 384 MiB
 abbrev pub problem_limit : ℕ
 problem_limit = 16777216
 
@@ -23,7 +27,7 @@ pub record GoodFile (file : Problem) (old new : Channel) : Type 0 where
   pub read : ReadsWhole old.bytes new.bytes problem_limit bytes
   pub reads : Reads bytes file
 
--- more bytes were taken than the limit, and so many: of the problem, or of the text after it
+-- more bytes were taken than the limit, and so many: of the first text, or of the one after it
 pub record TooMuch (second : Bool) (limit : ℕ) (r : Reply) (old new : Channel) : Type 0 where
   pub read : ℕ
   pub status : r.status ≡ TooLong second read
@@ -42,6 +46,25 @@ pub record NoFile (StatusOf : AFileFault → Status) (r : Reply) (old new : Chan
 -- what is told of a problem that is none, or too long
 abbrev pub FileRefused : Reply → Channel → Channel → Type 0
 FileRefused r old new = TooMuch false problem_limit r old new ⊎ NoFile FileFault r old new
+
+-- a text was read to its end, and is that of this representation
+pub record GoodRep (rep : Rep) (old new : Channel) : Type 0 where
+  pub bytes : List ℕ
+  pub read : ReadsWhole old.bytes new.bytes problem_limit bytes
+  pub is_text : IsRepText bytes rep
+
+-- a text was read to its end, and this is its first fault as that of a representation
+pub record NoRep (r : Reply) (old new : Channel) : Type 0 where
+  pub fault : LogFault
+  pub status : r.status ≡ RepFault fault.line fault.kind
+  pub bytes : List ℕ
+  pub read : ReadsWhole old.bytes new.bytes problem_limit bytes
+  pub first : RepFirstFault bytes fault
+  pub told : TellsFault r
+
+-- what is told of a text that is no representation's, or too long
+abbrev pub RepRefused : Reply → Channel → Channel → Type 0
+RepRefused r old new = TooMuch false problem_limit r old new ⊎ NoRep r old new
 
 -- a source failed before the limit was passed
 pub record SourceFailed (second : Bool) (limit : ℕ) (s : Status) (old new : Channel) : Type 0 where

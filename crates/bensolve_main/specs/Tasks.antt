@@ -2,7 +2,10 @@
 use Rattle.std.specs.Prelude.{ℕ, Bool, List}
 use Rattle.vlp_reader.specs.declared.problem.Problem.{Problem}
 use Rattle.commands.specs.Tasks.{Task}
-use Rattle.commands.specs.Tasks.Task.{check, relog, solve, dual, sample, project, associate, meet, sum, join, map, weights, weigh}
+use Rattle.commands.specs.Tasks.Task.{check, relog, solve, dual, sample, project, associate, meet, sum, join, map, weights, weigh, vertices, facets, reconv}
+use Rattle.rep_text.specs.declared.rep.Rep.{Rep}
+use Rattle.rep_replies.specs.Checking.{ReconvVerdict}
+use Rattle.rep_replies.specs.Turning.{FacetsVerdict, VerticesVerdict}
 use Rattle.described.specs.Calculus.{MeetVerdict, SumVerdict, JoinVerdict, MapVerdict}
 use Rattle.described.specs.Projected.{ProjectVerdict, AssociateVerdict}
 use Rattle.solver.specs.Replies.{DualVerdict, SolveVerdict}
@@ -12,12 +15,15 @@ use Rattle.bensolve_main.specs.Check.{CheckVerdict}
 use Rattle.bensolve_main.specs.Relog.{RelogVerdict}
 use Rattle.bensolve_main.specs.Sample.{SampleVerdict}
 
--- what is read: nothing; a problem; a problem and then a log; two problems
+-- what is read: nothing; a problem; a problem and then a log; two problems; a representation; a
+-- representation and then the log of a conversion
 pub data Texts : Type 0 where
   nothing : Texts
   problem : Texts
   problem_and_log : Texts
   two_problems : Texts
+  representation : Texts
+  representation_and_log : Texts
 
 abbrev pub texts_of : Task → Texts
 texts_of (sample number) = nothing
@@ -26,6 +32,9 @@ texts_of relog = problem_and_log
 texts_of meet = two_problems
 texts_of sum = two_problems
 texts_of join = two_problems
+texts_of vertices = representation
+texts_of facets = representation
+texts_of reconv = representation_and_log
 texts_of _ = problem
 
 -- what is told without a text
@@ -56,3 +65,14 @@ TellsTwo meet a b r = MeetVerdict a b r
 TellsTwo sum a b r = SumVerdict a b r
 TellsTwo join a b r = JoinVerdict a b r
 TellsTwo _ a b r = ⊥
+
+-- what is told of a representation, with a log that is written or without
+abbrev pub TellsRep : Task → Bool → Rep → Reply → Type 0
+TellsRep vertices logs rep r = VerticesVerdict logs rep r
+TellsRep facets logs rep r = FacetsVerdict logs rep r
+TellsRep _ logs rep r = ⊥
+
+-- what is told of a representation and of the bytes of a log
+abbrev pub TellsConv : Task → Rep → List ℕ → Reply → Type 0
+TellsConv reconv rep bytes r = ReconvVerdict rep bytes r
+TellsConv _ rep bytes r = ⊥

@@ -3,41 +3,19 @@ ghost use Rattle.std.specs.Prelude.{◌≡◌, ◌≤◌, true, None, IfOk, IfEr
 ghost use Rattle.commands.specs.Tasks.Task.{check};
 ghost use Rattle.log_rules.specs.Report.{report_text};
 ghost use Rattle.bensolve_main.specs.World.{channel};
-ghost use Rattle.bensolve_main.specs.Stages.{HaltsEnd, HaltsReading, LogTold, TellsEnd, TellsStatus, step_licence};
+ghost use Rattle.bensolve_main.specs.Stages.{HaltsEnd, HaltsReading, LogTold, TellsEnd};
 ghost use Rattle.bensolve_main.specs.Reading.{log_limit};
 
 use crate::reading::long_reply;
 use cert_check::{Answer, Refusal, StreamEnd, check_from};
-use deriv_log::{Entries, Licence, Place};
-use exact_field::Left;
-use frac128::Frac;
 use sol_writer::report;
 use src_sink::{NoMemory, Source};
-use statuses::{LogRefusal, Reply, Status, fault_reply};
+use statuses::{LogRefusal, Reply, Status, refused_reply, step_reply};
 use std::alloc::Global;
 use vlp_reader::Problem;
 
 /// The most bytes that are read of a log: 384 MiB.
 pub(crate) const LOG_LIMIT: u64 = 402_653_184;
-
-/// What is told of a step whose exact result is not held.
-fn step_reply(alloc: Global, entry: u32, step: u64, left: Left<Frac>) -> Result<Reply, NoMemory>
-    ensures { IfOk result (TellsStatus (Status.Left (step_licence entry step left))) }
-{
-    let licence = Licence {
-        place: Place::Step { entry, step },
-        left,
-        trail: Entries::new(alloc),
-    };
-    fault_reply(alloc, Status::Left(licence))
-}
-
-/// What is told of a log that is refused.
-fn refused_reply(alloc: Global, why: LogRefusal) -> Result<Reply, NoMemory>
-    ensures { IfOk result (TellsStatus (Status.Refused why)) }
-{
-    fault_reply(alloc, Status::Refused(why))
-}
 
 /// What is told where a log gives no answer. An `Err` is a status without a reply.
 pub(crate) fn end_reply(alloc: Global, end: StreamEnd) -> Result<Reply, Status>

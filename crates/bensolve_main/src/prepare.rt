@@ -7,10 +7,11 @@ ghost use Rattle.commands.specs.Paths.{log_in_path, problem_path};
 ghost use Rattle.commands.specs.Seen.{files_seen, shape_seen, task_seen};
 ghost use Rattle.bensolve_main.specs.Outcome.{HaltsFor, Replies};
 ghost use Rattle.bensolve_main.specs.Reading.{log_limit, problem_limit};
-ghost use Rattle.bensolve_main.specs.Stages.{FileTold, HaltsReading, LogTold, ReadsLog, ReadsNothing, ReadsProblem, ReadsTwo, SecondTold, ShapeFits, TaskFits, TwoHalts, TwoTold, WithLogHalts, WithLogTold};
+ghost use Rattle.bensolve_main.specs.Stages.{FileTold, HaltsReading, LogTold, OneTold, ReadsLog, ReadsNothing, ReadsOne, ReadsProblem, ReadsTwo, SecondTold, ShapeFits, TaskFits, TwoHalts, TwoTold, WithLogHalts, WithLogTold};
 ghost use Rattle.bensolve_main.specs.Tasks.{TellsAlone, TellsFile, TellsTwo, texts_of};
 ghost use Rattle.bensolve_main.specs.World.{channel, sources};
 
+use crate::converting::{one_rep, with_conv};
 use crate::examine::examine;
 use crate::reading::{read_problem, reply_at};
 use crate::relog::relog;
@@ -78,7 +79,7 @@ fn two_reply(
 }
 
 /// Reads the problem, and does a task of it. An `Err` is a status without a reply.
-fn one_text<S: Source>(
+fn one_problem<S: Source>(
     alloc: Global,
     task: Task<'_>,
     logs: bool,
@@ -97,6 +98,30 @@ fn one_text<S: Source>(
     match read_problem(alloc, false, problem) {
         Ok(file) => Ok(file_reply(alloc, task, &file, logs)?),
         Err(end) => reply_at(end),
+    }
+}
+
+/// Reads the one text of a task, and does the task. An `Err` is a status without a reply.
+fn one_text<S: Source>(
+    alloc: Global,
+    task: Task<'_>,
+    logs: bool,
+    problem: &mut S,
+) -> Result<Reply, Status>
+    requires reads { ReadsOne (task_seen task) }
+    requires fits { TaskFits (task_seen task) }
+    ensures count { S.faults problem.old ≤ S.faults problem.new }
+    ensures told { IfOk result (λ r. OneTold (texts_of (task_seen task.entry))
+        (task_seen task.entry) logs r
+        (channel (S.left problem.old) (S.faults problem.old))
+        (channel (S.left problem.new) (S.faults problem.new))) }
+    ensures halts { IfErr result (λ s. HaltsReading false problem_limit s
+        (channel (S.left problem.old) (S.faults problem.old))
+        (channel (S.left problem.new) (S.faults problem.new))) }
+{
+    match task {
+        Task::Vertices | Task::Facets => one_rep(alloc, task, logs, problem),
+        _ => one_problem(alloc, task, logs, problem),
     }
 }
 
@@ -232,6 +257,7 @@ pub(crate) fn prepare<S: Source, L: Source>(
         Files::Log { .. } => one_text(alloc, task, true, problem),
         Files::Second { .. } => match task {
             Task::Check | Task::Relog => with_log(alloc, task, problem, log_in),
+            Task::Reconv => with_conv(alloc, problem, log_in),
             _ => two_texts(alloc, task, problem, log_in),
         },
     }

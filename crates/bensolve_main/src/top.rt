@@ -36,10 +36,14 @@ use std::alloc::Global;
 /// - `map FILE` describes the image of the feasible set under the objectives.
 /// - `weights FILE` solves the problem, and tells for each point of its image the weights for which
 ///   it is least; `weigh FILE W` tells the points that are least for the weights that W writes.
+/// - `vertices FILE` reads inequalities and equations, and writes the points, directions and lines of
+///   the same set; `facets FILE` turns these into inequalities and equations. With LOG each then
+///   writes a log of the conversion; `reconv FILE LOG` checks that log, and writes what it gives.
 ///
 /// The text goes to `out`; where there is no answer, it is the one fault line of the status. The log
-/// of `solve`, `dual` or `project` goes to `log_out`, where there is an answer. Everything is read,
-/// and every text made, before anything is written. A log or a second problem is read from `log_in`.
+/// of `solve`, `dual`, `project`, `vertices` or `facets` goes to `log_out`, where there is an answer.
+/// Everything is read, and every text made, before anything is written. A problem or representation
+/// is read from `problem`, a log or a second problem from `log_in`.
 pub fn run<S: Source, L: Source, T: Sink, K: Sink>(
     alloc: Global,
     words: &[String],
@@ -87,8 +91,8 @@ pub fn run<S: Source, L: Source, T: Sink, K: Sink>(
         (channel (K.held log_out.new) (K.faults log_out.new)))
         → Completes result) }
 
-    // With the same problem, `check` accepts the log that `solve FILE LOG` or `dual FILE LOG` writes,
-    // and reports the same.
+    // With the same first text, `check` accepts the log that `solve FILE LOG` or `dual FILE LOG`
+    // writes, and reports the same, and `reconv` that of `vertices FILE LOG` or `facets FILE LOG`.
     ensures accepted { IfSome (shape_of (map string_bytes words.now)) (λ shape.
         Accepted shape result
         (world

@@ -5,7 +5,7 @@ use Rattle.commands.specs.Numbers.{number_of}
 use Rattle.commands.specs.Paths.{files_of, problem_path, log_in_path, log_out_path}
 use Rattle.commands.specs.Shapes.{shape_of}
 use Rattle.commands.specs.Tasks.{shape}
-use Rattle.commands.specs.Tasks.Task.{check, relog, solve, dual, sample, project, associate, meet, sum, join, map, weights, weigh}
+use Rattle.commands.specs.Tasks.Task.{check, relog, solve, dual, sample, project, associate, meet, sum, join, map, weights, weigh, vertices, facets, reconv}
 use Rattle.commands.specs.Tasks.Files.{none, one, two, logged}
 use Rattle.commands.specs.Weights.{are_weights, AreWeightsOf}
 
@@ -78,6 +78,16 @@ pub record ShapeExamples : Type 0 where
       ≡ Some (shape weights (one (codes "f")))
   pub weigh_file : shape_of (codes "weigh" ∷ codes "f" ∷ codes "1/4,3/4" ∷ [])
       ≡ Some (shape (weigh (codes "1/4,3/4")) (one (codes "f")))
+  pub vertices_file : shape_of (codes "vertices" ∷ codes "f" ∷ [])
+      ≡ Some (shape vertices (one (codes "f")))
+  pub vertices_to_log : shape_of (codes "vertices" ∷ codes "f" ∷ codes "g" ∷ [])
+      ≡ Some (shape vertices (logged (codes "f") (codes "g")))
+  pub facets_file : shape_of (codes "facets" ∷ codes "f" ∷ [])
+      ≡ Some (shape facets (one (codes "f")))
+  pub facets_to_log : shape_of (codes "facets" ∷ codes "f" ∷ codes "g" ∷ [])
+      ≡ Some (shape facets (logged (codes "f") (codes "g")))
+  pub reconv_files : shape_of (codes "reconv" ∷ codes "f" ∷ codes "g" ∷ [])
+      ≡ Some (shape reconv (two (codes "f") (codes "g")))
   -- a file may have the name of a command
   pub named_so : shape_of (codes "solve" ∷ codes "solve" ∷ [])
       ≡ Some (shape solve (one (codes "solve")))
@@ -98,6 +108,13 @@ pub record NoShapeExamples : Type 0 where
   pub dual_capital : shape_of (codes "Dual" ∷ codes "f" ∷ []) ≡ None
   pub same_dual_log : shape_of (codes "dual" ∷ codes "f" ∷ codes "f" ∷ []) ≡ None
   pub dual_many : shape_of (codes "dual" ∷ codes "f" ∷ codes "g" ∷ codes "h" ∷ []) ≡ None
+  pub same_vertices_log : shape_of (codes "vertices" ∷ codes "f" ∷ codes "f" ∷ []) ≡ None
+  pub vertices_many : shape_of (codes "vertices" ∷ codes "f" ∷ codes "g" ∷ codes "h" ∷ []) ≡ None
+  pub facets_nothing : shape_of (codes "facets" ∷ []) ≡ None
+  pub one_facet : shape_of (codes "facet" ∷ codes "f" ∷ []) ≡ None
+  pub same_facets_log : shape_of (codes "facets" ∷ codes "f" ∷ codes "f" ∷ []) ≡ None
+  pub reconv_alone : shape_of (codes "reconv" ∷ codes "f" ∷ []) ≡ None
+  pub reconv_itself : shape_of (codes "reconv" ∷ codes "f" ∷ codes "f" ∷ []) ≡ None
   pub met_with_itself : shape_of (codes "meet" ∷ codes "a" ∷ codes "a" ∷ []) ≡ None
   pub one_file : shape_of (codes "join" ∷ codes "f" ∷ []) ≡ None
   pub two_files : shape_of (codes "map" ∷ codes "f" ∷ codes "g" ∷ []) ≡ None
@@ -128,6 +145,10 @@ pub record PathExamples : Type 0 where
   pub written : log_out_path (files_of (shape_of (codes "solve" ∷ codes "f" ∷ codes "g" ∷ [])))
       ≡ Some (codes "g")
   pub dual_written : log_out_path (files_of (shape_of (codes "dual" ∷ codes "f" ∷ codes "g" ∷ [])))
+      ≡ Some (codes "g")
+  pub vertices_written : log_out_path (files_of (shape_of (codes "vertices" ∷ codes "f" ∷ codes "g" ∷ [])))
+      ≡ Some (codes "g")
+  pub reconv_reads : log_in_path (files_of (shape_of (codes "reconv" ∷ codes "f" ∷ codes "g" ∷ [])))
       ≡ Some (codes "g")
   pub not_read : log_in_path (files_of (shape_of (codes "solve" ∷ codes "f" ∷ codes "g" ∷ []))) ≡ None
   pub second : log_in_path (files_of (shape_of (codes "sum" ∷ codes "f" ∷ codes "g" ∷ [])))

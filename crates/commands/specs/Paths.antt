@@ -3,7 +3,7 @@ use Rattle.std.specs.Prelude.{ℕ, Bool, true, false, List, Option, None, Some}
 use Rattle.commands.specs.Tasks.{Files, Shape}
 use Rattle.commands.specs.Tasks.Files.{none, one, two, logged}
 
--- the problem
+-- the problem or representation
 abbrev pub problem_path : Files → Option (List ℕ)
 problem_path none = None
 problem_path (one file) = Some file

@@ -5,7 +5,7 @@ use Rattle.commands.specs.declared.command.Files.TheVariants as named
 use Rattle.commands.specs.declared.command.Task.{Task as Made}
 use Rattle.commands.specs.declared.command.Task.TheVariants as made
 use Rattle.commands.specs.Tasks.{Task, Files, Shape, shape}
-use Rattle.commands.specs.Tasks.Task.{check, relog, solve, dual, sample, project, associate, meet, sum, join, map, weights, weigh}
+use Rattle.commands.specs.Tasks.Task.{check, relog, solve, dual, sample, project, associate, meet, sum, join, map, weights, weigh, vertices, facets, reconv}
 use Rattle.commands.specs.Tasks.Files.{none, one, two, logged}
 
 abbrev pub task_seen : Made → Task
@@ -22,6 +22,9 @@ task_seen made.Join = join
 task_seen made.Map = map
 task_seen made.Weights = weights
 task_seen (made.Weigh word) = weigh word.now
+task_seen made.Vertices = vertices
+task_seen made.Facets = facets
+task_seen made.Reconv = reconv
 
 abbrev pub files_seen : Named → Files
 files_seen named.Nothing = none

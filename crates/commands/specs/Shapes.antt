@@ -5,7 +5,7 @@ use Rattle.std.specs.Str.{bytes_eq}
 use Rattle.commands.specs.Numbers.{number_of}
 use Rattle.commands.specs.Weights.{are_weights}
 use Rattle.commands.specs.Tasks.{Task, Shape, shape}
-use Rattle.commands.specs.Tasks.Task.{check, relog, solve, dual, sample, project, associate, meet, sum, join, map, weights, weigh}
+use Rattle.commands.specs.Tasks.Task.{check, relog, solve, dual, sample, project, associate, meet, sum, join, map, weights, weigh, vertices, facets, reconv}
 use Rattle.commands.specs.Tasks.Files.{none, one, two, logged}
 
 -- ---- the words after a name
@@ -43,6 +43,8 @@ shape_of (word ∷ file ∷ []) =
     else if bytes_eq word (codes "dual") then Some (shape dual (one file))
     else if bytes_eq word (codes "map") then Some (shape map (one file))
     else if bytes_eq word (codes "weights") then Some (shape weights (one file))
+    else if bytes_eq word (codes "vertices") then Some (shape vertices (one file))
+    else if bytes_eq word (codes "facets") then Some (shape facets (one file))
     else if bytes_eq word (codes "sample") then number_shape file
     else None
 shape_of (word ∷ file ∷ other ∷ []) =
@@ -51,8 +53,11 @@ shape_of (word ∷ file ∷ other ∷ []) =
     else if bytes_eq word (codes "meet") then second_shape meet file other
     else if bytes_eq word (codes "sum") then second_shape sum file other
     else if bytes_eq word (codes "join") then second_shape join file other
+    else if bytes_eq word (codes "reconv") then second_shape reconv file other
     else if bytes_eq word (codes "solve") then log_shape solve file other
     else if bytes_eq word (codes "dual") then log_shape dual file other
+    else if bytes_eq word (codes "vertices") then log_shape vertices file other
+    else if bytes_eq word (codes "facets") then log_shape facets file other
     else if bytes_eq word (codes "project") then columns_shape project file other
     else if bytes_eq word (codes "associate") then columns_shape associate file other
     else if bytes_eq word (codes "weigh") then weights_shape file other

@@ -17,9 +17,12 @@ pub data Task : Type 0 where
   map : Task
   weights : Task
   weigh : (word : List ℕ) → Task
+  vertices : Task
+  facets : Task
+  reconv : Task
 
--- the files that a command names: none; the problem; the problem and a log or a problem that is read
--- after it; the problem and the log that is written
+-- the files that a command names: none; the problem or representation; the same and a log or a problem
+-- that is read after it; the same and the log that is written
 pub data Files : Type 0 where
   none : Files
   one : (problem : List ℕ) → Files

@@ -39,17 +39,23 @@ pub enum Task<'a> {
     Weights,
     /// To tell the vertices that are least for the weights that a word writes.
     Weigh { weights: &'a str },
+    /// To turn inequalities and equations into points, directions and lines.
+    Vertices,
+    /// To turn points, directions and lines into inequalities and equations.
+    Facets,
+    /// To check the log of such a conversion, and write what it gives.
+    Reconv,
 }
 
 /// The files that a command names.
 #[derive(Clone, Copy, Debug)]
 pub enum Files<'a> {
     Nothing,
-    /// The problem.
+    /// The problem or representation.
     Problem { problem: &'a str },
-    /// The problem, and a log or a problem that is read after it.
+    /// The same, and a log or a problem that is read after it.
     Second { problem: &'a str, second: &'a str },
-    /// The problem, and the log that is written.
+    /// The same, and the log that is written.
     Log { problem: &'a str, log: &'a str },
 }
 
@@ -168,6 +174,10 @@ fn command_of_one<'a>(word: &str, one: &'a str) -> Option<Command<'a>>
         file_command(Task::Map, one)
     } else if word == "weights" {
         file_command(Task::Weights, one)
+    } else if word == "vertices" {
+        file_command(Task::Vertices, one)
+    } else if word == "facets" {
+        file_command(Task::Facets, one)
     } else if word == "sample" {
         sample_command(one)
     } else {
@@ -189,10 +199,16 @@ fn command_of_two<'a>(word: &str, one: &'a str, two: &'a str) -> Option<Command<
         second_command(Task::Sum, one, two)
     } else if word == "join" {
         second_command(Task::Join, one, two)
+    } else if word == "reconv" {
+        second_command(Task::Reconv, one, two)
     } else if word == "solve" {
         log_command(Task::Solve, one, two)
     } else if word == "dual" {
         log_command(Task::Dual, one, two)
+    } else if word == "vertices" {
+        log_command(Task::Vertices, one, two)
+    } else if word == "facets" {
+        log_command(Task::Facets, one, two)
     } else if word == "project" {
         project_command(one, two)
     } else if word == "associate" {

@@ -9,7 +9,7 @@ use crate::command::Files;
 /// The files that a command names.
 #[derive(Clone, Copy, Debug)]
 pub struct Paths<'a> {
-    /// The file of the problem.
+    /// The file of the problem or representation.
     pub problem: Option<&'a str>,
     /// The log, or the second problem, that is read.
     pub log_in: Option<&'a str>,

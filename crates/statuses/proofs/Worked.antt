@@ -7,4 +7,4 @@ use Rattle.statuses.specs.Examples.{Examples}
 
 pub examples : Examples
 unfolding whole fraction gcd digits
-examples = record { columns = refl; columns_turned = refl; sizes = refl; sizes_of_columns = refl; sizes_turned = refl; weights = refl; weights_turned = refl; second = refl; first = refl; empty_second = refl; empty_first = refl; no_multiplier = refl; other_part = refl; weighed = refl; operands_turned = refl; other_operation = refl; long_log = refl; long_problem = refl; done = refl; no_shape = refl; no_memory = refl; read = refl; written = refl }
+examples = record { columns = refl; columns_turned = refl; sizes = refl; sizes_of_columns = refl; sizes_turned = refl; weights = refl; weights_turned = refl; second = refl; first = refl; empty_second = refl; empty_first = refl; no_multiplier = refl; other_part = refl; weighed = refl; operands_turned = refl; other_operation = refl; long_log = refl; long_problem = refl; rep = refl; rep_kind = refl; done = refl; no_shape = refl; no_memory = refl; read = refl; written = refl }

@@ -1,7 +1,7 @@
 -- The code of each status.
 use Rattle.std.specs.Prelude.{ℕ}
 use Rattle.statuses.specs.declared.status.Status.{Status}
-use Rattle.statuses.specs.declared.status.Status.TheVariants.{Done, Words, FileFault, ConeFault, Left, NoMemory, ReadFault, WriteFault, Refused, TooLong, Columns, SecondFile, EmptyPart, Sizes, WeighLeft, Weights}
+use Rattle.statuses.specs.declared.status.Status.TheVariants.{Done, Words, FileFault, ConeFault, Left, NoMemory, ReadFault, WriteFault, Refused, TooLong, Columns, SecondFile, EmptyPart, Sizes, RepFault, WeighLeft, Weights}
 
 abbrev pub code_of : Status → ℕ
 code_of Done = 0
@@ -18,5 +18,6 @@ code_of (Columns asked cols) = 12
 code_of (SecondFile f) = 13
 code_of (EmptyPart second u) = 14
 code_of (Sizes first second) = 15
+code_of (RepFault line kind) = 16
 code_of (WeighLeft item l) = 17
 code_of (Weights given objs) = 18

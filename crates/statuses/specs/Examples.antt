@@ -8,8 +8,9 @@ use Rattle.frac128.specs.declared.frac.Frac.{Frac}
 use Rattle.frac128.specs.declared.vectors.Spot.{Spot}
 use Rattle.vlp_reader.specs.declared.fault.FileFault.{FileFault}
 use Rattle.vlp_reader.specs.declared.fault.FileKind.TheVariants.{BadLine}
+use Rattle.word_lines.specs.declared.fault.LogKind.TheVariants.{OutOfRange, NoEnd}
 use Rattle.statuses.specs.Replies.{fault_text}
-use Rattle.statuses.specs.declared.status.Status.TheVariants.{Done, Words, FileFault as OfFile, NoMemory, ReadFault, WriteFault, TooLong, Columns, SecondFile, EmptyPart, Sizes, WeighLeft, Weights}
+use Rattle.statuses.specs.declared.status.Status.TheVariants.{Done, Words, FileFault as OfFile, NoMemory, ReadFault, WriteFault, TooLong, Columns, SecondFile, EmptyPart, Sizes, RepFault, WeighLeft, Weights}
 
 -- a fault on line 3
 abbrev pub bad_line : FileFault
@@ -55,6 +56,8 @@ pub record Examples : Type 0 where
   pub long_log : fault_text (TooLong true 268435457) ≡ codes "fault 10 log 268435457\n"
   pub long_problem : bytes_eq (fault_text (TooLong false 268435457)) (codes "fault 10 log 268435457\n")
       ≡ false
+  pub rep : fault_text (RepFault 10001 OutOfRange) ≡ codes "fault 16 line 10001 kind 4 OutOfRange\n"
+  pub rep_kind : bytes_eq (fault_text (RepFault 3 NoEnd)) (codes "fault 16 line 3 kind 1 NoEnd\n") ≡ false
   -- what tells itself, or cannot be told
   pub done : fault_text Done ≡ []
   pub no_shape : fault_text Words ≡ []

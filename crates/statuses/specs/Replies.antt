@@ -1,13 +1,17 @@
 -- The lines that tell statuses, and the replies that are faults.
 use Rattle.std.specs.Prelude.{◌≡◌, ℕ, Bool, true, false, List, [], Option, Some, None}
+use Rattle.exact_field.specs.declared.op.Left.{Left as AStep}
+use Rattle.frac128.specs.declared.frac.Frac.{Frac}
 use Rattle.deriv_log.specs.LogText.{log_text}
 use Rattle.deriv_log.specs.declared.entry.Entry.{Entry}
-use Rattle.statuses.specs.Text.{file_fault_text, cone_fault_text, licence_text, log_fault_text, wrong_text, too_long_text, columns_text, second_fault_text, empty_part_text, sizes_text, weigh_text, weights_text}
+use Rattle.deriv_log.specs.declared.licence.Licence.{Licence}
+use Rattle.deriv_log.specs.declared.licence.Place.TheVariants.{Step}
+use Rattle.statuses.specs.Text.{file_fault_text, cone_fault_text, licence_text, log_fault_text, wrong_text, too_long_text, columns_text, second_fault_text, empty_part_text, sizes_text, rep_fault_text, weigh_text, weights_text}
 use Rattle.statuses.specs.declared.reply.Reply.{Reply}
 use Rattle.statuses.specs.declared.status.LogRefusal.{LogRefusal}
 use Rattle.statuses.specs.declared.status.LogRefusal.TheVariants.{Text, Wrong}
 use Rattle.statuses.specs.declared.status.Status.{Status}
-use Rattle.statuses.specs.declared.status.Status.TheVariants.{FileFault, ConeFault, Left, Refused, TooLong, Columns, SecondFile, EmptyPart, Sizes, WeighLeft, Weights}
+use Rattle.statuses.specs.declared.status.Status.TheVariants.{FileFault, ConeFault, Left, Refused, TooLong, Columns, SecondFile, EmptyPart, Sizes, RepFault, WeighLeft, Weights}
 
 -- the fault line of a refused log
 abbrev pub refusal_text : LogRefusal → List ℕ
@@ -26,6 +30,7 @@ fault_text (Columns asked cols) = columns_text asked cols
 fault_text (SecondFile f) = second_fault_text f
 fault_text (EmptyPart second u) = empty_part_text second u
 fault_text (Sizes first second) = sizes_text first second
+fault_text (RepFault line kind) = rep_fault_text line kind
 fault_text (WeighLeft item l) = weigh_text item l
 fault_text (Weights given objs) = weights_text given objs
 fault_text _ = []
@@ -34,6 +39,14 @@ fault_text _ = []
 pub record TellsFault (r : Reply) : Type 0 where
   pub line : r.text ≡ fault_text r.status
   pub no_log : r.log ≡ None
+
+-- .. and its status is this one
+abbrev pub TellsStatus : Status → Reply → Type 0
+TellsStatus s r = (r.status ≡ s) × TellsFault r
+
+-- the licence of a step of the check of an entry
+abbrev pub step_licence : ℕ → ℕ → AStep Frac → Licence
+step_licence entry step l = record { place = Step entry step; left = l; trail = [] }
 
 -- the log of a reply: the text of the entries, where one is wanted
 abbrev pub log_for : Bool → List Entry → Option (List ℕ)

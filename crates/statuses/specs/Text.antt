@@ -11,6 +11,7 @@ use Rattle.vlp_reader.specs.declared.fault.FileFault.{FileFault}
 use Rattle.word_lines.specs.Parts.{part_words, naturals, sparse, vector}
 use Rattle.word_lines.specs.Names.{kind_number as log_kind_number, kind_name as log_kind_name}
 use Rattle.word_lines.specs.declared.fault.LogFault.{LogFault}
+use Rattle.word_lines.specs.declared.fault.LogKind.{LogKind}
 use Rattle.deriv_log.specs.declared.licence.Licence.{Licence}
 use Rattle.deriv_log.specs.declared.licence.Place.{Place}
 use Rattle.deriv_log.specs.declared.licence.Place.TheVariants.{Pivot, Elim, Pair, Exchange, Scale, Step}
@@ -96,9 +97,17 @@ empty_part_text second u =
     line_text (codes "fault" ∷ codes "14" ∷ part_name second ∷ part_words (sparse u))
 
 -- ---- a log
--- the fault line of a log's text
+-- the words of the first fault of a log's or a representation's text
+abbrev pub log_fault_words : ℕ → LogKind → List (List ℕ)
+log_fault_words line kind =
+    codes "line" ∷ decimal line ∷ codes "kind" ∷ decimal (log_kind_number kind) ∷ log_kind_name kind ∷ []
+
+-- the fault lines of a log's text, and of a representation's
 abbrev pub log_fault_text : LogFault → List ℕ
-log_fault_text f = line_text (codes "fault" ∷ codes "9" ∷ codes "line" ∷ decimal f.line ∷ codes "kind" ∷ decimal (log_kind_number f.kind) ∷ log_kind_name f.kind ∷ [])
+log_fault_text f = line_text (codes "fault" ∷ codes "9" ∷ log_fault_words f.line f.kind)
+
+abbrev pub rep_fault_text : ℕ → LogKind → List ℕ
+rep_fault_text line kind = line_text (codes "fault" ∷ codes "16" ∷ log_fault_words line kind)
 
 -- the fault line of a rule that an entry fails
 abbrev pub wrong_text : ℕ → Rule → List ℕ

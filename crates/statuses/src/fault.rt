@@ -5,8 +5,8 @@ ghost use Rattle.statuses.specs.Replies.{fault_text, refusal_text};
 use crate::cone::{cone_fault_line, empty_part_line};
 use crate::licence::{licence_line, weigh_line};
 use crate::lines::{
-    columns_line, file_fault_line, log_fault_line, second_fault_line, sizes_line, too_long_line,
-    weights_line, wrong_line,
+    columns_line, file_fault_line, log_fault_line, rep_fault_line, second_fault_line, sizes_line,
+    too_long_line, weights_line, wrong_line,
 };
 use crate::status::{LogRefusal, Status};
 use src_sink::{Bytes, NoMemory};
@@ -37,6 +37,7 @@ pub fn fault_line(alloc: Global, status: &Status) -> Result<Bytes, NoMemory>
         Status::SecondFile(fault) => second_fault_line(alloc, *fault),
         Status::EmptyPart { second, u } => empty_part_line(alloc, *second, u.as_slice()),
         Status::Sizes { first, second } => sizes_line(alloc, *first, *second),
+        Status::RepFault { line, kind } => rep_fault_line(alloc, *line, *kind),
         Status::WeighLeft { item, left } => weigh_line(alloc, *item, left),
         Status::Weights { given, objs } => weights_line(alloc, *given, *objs),
         Status::Done

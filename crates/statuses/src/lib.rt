@@ -12,5 +12,5 @@ mod words;
 
 pub use fault::fault_line;
 pub use licence::licence_line;
-pub use reply::{Reply, fault_reply};
+pub use reply::{Reply, fault_reply, refused_reply, step_reply};
 pub use status::{LogRefusal, Status};

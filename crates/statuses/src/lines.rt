@@ -1,12 +1,13 @@
 //! The fault lines of texts and of their limits.
 ghost use Rattle.std.specs.Prelude.{◌≡◌, IfOk};
-ghost use Rattle.statuses.specs.Text.{file_fault_text, second_fault_text, log_fault_text, wrong_text, too_long_text, columns_text, sizes_text, weights_text};
+ghost use Rattle.statuses.specs.Text.{file_fault_text, second_fault_text, log_fault_text, wrong_text, too_long_text, columns_text, sizes_text, weights_text, rep_fault_text};
 
 use deriv_log::LogFault;
 use log_rules::Rule;
 use src_sink::{Bytes, NoMemory};
 use std::alloc::Global;
 use vlp_reader::FileFault;
+use word_lines::LogKind;
 
 /// The fault line of a refused problem.
 pub(crate) fn file_fault_line(alloc: Global, fault: FileFault) -> Result<Bytes, NoMemory>
@@ -89,6 +90,17 @@ pub(crate) fn weights_line(alloc: Global, given: u32, objs: u32) -> Result<Bytes
     ensures { IfOk result (λ text. text ≡ weights_text given objs) }
 {
     let text = format!(in alloc; "fault 18 {given} {objs}\n")?;
+    let bytes = bytes_of(alloc, text.as_str())?;
+    Ok(bytes)
+}
+
+/// The fault line of a refused representation.
+pub(crate) fn rep_fault_line(alloc: Global, line: u32, kind: LogKind) -> Result<Bytes, NoMemory>
+    ensures { IfOk result (λ text. text ≡ rep_fault_text line kind) }
+{
+    let number = kind.number();
+    let name = kind.name();
+    let text = format!(in alloc; "fault 16 line {line} kind {number} {name}\n")?;
     let bytes = bytes_of(alloc, text.as_str())?;
     Ok(bytes)
 }

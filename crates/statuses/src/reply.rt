@@ -1,9 +1,12 @@
 //! What a command replies.
 ghost use Rattle.std.specs.Prelude.{◌≡◌, IfOk};
-ghost use Rattle.statuses.specs.Replies.{TellsFault};
+ghost use Rattle.statuses.specs.Replies.{TellsFault, TellsStatus, step_licence};
 
 use crate::fault::fault_line;
-use crate::status::Status;
+use crate::status::{LogRefusal, Status};
+use deriv_log::{Entries, Licence, Place};
+use exact_field::Left;
+use frac128::Frac;
 use src_sink::{Bytes, NoMemory};
 use std::alloc::Global;
 
@@ -23,4 +26,24 @@ pub fn fault_reply(alloc: Global, status: Status) -> Result<Reply, NoMemory>
     let text = fault_line(alloc, &status)?;
     let log = None;
     Ok(Reply { status, text, log })
+}
+
+/// The reply where a log is refused.
+pub fn refused_reply(alloc: Global, why: LogRefusal) -> Result<Reply, NoMemory>
+    ensures { IfOk result (TellsStatus (Status.Refused why)) }
+{
+    fault_reply(alloc, Status::Refused(why))
+}
+
+/// The reply where a step of the check of an entry has an exact result that is not held. No entry was
+/// made.
+pub fn step_reply(alloc: Global, entry: u32, step: u64, left: Left<Frac>) -> Result<Reply, NoMemory>
+    ensures { IfOk result (TellsStatus (Status.Left (step_licence entry step left))) }
+{
+    let licence = Licence {
+        place: Place::Step { entry, step },
+        left,
+        trail: Entries::new(alloc),
+    };
+    fault_reply(alloc, Status::Left(licence))
 }

@@ -6,6 +6,7 @@ use frac128::{Frac, Sparse};
 use log_rules::Rule;
 use src_sink::NoMemory;
 use vlp_reader::FileFault;
+use word_lines::LogKind;
 
 /// Why a log is refused.
 #[derive(Clone, Copy, Debug, PartialEq, Eq)]
@@ -51,6 +52,9 @@ pub enum Status {
     /// There are more than 19 columns, or the two problems differ in their number; of an image, more
     /// than 19 objectives, told twice.
     Sizes { first: u32, second: u32 },
+    /// The representation's text is refused: its first fault, or that of the first line of a text that
+    /// reads but is of the other kind.
+    RepFault { line: u32, kind: LogKind },
     /// A product of the weights with a line, a direction or a point has an operation whose exact
     /// result is not held; these are numbered from 1 through the three lists.
     WeighLeft { item: u64, left: Left<Frac> },
@@ -81,6 +85,7 @@ impl Status {
             Status::SecondFile(_) => 13,
             Status::EmptyPart { .. } => 14,
             Status::Sizes { .. } => 15,
+            Status::RepFault { .. } => 16,
             Status::WeighLeft { .. } => 17,
             Status::Weights { .. } => 18,
         }

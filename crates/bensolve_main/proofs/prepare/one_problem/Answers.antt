@@ -2,7 +2,7 @@ use Rattle.std.proofs.Common.{inr}
 use Rattle.vlp_printer.proofs.ReadWords.{words_read}
 use Rattle.vlp_reader.proofs.SomeProblem.{read_within}
 use Rattle.bensolve_main.proofs.Stages.{file_refused, unread}
-use Rattle.bensolve_main.proofs.prepare.one_text.Goals as goal
+use Rattle.bensolve_main.proofs.prepare.one_problem.Goals as goal
 
 pub file_reply-requires-clause-sizes : goal.file_reply-requires-clause-sizes
 file_reply-requires-clause-sizes g c = read_within c.in-Ok.ensures.file.bytes c.in-Ok.file c.in-Ok.ensures.file.reads

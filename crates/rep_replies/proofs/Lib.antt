@@ -1,0 +1,5 @@
+pub mod Answered
+mod Entries
+mod OneRep
+pub mod Passing
+mod Told
