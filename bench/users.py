@@ -3,12 +3,13 @@
 
     users.py write FOLDER [KIND..]
     users.py run PROGRAM.. [--kinds KIND,..] [--sizes N]
+    users.py run PROGRAM.. --images
 
 `write` writes the files of all kinds, or of these: transport, assignment, grid, plan, knapsack, diet, blend, box. Of each kind
 there are four sizes with two objectives and four with three. `run` times the programs on each file in turn, and compares what
 they say of the image. A PROGRAM is the path of a built bensolve, which is run as `PROGRAM solve FILE`; of a driver beside this
 file, `images_ppl` or `images_qsopt`; or a command in quotes, to whose words that of the file is added. With `--sizes N` the
-first N sizes of each kind alone are run.
+first N sizes of each kind alone are run; with `--images` the problems of `images.py` in place of all these.
 
 Times are of the processor and of the whole run, the least of some tries. A run that takes more than LIMIT seconds of it is
 ended. The peak of memory is by GNU time. The last lines tell for each program how many files it answered, the share of status
@@ -24,6 +25,7 @@ import sys
 import tempfile
 from decimal import Decimal
 
+import images
 from images import HERE, LIMIT, Draws, answer, answer_bits, best_of_turns, file, seconds, status_of
 
 Program = collections.namedtuple("Program", "name words is_driver")
@@ -181,6 +183,12 @@ def files(kinds, most):
                 yield f"{make.__name__}-{objectives}", make(name, draws(place, objectives, size), objectives, *size)
 
 
+def files_of_images():
+    """The same of the problems of images.py."""
+    for each in images.files():
+        yield each.name.split("-")[0], each
+
+
 def program_of(word):
     words = shlex.split(word)
     is_driver = os.path.basename(words[0]).startswith("images_")
@@ -249,14 +257,14 @@ def print_sums(programs, lines):
         print(f"| {kind} | " + " | ".join(slopes) + " |")
 
 
-def run_all(programs, kinds, most):
+def run_all(programs, pairs):
     head = "".join(f" {program.name}: status | s | MB |" for program in programs)
     head += "".join(f" {program.name} beside the first |" for program in programs[1:])
     print(f"| file | constraints x columns, objectives | points / directions / facets | bits |{head}")
     print("|" + "---|" * (3 + 4 * len(programs)))
     lines, all_agree = [], True
     with tempfile.TemporaryDirectory() as folder:
-        for kind, each in files(kinds, most):
+        for kind, each in pairs:
             path = os.path.join(folder, each.name + ".vlp")
             with open(path, "w") as out:
                 out.write(each.text)
@@ -277,13 +285,15 @@ def main():
     parser.add_argument("words", nargs="+")
     parser.add_argument("--kinds", default="")
     parser.add_argument("--sizes", type=int, choices=range(1, 5), default=4)
+    parser.add_argument("--images", action="store_true")
     given = parser.parse_args()
     known = [make.__name__ for make, *_ in KINDS]
     kinds = given.words[1:] if given.task == "write" else [kind for kind in given.kinds.split(",") if kind]
     if any(kind not in known for kind in kinds):
         sys.exit("the kinds are " + ", ".join(known))
     if given.task == "run":
-        return run_all([program_of(word) for word in given.words], kinds, given.sizes)
+        pairs = files_of_images() if given.images else files(kinds, given.sizes)
+        return run_all([program_of(word) for word in given.words], pairs)
     os.makedirs(given.words[0], exist_ok=True)
     for _, each in files(kinds, given.sizes):
         with open(os.path.join(given.words[0], each.name + ".vlp"), "w") as out:

@@ -1,4 +1,4 @@
-//! Files whose logs over `Tiny` prove the answers of `solve`, and files whose logs are given up.
+//! Files whose logs over `Tiny`, by either engine, prove the answers of `solve`, and files whose logs are given up.
 use cert_check::check;
 use deriv_log::{Family, Place, Program};
 use exact_field::{Field, Left, Op};
@@ -6,7 +6,7 @@ use frac128::{Frac, Tiny};
 use lin_rows::cells::is_zero;
 use lp_form::Data;
 use sol_writer::report;
-use solver::{SolveEnd, log_of, solve};
+use solver::{SolveEnd, dual_log_of, log_of, solve};
 use src_sink::{Bytes, Items, NoMemory};
 use std::alloc::Global;
 use std::process::Abort;
@@ -43,6 +43,42 @@ const GIVEN_UP: [(&str, &str); 8] = [
     ("p vlp min 0 1 0 2 0\nk 1 0 0.01\nk 2 0 2\ne\n", "scale"),
 ];
 
+/// Files whose logs over the facets are given up over `Tiny`, and where.
+const GIVEN_UP_OVER_FACETS: [(&str, &str); 8] = [
+    (
+        "p vlp max 0 1 0 2 1\no 2 1 1\nj 1 l 20\nk 1 0 10\nk 2 0 1\ne\n",
+        "exchange",
+    ),
+    (
+        "p vlp min 0 1 0 3 0 dualcone 3 9\nk 1 1 1\nk 1 2 2\nk 2 2 1\nk 1 3 1\nk 2 3 10\nk 3 3 10\nk 1 0 1\nk 2 0 1\nk 3 0 1\ne\n",
+        "elimination",
+    ),
+    (
+        "p vlp max 0 1 0 2 1\no 1 1 1\nj 1 l 0.05\nk 1 0 10\nk 2 0 1\ne\n",
+        "sum",
+    ),
+    (
+        "p vlp max 0 2 0 2 2\no 1 1 1\no 2 2 -0.05\nj 1 u 1\ne\n",
+        "exchanged",
+    ),
+    (
+        "p vlp max 0 2 0 2 2\no 1 1 1\no 2 2 1\nk 1 0 12\nk 2 0 1\nj 1 u 1\nj 2 l 0.05\ne\n",
+        "exchanged",
+    ),
+    (
+        "p vlp max 0 2 0 3 4\no 1 1 3\no 2 2 -1\no 3 1 11\no 3 2 1\nj 2 l 0\ne\n",
+        "weight",
+    ),
+    (
+        "p vlp min 0 1 0 3 0 dualcone 4 9\nk 1 1 1\nk 3 1 5\nk 2 2 1\nk 1 3 1\nk 2 3 20\nk 1 4 5\nk 2 4 1\nk 2 0 1\nk 3 0 1\ne\n",
+        "cone",
+    ),
+    (
+        "p vlp min 0 1 0 2 2\no 1 1 -5\no 2 1 7\nj 1 l 10\ne\n",
+        "elimination",
+    ),
+];
+
 /// The problem of a text.
 fn problem_of(alloc: Global, text: &str) -> Result<Problem, Fail> {
     let mut bytes = Items::new(alloc);
@@ -58,16 +94,19 @@ fn kind(place: &Place) -> &'static str {
             Program::Benson { .. } => "benson",
             Program::Interior => "interior",
             Program::Pointed => "pointed",
-            Program::Weight { .. } => "another",
+            Program::Weight { .. } => "weight",
         },
         Place::Elim { row: 0, .. } => "sum",
         Place::Elim { .. } => "elimination",
-        Place::Pair {
-            family: Family::Image,
-            ..
-        } => "image",
+        Place::Pair { family, .. } => match family {
+            Family::Image => "image",
+            Family::Exchanged => "exchanged",
+            Family::ConeRows => "cone",
+            Family::Rep => "another",
+        },
+        Place::Exchange { .. } => "exchange",
         Place::Scale { .. } => "scale",
-        _ => "another",
+        Place::Step { .. } => "another",
     }
 }
 
@@ -92,12 +131,22 @@ fn solved(alloc: Global, problem: &Problem) -> Result<Bytes, Fail> {
     Ok(report(alloc, problem, &solution.answer)?)
 }
 
-/// Where the log of a file over `Tiny` is given up, at operands that overflow there; none where the log proves the answer that
-/// `solve` has.
-fn met(rt: &impl Abort, alloc: Global, text: &str) -> Result<Option<&'static str>, Fail> {
+/// Where the log of a file over `Tiny`, that of `solve` or the one over the facets, is given up, at operands that overflow there;
+/// none where the log proves the answer that `solve` has.
+fn met(
+    rt: &impl Abort,
+    alloc: Global,
+    text: &str,
+    by_facets: bool,
+) -> Result<Option<&'static str>, Fail> {
     let problem = problem_of(alloc, text)?;
     let form = Data::<Tiny>::of(alloc, &problem)?;
-    match log_of(alloc, &problem, &form) {
+    let made = if by_facets {
+        dual_log_of(alloc, &problem, &form)
+    } else {
+        log_of(alloc, &problem, &form)
+    };
+    match made {
         Ok(log) => {
             let answer = check(alloc, &problem, &log)?;
             let told = report(alloc, &problem, &answer)?;
@@ -115,18 +164,20 @@ fn met(rt: &impl Abort, alloc: Global, text: &str) -> Result<Option<&'static str
 
 #[test]
 fn bounds_that_are_too_wide_are_told(rt: HostRuntime) -> Result<(), Fail> {
-    let mut proved = false;
-    let mut given_up = false;
-    for b in 1..128 {
-        let text = format!(in rt.alloc();
-            "p vlp min 2 2 4 2 4\na 1 1 2\na 1 2 1\na 2 1 1\na 2 2 2\no 1 1 1\no 1 2 -1\no 2 1 1\no 2 2 1\ni 1 l {b}\ni 2 l {b}\nj 1 l 0\nj 2 l 0\ne\n"
-        )?;
-        match met(&rt, rt.alloc(), text.as_str())? {
-            None => proved = true,
-            Some(_) => given_up = true,
+    for by_facets in [false, true] {
+        let mut proved = false;
+        let mut given_up = false;
+        for b in 1..128 {
+            let text = format!(in rt.alloc();
+                "p vlp min 2 2 4 2 4\na 1 1 2\na 1 2 1\na 2 1 1\na 2 2 2\no 1 1 1\no 1 2 -1\no 2 1 1\no 2 2 1\ni 1 l {b}\ni 2 l {b}\nj 1 l 0\nj 2 l 0\ne\n"
+            )?;
+            match met(&rt, rt.alloc(), text.as_str(), by_facets)? {
+                None => proved = true,
+                Some(_) => given_up = true,
+            }
         }
+        assert!(rt; proved && given_up);
     }
-    assert!(rt; proved && given_up);
     Ok(())
 }
 
@@ -134,7 +185,10 @@ fn bounds_that_are_too_wide_are_told(rt: HostRuntime) -> Result<(), Fail> {
 fn each_kind_of_overflow_is_met(rt: HostRuntime) -> Result<(), Fail> {
     let alloc = rt.alloc();
     for (text, kind) in GIVEN_UP {
-        assert_eq!(rt; met(&rt, alloc, text)?, Some(kind), "of {text:?}");
+        assert_eq!(rt; met(&rt, alloc, text, false)?, Some(kind), "of {text:?}");
+    }
+    for (text, kind) in GIVEN_UP_OVER_FACETS {
+        assert_eq!(rt; met(&rt, alloc, text, true)?, Some(kind), "of {text:?}");
     }
     Ok(())
 }
