@@ -12,6 +12,7 @@ pub mod Made
 pub mod Opposite
 pub mod Priced
 pub mod Read
+pub mod Renewed
 pub mod Said
 pub mod Shared
 pub mod Shown

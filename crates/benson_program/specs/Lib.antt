@@ -3,3 +3,4 @@ pub mod Ends
 pub mod Laws
 pub mod Preimages
 pub mod Wholes
+pub mod Written

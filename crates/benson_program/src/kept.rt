@@ -8,9 +8,9 @@ ghost use Rattle.tableaux.specs.Simplex.{IsOptimal, OptimalAt};
 ghost use Rattle.tableaux.specs.Table.{Table};
 ghost use Rattle.vlp_reader.specs.declared.problem.Problem.{Problem as File};
 
+use crate::written::Written;
 use bounded_simplex::Engine;
 use exact_field::Field;
-use exact_simplex::Kept as Dictionary;
 use lp_form::{Data, LpName};
 use shown_program::{Guess, Optimum, optimum_of};
 use src_sink::NoMemory;
@@ -27,8 +27,8 @@ pub struct Kept<F: Field> {
     engine: Engine,
     /// How many guesses in a row showed nothing.
     in_vain: u32,
-    /// The last dictionary of the programs that were solved without a guess.
-    pub(crate) last: Dictionary<F>,
+    /// Benson's program, once a question was answered without a guess.
+    pub(crate) written: Option<Written<F>>,
 }
 
 impl<F: Field> Kept<F> {
@@ -37,7 +37,7 @@ impl<F: Field> Kept<F> {
         Kept {
             engine: Engine::new(alloc),
             in_vain: 0,
-            last: Dictionary::new(),
+            written: None,
         }
     }
 

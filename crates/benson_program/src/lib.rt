@@ -6,8 +6,10 @@ mod ends;
 mod kept;
 mod laws;
 mod preimage;
+mod same;
 mod solving;
 mod whole;
+mod written;
 
 pub use cut::cut_of;
 pub use ends::{BensonEnd, FeasibleEnd};

@@ -1,7 +1,7 @@
 //! Programs of the sides solved.
 ghost use Rattle.std.specs.Prelude.{◌≡◌, [], map, length, IfOk, IfErr};
 ghost use Rattle.benson_program.specs.Ends.{CanStart, IsBensonEnd, IsFeasibleEnd, IsPivotOfFeasible, StandForSome};
-ghost use Rattle.exact_simplex.specs.Ends.{IsCertified, IsReadOff};
+ghost use Rattle.exact_simplex.specs.Ends.{IsCertified, IsLpFault, IsReadOff};
 ghost use Rattle.licence.specs.Base.{IsBaseStart};
 ghost use Rattle.licence.specs.Operands.{IsAllowed, Knows, Setting, system_in};
 ghost use Rattle.lp_form.specs.Data.{IsDataOf};
@@ -13,21 +13,43 @@ ghost use Rattle.vlp_reader.specs.declared.problem.Problem.{Problem as File};
 
 use crate::ends::{BensonEnd, FeasibleEnd};
 use crate::kept::Kept;
+use crate::written::{Written, pivoted_benson};
 use exact_field::Field;
-use exact_simplex::{Kept as Dictionary, LpEnd, solve_lp_next};
+use exact_simplex::{LpEnd, LpFault, solve_lp};
 use lp_form::{Data, LpName, program};
 use overflows::{SolveFault, program_fault};
 use shown_program::Optimum;
 use src_sink::{Items, NoMemory};
 use std::alloc::Global;
 
-/// How a named program ends, written as a table, from where the last one of these ended.
+/// How a named program ends by pivots of its table: Benson's from where the last one ended.
+fn pivoted<F: Field>(
+    alloc: Global,
+    form: &Data<F>,
+    c: &[F],
+    name: &LpName<F>,
+    written: &mut Option<Written<F>>,
+) -> Result<LpEnd<F>, LpFault<F>>
+    requires stands { StandForSome F.value form.now }
+    requires widths { HasWidths (length form.now.p) c.now name.now }
+    ensures certified { (file : File) → IsDataOf F.value file form.now → IfOk result (IsCertified F.value (named_system file (map F.value c.now) (named F.value name.now))) }
+    ensures read_off { (file : File) → IsDataOf F.value file form.now → IfOk result (IsReadOff F.value (named_system file (map F.value c.now) (named F.value name.now))) }
+    ensures left { (file : File) → IsDataOf F.value file form.now → IfErr result (IsLpFault F.value F.holds (named_system file (map F.value c.now) (named F.value name.now))) }
+{
+    if let LpName::Benson { v, t } = name {
+        return pivoted_benson(alloc, form, c, v.as_slice(), *t, written);
+    }
+    let system = program(alloc, form, c, name)?;
+    solve_lp(alloc, &system)
+}
+
+/// The same, with its fault as a licence.
 fn pivoted_end<F: Field>(
     alloc: Global,
     form: &Data<F>,
     c: &[F],
     name: &LpName<F>,
-    last: &mut Dictionary<F>,
+    written: &mut Option<Written<F>>,
 ) -> Result<LpEnd<F>, SolveFault>
     requires stands { StandForSome F.value form.now }
     requires widths { HasWidths (length form.now.p) c.now name.now }
@@ -37,8 +59,7 @@ fn pivoted_end<F: Field>(
     ensures place { name.now ≡ name_of.Feasible →
         IfErr result (λ fault. OnLicence fault (λ l. IsPivotOfFeasible l.place)) }
 {
-    let system = program(alloc, form, c, name)?;
-    match solve_lp_next(alloc, system, last) {
+    match pivoted(alloc, form, c, name, written) {
         Ok(end) => Ok(end),
         Err(fault) => Err(program_fault(alloc, name, fault, Items::new(alloc))),
     }
@@ -62,7 +83,7 @@ fn named_end<F: Field>(
 {
     match kept.guessed_optimum(alloc, form, c, name)? {
         Some(Optimum { x, dual, basis }) => Ok(LpEnd::Optimal { x, dual, basis }),
-        None => pivoted_end(alloc, form, c, name, &mut kept.last),
+        None => pivoted_end(alloc, form, c, name, &mut kept.written),
     }
 }
 

@@ -1,5 +1,6 @@
 -- The last table of a program with the cost row of the next one.
-use Rattle.std.proofs.Common.{◌≡◌, ◌≢◌, ℕ, List, [], length, map, sym, ap, ◌∙◌, subst, arith, ◌<◌, ◌≤◌, ◌+◌, ◌-◌, ◌*◌, inl, inr, slice_range, slice_index_or, slice_set, get_or-set_same, get_or-set_other}
+use Rattle.std.proofs.Common.{◌≡◌, ◌≢◌, ℕ, List, [], length, map, sym, ap, ◌∙◌, subst, arith, ◌<◌, ◌≤◌, ◌+◌, ◌-◌, ◌*◌, inl, inr, slice_range, slice_index_or, slice_set, get_or-set_same, get_or-set_other, Option, Some, None}
+use Rattle.std.specs.Prelude.{⊤, MatchOption}
 use Rattle.std.specs.declared.alloc.Global.{Global}
 use Rattle.std.specs.declared.vec.Vec.{Vec}
 use Rattle.std.proofs.lemmas.Bool.{cases_eq}
@@ -21,7 +22,7 @@ use Rattle.lin_rows.specs.declared.system.System.{System as Program}
 use Rattle.lin_rows.specs.declared.tableau.Tableau.{Tableau}
 use Rattle.lin_rows.proofs.ManyLines.{length-lines}
 use Rattle.lin_rows.proofs.Pivoted.{dense_is, row_is}
-use Rattle.exact_simplex.specs.GoingOn.{CanGoOn, HasSameEquations, IsCostLine, second_row}
+use Rattle.exact_simplex.specs.GoingOn.{CanGoOn, HasSameEquations, IsCostLine, IsTableFor, second_row}
 use Rattle.exact_simplex.specs.Program.{IsFeasible, IsIdle, IsTableauOf, table_in}
 use Rattle.lin_rows.specs.System.{HasLengths, system_of}
 use Rattle.exact_simplex.proofs.AnotherCost.{other, other_width, other_wide, other_feasible, other_idle}
@@ -181,3 +182,9 @@ module _ {F : Type 0} (value : F → ℚ) (before p : Program F) (lengths : HasL
       feasible = subst (λ (x : System). IsFeasible value x t') (sym next_system) (record { held = held_now; feasible = feasible_now });
       idle = subst (λ (x : System). IsIdle value x t') (sym next_system) idle_now;
     }
+
+-- a table of a program with the same equations
+pub table_for : {F : Type 0} (value : F → ℚ) (before p : Program F) (t : Option (Tableau F)) → HasSameEquations before p →
+    MatchOption t ⊤ (CanGoOn value before) → MatchOption t ⊤ (IsTableFor value p)
+table_for value before p None same on = tt
+table_for value before p (Some t) same on = record { before = before; from = record { on = on; same = same } }

@@ -1,5 +1,5 @@
 -- What is kept of a program for the next one over the same equations.
-use Rattle.std.specs.Prelude.{ℕ, ◌≤◌, ◌≡◌, List}
+use Rattle.std.specs.Prelude.{ℕ, ◌≤◌, ◌≡◌, ⊤, List, Option, MatchOption}
 use Rattle.exact_field.specs.Rational.{ℚ, zero_ℚ}
 use Rattle.polyhedra.specs.Sparse.{Entry, dense}
 use Rattle.tableaux.specs.Table.{System, row_of, table_of, equation_count, right_column, second_cost}
@@ -22,6 +22,21 @@ pub record CanGoOn {F : Type 0} (value : F → ℚ) (p : Program F) (t : Tableau
   pub lengths : HasLengths p
   pub feasible : IsFeasible value (system_of value p) t
   pub idle : IsIdle value (system_of value p) t
+
+-- .. of a program, which has the equations of that one
+pub record GoesOnFor {F : Type 0} (value : F → ℚ) (before p : Program F) (t : Tableau F) : Type 0 where
+  pub on : CanGoOn value before t
+  pub same : HasSameEquations before p
+
+-- .. of some program with these equations
+pub record IsTableFor {F : Type 0} (value : F → ℚ) (p : Program F) (t : Tableau F) : Type 0 where
+  pub before : Program F
+  pub from : GoesOnFor value before p t
+
+-- a program with the table of its last dictionary, where it has one
+pub record IsLast {F : Type 0} (value : F → ℚ) (p : Program F) (last : Option (Tableau F)) : Type 0 where
+  pub lengths : HasLengths p
+  pub table : MatchOption last ⊤ (CanGoOn value p)
 
 -- the second cost row of a program's table
 abbrev pub second_row : {F : Type 0} → (F → ℚ) → Program F → List ℚ

@@ -4,6 +4,7 @@ pub mod Driving
 pub mod Ends
 pub mod Hint
 pub mod GoingOn
+pub mod Keeping
 pub mod Phase
 pub mod Program
 pub mod Ratios

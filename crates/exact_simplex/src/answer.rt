@@ -4,7 +4,7 @@ ghost use Rattle.exact_simplex.specs.Refused.{IsSameFault};
 
 use exact_field::Left;
 use lin_rows::RowFault;
-use src_sink::Items;
+use src_sink::{Items, NoMemory};
 
 /// How a linear program ends. A basis names for each equation its column: from 1 those of the unknowns, and behind them one
 /// artificial column for each equation.
@@ -55,6 +55,17 @@ pub enum LpFault<F: Drop> {
     },
     /// Want of memory.
     NoMemory,
+}
+
+impl<F: Drop> From<NoMemory> for LpFault<F> {
+    ghost use Rattle.std.specs.Prelude.{◌≡◌};
+    ghost use Rattle.exact_simplex.specs.declared.answer.LpFault.TheVariants.{NoMemory};
+
+    ghost from_gives = { λ _ e. e ≡ NoMemory };
+
+    fn from(_e: NoMemory) -> LpFault<F> {
+        LpFault::NoMemory
+    }
 }
 
 /// The fault of an elimination as that of a linear program.

@@ -15,4 +15,4 @@ mod solve;
 
 pub use answer::{LpEnd, LpFault};
 pub use kept::Kept;
-pub use solve::{solve_lp, solve_lp_from, solve_lp_next};
+pub use solve::{solve_lp, solve_lp_from, solve_lp_next, solve_lp_with_cost};

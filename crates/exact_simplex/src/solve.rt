@@ -3,10 +3,11 @@
 ghost use Rattle.std.specs.Prelude.{◌≡◌, ◌↔◌, ℕ, ⊤, List, IsTrue, MatchOption, take, OnOk, IfOk, IfErr};
 ghost use Rattle.exact_field.specs.Rational.{zero_ℚ, ◌<ℚ◌};
 ghost use Rattle.tableaux.specs.Simplex.{IsBest};
-ghost use Rattle.tableaux.specs.Table.{at, first_cost, right_column, second_cost};
+ghost use Rattle.tableaux.specs.Table.{System as Equations, at, first_cost, right_column, second_cost};
 ghost use Rattle.exact_simplex.specs.Ends.{IsCertified, IsLpFault, IsReadOff, IsSystemFault};
 ghost use Rattle.exact_simplex.specs.Beginnings.{IsBegun, IsBegunBest};
-ghost use Rattle.exact_simplex.specs.GoingOn.{CanGoOn};
+ghost use Rattle.exact_simplex.specs.GoingOn.{CanGoOn, IsTableFor};
+ghost use Rattle.exact_simplex.specs.Keeping.{IsCosted, IsKeptFor};
 ghost use Rattle.exact_simplex.specs.Hint.{IsBestBasis, IsOptimalEnd, NameSame};
 ghost use Rattle.exact_simplex.specs.Program.{IsFeasible, IsIdle, IsPrimal, table_in};
 ghost use Rattle.lin_rows.specs.System.{HasLengths, system_of};
@@ -22,6 +23,7 @@ use exact_field::Field;
 use lin_rows::cells::{entry_at, is_negative};
 use lin_rows::tableau::Tableau;
 use lin_rows::{RowFault, System};
+use src_sink::Items;
 use std::alloc::Global;
 
 /// Phase one. Answers whether its cost stays below 0.
@@ -100,24 +102,18 @@ fn begun_at<F: Field>(
     }
 }
 
-/// A program begins where the last one ended, if both have the same equations.
+/// A program begins in the dictionary of another cost over its equations.
 fn begun_from<F: Field>(
     alloc: Global,
     system: &System<F>,
-    last: Last<F>,
+    mut tableau: Tableau<F>,
 ) -> Result<Begun<F>, RowFault<F>>
-    requires { HasLengths system.now }
+    requires lengths { HasLengths system.now }
+    requires last { IsTableFor F.value system.now tableau }
     ensures begun { IfOk result (IsBegun F.value system.now) }
     ensures left { IfErr result (IsSystemFault F.value F.holds (system_of F.value system.now)) }
 {
-    let Last {
-        system: before,
-        mut tableau,
-    } = last;
-    if !has_same_equations(&before, system) {
-        return begun_anew(alloc, system);
-    }
-    if exchange_cost(&mut tableau, &before, system)? {
+    if exchange_cost(&mut tableau, system)? {
         return Ok(Begun::At(tableau));
     }
     begun_at(alloc, system, &tableau.basis)
@@ -220,32 +216,74 @@ pub fn solve_lp_from<F: Field>(
     }
 }
 
-/// The end of a program that begins where the last one ended, which then is the last one.
-fn solved_next<F: Field>(
+/// The end of a program, from the dictionary of another cost over its equations on, where there is one.
+fn solved_on<F: Field>(
+    alloc: Global,
+    system: &System<F>,
+    tableau: Option<Tableau<F>>,
+) -> Result<Finished<F>, RowFault<F>>
+    requires lengths { HasLengths system.now }
+    requires table { MatchOption tableau ⊤ (IsTableFor F.value system.now) }
+    ensures certified { IfOk result (λ f. IsCertified F.value (system_of F.value system.now) f.end) }
+    ensures read_off { IfOk result (λ f. IsReadOff F.value (system_of F.value system.now) f.end) }
+    ensures last { IfOk result (λ f. MatchOption f.last ⊤ (CanGoOn F.value system.now)) }
+    ensures left { IfErr result (IsSystemFault F.value F.holds (system_of F.value system.now)) }
+{
+    let begun = match tableau {
+        None => begun_anew(alloc, system)?,
+        Some(tableau) => begun_from(alloc, system, tableau)?,
+    };
+    finish(begun, system)
+}
+
+/// The end of a program, which is kept with its last dictionary. After a fault it is kept without one.
+fn solved_kept<F: Field>(
     alloc: Global,
     system: System<F>,
+    tableau: Option<Tableau<F>>,
     kept: &mut Kept<F>,
-) -> Result<LpEnd<F>, RowFault<F>>
-    requires { HasLengths system }
+) -> Result<LpEnd<F>, LpFault<F>>
+    requires lengths { HasLengths system }
+    requires table { MatchOption tableau ⊤ (IsTableFor F.value system) }
     ensures certified { IfOk result (IsCertified F.value (system_of F.value system)) }
     ensures read_off { IfOk result (IsReadOff F.value (system_of F.value system)) }
-    ensures left { IfErr result (IsSystemFault F.value F.holds (system_of F.value system)) }
+    ensures left { IfErr result (IsLpFault F.value F.holds (system_of F.value system)) }
+    ensures kept { IsKeptFor (system_of F.value system) kept.new }
 {
-    let begun = match kept.last.take() {
-        None => begun_anew(alloc, &system)?,
-        Some(last) => begun_from(alloc, &system, last)?,
-    };
-    let Finished { end, last } = finish(begun, &system)?;
-    if let Some(tableau) = last {
-        kept.last = Some(Last { system, tableau });
+    match solved_on(alloc, &system, tableau) {
+        Ok(Finished { end, last: tableau }) => {
+            kept.last = Some(Last { system, tableau });
+            Ok(end)
+        }
+        Err(fault) => {
+            kept.last = Some(Last {
+                system,
+                tableau: None,
+            });
+            Err(lp_fault(fault))
+        }
     }
-    Ok(end)
+}
+
+/// Takes the last table out, if it is one of a program with these equations.
+fn table_for<F: Field>(kept: &mut Kept<F>, system: &System<F>) -> Option<Tableau<F>>
+    ensures { MatchOption result ⊤ (IsTableFor F.value system.now) }
+{
+    let Last {
+        system: before,
+        tableau,
+    } = kept.last.take()?;
+    if has_same_equations(&before, system) {
+        tableau
+    } else {
+        None
+    }
 }
 
 /// How the program ends, as `solve_lp` says, from where the last one ended, if both have the same equations and this one had
 /// a solution: its last dictionary gets the new cost, at the price of one sparse row operation for each equation, and phase
 /// two goes on. Where a number of this cost row is not held the last basis is a hint, as that of `solve_lp_from`, and without
-/// a last one the program begins with phase one. After a fault nothing is kept.
+/// a last dictionary the program begins with phase one. The program is kept, after a fault without a dictionary.
 pub fn solve_lp_next<F: Field>(
     alloc: Global,
     system: System<F>,
@@ -255,9 +293,35 @@ pub fn solve_lp_next<F: Field>(
     ensures certified { IfOk result (IsCertified F.value (system_of F.value system)) }
     ensures read_off { IfOk result (IsReadOff F.value (system_of F.value system)) }
     ensures left { IfErr result (IsLpFault F.value F.holds (system_of F.value system)) }
+    ensures kept { IsKeptFor (system_of F.value system) kept.new }
 {
-    match solved_next(alloc, system, kept) {
-        Ok(end) => Ok(end),
-        Err(fault) => Err(lp_fault(fault)),
+    let tableau = table_for(kept, &system);
+    solved_kept(alloc, system, tableau, kept)
+}
+
+/// How the program that is kept ends with this cost in the place of its own, as `solve_lp_next` says of the whole program: no
+/// equation is written or compared. The program is kept with this cost.
+pub fn solve_lp_with_cost<F: Field>(
+    alloc: Global,
+    cost: Items<F>,
+    kept: &mut Kept<F>,
+) -> Result<LpEnd<F>, LpFault<F>>
+    requires { (s : Equations) × IsCosted F.value cost kept.old s }
+    ensures certified { (s : Equations) → IsCosted F.value cost kept.old s → IfOk result (IsCertified F.value s) }
+    ensures read_off { (s : Equations) → IsCosted F.value cost kept.old s → IfOk result (IsReadOff F.value s) }
+    ensures left { (s : Equations) → IsCosted F.value cost kept.old s → IfErr result (IsLpFault F.value F.holds s) }
+    ensures kept { (s : Equations) → IsKeptFor s kept.old → IsKeptFor s kept.new }
+{
+    match kept.last.take() {
+        None => unreachable!(),
+        Some(
+            Last {
+                mut system,
+                tableau,
+            },
+        ) => {
+            system.cost = cost;
+            solved_kept(alloc, system, tableau, kept)
+        }
     }
 }

@@ -124,6 +124,13 @@ side_costs : (file : Problem) (t : Bool) → length (if t then side_bounds file 
 side_costs file true = length-side_bounds file
 side_costs file false = length-zeros (side_total file)
 
+-- how many unknowns Benson's program has, at each start vector
+pub length-benson_cost : (file : Problem) (c v : List ℚ) (t : Bool) → length v ≡ file.objs →
+    length (benson_system file c v t).cost ≡ side_total file + file.objs + file.objs + dual_unknowns file.objs file.cone
+length-benson_cost file c v t v_long =
+    let more = dual_unknowns file.objs file.cone in
+    length-parts _ (negated v) (zeros more) (side_total file) file.objs more (side_costs file t) (length-negated v file.objs v_long) (length-zeros more)
+
 pub benson_ok : (file : Problem) (c v : List ℚ) (t : Bool) → length c ≡ file.objs → length v ≡ file.objs → IsSystem (benson_system file c v t)
 benson_ok file c v t c_long v_long =
     let m = side_total file in
@@ -132,7 +139,7 @@ benson_ok file c v t c_long v_long =
     let members = dual_members m q file.cone in
     let last = on_parts (zeros m) c (zeros more) in
     let s = benson_system file c v t in
-    let cost : length s.cost ≡ m + q + q + more = length-parts _ (negated v) (zeros more) m q more (side_costs file t) (length-negated v q v_long) (length-zeros more) in
+    let cost : length s.cost ≡ m + q + q + more = length-benson_cost file c v t v_long in
     record {
       wide = subst (λ (n : ℕ). AreWide n s.equations) (sym cost)
           (wide_append _ (balances file more ++ members) (last ∷ [])

@@ -17,6 +17,6 @@ pub use cone::{interior, is_zero_vector, pointed, push_ones};
 pub use data::{At, ConeOf, Data, DataFault, SideOf};
 pub use name::{LpName, Parts};
 pub use pieces::{column, negative, unit, zeros};
-pub use programs::program;
+pub use programs::{benson_cost, program};
 pub use reading::{choice, difference, parts};
 pub use shown::{Cut, Preimage};

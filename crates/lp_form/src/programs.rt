@@ -1,5 +1,6 @@
 //! The programs by their names.
-ghost use Rattle.std.specs.Prelude.{◌≡◌, ◌++◌, map, length, IfOk, OnOk, if◌then◌else◌};
+ghost use Rattle.std.specs.Prelude.{◌≡◌, ◌++◌, List, map, length, IfOk, OnOk, if◌then◌else◌};
+ghost use Rattle.exact_field.specs.Rational.{ℚ};
 ghost use Rattle.polyhedra.specs.Vectors.{zeros as zero_vector};
 ghost use Rattle.vlp_reader.specs.Sides.{side_bounds};
 ghost use Rattle.vlp_reader.specs.declared.problem.Problem.{Problem as File};
@@ -49,6 +50,24 @@ fn push_side_costs<F: Field>(
     }
 }
 
+/// The cost of Benson's program at `v`: its equations and right sides are the same at each.
+pub fn benson_cost<F: Field>(
+    alloc: Global,
+    form: &Data<F>,
+    v: &[F],
+    t: bool,
+) -> Result<Items<F>, NoMemory>
+    ensures { (file : File) (c : List ℚ) → IsDataOf F.value file form.now →
+        IfOk result (λ cost. map F.value cost ≡ (benson_system file c (map F.value v.now) t).cost) }
+{
+    let mut cost = Items::new(alloc);
+    push_side_costs(&mut cost, form, t)?;
+    let w = negative(alloc, v)?;
+    push_difference(&mut cost, w.as_slice())?;
+    push_zeros(&mut cost, dual_unknowns(form.p.len() as u32, &form.cone))?;
+    Ok(cost)
+}
+
 /// Benson's program at `v`.
 fn benson<F: Field>(
     alloc: Global,
@@ -73,11 +92,7 @@ fn benson<F: Field>(
     push_zeros(&mut b, form.cols)?;
     push_zeros(&mut b, dual_equations(q, &form.cone))?;
     b.push(F::one())?;
-    let mut cost = Items::new(alloc);
-    push_side_costs(&mut cost, form, t)?;
-    let w = negative(alloc, v)?;
-    push_difference(&mut cost, w.as_slice())?;
-    push_zeros(&mut cost, more)?;
+    let cost = benson_cost(alloc, form, v, t)?;
     Ok(system(a, b, cost))
 }
 

@@ -1,4 +1,4 @@
-use Rattle.std.proofs.Common.{IsTrue, not, All, sym, ap, ◌∙◌}
+use Rattle.std.proofs.Common.{not, sym, ap, ◌∙◌}
 use Rattle.std.specs.List.{find}
 use Rattle.vlp_reader.specs.Values.{printed_numbers}
 use Rattle.lp_form.proofs.Held.{all_held, first_unheld}

@@ -1,17 +1,14 @@
 use Rattle.std.proofs.Common.{◌≡◌, ℕ, List, [], ◌∷◌, ◌++◌, map, length, sym, ap, ap₂, ◌∙◌}
-use Rattle.std.specs.Prelude.{if◌then◌else◌}
 use Rattle.exact_field.specs.Rational.{ℚ, zero_ℚ, one_ℚ}
-use Rattle.polyhedra.specs.Negatives.{negated}
 use Rattle.polyhedra.specs.Vectors.{zeros}
 use Rattle.tableaux.specs.Table.{Table}
-use Rattle.vlp_reader.specs.Sides.{side_bounds}
 use Rattle.lp_form.specs.Building.{joined}
 use Rattle.lp_form.specs.Data.{cone_of}
 use Rattle.lp_form.specs.Programs.{on_parts, balances, dual_members, dual_unknowns, dual_equations, side_total, benson_system}
 use Rattle.lp_form.proofs.Systems.{benson_ok}
 use Rattle.lp_form.proofs.Figures.{side_number, objective_number}
 use Rattle.std.proofs.lemmas.List.{length-map, replicate-append-replicate}
-use Rattle.lp_form.proofs.Joined.{three_pieces, parts_pushed, joined-append, joined-one}
+use Rattle.lp_form.proofs.Joined.{three_pieces, joined-append, joined-one}
 use Rattle.lp_form.proofs.Steps.{value_pushed}
 use Rattle.lp_form.proofs.programs.benson.Goals as goal
 
@@ -43,17 +40,9 @@ returns g c = λ file stands.
     let k1 : b1 ≡ b0 ++ zeros file.cols = c.in_ok-push_zeros.ensures ∙ ap (λ n. b0 ++ zeros n) stands.cols in
     let k2 : map value c.push_zeros-2.new.list ≡ b1 ++ zeros eqs = c.in_ok-push_zeros-2.ensures ∙ ap (λ n. b1 ++ zeros n) eqs_is in
     let k3 : map value c.push.new.self ≡ map value c.push_zeros-2.new.list ++ one_ℚ ∷ [] = value_pushed value c.push_zeros-2.new.list c.push.new.self c.one.result one_ℚ c.in_ok-push.ensures.ok c.one.ensures in
-    let costs : List ℚ = if c.args.t then side_bounds file else zeros (side_total file) in
-    let c0 = map value c.new-cost.result in
-    let c1 = map value c.push_side_costs.new.list in
-    let c2 = map value c.push_difference.new.list in
-    let w_is : map value c.as_slice-2.result.now ≡ negated vv = ap (map value) c.as_slice-2.ensures.items ∙ c.in_ok-w.ensures in
-    let l2 : c2 ≡ (c1 ++ negated vv) ++ negated (negated vv) = c.in_ok-push_difference.ensures ∙ ap (λ w. (c1 ++ w) ++ negated w) w_is in
-    let l3 : map value c.push_zeros-3.new.list ≡ c2 ++ zeros more = c.in_ok-push_zeros-3.ensures ∙ ap (λ n. c2 ++ zeros n) more_is in
     c.system.ensures (benson_system file cv vv c.args.t) (benson_ok file cv vv c.args.t (length-map c.args.c.now value ∙ c.requires.c ∙ objs_is) (length-map c.args.v.now value ∙ c.requires.v ∙ objs_is))
     (three_pieces value c.new-a.result c.push_balances.new.list c.push_members.new.list c.push_on_w.new.list (joined (balances file more)) (joined members) last c.new-a.ensures h1 h2 h3
     ∙ sym (joined-append (balances file more ++ members) (last ∷ []) ∙ ap₂ (λ x y. x ++ y) (joined-append (balances file more) members) (joined-one last)))
     (three_pieces value c.new-b.result c.push_zeros.new.list c.push_zeros-2.new.list c.push.new.self (zeros file.cols) (zeros eqs) (one_ℚ ∷ []) c.new-b.ensures k1 k2 k3
     ∙ ap (λ z. z ++ one_ℚ ∷ []) (replicate-append-replicate file.cols eqs zero_ℚ))
-    (parts_pushed c0 c1 c2 (map value c.push_zeros-3.new.list) costs (negated vv) (zeros more) (c.in_ok-push_side_costs.ensures file stands) l2 l3
-    ∙ ap (λ l. map value l ++ on_parts costs (negated vv) (zeros more)) c.new-cost.ensures)
+    (c.in_ok-cost.ensures file cv stands)

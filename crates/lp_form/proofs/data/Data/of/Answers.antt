@@ -1,7 +1,6 @@
-use Rattle.std.proofs.Common.{◌≡◌, ℕ, map, length, IsTrue, not, All, refl, sym, ap, ◌∙◌, subst, arith}
+use Rattle.std.proofs.Common.{◌≡◌, ℕ, map, length, IsTrue, All, refl, sym, ap, ◌∙◌, subst, arith}
 use Rattle.lin_rows.specs.Lines.{entries}
 use Rattle.upper_image.specs.Spots.{entry_of}
-use Rattle.vlp_reader.specs.Values.{printed_numbers}
 use Rattle.lp_form.specs.Programs.{side_total}
 use Rattle.lp_form.specs.Shapes.{vectors_fit, duality_fits}
 use Rattle.std.proofs.lemmas.List.{length-map}

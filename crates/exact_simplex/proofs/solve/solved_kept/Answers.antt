@@ -1,6 +1,6 @@
 use Rattle.lin_rows.specs.System.{system_of}
 use Rattle.exact_simplex.proofs.Faults.{same_fault}
-use Rattle.exact_simplex.proofs.solve.solve_lp_next.Goals as goal
+use Rattle.exact_simplex.proofs.solve.solved_kept.Goals as goal
 
 pub returns-in-Err-clause-left : goal.returns-in-Err-clause-left
 returns-in-Err-clause-left g c =
