@@ -1,4 +1,4 @@
-// Texts of the two descriptions of a polyhedron: inequalities and equations, or points, directions and lines.
+// Texts of the two representations of a polyhedron: inequalities and equations, or points, directions and lines.
 #include <gmpxx.h>
 
 #include <cstdio>
@@ -15,16 +15,16 @@ struct Row {
     Vector v;
 };
 
-struct Description {
+struct Representation {
     bool generators = false;
     size_t width = 0;
     std::vector<Row> rows;
 };
 
 // What a text says. It is taken to be without a fault.
-static Description read(const char *name) {
+static Representation read(const char *name) {
     std::ifstream file(name);
-    Description d;
+    Representation d;
     std::string kind, word;
     file >> kind >> d.width;
     d.generators = kind == "gens";
@@ -38,10 +38,10 @@ static Description read(const char *name) {
     return d;
 }
 
-// The text of the other description, whose lines need not be in their form, nor the others scaled.
+// The text of the other representation, whose lines need not be in their form, nor the others scaled.
 class Printer {
 public:
-    explicit Printer(const Description &given) { printf("%s %zu\n", given.generators ? "sides" : "gens", given.width); }
+    explicit Printer(const Representation &given) { printf("%s %zu\n", given.generators ? "sides" : "gens", given.width); }
     void row(char word, const Vector &v) const {
         putchar(word);
         for (const mpq_class &x : v) gmp_printf(" %Qd", x.get_mpq_t());

@@ -36,7 +36,7 @@ Run = collections.namedtuple("Run", "status seconds peak output")
 
 # ---- one form for all answers
 def plain(rep):
-    """A description without a row too many, in the form of the program's texts."""
+    """A representation without a row too many, in the form of the program's texts."""
     bound = rep.kind == "sides"
     word = "e" if bound else "l"
     lines = echelon(rep.vectors(word))
@@ -69,7 +69,7 @@ def lrs_file(rep):
 
 
 def of_lrs(text, width):
-    """The description that an .ine or .ext file has."""
+    """The representation that an .ine or .ext file has."""
     kind = "gens" if "V-representation" in text else "sides"
     both = set(map(int, next((line.split()[2:] for line in text.splitlines() if line.startswith("linearity")), [])))
     inside = text.split("\nbegin\n")[1].split("\nend")[0].splitlines()[1:]

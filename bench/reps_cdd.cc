@@ -1,4 +1,4 @@
-// The other description of a polyhedron by double description of cddlib over fractions of GMP.
+// The other representation of a polyhedron by double description of cddlib over fractions of GMP.
 //
 //   reps_cdd FILE
 #include "reps.hh"
@@ -9,7 +9,7 @@ extern "C" {
 #include <cddlib/cdd.h>
 }
 
-static dd_MatrixPtr matrix_of(const Description &d) {
+static dd_MatrixPtr matrix_of(const Representation &d) {
     dd_MatrixPtr matrix = dd_CreateMatrix(static_cast<dd_rowrange>(d.rows.size()), static_cast<dd_colrange>(d.width + 1));
     matrix->representation = d.generators ? dd_Generator : dd_Inequality;
     matrix->numbtype = dd_Rational;
@@ -27,13 +27,13 @@ static dd_MatrixPtr matrix_of(const Description &d) {
 }
 
 // Whether all bounds are 0: then the library leaves the point 0 out.
-static bool is_cone(const Description &d) {
+static bool is_cone(const Representation &d) {
     for (const Row &row : d.rows)
         if (d.generators || sgn(row.v[d.width]) != 0) return false;
     return !d.generators;
 }
 
-static void print_other(const Description &d, dd_MatrixPtr found) {
+static void print_other(const Representation &d, dd_MatrixPtr found) {
     Printer out(d);
     if (is_cone(d)) out.row('1', Vector(d.width));
     for (dd_rowrange i = 0; i < found->rowsize; i++) {
@@ -52,7 +52,7 @@ static void print_other(const Description &d, dd_MatrixPtr found) {
 
 int main(int count, char **words) {
     if (count < 2) return 2;
-    Description d = read(words[1]);
+    Representation d = read(words[1]);
     dd_set_global_constants();
     dd_ErrorType fault = dd_NoError;
     dd_PolyhedraPtr set = dd_DDMatrix2Poly(matrix_of(d), &fault);

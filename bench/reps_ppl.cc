@@ -1,4 +1,4 @@
-// The other description of a polyhedron by double description of the Parma Polyhedra Library.
+// The other representation of a polyhedron by double description of the Parma Polyhedra Library.
 //
 //   reps_ppl FILE
 #include "reps.hh"
@@ -22,7 +22,7 @@ static ppl::Linear_Expression multiple(const Vector &v, size_t width, const mpz_
     return sum;
 }
 
-static Polyhedron of_sides(const Description &d) {
+static Polyhedron of_sides(const Representation &d) {
     Polyhedron set(d.width, ppl::UNIVERSE);
     for (const Row &row : d.rows) {
         mpz_class by = common_denominator(row.v);
@@ -32,7 +32,7 @@ static Polyhedron of_sides(const Description &d) {
     return set;
 }
 
-static Polyhedron of_generators(const Description &d) {
+static Polyhedron of_generators(const Representation &d) {
     ppl::Generator_System all;
     bool is_empty = true;
     for (const Row &row : d.rows) {
@@ -49,7 +49,7 @@ static Polyhedron of_generators(const Description &d) {
     return set;
 }
 
-static void print_generators(const Description &d, const Polyhedron &set) {
+static void print_generators(const Representation &d, const Polyhedron &set) {
     Printer out(d);
     for (const ppl::Generator &g : set.minimized_generators()) {
         mpz_class by = g.is_point() ? mpz_class(g.divisor()) : mpz_class(1);
@@ -63,7 +63,7 @@ static void print_generators(const Description &d, const Polyhedron &set) {
     out.end();
 }
 
-static void print_sides(const Description &d, const Polyhedron &set) {
+static void print_sides(const Representation &d, const Polyhedron &set) {
     Printer out(d);
     if (set.is_empty()) {
         Vector nothing(d.width + 1);
@@ -82,7 +82,7 @@ static void print_sides(const Description &d, const Polyhedron &set) {
 
 int main(int count, char **words) {
     if (count < 2) return 2;
-    Description d = read(words[1]);
+    Representation d = read(words[1]);
     if (d.generators)
         print_sides(d, of_generators(d));
     else
