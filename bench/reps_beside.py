@@ -1,0 +1,288 @@
+#!/usr/bin/env python3
+"""Times `vertices` and `facets` beside lrs, cddlib, the Parma Polyhedra Library and Normaliz, in one run, and compares the answers.
+
+`reps_beside.py PROGRAM [NAME..]` makes texts of the families below, or of those alone whose names begin so; each program runs on
+each text in turn. lrs and Normaliz (Debian: lrslib, normaliz) read files in their own form, `reps_cdd` and `reps_ppl` (`make
+reps_cdd reps_ppl`) the text itself. Times are of the processor and of the whole run, with its reading and printing; the memory is
+the peak that GNU time tells. Of the tries of a program the fastest counts. A run that takes more than LIMIT seconds is ended.
+What another prints is brought into the form of this program's texts: lines or equations in reduced echelon form, the others
+without entries at their places, scaled and in order. `-` in place of PROGRAM runs the others alone, and compares their answers with
+those of `reps.py` on texts that are small enough.
+
+`reps_beside.py PROGRAM = COUNT [SEED]` compares the answers of all on COUNT random texts of sets that are not empty.
+"""
+import collections
+import math
+import os
+import random
+import re
+import resource
+import subprocess
+import sys
+import tempfile
+from fractions import Fraction
+
+import reps
+from reps import COMMAND, OTHER, Rep, converted, cross, cube, cyclic, drawn, normed, place_of, read_rep, whole, zero_one
+from reports import echelon
+
+LIMIT = 60
+TRIES = 3
+ENOUGH = 2.0
+HERE = os.path.dirname(os.path.abspath(__file__))
+NAMES = ("lrs", "cddlib", "PPL", "Normaliz")
+Run = collections.namedtuple("Run", "status seconds peak output")
+
+
+# ---- one form for all answers
+def plain(rep):
+    """A representation without a row too many, in the form of the program's texts."""
+    bound = rep.kind == "sides"
+    word = "e" if bound else "l"
+    lines = echelon(rep.vectors(word))
+    places = [(place_of(l), l) for l in lines]
+
+    def rest(v):
+        for place, l in places:
+            by = v[place]
+            v = tuple(x - by * y for x, y in zip(v, l))
+        return v
+
+    if bound:
+        sides = {normed(v) for v in map(rest, rep.vectors("h")) if any(v[:-1])}
+        return Rep("sides", rep.width, [("e", l) for l in lines] + [("h", v) for v in sorted(sides)])
+    points = {rest(v) for v in rep.vectors("1")}
+    directions = {normed(v + (0,))[:-1] for v in map(rest, rep.vectors("0")) if any(v)}
+    rows = [("l", l) for l in lines] + [("1", v) for v in sorted(points)] + [("0", v) for v in sorted(directions)]
+    return Rep("gens", rep.width, rows)
+
+
+# ---- files of the others
+def lrs_file(rep):
+    """An .ine or .ext file."""
+    both = [k for k, (word, _) in enumerate(rep.rows, 1) if word in "el"]
+    first = lambda word, v: -v[-1] if rep.kind == "sides" else int(word == "1")
+    rows = [" ".join(map(str, (first(word, v),) + v[:rep.width])) for word, v in rep.rows]
+    form = "H-representation" if rep.kind == "sides" else "V-representation"
+    linearity = [" ".join(map(str, ["linearity", len(both)] + both))] if both else []
+    return "\n".join(["text", form] + linearity + ["begin", f"{len(rows)} {rep.width + 1} rational"] + rows + ["end", ""])
+
+
+def of_lrs(text, width):
+    """The representation that an .ine or .ext file has."""
+    kind = "gens" if "V-representation" in text else "sides"
+    both = set(map(int, next((line.split()[2:] for line in text.splitlines() if line.startswith("linearity")), [])))
+    inside = text.split("\nbegin\n")[1].split("\nend")[0].splitlines()[1:]
+    rows = []
+    for number, line in enumerate(inside, 1):
+        first, *v = map(Fraction, line.split())
+        if kind == "sides":
+            rows.append(("e" if number in both else "h", tuple(v) + (-first,)))
+        else:
+            rows.append(("l" if number in both else "1" if first else "0", tuple(x / (first or 1) for x in v)))
+    return Rep(kind, width, rows)
+
+
+def normaliz_file(rep):
+    lines = [f"amb_space {rep.width}"]
+
+    def block(name, vectors):
+        if vectors:
+            lines.extend([f"{name} {len(vectors)}"] + [" ".join(map(str, v)) for v in vectors])
+
+    if rep.kind == "sides":
+        side = lambda v: whole(v[:-1] + (-v[-1],))
+        block("inhom_inequalities", [side(v) for v in rep.vectors("h")])
+        block("inhom_equations", [side(v) for v in rep.vectors("e")])
+    else:
+        block("vertices", [whole(v + (1,)) for v in rep.vectors("1")])
+        block("cone", [whole(v) for v in rep.vectors("0")])
+        block("subspace", [whole(v) for v in rep.vectors("l")])
+    return "\n".join(lines + [""])
+
+
+def of_normaliz(text, kind, width):
+    words = {"vertices of polyhedron": "1", "extreme rays of recession cone": "0", "basis elements of maximal subspace": "l",
+             "support hyperplanes of polyhedron (homogenized)": "h", "equations": "e"}
+    rows, word = [], None
+    for line in text.split("*" * 71, 1)[1].splitlines():
+        head = re.fullmatch(r"\d+ (.*):", line)
+        if head:
+            word = words.get(head[1])
+        elif line.strip() and word:
+            v = tuple(map(Fraction, line.split()))
+            if word in "he" and kind == "sides":
+                rows.append((word, v[:-1] + (-v[-1],)))
+            elif word in "10l" and kind == "gens":
+                rows.append((word, tuple(x / (v[-1] or 1) for x in v[:-1])))
+    return Rep(kind, width, rows)
+
+
+# ---- runs
+def run(words, folder):
+    """One run: its status, none where it was ended; its seconds of the processor; its peak in KiB; what it wrote."""
+    limit = lambda: resource.setrlimit(resource.RLIMIT_CPU, (LIMIT, LIMIT + 1))
+    peak, wrote = os.path.join(folder, "peak"), os.path.join(folder, "wrote")
+    with open(wrote, "w") as out:
+        child = subprocess.Popen(["/usr/bin/time", "-q", "-f", "%M", "-o", peak] + words, cwd=folder, stdout=out,
+                                 stderr=subprocess.DEVNULL, preexec_fn=limit)
+        _, status, used = os.wait4(child.pid, 0)
+    child.returncode = os.waitstatus_to_exitcode(status)
+    seconds = used.ru_utime + used.ru_stime
+    with open(peak) as text, open(wrote) as out:
+        return Run(child.returncode if seconds < LIMIT else None, seconds, int(text.read().split()[-1]), out.read())
+
+
+def commands(program, rep, folder):
+    """Writes the files of a text; the words of each program, ours first."""
+    paths = {}
+    for name, text in (("text.rep", rep.text()), ("text.lrs", lrs_file(rep)), ("text.in", normaliz_file(rep))):
+        paths[name] = os.path.join(folder, name)
+        with open(paths[name], "w") as out:
+            out.write(text)
+    goals = ["--VerticesOfPolyhedron", "--ExtremeRays", "--MaximalSubspace"] if rep.kind == "sides" else ["--SupportHyperplanes", "--Equations"]
+    others = [["lrs", paths["text.lrs"]], [os.path.join(HERE, "reps_cdd"), paths["text.rep"]],
+              [os.path.join(HERE, "reps_ppl"), paths["text.rep"]], ["normaliz", "-x=1"] + goals + [paths["text.in"]]]
+    return ([[program, COMMAND[rep.kind], paths["text.rep"]]] if program else []) + others
+
+
+def answer(name, each, rep, folder):
+    """What a run answers; none where it has no answer."""
+    if each.status != 0:
+        return None
+    kind = OTHER[rep.kind]
+    if name == "lrs":
+        return plain(of_lrs(each.output, rep.width)).text()
+    if name == "Normaliz":
+        with open(os.path.join(folder, "text.out")) as text:
+            return plain(of_normaliz(text.read(), kind, rep.width)).text()
+    return each.output if name == "bensolve" else plain(read_rep(each.output)).text()
+
+
+def fastest(words, folder):
+    best = run(words, folder)
+    for _ in range(TRIES - 1):
+        if best.seconds > ENOUGH or best.status is None:
+            break
+        best = min(best, run(words, folder), key=lambda r: r.seconds)
+    return best
+
+
+def all_runs(program, rep, folder):
+    """The runs by the programs' names, and their answers."""
+    names = (("bensolve",) if program else ()) + NAMES
+    runs, answers = {}, {}
+    for name, words in zip(names, commands(program, rep, folder)):
+        runs[name] = fastest(words, folder)
+        answers[name] = answer(name, runs[name], rep, folder)
+    return runs, answers
+
+
+# ---- families
+def polar(rep):
+    """The inequalities whose normals are the points, all with one bound."""
+    return reps.sides([v + (-60,) for v in rep.vectors("1")])
+
+
+def families():
+    """Names and texts: the first of a pair by inequalities, the second by points."""
+    for n in range(4, 11):
+        yield f"cube {n}", cube(n)
+    for n in range(4, 9):
+        yield f"cube {n}", converted(cube(n))[0]
+    for n in range(4, 11):
+        yield f"cross {n}", cross(n)
+    for n in range(4, 8):
+        yield f"cross {n}", converted(cross(n))[0]
+    for count, n in ((12, 4), (20, 4), (40, 4), (12, 5), (20, 5), (12, 6), (16, 6), (12, 8), (14, 10)):
+        yield f"cyclic {count} {n}", cyclic(count, n)
+    for count, n in ((12, 4), (20, 4), (12, 5), (12, 6), (12, 8)):
+        yield f"cyclic {count} {n}", converted(cyclic(count, n))[0]
+    for count, n in ((20, 4), (16, 5), (30, 5), (20, 6), (40, 6), (20, 7), (24, 8), (20, 10)):
+        yield f"zero_one {count} {n} 1", zero_one(count, n, 1)
+    for count, n in ((16, 5), (20, 6)):
+        yield f"zero_one {count} {n} 1", converted(zero_one(count, n, 1))[0]
+    for count, n in ((20, 4), (40, 4), (16, 5), (30, 5), (16, 6), (24, 6), (16, 8), (14, 10)):
+        yield f"drawn {count} {n} 1", drawn(count, n, 1)
+    for count, n in ((20, 4), (40, 4), (16, 5), (30, 5), (16, 6), (24, 6), (16, 8), (14, 10)):
+        yield f"drawn {count} {n} 1", polar(drawn(count, n, 1))
+    for name, rep in (("permutahedron 5", reps.permutahedron(5)), ("cut 5", reps.cut(5)), ("cut 6", reps.cut(6)), ("birkhoff 4", reps.birkhoff(4)),
+                      ("metric 5", reps.metric(5)), ("half_cube 7", reps.half_cube(7)), ("cell24", reps.cell24()), ("klee_minty 8", reps.klee_minty(8))):
+        yield name, rep
+
+
+def shown(each):
+    """The seconds, or how the run ended."""
+    if each.status is None:
+        return f"over {LIMIT}"
+    return f"{each.seconds:.3f}" if each.status == 0 else f"status {each.status}"
+
+
+def bits(text):
+    return max((int(part).bit_length() for part in re.findall(r"\d+", text)), default=0)
+
+
+def table(program, wanted):
+    ours = ["bensolve"] if program else []
+    names = ours + list(NAMES)
+    print("| text | rows | rows of the answer | bits | " + " | ".join(f"{name}, s" for name in names) + " | "
+          + " | ".join(f"{name}, MiB" for name in names) + " |")
+    print("|" + "---|" * (4 + 2 * len(names)))
+    ratios, different, left, count = {name: [] for name in NAMES}, 0, 0, 0
+    for title, rep in families():
+        if wanted and not any(title.startswith(name) for name in wanted):
+            continue
+        with tempfile.TemporaryDirectory() as folder:
+            runs, answers = all_runs(program, rep, folder)
+        found = {text for text in answers.values() if text is not None}
+        if not program and len(rep.rows) <= 64:
+            found.add(converted(rep)[0].text())
+        same = len(found) <= 1
+        text = next(iter(found), "")
+        size = len(text.splitlines()) - 2 if found else ""
+        print(f"| {title}, {COMMAND[rep.kind]} | {len(rep.rows)} | {size} | {bits(text)} | " + " | ".join(shown(runs[n]) for n in names) + " | "
+              + " | ".join(f"{runs[n].peak / 1024:.1f}" for n in names) + " |" + ("" if same else " DIFFERENT"), flush=True)
+        count, different = count + 1, different + (not same)
+        if program:
+            left += runs["bensolve"].status == 5
+            for name in NAMES:
+                if runs["bensolve"].status == 0 and runs[name].status == 0:
+                    ratios[name].append(runs["bensolve"].seconds / runs[name].seconds)
+    print(f"\n{different} of {count} answers differ")
+    if program:
+        mean = lambda of: math.exp(sum(map(math.log, of)) / len(of)) if of else math.nan
+        print(f"{left} of {count} end with status 5; beside " + ", ".join(f"{name} {mean(ratios[name]):.2f}" for name in NAMES) + " of the time (geometric mean)")
+    return different
+
+
+def compare(program, count, seed):
+    draw, differ, tried = random.Random(seed), 0, 0
+    while tried < count:
+        rep = reps.random_rep(draw)
+        there = converted(rep)[0]
+        is_empty = not (there if there.kind == "gens" else rep).vectors("1")
+        if is_empty or rep.kind == "sides" and not rep.rows:
+            continue
+        tried += 1
+        with tempfile.TemporaryDirectory() as folder:
+            names = (("bensolve",) if program else ()) + NAMES
+            for name, words in zip(names, commands(program, rep, folder)):
+                each = run(words, folder)
+                if each.status == 5 and name == "bensolve":
+                    continue
+                if answer(name, each, rep, folder) != there.text():
+                    differ += 1
+                    print(f"differs: {name}, status {each.status}", rep.text(), there.text(), answer(name, each, rep, folder), sep="\n")
+    print(f"{tried} random texts by {', '.join(names)}: {differ} answers differ")
+    return differ
+
+
+def main():
+    program = None if sys.argv[1] == "-" else os.path.abspath(sys.argv[1])
+    if sys.argv[2:3] == ["="]:
+        return int(compare(program, int(sys.argv[3]), int(sys.argv[4]) if len(sys.argv) > 4 else 1) > 0)
+    return int(table(program, sys.argv[2:]) > 0)
+
+
+if __name__ == "__main__":
+    sys.exit(main())
