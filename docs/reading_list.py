@@ -39,12 +39,22 @@ def file_of(module):
         parts, folder, end = parts[2:], "src", ".rt"
     else:
         parts, folder, end = parts[1:], parts[0], ".antt"
+    first = parts[0] if parts else ""
     while parts:
         path = os.path.join(crate, folder, *parts) + end
         if os.path.isfile(os.path.join(CRATES, path)):
             return path
         parts = parts[:-1]
-    return os.path.join(crate, folder, "lib.rt") if folder == "src" else None
+    return os.path.join(crate, folder, "lib.rt") if folder == "src" else passed_on(crate, first)
+
+
+def passed_on(crate, name):
+    """The file of a lower crate that this one passes on under its own name (`pub use` in its `specs/Lib`); none where it does not."""
+    path = os.path.join(crate, "specs", "Lib.antt")
+    if not os.path.isfile(os.path.join(CRATES, path)):
+        return None
+    found = re.search(rf"^pub use Rattle\.([\w.]+\.{re.escape(name)})$", text_of(path), re.M) if name else None
+    return file_of(found.group(1)) if found else None
 
 
 def named_in(text):
