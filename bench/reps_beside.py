@@ -69,10 +69,10 @@ def lrs_file(rep):
 
 
 def of_lrs(text, width):
-    """The representation that an .ine or .ext file has."""
+    """The representation that an .ine or .ext file has; where lrs starts anew with longer numbers, the last."""
     kind = "gens" if "V-representation" in text else "sides"
     both = set(map(int, next((line.split()[2:] for line in text.splitlines() if line.startswith("linearity")), [])))
-    inside = text.split("\nbegin\n")[1].split("\nend")[0].splitlines()[1:]
+    inside = text.split("\nbegin\n")[-1].split("\nend")[0].splitlines()[1:]
     rows = []
     for number, line in enumerate(inside, 1):
         first, *v = map(Fraction, line.split())
