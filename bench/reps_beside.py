@@ -185,27 +185,36 @@ def polar(rep):
 
 
 def families():
-    """Names and texts: the first of a pair by inequalities, the second by points."""
-    for n in range(4, 11):
+    """Names and texts: by inequalities, or by points."""
+    for n in (4, 6, 8, 10):
         yield f"cube {n}", cube(n)
-    for n in range(4, 9):
+    for n in (4, 6, 8, 9):
         yield f"cube {n}", converted(cube(n))[0]
-    for n in range(4, 11):
+    for n in (4, 6, 8, 10):
         yield f"cross {n}", cross(n)
-    for n in range(4, 8):
+    for n in (4, 6, 8):
         yield f"cross {n}", converted(cross(n))[0]
-    for count, n in ((12, 4), (20, 4), (40, 4), (12, 5), (20, 5), (12, 6), (16, 6), (12, 8), (14, 10)):
+    for count, n in ((20, 4), (40, 4), (80, 4), (20, 5), (40, 5), (16, 6), (24, 6), (14, 8), (20, 8), (14, 10), (18, 10)):
         yield f"cyclic {count} {n}", cyclic(count, n)
-    for count, n in ((12, 4), (20, 4), (12, 5), (12, 6), (12, 8)):
+    for count, n in ((12, 4), (20, 4), (30, 4), (12, 5), (16, 5), (12, 6), (14, 6), (12, 8)):
         yield f"cyclic {count} {n}", converted(cyclic(count, n))[0]
-    for count, n in ((20, 4), (16, 5), (30, 5), (20, 6), (40, 6), (20, 7), (24, 8), (20, 10)):
+    for count, n in ((20, 4), (30, 5), (40, 6), (40, 7), (40, 8), (60, 8), (30, 9), (40, 9), (24, 10), (30, 10)):
         yield f"zero_one {count} {n} 1", zero_one(count, n, 1)
-    for count, n in ((16, 5), (20, 6)):
+    for count, n in ((16, 5), (20, 6), (20, 7)):
         yield f"zero_one {count} {n} 1", converted(zero_one(count, n, 1))[0]
-    for count, n in ((20, 4), (40, 4), (16, 5), (30, 5), (16, 6), (24, 6), (16, 8), (14, 10)):
+    sizes = ((40, 4), (200, 4), (30, 5), (80, 5), (24, 6), (48, 6), (20, 7), (30, 7), (16, 8), (24, 8), (16, 9), (14, 10), (18, 10))
+    for count, n in sizes:
         yield f"drawn {count} {n} 1", drawn(count, n, 1)
-    for count, n in ((20, 4), (40, 4), (16, 5), (30, 5), (16, 6), (24, 6), (16, 8), (14, 10)):
+    for count, n in sizes:
         yield f"drawn {count} {n} 1", polar(drawn(count, n, 1))
+    for count, n in ((200, 5), (80, 6), (48, 7), (36, 8)):
+        yield f"drawn {count} {n} 1", drawn(count, n, 1)
+    for count, n in ((60, 5), (36, 6)):
+        yield f"cyclic {count} {n}", cyclic(count, n)
+    for count, n in ((80, 9), (36, 10)):
+        yield f"zero_one {count} {n} 1", zero_one(count, n, 1)
+    for count, n, most in ((20, 4, 99999), (20, 4, 10**7), (16, 5, 9999), (16, 6, 999), (16, 6, 9999), (16, 8, 99), (16, 8, 999), (14, 10, 99), (14, 10, 999)):
+        yield f"drawn {count} {n} 1 {most}", drawn(count, n, 1, most)
     for name, rep in (("permutahedron 5", reps.permutahedron(5)), ("cut 5", reps.cut(5)), ("cut 6", reps.cut(6)), ("birkhoff 4", reps.birkhoff(4)),
                       ("metric 5", reps.metric(5)), ("half_cube 7", reps.half_cube(7)), ("cell24", reps.cell24()), ("klee_minty 8", reps.klee_minty(8))):
         yield name, rep
