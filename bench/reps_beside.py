@@ -92,7 +92,8 @@ def normaliz_file(rep):
 
     if rep.kind == "sides":
         side = lambda v: whole(v[:-1] + (-v[-1],))
-        block("inhom_inequalities", [side(v) for v in rep.vectors("h")])
+        # without an inequality it takes the entries to be at least 0
+        block("inhom_inequalities", [side(v) for v in rep.vectors("h")] or [(0,) * rep.width + (1,)])
         block("inhom_equations", [side(v) for v in rep.vectors("e")])
     else:
         block("vertices", [whole(v + (1,)) for v in rep.vectors("1")])
