@@ -76,7 +76,8 @@ fn add_all(dd: &mut Dd<Frac>, rows: &Rows<Frac>) -> bool
 /// The double description of rows, of which the first are independent and as many as they have entries.
 fn cone_of(alloc: Global, width: u32, first: &[i64], count: u32, more: &[i64]) -> Option<Dd<Frac>>
     ensures width { IfSome result (λ dd. dd.width ≡ width) }
-    ensures rows { IfSome result (λ dd. dd.rows ≡ rows_of width width first.now ++ rows_of count width more.now) }
+    ensures rows { IfSome result
+        (λ dd. dd.rows ≡ rows_of width width first.now ++ rows_of count width more.now) }
 {
     let rows = rows_from(alloc, width, width, first)?;
     let further = rows_from(alloc, width, count, more)?;
@@ -126,7 +127,8 @@ pub extern "C" fn bench_generators(
     more: &[i64],
     parts: &mut [i64],
 ) -> u32
-    ensures { 0 < result → IsCount width (rows_of width width first.now ++ rows_of count width more.now) result }
+    ensures { 0 < result
+        → IsCount width (rows_of width width first.now ++ rows_of count width more.now) result }
 {
     match cone_of(alloc, width, first, count, more) {
         Some(dd) => {

@@ -44,7 +44,8 @@ fn whole(wide: Wide) -> i128
 
 /// The number of these parts, if it is held and its denominator is positive.
 pub fn fraction<F: Field>(number: Number) -> Option<F>
-    ensures { AnswersFraction F.value F.holds (wide_value number.num) (wide_value number.den) result }
+    ensures { AnswersFraction F.value F.holds (wide_value number.num) (wide_value number.den)
+        result }
 {
     F::of(whole(number.num), whole(number.den))
 }

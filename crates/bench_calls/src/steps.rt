@@ -33,7 +33,8 @@ fn answer(operation: u32, a: Frac, b: Frac) -> Option<Frac>
 
 /// Takes the step, or answers false and leaves the numbers.
 fn taken(step: Step, numbers: &mut [Frac]) -> bool
-    ensures { MatchBool result (step_of numbers.old step ≡ Some numbers.new) (step_of numbers.old step ≡ None) }
+    ensures { MatchBool result (step_of numbers.old step ≡ Some numbers.new)
+        (step_of numbers.old step ≡ None) }
 {
     let (left, right, into) = (step.left as usize, step.right as usize, step.into as usize);
     let count = numbers.len();
@@ -51,7 +52,8 @@ fn taken(step: Step, numbers: &mut [Frac]) -> bool
 
 /// Takes all steps, as far as they have answers.
 fn run(steps: &[Step], numbers: &mut [Frac]) -> bool
-    ensures { MatchBool result (run_of steps.now numbers.old ≡ Some numbers.new) (run_of steps.now numbers.old ≡ None) }
+    ensures { MatchBool result (run_of steps.now numbers.old ≡ Some numbers.new)
+        (run_of steps.now numbers.old ≡ None) }
 {
     for step in steps {
         if !taken(*step, numbers) {
@@ -109,7 +111,8 @@ fn runs(steps: &[Step], numbers: &[Frac], rounds: u32) -> u32
 /// with 0 in the first place; none where a given number is not held, or more than 2048 are given.
 #[unsafe(no_mangle)]
 pub extern "C" fn bench_runs(given: &[Number], steps: &[Step], rounds: u32) -> u32
-    ensures { result ≡ cond (nat_le (length given.now) 2048 && passes given.now steps.now) rounds 0 }
+    ensures { result
+        ≡ cond (nat_le (length given.now) 2048 && passes given.now steps.now) rounds 0 }
 {
     let count = given.len();
     let mut numbers = [Frac::zero(); PLACES];

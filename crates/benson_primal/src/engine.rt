@@ -30,7 +30,8 @@ fn describe<F: Field>(search: &mut Search<'_, F>) -> Result<(), SolveFault>
     ghost task: { Task }
     requires { IsSearching F.value F.holds task search.old }
     ensures ok { OnOk result (IsEnded task search.new.trail) }
-    ensures trail { IfErr result (λ fault. OnLicence fault (λ licence. IsOpenTrail task search.new.trail)) }
+    ensures trail { IfErr result
+        (λ fault. OnLicence fault (λ licence. IsOpenTrail task search.new.trail)) }
     ensures left { IfErr result (Overflows F.holds (behind task search.new.trail) []) }
 {
     search.directions()?;
@@ -107,8 +108,10 @@ fn primal_with<F: Field>(
     ghost file: { File }
     requires stands { IsDataOf F.value file form.now }
     requires duality { IsDualityOf F.value F.holds file duality }
-    ensures ok { IfOk result (IsOwnLog F.holds file (map F.value duality.c) (map F.value duality.weights)) }
-    ensures left { IfErr result (λ fault. OnLicence fault (Licensed F.holds file (map F.value duality.c))) }
+    ensures ok { IfOk result
+        (IsOwnLog F.holds file (map F.value duality.c) (map F.value duality.weights)) }
+    ensures left { IfErr result
+        (λ fault. OnLicence fault (Licensed F.holds file (map F.value duality.c))) }
 {
     let Duality { c, weights, entry } = duality;
     let c = c.as_slice();
@@ -140,8 +143,10 @@ pub fn primal<F: Field>(
     ghost file: { File }
     requires stands { IsDataOf F.value file form.now }
     requires duality { IsDualityOf F.value F.holds file duality }
-    ensures ok { IfOk result (IsOwnLog F.holds file (map F.value duality.c) (map F.value duality.weights)) }
-    ensures left { IfErr result (λ fault. OnLicence fault (Licensed F.holds file (map F.value duality.c))) }
+    ensures ok { IfOk result
+        (IsOwnLog F.holds file (map F.value duality.c) (map F.value duality.weights)) }
+    ensures left { IfErr result
+        (λ fault. OnLicence fault (Licensed F.holds file (map F.value duality.c))) }
 {
     let mut kept = Kept::new(alloc);
     primal_with(alloc, form, duality, &mut kept)

@@ -390,7 +390,8 @@ impl<'a, F: Field> Search<'a, F> {
         ensures searching { OnOk result (IsSearching F.value F.holds task self.new) }
         ensures grown { IfOk result (λ more. IsTrue more →
             HasGrown F.value task self.old.trail self.new.trail) }
-        ensures reached { IfOk result (λ more. more ≡ false → AreReached scope self.new.trail self.new.dd) }
+        ensures reached { IfOk result
+            (λ more. more ≡ false → AreReached scope self.new.trail self.new.dd) }
         ensures stopped { IfErr result (Stopped F.holds task self.new) }
     {
         match self.advance(scope)? {

@@ -32,8 +32,10 @@ fn bounds<F: Field>(alloc: Global, sides: &[SideOf<F>]) -> Result<Items<F>, NoMe
 /// The bound that multipliers of the sides prove.
 fn bound_of<F: Field>(alloc: Global, form: &Data<F>, u: &[F]) -> Result<F, SolveFault>
     requires { length u.now ≡ length form.now.sides }
-    ensures ok { (file : File) → IsDataOf F.value file form.now → IfOk result (λ gamma. F.value gamma ≡ dot (side_bounds file) (map F.value u.now)) }
-    ensures left { (s : Setting) → IsDataOf F.value s.file form.now → IsBaseU s (map F.value u.now) → IfErr result (Overflows F.holds s []) }
+    ensures ok { (file : File) → IsDataOf F.value file form.now
+        → IfOk result (λ gamma. F.value gamma ≡ dot (side_bounds file) (map F.value u.now)) }
+    ensures left { (s : Setting) → IsDataOf F.value s.file form.now → IsBaseU s (map F.value u.now)
+        → IfErr result (Overflows F.holds s []) }
 {
     let bounds = bounds(alloc, form.sides.as_slice())?;
     match sum_of_products(bounds.as_slice(), u) {
@@ -54,9 +56,14 @@ pub fn cut_of<F: Field>(
     requires stands { StandForSome F.value form.now }
     requires c { length c.now ≡ length form.now.p }
     requires v { length v.now ≡ length form.now.p }
-    requires optimum { (file : File) → IsDataOf F.value file form.now → (basis : List ℕ) × (y : List ℚ) × IsOptimumAt (benson_system file (map F.value c.now) (map F.value v.now) t) basis (map F.value z.now) y }
-    ensures ok { (file : File) → IsDataOf F.value file form.now → IfOk result (IsCutOf F.value file (map F.value c.now) (map F.value z.now)) }
-    ensures left { (s : Setting) → IsDataOf F.value s.file form.now → Knows s (map F.value c.now) → IfErr result (Overflows F.holds s []) }
+    requires optimum { (file : File) → IsDataOf F.value file form.now
+        → (basis : List ℕ) × (y : List ℚ)
+        × IsOptimumAt (benson_system file (map F.value c.now) (map F.value v.now) t) basis
+        (map F.value z.now) y }
+    ensures ok { (file : File) → IsDataOf F.value file form.now
+        → IfOk result (IsCutOf F.value file (map F.value c.now) (map F.value z.now)) }
+    ensures left { (s : Setting) → IsDataOf F.value s.file form.now → Knows s (map F.value c.now)
+        → IfErr result (Overflows F.holds s []) }
 {
     let name = benson_name(alloc, v, t)?;
     let read = parts(alloc, form, &name, z)?;

@@ -77,10 +77,14 @@ impl<F: Field> Kept<F> {
         name: &LpName<F>,
     ) -> Result<Option<Optimum<F>>, NoMemory>
         requires { HasWidths (length form.now.p) c.now name.now }
-        ensures certified { (file : File) → IsDataOf F.value file form.now →
-            IfOk result (λ o. IfSome o (λ e. IsOptimal (named_system file (map F.value c.now) (named F.value name.now)) (map F.value e.x) (map F.value e.dual))) }
-        ensures read_off { (file : File) → IsDataOf F.value file form.now →
-            IfOk result (λ o. IfSome o (λ e. (d : Table) × OptimalAt (named_system file (map F.value c.now) (named F.value name.now)) e.basis d (map F.value e.x) (map F.value e.dual))) }
+        ensures certified { (file : File) → IsDataOf F.value file form.now
+            → IfOk result (λ o. IfSome o (λ e. IsOptimal
+            (named_system file (map F.value c.now) (named F.value name.now)) (map F.value e.x)
+            (map F.value e.dual))) }
+        ensures read_off { (file : File) → IsDataOf F.value file form.now
+            → IfOk result (λ o. IfSome o (λ e. (d : Table)
+            × OptimalAt (named_system file (map F.value c.now) (named F.value name.now)) e.basis
+            d (map F.value e.x) (map F.value e.dual))) }
     {
         let guess = self.guess(form, c, name)?;
         let optimum = tested(alloc, form, c, name, guess)?;
@@ -98,10 +102,14 @@ fn tested<F: Field>(
     guess: Option<Guess<F>>,
 ) -> Result<Option<Optimum<F>>, NoMemory>
     requires { HasWidths (length form.now.p) c.now name.now }
-    ensures certified { (file : File) → IsDataOf F.value file form.now →
-        IfOk result (λ o. IfSome o (λ e. IsOptimal (named_system file (map F.value c.now) (named F.value name.now)) (map F.value e.x) (map F.value e.dual))) }
-    ensures read_off { (file : File) → IsDataOf F.value file form.now →
-        IfOk result (λ o. IfSome o (λ e. (d : Table) × OptimalAt (named_system file (map F.value c.now) (named F.value name.now)) e.basis d (map F.value e.x) (map F.value e.dual))) }
+    ensures certified { (file : File) → IsDataOf F.value file form.now
+        → IfOk result (λ o. IfSome o (λ e. IsOptimal
+        (named_system file (map F.value c.now) (named F.value name.now)) (map F.value e.x)
+        (map F.value e.dual))) }
+    ensures read_off { (file : File) → IsDataOf F.value file form.now
+        → IfOk result (λ o. IfSome o (λ e. (d : Table)
+        × OptimalAt (named_system file (map F.value c.now) (named F.value name.now)) e.basis d
+        (map F.value e.x) (map F.value e.dual))) }
 {
     match guess {
         None => Ok(None),

@@ -33,8 +33,10 @@ fn front<F: Field>(alloc: Global, list: &[F], count: usize) -> Result<Items<F>, 
 
 /// The multipliers of the generators that stand among those of the equations.
 fn share<F: Field>(alloc: Global, form: &Data<F>, dual: &[F]) -> Result<Items<F>, NoMemory>
-    requires { form.now.cols + length (generators (cone_of F.value form.now.cone)) ≤ length dual.now }
-    ensures { (file : File) → IsDataOf F.value file form.now → IfOk result (λ m. map F.value m ≡ share_of file file.cone (map F.value dual.now)) }
+    requires { form.now.cols + length (generators (cone_of F.value form.now.cone))
+        ≤ length dual.now }
+    ensures { (file : File) → IsDataOf F.value file form.now
+        → IfOk result (λ m. map F.value m ≡ share_of file file.cone (map F.value dual.now)) }
 {
     let cols = form.cols as usize;
     negative(alloc, &dual[cols..cols + generator_count(&form.cone)])
@@ -50,8 +52,11 @@ fn weighed<F: Field>(
     requires same { length share.now ≡ length weights.now }
     requires short { length share.now ≤ 4294967294 }
     requires negative { F.value last <ℚ zero_ℚ }
-    ensures ok { IfOk result (λ m. map F.value m ≡ plus (map F.value share.now) (scaled (neg_ℚ (F.value last)) (map F.value weights.now))) }
-    ensures left { (s : Setting) (y : List ℚ) → AreBensonMultipliers s y → F.value last ≡ value_of y → map F.value share.now ≡ share_of s.file s.file.cone y → map F.value weights.now ≡ s.weights → IfErr result (Overflows F.holds s []) }
+    ensures ok { IfOk result (λ m. map F.value m
+        ≡ plus (map F.value share.now) (scaled (neg_ℚ (F.value last)) (map F.value weights.now))) }
+    ensures left { (s : Setting) (y : List ℚ) → AreBensonMultipliers s y → F.value last ≡ value_of y
+        → map F.value share.now ≡ share_of s.file s.file.cone y
+        → map F.value weights.now ≡ s.weights → IfErr result (Overflows F.holds s []) }
 {
     match combine(alloc, share, last.neg(), weights) {
         Ok(sum) => Ok(sum),
@@ -70,9 +75,14 @@ fn full_share<F: Field>(
     dual: &[F],
 ) -> Result<Items<F>, SolveFault>
     requires weights { length weights.now ≡ length (generators (cone_of F.value form.now.cone)) }
-    requires dual { (file : File) × (c v : List ℚ) × (t : Bool) × IsDataOf F.value file form.now × AreLowMultipliers file c v t (map F.value dual.now) }
-    ensures ok { (file : File) → IsDataOf F.value file form.now → IfOk result (λ m. map F.value m ≡ full_share_of file file.cone (map F.value weights.now) (map F.value dual.now)) }
-    ensures left { (s : Setting) → IsDataOf F.value s.file form.now → AreBensonMultipliers s (map F.value dual.now) → map F.value weights.now ≡ s.weights → IfErr result (Overflows F.holds s []) }
+    requires dual { (file : File) × (c v : List ℚ) × (t : Bool) × IsDataOf F.value file form.now
+        × AreLowMultipliers file c v t (map F.value dual.now) }
+    ensures ok { (file : File) → IsDataOf F.value file form.now
+        → IfOk result (λ m. map F.value m
+        ≡ full_share_of file file.cone (map F.value weights.now) (map F.value dual.now)) }
+    ensures left { (s : Setting) → IsDataOf F.value s.file form.now
+        → AreBensonMultipliers s (map F.value dual.now) → map F.value weights.now ≡ s.weights
+        → IfErr result (Overflows F.holds s []) }
 {
     let own = share(alloc, form, dual)?;
     let last = dual[dual.len() - 1];
@@ -92,9 +102,16 @@ pub fn preimage_of<F: Field>(
     dual: &[F],
 ) -> Result<Preimage<F>, SolveFault>
     requires weights { length weights.now ≡ length (generators (cone_of F.value form.now.cone)) }
-    requires dual { (file : File) × (c v : List ℚ) × (t : Bool) × IsDataOf F.value file form.now × AreLowMultipliers file c v t (map F.value dual.now) }
-    ensures ok { (file : File) (c v : List ℚ) (t : Bool) (picks : List ℕ) (inverse : List ℚ) → IsDataOf F.value file form.now → AreLowMultipliers file c v t (map F.value dual.now) → ShowsFitting file c (map F.value weights.now) picks inverse → IfOk result (IsPreimageOf F.value file c (map F.value weights.now) v t) }
-    ensures left { (s : Setting) (c v : List ℚ) (t : Bool) → IsDataOf F.value s.file form.now → Knows s c → map F.value weights.now ≡ s.weights → IsBaseStart s.file.objs s.trail v t → AreLowMultipliers s.file c v t (map F.value dual.now) → IfErr result (Overflows F.holds s []) }
+    requires dual { (file : File) × (c v : List ℚ) × (t : Bool) × IsDataOf F.value file form.now
+        × AreLowMultipliers file c v t (map F.value dual.now) }
+    ensures ok { (file : File) (c v : List ℚ) (t : Bool) (picks : List ℕ) (inverse : List ℚ)
+        → IsDataOf F.value file form.now → AreLowMultipliers file c v t (map F.value dual.now)
+        → ShowsFitting file c (map F.value weights.now) picks inverse
+        → IfOk result (IsPreimageOf F.value file c (map F.value weights.now) v t) }
+    ensures left { (s : Setting) (c v : List ℚ) (t : Bool) → IsDataOf F.value s.file form.now
+        → Knows s c → map F.value weights.now ≡ s.weights → IsBaseStart s.file.objs s.trail v t
+        → AreLowMultipliers s.file c v t (map F.value dual.now)
+        → IfErr result (Overflows F.holds s []) }
 {
     let m = full_share(alloc, form, weights, dual)?;
     let x = front(alloc, dual, form.cols as usize)?;

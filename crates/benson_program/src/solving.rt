@@ -32,9 +32,15 @@ fn pivoted<F: Field>(
 ) -> Result<LpEnd<F>, LpFault<F>>
     requires stands { StandForSome F.value form.now }
     requires widths { HasWidths (length form.now.p) c.now name.now }
-    ensures certified { (file : File) → IsDataOf F.value file form.now → IfOk result (IsCertified F.value (named_system file (map F.value c.now) (named F.value name.now))) }
-    ensures read_off { (file : File) → IsDataOf F.value file form.now → IfOk result (IsReadOff F.value (named_system file (map F.value c.now) (named F.value name.now))) }
-    ensures left { (file : File) → IsDataOf F.value file form.now → IfErr result (IsLpFault F.value F.holds (named_system file (map F.value c.now) (named F.value name.now))) }
+    ensures certified { (file : File) → IsDataOf F.value file form.now
+        → IfOk result
+        (IsCertified F.value (named_system file (map F.value c.now) (named F.value name.now))) }
+    ensures read_off { (file : File) → IsDataOf F.value file form.now
+        → IfOk result
+        (IsReadOff F.value (named_system file (map F.value c.now) (named F.value name.now))) }
+    ensures left { (file : File) → IsDataOf F.value file form.now
+        → IfErr result (IsLpFault F.value F.holds
+        (named_system file (map F.value c.now) (named F.value name.now))) }
 {
     if let LpName::Benson { v, t } = name {
         return pivoted_benson(alloc, form, c, v.as_slice(), *t, written);
@@ -53,9 +59,16 @@ fn pivoted_end<F: Field>(
 ) -> Result<LpEnd<F>, SolveFault>
     requires stands { StandForSome F.value form.now }
     requires widths { HasWidths (length form.now.p) c.now name.now }
-    ensures certified { (file : File) → IsDataOf F.value file form.now → IfOk result (IsCertified F.value (named_system file (map F.value c.now) (named F.value name.now))) }
-    ensures read_off { (file : File) → IsDataOf F.value file form.now → IfOk result (IsReadOff F.value (named_system file (map F.value c.now) (named F.value name.now))) }
-    ensures left { (s : Setting) → IsDataOf F.value s.file form.now → IsAllowed s (named F.value name.now) → named_system s.file (map F.value c.now) (named F.value name.now) ≡ system_in s (named F.value name.now) → IfErr result (Overflows F.holds s []) }
+    ensures certified { (file : File) → IsDataOf F.value file form.now
+        → IfOk result
+        (IsCertified F.value (named_system file (map F.value c.now) (named F.value name.now))) }
+    ensures read_off { (file : File) → IsDataOf F.value file form.now
+        → IfOk result
+        (IsReadOff F.value (named_system file (map F.value c.now) (named F.value name.now))) }
+    ensures left { (s : Setting) → IsDataOf F.value s.file form.now
+        → IsAllowed s (named F.value name.now)
+        → named_system s.file (map F.value c.now) (named F.value name.now)
+        ≡ system_in s (named F.value name.now) → IfErr result (Overflows F.holds s []) }
     ensures place { name.now ≡ name_of.Feasible →
         IfErr result (λ fault. OnLicence fault (λ l. IsPivotOfFeasible l.place)) }
 {
@@ -75,9 +88,16 @@ fn named_end<F: Field>(
 ) -> Result<LpEnd<F>, SolveFault>
     requires stands { StandForSome F.value form.now }
     requires widths { HasWidths (length form.now.p) c.now name.now }
-    ensures certified { (file : File) → IsDataOf F.value file form.now → IfOk result (IsCertified F.value (named_system file (map F.value c.now) (named F.value name.now))) }
-    ensures read_off { (file : File) → IsDataOf F.value file form.now → IfOk result (IsReadOff F.value (named_system file (map F.value c.now) (named F.value name.now))) }
-    ensures left { (s : Setting) → IsDataOf F.value s.file form.now → IsAllowed s (named F.value name.now) → named_system s.file (map F.value c.now) (named F.value name.now) ≡ system_in s (named F.value name.now) → IfErr result (Overflows F.holds s []) }
+    ensures certified { (file : File) → IsDataOf F.value file form.now
+        → IfOk result
+        (IsCertified F.value (named_system file (map F.value c.now) (named F.value name.now))) }
+    ensures read_off { (file : File) → IsDataOf F.value file form.now
+        → IfOk result
+        (IsReadOff F.value (named_system file (map F.value c.now) (named F.value name.now))) }
+    ensures left { (s : Setting) → IsDataOf F.value s.file form.now
+        → IsAllowed s (named F.value name.now)
+        → named_system s.file (map F.value c.now) (named F.value name.now)
+        ≡ system_in s (named F.value name.now) → IfErr result (Overflows F.holds s []) }
     ensures place { name.now ≡ name_of.Feasible →
         IfErr result (λ fault. OnLicence fault (λ l. IsPivotOfFeasible l.place)) }
 {
@@ -90,8 +110,10 @@ fn named_end<F: Field>(
 /// Whether the sides contradict each other, with what shows it: multipliers, or a point that meets them all.
 pub fn feasible_end<F: Field>(alloc: Global, form: &Data<F>) -> Result<FeasibleEnd<F>, SolveFault>
     requires { StandForSome F.value form.now }
-    ensures ok { (file : File) → IsDataOf F.value file form.now → IfOk result (IsFeasibleEnd F.value file) }
-    ensures left { (s : Setting) → IsDataOf F.value s.file form.now → IfErr result (Overflows F.holds s []) }
+    ensures ok { (file : File) → IsDataOf F.value file form.now
+        → IfOk result (IsFeasibleEnd F.value file) }
+    ensures left { (s : Setting) → IsDataOf F.value s.file form.now
+        → IfErr result (Overflows F.holds s []) }
     ensures place { IfErr result (λ fault. OnLicence fault (λ l. IsPivotOfFeasible l.place)) }
 {
     let name = LpName::Feasible;
@@ -125,8 +147,11 @@ pub fn benson_end<F: Field>(
     requires c { length c.now ≡ length form.now.p }
     requires v { length v.now ≡ length form.now.p }
     requires start { CanStart F.value form.now (map F.value c.now) t }
-    ensures ok { (file : File) → IsDataOf F.value file form.now → IfOk result (IsBensonEnd F.value file (map F.value c.now) (map F.value v.now) t) }
-    ensures left { (s : Setting) → IsDataOf F.value s.file form.now → Knows s (map F.value c.now) → IsBaseStart s.file.objs s.trail (map F.value v.now) t → IfErr result (Overflows F.holds s []) }
+    ensures ok { (file : File) → IsDataOf F.value file form.now
+        → IfOk result (IsBensonEnd F.value file (map F.value c.now) (map F.value v.now) t) }
+    ensures left { (s : Setting) → IsDataOf F.value s.file form.now → Knows s (map F.value c.now)
+        → IsBaseStart s.file.objs s.trail (map F.value v.now) t
+        → IfErr result (Overflows F.holds s []) }
 {
     let name = benson_name(alloc, v, t)?;
     match named_end(alloc, form, c, &name, kept)? {

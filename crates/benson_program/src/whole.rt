@@ -38,7 +38,8 @@ pub(crate) fn generator_count<F: Field>(cone: &ConeOf<F>) -> usize
 fn parted<F: Field>(alloc: Global, list: &[F], cols: usize) -> Result<WholeParts<F>, NoMemory>
     requires { cols ≤ length list.now }
     ensures ray { IfOk result (λ parts. parts.ray ≡ take cols list.now) }
-    ensures m { IfOk result (λ parts. map F.value parts.m ≡ negated (map F.value (drop cols list.now))) }
+    ensures m { IfOk result
+        (λ parts. map F.value parts.m ≡ negated (map F.value (drop cols list.now))) }
 {
     let mut ray = Items::new(alloc);
     ray.append(&list[..cols])?;
@@ -53,9 +54,12 @@ pub fn whole_of<F: Field>(
     form: &Data<F>,
     dual: &[F],
 ) -> Result<WholeParts<F>, SolveFault>
-    requires { (file : File) × (c : List ℚ) × IsDataOf F.value file form.now × AreEmptyAtOrigin file c (map F.value dual.now) }
-    ensures ok { (file : File) (c : List ℚ) → IsDataOf F.value file form.now → AreEmptyAtOrigin file c (map F.value dual.now) → IfOk result (IsWholeOf F.value file c) }
-    ensures left { (s : Setting) (c : List ℚ) → IsDataOf F.value s.file form.now → Knows s c → AreEmptyAtOrigin s.file c (map F.value dual.now) → IfErr result (Overflows F.holds s []) }
+    requires { (file : File) × (c : List ℚ) × IsDataOf F.value file form.now
+        × AreEmptyAtOrigin file c (map F.value dual.now) }
+    ensures ok { (file : File) (c : List ℚ) → IsDataOf F.value file form.now
+        → AreEmptyAtOrigin file c (map F.value dual.now) → IfOk result (IsWholeOf F.value file c) }
+    ensures left { (s : Setting) (c : List ℚ) → IsDataOf F.value s.file form.now → Knows s c
+        → AreEmptyAtOrigin s.file c (map F.value dual.now) → IfErr result (Overflows F.holds s []) }
 {
     let cols = form.cols as usize;
     let count = cols + generator_count(&form.cone);

@@ -46,12 +46,15 @@ impl<F: Field> Written<F> {
     ) -> Result<Option<LpEnd<F>>, LpFault<F>>
         requires stands { StandForSome F.value form.now }
         requires v { length v.now ≡ length form.now.p }
-        ensures certified { (file : File) → IsDataOf F.value file form.now →
-            IfOk result (λ o. IfSome o (IsCertified F.value (benson_system file (map F.value c.now) (map F.value v.now) t))) }
-        ensures read_off { (file : File) → IsDataOf F.value file form.now →
-            IfOk result (λ o. IfSome o (IsReadOff F.value (benson_system file (map F.value c.now) (map F.value v.now) t))) }
-        ensures left { (file : File) → IsDataOf F.value file form.now →
-            IfErr result (IsLpFault F.value F.holds (benson_system file (map F.value c.now) (map F.value v.now) t)) }
+        ensures certified { (file : File) → IsDataOf F.value file form.now
+            → IfOk result (λ o. IfSome o (IsCertified F.value
+            (benson_system file (map F.value c.now) (map F.value v.now) t))) }
+        ensures read_off { (file : File) → IsDataOf F.value file form.now
+            → IfOk result (λ o. IfSome o (IsReadOff F.value
+            (benson_system file (map F.value c.now) (map F.value v.now) t))) }
+        ensures left { (file : File) → IsDataOf F.value file form.now
+            → IfErr result (IsLpFault F.value F.holds
+            (benson_system file (map F.value c.now) (map F.value v.now) t)) }
     {
         if !is_same_vector(c, self.c.as_slice()) || !is_same_data(form, &self.form) {
             return Ok(None);
@@ -76,12 +79,15 @@ fn written_end<F: Field>(
     requires stands { StandForSome F.value form.now }
     requires c { length c.now ≡ length form.now.p }
     requires v { length v.now ≡ length form.now.p }
-    ensures certified { (file : File) → IsDataOf F.value file form.now →
-        IfOk result (IsCertified F.value (benson_system file (map F.value c.now) (map F.value v.now) t)) }
-    ensures read_off { (file : File) → IsDataOf F.value file form.now →
-        IfOk result (IsReadOff F.value (benson_system file (map F.value c.now) (map F.value v.now) t)) }
-    ensures left { (file : File) → IsDataOf F.value file form.now →
-        IfErr result (IsLpFault F.value F.holds (benson_system file (map F.value c.now) (map F.value v.now) t)) }
+    ensures certified { (file : File) → IsDataOf F.value file form.now
+        → IfOk result
+        (IsCertified F.value (benson_system file (map F.value c.now) (map F.value v.now) t)) }
+    ensures read_off { (file : File) → IsDataOf F.value file form.now
+        → IfOk result
+        (IsReadOff F.value (benson_system file (map F.value c.now) (map F.value v.now) t)) }
+    ensures left { (file : File) → IsDataOf F.value file form.now
+        → IfErr result (IsLpFault F.value F.holds
+        (benson_system file (map F.value c.now) (map F.value v.now) t)) }
 {
     let own_form = copy_data(alloc, form)?;
     let own_c = copy(alloc, c)?;
@@ -113,12 +119,15 @@ pub(crate) fn pivoted_benson<F: Field>(
     requires stands { StandForSome F.value form.now }
     requires c { length c.now ≡ length form.now.p }
     requires v { length v.now ≡ length form.now.p }
-    ensures certified { (file : File) → IsDataOf F.value file form.now →
-        IfOk result (IsCertified F.value (benson_system file (map F.value c.now) (map F.value v.now) t)) }
-    ensures read_off { (file : File) → IsDataOf F.value file form.now →
-        IfOk result (IsReadOff F.value (benson_system file (map F.value c.now) (map F.value v.now) t)) }
-    ensures left { (file : File) → IsDataOf F.value file form.now →
-        IfErr result (IsLpFault F.value F.holds (benson_system file (map F.value c.now) (map F.value v.now) t)) }
+    ensures certified { (file : File) → IsDataOf F.value file form.now
+        → IfOk result
+        (IsCertified F.value (benson_system file (map F.value c.now) (map F.value v.now) t)) }
+    ensures read_off { (file : File) → IsDataOf F.value file form.now
+        → IfOk result
+        (IsReadOff F.value (benson_system file (map F.value c.now) (map F.value v.now) t)) }
+    ensures left { (file : File) → IsDataOf F.value file form.now
+        → IfErr result (IsLpFault F.value F.holds
+        (benson_system file (map F.value c.now) (map F.value v.now) t)) }
 {
     if let Some(last) = written {
         if let Some(end) = last.end_at(alloc, form, c, v, t)? {

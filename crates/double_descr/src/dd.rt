@@ -45,7 +45,11 @@ impl<F: Field> Model for Dd<F> {
     ghost use Rattle.double_descr.specs.State.{live_of, IsKept};
     ghost use Rattle.double_descr.specs.Steps.{values};
 
-    ghost view = { λ d. record { width = d.width; rows = map (values F.value) d.rows; list = record { live = live_of F.value d.generators; next = d.next } } };
+    ghost view = { λ d. record {
+      width = d.width;
+      rows = map (values F.value) d.rows;
+      list = record { live = live_of F.value d.generators; next = d.next };
+    } };
 
     ghost invariant = { λ d. IsKept F.value d.width d.rows d.numbers d.generators d.next };
 }
@@ -57,7 +61,8 @@ impl<F: Field> Dd<F> {
         requires square { length rows.now.list ≡ rows.now.width }
         requires rank { HasFullRank rows.now.width (table F.value rows.now.list) }
         ensures ok { IfOk result (λ dd. IsStart rows.now.width (table F.value rows.now.list) dd) }
-        ensures left { IfErr result (λ fault. IsStartFault F.value F.holds rows.now.width (table F.value rows.now.list) fault) }
+        ensures left { IfErr result (λ fault. IsStartFault F.value F.holds rows.now.width
+            (table F.value rows.now.list) fault) }
     {
         let vectors = corners(alloc, rows)?;
         let generators = normed_all(alloc, &vectors)?;
@@ -101,8 +106,11 @@ impl<F: Field> Dd<F> {
     /// The entries of the live generator `g`, which is found by a binary search.
     pub fn generator(&self, g: u32) -> &[F]
         requires { Contains (numbers self.now.list.live) g }
-        ensures listed { Contains self.now.list.live (record { number = g; vector = values F.value result.now }) }
-        ensures only { (v : List ℚ) → Contains self.now.list.live (record { number = g; vector = v }) → values F.value result.now ≡ v }
+        ensures listed { Contains self.now.list.live
+            (record { number = g; vector = values F.value result.now }) }
+        ensures only { (v : List ℚ)
+            → Contains self.now.list.live (record { number = g; vector = v })
+            → values F.value result.now ≡ v }
     {
         let place = place_of(self.numbers.as_slice(), g);
         self.generators.as_slice()[place].vector.as_slice()
@@ -111,7 +119,8 @@ impl<F: Field> Dd<F> {
     /// The rows that are 0 at the live generator `g`, which is found by a binary search.
     pub fn tight(&self, g: u32) -> &Marks
         requires { Contains (numbers self.now.list.live) g }
-        ensures { (v : List ℚ) → Contains self.now.list.live (record { number = g; vector = v }) → result.now ≡ tight_set self.now.rows v }
+        ensures { (v : List ℚ) → Contains self.now.list.live (record { number = g; vector = v })
+            → result.now ≡ tight_set self.now.rows v }
     {
         let place = place_of(self.numbers.as_slice(), g);
         &self.generators.as_slice()[place].tight
@@ -123,10 +132,18 @@ impl<F: Field> Dd<F> {
     /// pairs times the live generators times the words of a set of rows.
     pub fn add(&mut self, row: &[F]) -> Result<Change, DdFault<F>>
         requires { length row.now ≡ self.old.width }
-        ensures ok { OnOk result (self.new ≡ record { width = self.old.width; rows = self.old.rows ++ values F.value row.now ∷ []; list = step self.old.rows self.old.list (values F.value row.now) }) }
-        ensures change { IfOk result (λ change. IsChange self.old.rows self.old.list (values F.value row.now) change) }
-        ensures held { OnOk result (All (AreHeld F.holds) (add_blocks self.old.rows self.old.list.live (values F.value row.now))) }
-        ensures left { IfErr result (λ fault. IsAddFault F.value F.holds (add_blocks self.old.rows self.old.list.live (values F.value row.now)) fault) }
+        ensures ok { OnOk result (self.new
+            ≡ record {
+              width = self.old.width;
+              rows = self.old.rows ++ values F.value row.now ∷ [];
+              list = step self.old.rows self.old.list (values F.value row.now);
+            }) }
+        ensures change { IfOk result
+            (λ change. IsChange self.old.rows self.old.list (values F.value row.now) change) }
+        ensures held { OnOk result (All (AreHeld F.holds)
+            (add_blocks self.old.rows self.old.list.live (values F.value row.now))) }
+        ensures left { IfErr result (λ fault. IsAddFault F.value F.holds
+            (add_blocks self.old.rows self.old.list.live (values F.value row.now)) fault) }
         ensures err { OnErr result (self.new ≡ self.old) }
     {
         let made = next_list(

@@ -43,7 +43,8 @@ pub fn place_of(numbers: &[u32], number: u32) -> usize
 fn with_row(alloc: Global, a: &Marks, b: &Marks, tight: bool) -> Result<Marks, NoMemory>
     requires same { length a.now ≡ length b.now }
     requires room { length a.now + 1 < 4294967296 }
-    ensures { IfOk result (λ marks. (common : List Bool) × IsMeet common a.now b.now × (marks ≡ common ++ tight ∷ [])) }
+    ensures { IfOk result (λ marks. (common : List Bool) × IsMeet common a.now b.now
+        × (marks ≡ common ++ tight ∷ [])) }
 {
     let count = a.bound();
     let mut marks = Marks::meet(alloc, a, b)?;
@@ -88,11 +89,21 @@ pub fn between_two<F: Field>(
     requires bounds { length plus.now.tight ≡ length minus.now.tight }
     requires room { length plus.now.tight + 1 < 4294967296 }
     requires below { F.value at_minus <ℚ zero_ℚ }
-    requires not_zero { norming (between (F.value at_plus) (F.value at_minus) (values F.value plus.now.vector.items) (values F.value minus.now.vector.items)) ≢ zero_ℚ }
-    ensures held { IfOk result (λ g. AreHeld F.holds (block_of F.value plus.now minus.now (F.value at_plus) (F.value at_minus))) }
-    ensures new { IfOk result (λ g. numbered_of F.value g ≡ record { number = number; vector = normed (between (F.value at_plus) (F.value at_minus) (values F.value plus.now.vector.items) (values F.value minus.now.vector.items)) }) }
-    ensures tight { IfOk result (λ g. (common : List Bool) × IsMeet common plus.now.tight minus.now.tight × (g.tight ≡ common ++ true ∷ [])) }
-    ensures left { IfErr result (λ fault. IsFault F.value F.holds (block_of F.value plus.now minus.now (F.value at_plus) (F.value at_minus)) fault) }
+    requires not_zero { norming (between (F.value at_plus) (F.value at_minus)
+        (values F.value plus.now.vector.items) (values F.value minus.now.vector.items))
+        ≢ zero_ℚ }
+    ensures held { IfOk result (λ g. AreHeld F.holds
+        (block_of F.value plus.now minus.now (F.value at_plus) (F.value at_minus))) }
+    ensures new { IfOk result (λ g. numbered_of F.value g
+        ≡ record {
+          number = number;
+          vector = normed (between (F.value at_plus) (F.value at_minus)
+              (values F.value plus.now.vector.items) (values F.value minus.now.vector.items));
+        }) }
+    ensures tight { IfOk result (λ g. (common : List Bool)
+        × IsMeet common plus.now.tight minus.now.tight × (g.tight ≡ common ++ true ∷ [])) }
+    ensures left { IfErr result (λ fault. IsFault F.value F.holds
+        (block_of F.value plus.now minus.now (F.value at_plus) (F.value at_minus)) fault) }
 {
     match meeting_point(alloc, &plus.vector, &minus.vector, at_plus, at_minus) {
         Err(Stop::NoMemory) => Err(DdFault::NoMemory),

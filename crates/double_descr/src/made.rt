@@ -49,11 +49,21 @@ fn try_pair<F: Field>(
     requires common { length so_far.old.common ≡ length plus.now.tight }
     requires room { length plus.now.tight + 1 < 4294967296 }
     requires below { F.value at_minus <ℚ zero_ℚ }
-    requires not_zero { norming (between (F.value at_plus) (F.value at_minus) (values F.value plus.now.vector.items) (values F.value minus.now.vector.items)) ≢ zero_ℚ }
+    requires not_zero { norming (between (F.value at_plus) (F.value at_minus)
+        (values F.value plus.now.vector.items) (values F.value minus.now.vector.items))
+        ≢ zero_ℚ }
     ensures from { so_far.new.first_new ≡ so_far.old.first_new }
     ensures bound { length so_far.new.common ≡ length so_far.old.common }
-    ensures ok { (n : ℕ) (rows : List (List ℚ)) → AreTwoLive F.value n rows generators.now plus.now minus.now → OnOk result (IsTried F.value F.holds (is_uncovered_live rows (live_of F.value generators.now) (pair_of F.value plus.now minus.now)) plus.now minus.now (F.value at_plus) (F.value at_minus) so_far.old so_far.new) }
-    ensures left { (n : ℕ) (rows : List (List ℚ)) → AreTwoLive F.value n rows generators.now plus.now minus.now → IfErr result (λ fault. IsPairFault F.value F.holds (is_uncovered_live rows (live_of F.value generators.now) (pair_of F.value plus.now minus.now)) (block_of F.value plus.now minus.now (F.value at_plus) (F.value at_minus)) fault) }
+    ensures ok { (n : ℕ) (rows : List (List ℚ))
+        → AreTwoLive F.value n rows generators.now plus.now minus.now
+        → OnOk result (IsTried F.value F.holds (is_uncovered_live rows
+        (live_of F.value generators.now) (pair_of F.value plus.now minus.now)) plus.now
+        minus.now (F.value at_plus) (F.value at_minus) so_far.old so_far.new) }
+    ensures left { (n : ℕ) (rows : List (List ℚ))
+        → AreTwoLive F.value n rows generators.now plus.now minus.now
+        → IfErr result (λ fault. IsPairFault F.value F.holds (is_uncovered_live rows
+        (live_of F.value generators.now) (pair_of F.value plus.now minus.now))
+        (block_of F.value plus.now minus.now (F.value at_plus) (F.value at_minus)) fault) }
 {
     so_far.common.set_meet(&plus.tight, &minus.tight);
     if !are_adjacent(generators, plus, minus, &so_far.common, &mut so_far.last) {
@@ -82,13 +92,27 @@ fn meet_at<F: Field>(
     j: usize,
     so_far: &mut Made<F>,
 ) -> Result<(), DdFault<F>>
-    requires plus { (n : ℕ) × (rows : List (List ℚ)) × (row : List ℚ) × IsPlus F.value n rows row generators.now values.now plus.now at_plus × (length so_far.old.common ≡ length rows) }
+    requires plus { (n : ℕ) × (rows : List (List ℚ)) × (row : List ℚ)
+        × IsPlus F.value n rows row generators.now values.now plus.now at_plus
+        × (length so_far.old.common ≡ length rows) }
     requires same { length values.now ≡ length generators.now }
     requires inside { j < length generators.now }
     requires below { get_or (map F.value values.now) j zero_ℚ <ℚ zero_ℚ }
     ensures bound { length so_far.new.common ≡ length so_far.old.common }
-    ensures ok { (kept : List Numbered) (n next : ℕ) (rows : List (List ℚ)) (row : List ℚ) (left : List LivePair) → IsPlus F.value n rows row generators.now values.now plus.now at_plus → IsMadeSoFar F.value F.holds rows row (live_of F.value generators.now) kept next (pair_at F.value generators.now plus.now j ∷ left) so_far.old → OnOk result (IsMadeSoFar F.value F.holds rows row (live_of F.value generators.now) kept next left so_far.new) }
-    ensures left { (kept : List Numbered) (n next : ℕ) (rows : List (List ℚ)) (row : List ℚ) (left : List LivePair) → IsPlus F.value n rows row generators.now values.now plus.now at_plus → IsMadeSoFar F.value F.holds rows row (live_of F.value generators.now) kept next (pair_at F.value generators.now plus.now j ∷ left) so_far.old → IfErr result (λ fault. IsAddFault F.value F.holds (pair_blocks rows (live_of F.value generators.now) row) fault) }
+    ensures ok { (kept : List Numbered) (n next : ℕ) (rows : List (List ℚ)) (row : List ℚ)
+        (left : List LivePair)
+        → IsPlus F.value n rows row generators.now values.now plus.now at_plus
+        → IsMadeSoFar F.value F.holds rows row (live_of F.value generators.now) kept next
+        (pair_at F.value generators.now plus.now j ∷ left) so_far.old
+        → OnOk result (IsMadeSoFar F.value F.holds rows row (live_of F.value generators.now) kept
+        next left so_far.new) }
+    ensures left { (kept : List Numbered) (n next : ℕ) (rows : List (List ℚ)) (row : List ℚ)
+        (left : List LivePair)
+        → IsPlus F.value n rows row generators.now values.now plus.now at_plus
+        → IsMadeSoFar F.value F.holds rows row (live_of F.value generators.now) kept next
+        (pair_at F.value generators.now plus.now j ∷ left) so_far.old
+        → IfErr result (λ fault. IsAddFault F.value F.holds
+        (pair_blocks rows (live_of F.value generators.now) row) fault) }
 {
     let minus = &generators[j];
     let at_minus = values[j];
@@ -105,12 +129,28 @@ fn meet_with<F: Field>(
     below: &[usize],
     so_far: &mut Made<F>,
 ) -> Result<(), DdFault<F>>
-    requires plus { (n : ℕ) × (rows : List (List ℚ)) × (row : List ℚ) × IsPlus F.value n rows row generators.now values.now plus.now at_plus × (length so_far.old.common ≡ length rows) }
+    requires plus { (n : ℕ) × (rows : List (List ℚ)) × (row : List ℚ)
+        × IsPlus F.value n rows row generators.now values.now plus.now at_plus
+        × (length so_far.old.common ≡ length rows) }
     requires same { length values.now ≡ length generators.now }
     requires places { below.now ≡ negative_places 0 (map F.value values.now) }
     ensures bound { length so_far.new.common ≡ length so_far.old.common }
-    ensures ok { (kept : List Numbered) (n next : ℕ) (rows : List (List ℚ)) (row : List ℚ) (left : List LivePair) → IsPlus F.value n rows row generators.now values.now plus.now at_plus → IsMadeSoFar F.value F.holds rows row (live_of F.value generators.now) kept next (with_negatives row (numbered_of F.value plus.now) (live_of F.value generators.now) ++ left) so_far.old → OnOk result (IsMadeSoFar F.value F.holds rows row (live_of F.value generators.now) kept next left so_far.new) }
-    ensures left { (kept : List Numbered) (n next : ℕ) (rows : List (List ℚ)) (row : List ℚ) (left : List LivePair) → IsPlus F.value n rows row generators.now values.now plus.now at_plus → IsMadeSoFar F.value F.holds rows row (live_of F.value generators.now) kept next (with_negatives row (numbered_of F.value plus.now) (live_of F.value generators.now) ++ left) so_far.old → IfErr result (λ fault. IsAddFault F.value F.holds (pair_blocks rows (live_of F.value generators.now) row) fault) }
+    ensures ok { (kept : List Numbered) (n next : ℕ) (rows : List (List ℚ)) (row : List ℚ)
+        (left : List LivePair)
+        → IsPlus F.value n rows row generators.now values.now plus.now at_plus
+        → IsMadeSoFar F.value F.holds rows row (live_of F.value generators.now) kept next
+        (with_negatives row (numbered_of F.value plus.now) (live_of F.value generators.now)
+        ++ left) so_far.old
+        → OnOk result (IsMadeSoFar F.value F.holds rows row (live_of F.value generators.now) kept
+        next left so_far.new) }
+    ensures left { (kept : List Numbered) (n next : ℕ) (rows : List (List ℚ)) (row : List ℚ)
+        (left : List LivePair)
+        → IsPlus F.value n rows row generators.now values.now plus.now at_plus
+        → IsMadeSoFar F.value F.holds rows row (live_of F.value generators.now) kept next
+        (with_negatives row (numbered_of F.value plus.now) (live_of F.value generators.now)
+        ++ left) so_far.old
+        → IfErr result (λ fault. IsAddFault F.value F.holds
+        (pair_blocks rows (live_of F.value generators.now) row) fault) }
 {
     for k in 0..below.len() {
         meet_at(alloc, generators, values, plus, at_plus, below[k], so_far)?;
@@ -127,13 +167,28 @@ fn try_plus<F: Field>(
     i: usize,
     so_far: &mut Made<F>,
 ) -> Result<(), DdFault<F>>
-    requires addition { (n : ℕ) × (rows : List (List ℚ)) × (row : List ℚ) × IsAddition F.value n rows row generators.now values.now × (length so_far.old.common ≡ length rows) }
+    requires addition { (n : ℕ) × (rows : List (List ℚ)) × (row : List ℚ)
+        × IsAddition F.value n rows row generators.now values.now
+        × (length so_far.old.common ≡ length rows) }
     requires same { length values.now ≡ length generators.now }
     requires places { below.now ≡ negative_places 0 (map F.value values.now) }
     requires inside { i < length generators.now }
     ensures bound { length so_far.new.common ≡ length so_far.old.common }
-    ensures ok { (kept : List Numbered) (n next : ℕ) (rows : List (List ℚ)) (row : List ℚ) → IsAddition F.value n rows row generators.now values.now → IsMadeSoFar F.value F.holds rows row (live_of F.value generators.now) kept next (candidates row (drop i (live_of F.value generators.now)) (live_of F.value generators.now)) so_far.old → OnOk result (IsMadeSoFar F.value F.holds rows row (live_of F.value generators.now) kept next (candidates row (drop (i + 1) (live_of F.value generators.now)) (live_of F.value generators.now)) so_far.new) }
-    ensures left { (kept : List Numbered) (n next : ℕ) (rows : List (List ℚ)) (row : List ℚ) → IsAddition F.value n rows row generators.now values.now → IsMadeSoFar F.value F.holds rows row (live_of F.value generators.now) kept next (candidates row (drop i (live_of F.value generators.now)) (live_of F.value generators.now)) so_far.old → IfErr result (λ fault. IsAddFault F.value F.holds (pair_blocks rows (live_of F.value generators.now) row) fault) }
+    ensures ok { (kept : List Numbered) (n next : ℕ) (rows : List (List ℚ)) (row : List ℚ)
+        → IsAddition F.value n rows row generators.now values.now
+        → IsMadeSoFar F.value F.holds rows row (live_of F.value generators.now) kept next
+        (candidates row (drop i (live_of F.value generators.now))
+        (live_of F.value generators.now)) so_far.old
+        → OnOk result (IsMadeSoFar F.value F.holds rows row (live_of F.value generators.now) kept
+        next (candidates row (drop (i + 1) (live_of F.value generators.now))
+        (live_of F.value generators.now)) so_far.new) }
+    ensures left { (kept : List Numbered) (n next : ℕ) (rows : List (List ℚ)) (row : List ℚ)
+        → IsAddition F.value n rows row generators.now values.now
+        → IsMadeSoFar F.value F.holds rows row (live_of F.value generators.now) kept next
+        (candidates row (drop i (live_of F.value generators.now))
+        (live_of F.value generators.now)) so_far.old
+        → IfErr result (λ fault. IsAddFault F.value F.holds
+        (pair_blocks rows (live_of F.value generators.now) row) fault) }
 {
     let plus = &generators[i];
     let at_plus = values[i];
@@ -153,11 +208,25 @@ pub fn meet_all<F: Field>(
     below: &[usize],
     so_far: &mut Made<F>,
 ) -> Result<(), DdFault<F>>
-    requires addition { (n : ℕ) × (rows : List (List ℚ)) × (row : List ℚ) × IsAddition F.value n rows row generators.now values.now × (length so_far.old.common ≡ length rows) }
+    requires addition { (n : ℕ) × (rows : List (List ℚ)) × (row : List ℚ)
+        × IsAddition F.value n rows row generators.now values.now
+        × (length so_far.old.common ≡ length rows) }
     requires same { length values.now ≡ length generators.now }
     requires places { below.now ≡ negative_places 0 (map F.value values.now) }
-    ensures ok { (kept : List Numbered) (n next : ℕ) (rows : List (List ℚ)) (row : List ℚ) → IsAddition F.value n rows row generators.now values.now → IsMadeSoFar F.value F.holds rows row (live_of F.value generators.now) kept next (candidates row (live_of F.value generators.now) (live_of F.value generators.now)) so_far.old → OnOk result (IsMadeSoFar F.value F.holds rows row (live_of F.value generators.now) kept next [] so_far.new) }
-    ensures left { (kept : List Numbered) (n next : ℕ) (rows : List (List ℚ)) (row : List ℚ) → IsAddition F.value n rows row generators.now values.now → IsMadeSoFar F.value F.holds rows row (live_of F.value generators.now) kept next (candidates row (live_of F.value generators.now) (live_of F.value generators.now)) so_far.old → IfErr result (λ fault. IsAddFault F.value F.holds (pair_blocks rows (live_of F.value generators.now) row) fault) }
+    ensures ok { (kept : List Numbered) (n next : ℕ) (rows : List (List ℚ)) (row : List ℚ)
+        → IsAddition F.value n rows row generators.now values.now
+        → IsMadeSoFar F.value F.holds rows row (live_of F.value generators.now) kept next
+        (candidates row (live_of F.value generators.now) (live_of F.value generators.now))
+        so_far.old
+        → OnOk result (IsMadeSoFar F.value F.holds rows row (live_of F.value generators.now) kept
+        next [] so_far.new) }
+    ensures left { (kept : List Numbered) (n next : ℕ) (rows : List (List ℚ)) (row : List ℚ)
+        → IsAddition F.value n rows row generators.now values.now
+        → IsMadeSoFar F.value F.holds rows row (live_of F.value generators.now) kept next
+        (candidates row (live_of F.value generators.now) (live_of F.value generators.now))
+        so_far.old
+        → IfErr result (λ fault. IsAddFault F.value F.holds
+        (pair_blocks rows (live_of F.value generators.now) row) fault) }
 {
     for i in 0..generators.len() {
         try_plus(alloc, generators, values, below, i, so_far)?;

@@ -41,9 +41,17 @@ fn begin<F: Field>(
     requires same { length vals.now ≡ length generators.now }
     requires room { All (λ g. length g.tight + 1 < 4294967296) generators.now }
     ensures pairs { IfOk result (λ b. b.0.pairs ≡ []) }
-    ensures stays { (row : List ℚ) → map F.value vals.now ≡ map (λ g. dot row g.vector) (live_of F.value generators.now) → IfOk result (λ b. live_of F.value b.0.generators ≡ staying row (live_of F.value generators.now)) }
-    ensures gone { (row : List ℚ) → map F.value vals.now ≡ map (λ g. dot row g.vector) (live_of F.value generators.now) → IfOk result (λ b. b.1 ≡ dropped row (live_of F.value generators.now)) }
-    ensures tight { (rows : List (List ℚ)) (row : List ℚ) → map F.value vals.now ≡ map (λ g. dot row g.vector) (live_of F.value generators.now) → All (HasTightSet F.value rows) generators.now → IfOk result (λ b. All (HasTightSet F.value (rows ++ row ∷ [])) b.0.generators) }
+    ensures stays { (row : List ℚ)
+        → map F.value vals.now ≡ map (λ g. dot row g.vector) (live_of F.value generators.now)
+        → IfOk result
+        (λ b. live_of F.value b.0.generators ≡ staying row (live_of F.value generators.now)) }
+    ensures gone { (row : List ℚ)
+        → map F.value vals.now ≡ map (λ g. dot row g.vector) (live_of F.value generators.now)
+        → IfOk result (λ b. b.1 ≡ dropped row (live_of F.value generators.now)) }
+    ensures tight { (rows : List (List ℚ)) (row : List ℚ)
+        → map F.value vals.now ≡ map (λ g. dot row g.vector) (live_of F.value generators.now)
+        → All (HasTightSet F.value rows) generators.now
+        → IfOk result (λ b. All (HasTightSet F.value (rows ++ row ∷ [])) b.0.generators) }
     ensures from { IfOk result (λ b. b.0.first_new ≡ first_new) }
     ensures bound { IfOk result (λ b. length b.0.common ≡ count) }
 {
@@ -71,13 +79,31 @@ pub fn next_list<F: Field>(
     generators: &[Generator<F>],
     first_new: u32,
 ) -> Result<Next<F>, DdFault<F>>
-    requires live { (rows : List (List ℚ)) × IsLive (length row.now) rows (list_of F.value generators.now first_new) × All (HasTightSet F.value rows) generators.now × (length rows ≡ count) }
+    requires live { (rows : List (List ℚ))
+        × IsLive (length row.now) rows (list_of F.value generators.now first_new)
+        × All (HasTightSet F.value rows) generators.now × (length rows ≡ count) }
     requires narrow { length row.now < 4294967296 }
     requires room { count + 1 < 4294967296 }
-    ensures next { (rows : List (List ℚ)) → IsLive (length row.now) rows (list_of F.value generators.now first_new) → All (HasTightSet F.value rows) generators.now → length rows ≡ count → IfOk result (λ made. IsNext F.value (rows ++ values F.value row.now ∷ []) (step rows (list_of F.value generators.now first_new) (values F.value row.now)) made) }
-    ensures change { (rows : List (List ℚ)) → IsLive (length row.now) rows (list_of F.value generators.now first_new) → All (HasTightSet F.value rows) generators.now → length rows ≡ count → IfOk result (λ made. IsChange rows (list_of F.value generators.now first_new) (values F.value row.now) made.change) }
-    ensures held { (rows : List (List ℚ)) → IsLive (length row.now) rows (list_of F.value generators.now first_new) → All (HasTightSet F.value rows) generators.now → length rows ≡ count → OnOk result (All (AreHeld F.holds) (add_blocks rows (live_of F.value generators.now) (values F.value row.now))) }
-    ensures left { (rows : List (List ℚ)) → IsLive (length row.now) rows (list_of F.value generators.now first_new) → All (HasTightSet F.value rows) generators.now → length rows ≡ count → IfErr result (λ fault. IsAddFault F.value F.holds (add_blocks rows (live_of F.value generators.now) (values F.value row.now)) fault) }
+    ensures next { (rows : List (List ℚ))
+        → IsLive (length row.now) rows (list_of F.value generators.now first_new)
+        → All (HasTightSet F.value rows) generators.now → length rows ≡ count
+        → IfOk result (λ made. IsNext F.value (rows ++ values F.value row.now ∷ [])
+        (step rows (list_of F.value generators.now first_new) (values F.value row.now)) made) }
+    ensures change { (rows : List (List ℚ))
+        → IsLive (length row.now) rows (list_of F.value generators.now first_new)
+        → All (HasTightSet F.value rows) generators.now → length rows ≡ count
+        → IfOk result (λ made. IsChange rows (list_of F.value generators.now first_new)
+        (values F.value row.now) made.change) }
+    ensures held { (rows : List (List ℚ))
+        → IsLive (length row.now) rows (list_of F.value generators.now first_new)
+        → All (HasTightSet F.value rows) generators.now → length rows ≡ count
+        → OnOk result (All (AreHeld F.holds)
+        (add_blocks rows (live_of F.value generators.now) (values F.value row.now))) }
+    ensures left { (rows : List (List ℚ))
+        → IsLive (length row.now) rows (list_of F.value generators.now first_new)
+        → All (HasTightSet F.value rows) generators.now → length rows ≡ count
+        → IfErr result (λ fault. IsAddFault F.value F.holds
+        (add_blocks rows (live_of F.value generators.now) (values F.value row.now)) fault) }
 {
     let vals = values_at(alloc, row, generators)?;
     let (mut so_far, dropped) = begin(alloc, count, generators, vals.as_slice(), first_new)?;

@@ -13,7 +13,8 @@ use incid_sets::Marks;
 
 /// Whether the generator is one of the pair.
 fn is_one_of<F: Field>(third: &Generator<F>, plus: &Generator<F>, minus: &Generator<F>) -> bool
-    ensures { result ≡ (nat_eq third.now.number plus.now.number || nat_eq third.now.number minus.now.number) }
+    ensures { result
+        ≡ (nat_eq third.now.number plus.now.number || nat_eq third.now.number minus.now.number) }
 {
     third.number == plus.number || third.number == minus.number
 }
@@ -25,7 +26,14 @@ fn covers_pair<F: Field>(
     minus: &Generator<F>,
     common: &Marks,
 ) -> bool
-    ensures { (rows : List (List ℚ)) → HasTightSet F.value rows third.now → HasTightSet F.value rows plus.now → HasTightSet F.value rows minus.now → IsMeet common.now plus.now.tight minus.now.tight → not result ≡ (nat_eq third.now.number plus.now.number || nat_eq third.now.number minus.now.number || not (covers rows (values F.value plus.now.vector.items) (values F.value minus.now.vector.items) (values F.value third.now.vector.items))) }
+    ensures { (rows : List (List ℚ)) → HasTightSet F.value rows third.now
+        → HasTightSet F.value rows plus.now → HasTightSet F.value rows minus.now
+        → IsMeet common.now plus.now.tight minus.now.tight
+        → not result
+        ≡ (nat_eq third.now.number plus.now.number || nat_eq third.now.number minus.now.number
+        || not (covers rows (values F.value plus.now.vector.items)
+        (values F.value minus.now.vector.items)
+        (values F.value third.now.vector.items))) }
 {
     if is_one_of(third, plus, minus) {
         return false;
@@ -41,7 +49,12 @@ fn is_uncovered<F: Field>(
     common: &Marks,
     last: &mut usize,
 ) -> bool
-    ensures { (rows : List (List ℚ)) → All (HasTightSet F.value rows) generators.now → HasTightSet F.value rows plus.now → HasTightSet F.value rows minus.now → IsMeet common.now plus.now.tight minus.now.tight → result ≡ is_uncovered_live rows (live_of F.value generators.now) (pair_of F.value plus.now minus.now) }
+    ensures { (rows : List (List ℚ)) → All (HasTightSet F.value rows) generators.now
+        → HasTightSet F.value rows plus.now → HasTightSet F.value rows minus.now
+        → IsMeet common.now plus.now.tight minus.now.tight
+        → result
+        ≡ is_uncovered_live rows (live_of F.value generators.now)
+        (pair_of F.value plus.now minus.now) }
 {
     if *last < generators.len() {
         let third = &generators[*last];
@@ -75,7 +88,12 @@ pub fn are_adjacent<F: Field>(
     common: &Marks,
     last: &mut usize,
 ) -> bool
-    ensures { (n : ℕ) (rows : List (List ℚ)) → AreTwoLive F.value n rows generators.now plus.now minus.now → IsMeet common.now plus.now.tight minus.now.tight → result ≡ is_uncovered_live rows (live_of F.value generators.now) (pair_of F.value plus.now minus.now) }
+    ensures { (n : ℕ) (rows : List (List ℚ))
+        → AreTwoLive F.value n rows generators.now plus.now minus.now
+        → IsMeet common.now plus.now.tight minus.now.tight
+        → result
+        ≡ is_uncovered_live rows (live_of F.value generators.now)
+        (pair_of F.value plus.now minus.now) }
 {
     let count = common.count();
     let least = plus.vector.len().saturating_sub(2);

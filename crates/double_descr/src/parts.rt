@@ -20,7 +20,11 @@ use std::alloc::Global;
 fn value_at<F: Field>(row: &[F], generator: &Generator<F>) -> Result<F, DdFault<F>>
     requires same { length row.now ≡ length generator.now.vector.items }
     requires narrow { length row.now < 4294967296 }
-    ensures { MatchResult result (λ v. AreHeld F.holds (value_block (values F.value row.now) (numbered_of F.value generator.now)) × (F.value v ≡ dot (values F.value row.now) (values F.value generator.now.vector.items))) (λ fault. IsFault F.value F.holds (value_block (values F.value row.now) (numbered_of F.value generator.now)) fault) }
+    ensures { MatchResult result (λ v. AreHeld F.holds
+        (value_block (values F.value row.now) (numbered_of F.value generator.now))
+        × (F.value v ≡ dot (values F.value row.now) (values F.value generator.now.vector.items)))
+        (λ fault. IsFault F.value F.holds
+        (value_block (values F.value row.now) (numbered_of F.value generator.now)) fault) }
 {
     match product(row, &generator.vector) {
         Err(Stop::NoMemory) => Err(DdFault::NoMemory),
@@ -42,9 +46,12 @@ pub fn values_at<F: Field>(
 ) -> Result<Items<F>, DdFault<F>>
     requires same { All (λ g. length row.now ≡ length g.vector.items) generators.now }
     requires narrow { length row.now < 4294967296 }
-    ensures value { IfOk result (λ vs. map F.value vs ≡ map (λ g. dot (values F.value row.now) g.vector) (live_of F.value generators.now)) }
-    ensures held { OnOk result (All (AreHeld F.holds) (map (value_block (values F.value row.now)) (live_of F.value generators.now))) }
-    ensures left { IfErr result (λ fault. IsAddFault F.value F.holds (map (value_block (values F.value row.now)) (live_of F.value generators.now)) fault) }
+    ensures value { IfOk result (λ vs. map F.value vs
+        ≡ map (λ g. dot (values F.value row.now) g.vector) (live_of F.value generators.now)) }
+    ensures held { OnOk result (All (AreHeld F.holds)
+        (map (value_block (values F.value row.now)) (live_of F.value generators.now))) }
+    ensures left { IfErr result (λ fault. IsAddFault F.value F.holds
+        (map (value_block (values F.value row.now)) (live_of F.value generators.now)) fault) }
 {
     let mut out = Items::new(alloc);
     for i in 0..generators.len() {
@@ -75,9 +82,18 @@ fn keep_one<F: Field>(
     gone: &mut Items<u32>,
 ) -> Result<(), NoMemory>
     requires { length generator.now.tight + 1 < 4294967296 }
-    ensures stays { (row : List ℚ) → F.value at ≡ dot row (values F.value generator.now.vector.items) → OnOk result (live_of F.value stays.new ≡ live_of F.value stays.old ++ staying row (numbered_of F.value generator.now ∷ [])) }
-    ensures gone { (row : List ℚ) → F.value at ≡ dot row (values F.value generator.now.vector.items) → OnOk result (gone.new ≡ gone.old ++ dropped row (numbered_of F.value generator.now ∷ [])) }
-    ensures tight { (rows : List (List ℚ)) (row : List ℚ) → F.value at ≡ dot row (values F.value generator.now.vector.items) → HasTightSet F.value rows generator.now → All (HasTightSet F.value (rows ++ row ∷ [])) stays.old → OnOk result (All (HasTightSet F.value (rows ++ row ∷ [])) stays.new) }
+    ensures stays { (row : List ℚ)
+        → F.value at ≡ dot row (values F.value generator.now.vector.items)
+        → OnOk result (live_of F.value stays.new
+        ≡ live_of F.value stays.old ++ staying row (numbered_of F.value generator.now ∷ [])) }
+    ensures gone { (row : List ℚ) → F.value at ≡ dot row (values F.value generator.now.vector.items)
+        → OnOk result
+        (gone.new ≡ gone.old ++ dropped row (numbered_of F.value generator.now ∷ [])) }
+    ensures tight { (rows : List (List ℚ)) (row : List ℚ)
+        → F.value at ≡ dot row (values F.value generator.now.vector.items)
+        → HasTightSet F.value rows generator.now
+        → All (HasTightSet F.value (rows ++ row ∷ [])) stays.old
+        → OnOk result (All (HasTightSet F.value (rows ++ row ∷ [])) stays.new) }
 {
     if is_below(at) {
         gone.push(generator.number)?;
@@ -100,9 +116,16 @@ pub fn keep_all<F: Field>(
     requires room { All (λ g. length g.tight + 1 < 4294967296) generators.now }
     requires none { stays.old ≡ [] }
     requires none_gone { gone.old ≡ [] }
-    ensures stays { (row : List ℚ) → map F.value vals.now ≡ map (λ g. dot row g.vector) (live_of F.value generators.now) → OnOk result (live_of F.value stays.new ≡ staying row (live_of F.value generators.now)) }
-    ensures gone { (row : List ℚ) → map F.value vals.now ≡ map (λ g. dot row g.vector) (live_of F.value generators.now) → OnOk result (gone.new ≡ dropped row (live_of F.value generators.now)) }
-    ensures tight { (rows : List (List ℚ)) (row : List ℚ) → map F.value vals.now ≡ map (λ g. dot row g.vector) (live_of F.value generators.now) → All (HasTightSet F.value rows) generators.now → OnOk result (All (HasTightSet F.value (rows ++ row ∷ [])) stays.new) }
+    ensures stays { (row : List ℚ)
+        → map F.value vals.now ≡ map (λ g. dot row g.vector) (live_of F.value generators.now)
+        → OnOk result (live_of F.value stays.new ≡ staying row (live_of F.value generators.now)) }
+    ensures gone { (row : List ℚ)
+        → map F.value vals.now ≡ map (λ g. dot row g.vector) (live_of F.value generators.now)
+        → OnOk result (gone.new ≡ dropped row (live_of F.value generators.now)) }
+    ensures tight { (rows : List (List ℚ)) (row : List ℚ)
+        → map F.value vals.now ≡ map (λ g. dot row g.vector) (live_of F.value generators.now)
+        → All (HasTightSet F.value rows) generators.now
+        → OnOk result (All (HasTightSet F.value (rows ++ row ∷ [])) stays.new) }
 {
     for i in 0..generators.len() {
         keep_one(alloc, &generators[i], vals[i], stays, gone)?;

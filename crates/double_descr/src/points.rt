@@ -48,8 +48,13 @@ pub fn meeting_point<F: Field>(
     requires same { length plus.now ≡ length minus.now }
     requires narrow { length plus.now < 4294967296 }
     requires below { F.value at_minus <ℚ zero_ℚ }
-    requires not_zero { norming (between (F.value at_plus) (F.value at_minus) (values F.value plus.now) (values F.value minus.now)) ≢ zero_ℚ }
-    ensures { Runs F.value F.holds (meeting_steps (F.value at_plus) (F.value at_minus) (values F.value plus.now) (values F.value minus.now)) result (λ z. values F.value z.items ≡ normed (between (F.value at_plus) (F.value at_minus) (values F.value plus.now) (values F.value minus.now))) }
+    requires not_zero { norming (between (F.value at_plus) (F.value at_minus)
+        (values F.value plus.now) (values F.value minus.now))
+        ≢ zero_ℚ }
+    ensures { Runs F.value F.holds (meeting_steps (F.value at_plus) (F.value at_minus)
+        (values F.value plus.now) (values F.value minus.now)) result (λ z. values F.value z.items
+        ≡ normed (between (F.value at_plus) (F.value at_minus) (values F.value plus.now)
+        (values F.value minus.now))) }
 {
     let factor = match at_plus.div(at_minus.neg()) {
         Err(left) => return Err(Stop::Step(1, left)),

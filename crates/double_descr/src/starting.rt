@@ -44,9 +44,11 @@ fn normed_generator<F: Field>(
     requires narrow { length vector.now < 4294967296 }
     requires place { place < count }
     ensures held { OnOk result (All (IsHeld F.holds) (norming_steps (values F.value vector.now))) }
-    ensures is { IfOk result (λ g. numbered_of F.value g ≡ record { number = place + 1; vector = normed (values F.value vector.now) }) }
+    ensures is { IfOk result (λ g. numbered_of F.value g
+        ≡ record { number = place + 1; vector = normed (values F.value vector.now) }) }
     ensures tight { IfOk result (λ g. IsAllBut count place g.tight) }
-    ensures left { IfErr result (λ fault. IsNormingFault F.value F.holds (values F.value vector.now) fault) }
+    ensures left { IfErr result
+        (λ fault. IsNormingFault F.value F.holds (values F.value vector.now) fault) }
 {
     let by = without_sign(norming_entry(vector));
     match quotients(alloc, vector, by, 0) {
@@ -74,10 +76,15 @@ pub fn normed_all<F: Field>(
     alloc: Global,
     vectors: &Rows<F>,
 ) -> Result<Items<Generator<F>>, DdFault<F>>
-    requires corners { (rows : List (List ℚ)) × AreCorners vectors.now.width rows (numbers F.value vectors.now.list) }
-    ensures live { IfOk result (λ gens. live_of F.value gens ≡ numbered 1 (map normed (numbers F.value vectors.now.list))) }
-    ensures tight { (rows : List (List ℚ)) → AreCorners vectors.now.width rows (numbers F.value vectors.now.list) → IfOk result (λ gens. All (HasTightSet F.value rows) gens) }
-    ensures left { IfErr result (λ fault. AreNotNormed F.value F.holds (numbers F.value vectors.now.list) fault) }
+    requires corners { (rows : List (List ℚ))
+        × AreCorners vectors.now.width rows (numbers F.value vectors.now.list) }
+    ensures live { IfOk result (λ gens. live_of F.value gens
+        ≡ numbered 1 (map normed (numbers F.value vectors.now.list))) }
+    ensures tight { (rows : List (List ℚ))
+        → AreCorners vectors.now.width rows (numbers F.value vectors.now.list)
+        → IfOk result (λ gens. All (HasTightSet F.value rows) gens) }
+    ensures left { IfErr result
+        (λ fault. AreNotNormed F.value F.holds (numbers F.value vectors.now.list) fault) }
 {
     let count = vectors.count();
     let mut out = Items::new(alloc);

@@ -29,7 +29,11 @@ fn is_no_term<F: Field>(x: F, y: F) -> bool
 /// A total and a product, with the number of steps before.
 fn add_product<F: Field>(x: F, y: F, total: F, done: u64) -> Result<F, Stop<F>>
     requires { done + 2 < 18446744073709551616 }
-    ensures runs { (steps left : List Step) → IsSoFar F.holds steps (multiple_steps (F.value total) (F.value x) (F.value y) ++ left) done → MatchResult result (λ r. IsSoFar F.holds steps left (done + 2)) (λ stop. StopsAt F.value F.holds steps stop) }
+    ensures runs { (steps left : List Step)
+        → IsSoFar F.holds steps (multiple_steps (F.value total) (F.value x) (F.value y) ++ left)
+        done
+        → MatchResult result (λ r. IsSoFar F.holds steps left (done + 2))
+        (λ stop. StopsAt F.value F.holds steps stop) }
     ensures value { IfOk result (λ r. F.value r ≡ F.value total +ℚ F.value x *ℚ F.value y) }
 {
     match x.mul(y) {
@@ -44,7 +48,10 @@ fn add_product<F: Field>(x: F, y: F, total: F, done: u64) -> Result<F, Stop<F>>
 /// One more term of a product: the total and the number of steps with it.
 fn add_term<F: Field>(x: F, y: F, total: F, done: u64) -> Result<(F, u64), Stop<F>>
     requires { done + 2 < 18446744073709551616 }
-    ensures runs { (steps left : List Step) → IsSoFar F.holds steps (term_steps (F.value total) (F.value x) (F.value y) ++ left) done → MatchResult result (λ r. IsSoFar F.holds steps left r.1) (λ stop. StopsAt F.value F.holds steps stop) }
+    ensures runs { (steps left : List Step)
+        → IsSoFar F.holds steps (term_steps (F.value total) (F.value x) (F.value y) ++ left) done
+        → MatchResult result (λ r. IsSoFar F.holds steps left r.1)
+        (λ stop. StopsAt F.value F.holds steps stop) }
     ensures value { IfOk result (λ r. F.value r.0 ≡ F.value total +ℚ F.value x *ℚ F.value y) }
     ensures done { IfOk result (λ r. r.1 ≤ done + 2) }
 {
@@ -62,7 +69,9 @@ fn add_term<F: Field>(x: F, y: F, total: F, done: u64) -> Result<(F, u64), Stop<
 fn product_by_steps<F: Field>(row: &[F], vector: &[F]) -> Result<F, Stop<F>>
     requires same { length row.now ≡ length vector.now }
     requires narrow { length row.now < 4294967296 }
-    ensures { Runs F.value F.holds (product_steps zero_ℚ (values F.value row.now) (values F.value vector.now)) result (λ r. F.value r ≡ dot (values F.value row.now) (values F.value vector.now)) }
+    ensures { Runs F.value F.holds
+        (product_steps zero_ℚ (values F.value row.now) (values F.value vector.now)) result
+        (λ r. F.value r ≡ dot (values F.value row.now) (values F.value vector.now)) }
 {
     let mut total = F::zero();
     let mut done = 0;
@@ -76,7 +85,9 @@ fn product_by_steps<F: Field>(row: &[F], vector: &[F]) -> Result<F, Stop<F>>
 pub fn product<F: Field>(row: &[F], vector: &[F]) -> Result<F, Stop<F>>
     requires same { length row.now ≡ length vector.now }
     requires narrow { length row.now < 4294967296 }
-    ensures { Runs F.value F.holds (product_steps zero_ℚ (values F.value row.now) (values F.value vector.now)) result (λ r. F.value r ≡ dot (values F.value row.now) (values F.value vector.now)) }
+    ensures { Runs F.value F.holds
+        (product_steps zero_ℚ (values F.value row.now) (values F.value vector.now)) result
+        (λ r. F.value r ≡ dot (values F.value row.now) (values F.value vector.now)) }
 {
     match F::short_dot(row, vector) {
         Some(value) => Ok(value),
@@ -95,8 +106,13 @@ pub fn combination<F: Field>(
     requires same { length vector.now ≡ length other.now }
     requires narrow { length vector.now < 4294967296 }
     requires early { done < 4294967296 }
-    ensures runs { (steps left : List Step) → IsSoFar F.holds steps (combination_steps (F.value factor) (values F.value vector.now) (values F.value other.now) ++ left) done → MatchResult result (λ z. IsSoFar F.holds steps left (done + 2 * length vector.now)) (λ stop. StopsAt F.value F.holds steps stop) }
-    ensures value { IfOk result (λ z. values F.value z.items ≡ plus (values F.value vector.now) (scaled (F.value factor) (values F.value other.now))) }
+    ensures runs { (steps left : List Step)
+        → IsSoFar F.holds steps (combination_steps (F.value factor) (values F.value vector.now)
+        (values F.value other.now) ++ left) done
+        → MatchResult result (λ z. IsSoFar F.holds steps left (done + 2 * length vector.now))
+        (λ stop. StopsAt F.value F.holds steps stop) }
+    ensures value { IfOk result (λ z. values F.value z.items
+        ≡ plus (values F.value vector.now) (scaled (F.value factor) (values F.value other.now))) }
 {
     let mut out = Vec::new(alloc);
     for i in 0..vector.len() {
@@ -110,8 +126,13 @@ pub fn quotients<F: Field>(alloc: Global, vector: &[F], by: F, done: u64) -> Res
     requires by { F.value by ≢ zero_ℚ }
     requires narrow { length vector.now < 4294967296 }
     requires early { done < 17179869184 }
-    ensures runs { (steps left : List Step) → IsSoFar F.holds steps (quotient_steps (F.value by) (values F.value vector.now) ++ left) done → MatchResult result (λ z. IsSoFar F.holds steps left (done + length vector.now)) (λ stop. StopsAt F.value F.holds steps stop) }
-    ensures value { IfOk result (λ z. values F.value z.items ≡ scaled (inverse_ℚ (F.value by)) (values F.value vector.now)) }
+    ensures runs { (steps left : List Step)
+        → IsSoFar F.holds steps (quotient_steps (F.value by) (values F.value vector.now) ++ left)
+        done
+        → MatchResult result (λ z. IsSoFar F.holds steps left (done + length vector.now))
+        (λ stop. StopsAt F.value F.holds steps stop) }
+    ensures value { IfOk result (λ z. values F.value z.items
+        ≡ scaled (inverse_ℚ (F.value by)) (values F.value vector.now)) }
 {
     let mut out = Vec::new(alloc);
     for i in 0..vector.len() {

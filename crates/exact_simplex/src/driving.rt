@@ -14,7 +14,8 @@ use lin_rows::{RowFault, System};
 
 /// A column among the first `count` at which the row is not 0: the first.
 fn support<F: Field>(row: &[Cell<F>], count: u32) -> Option<u32>
-    ensures { (n : ℕ) → Rises n 0 (entries F.value row.now) → IsSupport (entries F.value row.now) count result }
+    ensures { (n : ℕ) → Rises n 0 (entries F.value row.now)
+        → IsSupport (entries F.value row.now) count result }
 {
     for i in 0..row.len() {
         let cell = row[i];
@@ -37,7 +38,8 @@ fn drive_row<F: Field>(
     requires feasible { IsFeasible F.value (system_of F.value system.now) tableau.old }
     requires idle { IsIdleTo F.value (system_of F.value system.now) i tableau.old }
     ensures feasible { OnOk result (IsFeasible F.value (system_of F.value system.now) tableau.new) }
-    ensures idle { OnOk result (IsIdleTo F.value (system_of F.value system.now) (i + 1) tableau.new) }
+    ensures idle { OnOk result
+        (IsIdleTo F.value (system_of F.value system.now) (i + 1) tableau.new) }
     ensures left { IfErr result (IsSystemFault F.value F.holds (system_of F.value system.now)) }
 {
     if tableau.basis[i as usize] <= system.cols {

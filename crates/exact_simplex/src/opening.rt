@@ -47,7 +47,8 @@ fn equation_line<F: Field>(
     requires lengths { HasLengths system.now }
     requires inside { i < system.now.rows }
     requires fits { system.now.cols + system.now.rows < 4294967293 }
-    ensures { IfOk result (λ line. IsLineOf (right_column (system_of F.value system.now)) (row_of (table_of (system_of F.value system.now)) (i + 1)) (entries F.value line.items)) }
+    ensures { IfOk result (λ line. IsLineOf (right_column (system_of F.value system.now))
+        (row_of (table_of (system_of F.value system.now)) (i + 1)) (entries F.value line.items)) }
 {
     let right = system.b.as_slice()[i as usize];
     let mut line = line_of(alloc, coefficients(system, i))?;
@@ -62,7 +63,9 @@ fn equation_line<F: Field>(
 fn first_cost_line<F: Field>(alloc: Global, system: &System<F>) -> Result<Vec<Cell<F>>, NoMemory>
     requires lengths { HasLengths system.now }
     requires fits { system.now.cols + system.now.rows < 4294967293 }
-    ensures { IfOk result (λ line. IsLineOf (right_column (system_of F.value system.now)) (row_of (table_of (system_of F.value system.now)) (first_cost (system_of F.value system.now))) (entries F.value line.items)) }
+    ensures { IfOk result (λ line. IsLineOf (right_column (system_of F.value system.now)) (row_of
+        (table_of (system_of F.value system.now)) (first_cost (system_of F.value system.now)))
+        (entries F.value line.items)) }
 {
     let mut line = Vec::new(alloc);
     for i in 0..system.rows {
@@ -77,7 +80,9 @@ pub fn second_cost_line<F: Field>(
     system: &System<F>,
 ) -> Result<Vec<Cell<F>>, NoMemory>
     requires { HasLengths system.now }
-    ensures { IfOk result (λ line. IsLineOf (right_column (system_of F.value system.now)) (row_of (table_of (system_of F.value system.now)) (second_cost (system_of F.value system.now))) (entries F.value line.items)) }
+    ensures { IfOk result (λ line. IsLineOf (right_column (system_of F.value system.now)) (row_of
+        (table_of (system_of F.value system.now)) (second_cost (system_of F.value system.now)))
+        (entries F.value line.items)) }
 {
     let cost = system.cost.as_slice();
     let mut line = Vec::new(alloc);

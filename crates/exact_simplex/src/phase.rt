@@ -51,17 +51,31 @@ pub fn run_phase<F: Field>(
     unknowns: u32,
     columns: &[u32],
 ) -> Result<Option<u32>, RowFault<F>>
-    requires start { IsStart tableau.old.width equations columns.now (table_of tableau.old.width (lines F.value tableau.old.rows.items)) tableau.old.basis.items }
-    requires turn { IsTurn tableau.old.width equations columns.now (table_of tableau.old.width (lines F.value tableau.old.rows.items)) tableau.old.basis.items (lines F.value tableau.old.rows.items) tableau.old.basis.items }
+    requires start { IsStart tableau.old.width equations columns.now
+        (table_of tableau.old.width (lines F.value tableau.old.rows.items))
+        tableau.old.basis.items }
+    requires turn { IsTurn tableau.old.width equations columns.now
+        (table_of tableau.old.width (lines F.value tableau.old.rows.items)) tableau.old.basis.items
+        (lines F.value tableau.old.rows.items) tableau.old.basis.items }
     requires cost { equations ≤ cost }
     requires inside { cost < length tableau.old.rows.items }
     requires unknowns { unknowns ≤ tableau.old.width }
-    ensures turn { OnOk result (IsTurn tableau.old.width equations columns.now (table_of tableau.old.width (lines F.value tableau.old.rows.items)) tableau.old.basis.items (lines F.value tableau.new.rows.items) tableau.new.basis.items) }
-    ensures moved { OnOk result (IsMoved equations unknowns (table_of tableau.old.width (lines F.value tableau.old.rows.items)) tableau.old.basis.items (table_of tableau.old.width (lines F.value tableau.new.rows.items)) tableau.new.basis.items) }
+    ensures turn { OnOk result (IsTurn tableau.old.width equations columns.now
+        (table_of tableau.old.width (lines F.value tableau.old.rows.items)) tableau.old.basis.items
+        (lines F.value tableau.new.rows.items) tableau.new.basis.items) }
+    ensures moved { OnOk result (IsMoved equations unknowns
+        (table_of tableau.old.width (lines F.value tableau.old.rows.items)) tableau.old.basis.items
+        (table_of tableau.old.width (lines F.value tableau.new.rows.items))
+        tableau.new.basis.items) }
     ensures width { tableau.new.width ≡ tableau.old.width }
-    ensures still { IsPhaseEnd equations cost unknowns (table_of tableau.old.width (lines F.value tableau.old.rows.items)) None → IfOk result (λ col. (col ≡ None) × (tableau.new ≡ tableau.old)) }
-    ensures end { IfOk result (IsPhaseEnd equations cost unknowns (table_of tableau.old.width (lines F.value tableau.new.rows.items))) }
-    ensures left { IfErr result (IsPhaseFault F.value F.holds tableau.old.width equations unknowns (table_of tableau.old.width (lines F.value tableau.old.rows.items)) tableau.old.basis.items) }
+    ensures still { IsPhaseEnd equations cost unknowns
+        (table_of tableau.old.width (lines F.value tableau.old.rows.items)) None
+        → IfOk result (λ col. (col ≡ None) × (tableau.new ≡ tableau.old)) }
+    ensures end { IfOk result (IsPhaseEnd equations cost unknowns
+        (table_of tableau.old.width (lines F.value tableau.new.rows.items))) }
+    ensures left { IfErr result (IsPhaseFault F.value F.holds tableau.old.width equations unknowns
+        (table_of tableau.old.width (lines F.value tableau.old.rows.items))
+        tableau.old.basis.items) }
 {
     let mut greatest = magnitudes(tableau.alloc, unknowns)?;
     while let Some(col) = entering(
@@ -83,7 +97,8 @@ pub fn run_phase<F: Field>(
 /// The columns by which a phase compares rows: that of the right sides, and those with which it begins.
 fn compared<F: Field>(tableau: &Tableau<F>, equations: u32) -> Result<Vec<u32>, NoMemory>
     requires { equations ≤ length tableau.now.basis.items }
-    ensures { IfOk result (λ columns. columns.items ≡ tableau.now.width ∷ take equations tableau.now.basis.items) }
+    ensures { IfOk result
+        (λ columns. columns.items ≡ tableau.now.width ∷ take equations tableau.now.basis.items) }
 {
     let mut columns = Vec::new(tableau.alloc);
     columns.push(tableau.width)?;
@@ -103,9 +118,15 @@ pub fn optimize<F: Field>(
     requires low { system.now.rows ≤ cost }
     requires high { cost ≤ system.now.rows + 1 }
     ensures primal { OnOk result (IsPrimal F.value (system_of F.value system.now) tableau.new) }
-    ensures idle { IsIdle F.value (system_of F.value system.now) tableau.old → OnOk result (IsIdle F.value (system_of F.value system.now) tableau.new) }
-    ensures still { IsPhaseEnd (equation_count (system_of F.value system.now)) cost (unknown_count (system_of F.value system.now)) (table_in F.value (system_of F.value system.now) tableau.old) None → IfOk result (λ col. (col ≡ None) × (tableau.new ≡ tableau.old)) }
-    ensures end { IfOk result (IsPhaseEnd (equation_count (system_of F.value system.now)) cost (unknown_count (system_of F.value system.now)) (table_in F.value (system_of F.value system.now) tableau.new)) }
+    ensures idle { IsIdle F.value (system_of F.value system.now) tableau.old
+        → OnOk result (IsIdle F.value (system_of F.value system.now) tableau.new) }
+    ensures still { IsPhaseEnd (equation_count (system_of F.value system.now)) cost
+        (unknown_count (system_of F.value system.now))
+        (table_in F.value (system_of F.value system.now) tableau.old) None
+        → IfOk result (λ col. (col ≡ None) × (tableau.new ≡ tableau.old)) }
+    ensures end { IfOk result (IsPhaseEnd (equation_count (system_of F.value system.now)) cost
+        (unknown_count (system_of F.value system.now))
+        (table_in F.value (system_of F.value system.now) tableau.new)) }
     ensures left { IfErr result (IsSystemFault F.value F.holds (system_of F.value system.now)) }
 {
     let columns = compared(tableau, system.rows)?;

@@ -31,8 +31,13 @@ fn compare_at<F: Field>(
 ) -> Result<Ordering, Either<F>>
     requires first { F.value p ≢ zero_ℚ }
     requires second { F.value r ≢ zero_ℚ }
-    ensures ok { (n : ℕ) → Rises n 0 (entries F.value u.now) → Rises n 0 (entries F.value v.now) → IfOk result (λ order. order ≡ cmp_ℚ (sum_at (entries F.value u.now) col /ℚ F.value p) (sum_at (entries F.value v.now) col /ℚ F.value r)) }
-    ensures left { (n : ℕ) → Rises n 0 (entries F.value u.now) → Rises n 0 (entries F.value v.now) → IfErr result (IsEitherAt F.value F.holds (F.value p) (entries F.value u.now) (F.value r) (entries F.value v.now) col) }
+    ensures ok { (n : ℕ) → Rises n 0 (entries F.value u.now) → Rises n 0 (entries F.value v.now)
+        → IfOk result (λ order. order
+        ≡ cmp_ℚ (sum_at (entries F.value u.now) col /ℚ F.value p)
+        (sum_at (entries F.value v.now) col /ℚ F.value r)) }
+    ensures left { (n : ℕ) → Rises n 0 (entries F.value u.now) → Rises n 0 (entries F.value v.now)
+        → IfErr result (IsEitherAt F.value F.holds (F.value p) (entries F.value u.now) (F.value r)
+        (entries F.value v.now) col) }
 {
     let a = match entry_at(u, col).div(p) {
         Ok(a) => a,
@@ -55,8 +60,13 @@ fn is_before<F: Field>(
 ) -> Result<bool, Either<F>>
     requires first { F.value p ≢ zero_ℚ }
     requires second { F.value r ≢ zero_ℚ }
-    ensures ok { (n : ℕ) → Rises n 0 (entries F.value u.now) → Rises n 0 (entries F.value v.now) → IfOk result (λ before. before ≡ lex_less (ratios (F.value p) (entries F.value u.now) columns.now) (ratios (F.value r) (entries F.value v.now) columns.now)) }
-    ensures left { (n : ℕ) → Rises n 0 (entries F.value u.now) → Rises n 0 (entries F.value v.now) → IfErr result (IsEither F.value F.holds (F.value p) (entries F.value u.now) (F.value r) (entries F.value v.now) columns.now) }
+    ensures ok { (n : ℕ) → Rises n 0 (entries F.value u.now) → Rises n 0 (entries F.value v.now)
+        → IfOk result (λ before. before
+        ≡ lex_less (ratios (F.value p) (entries F.value u.now) columns.now)
+        (ratios (F.value r) (entries F.value v.now) columns.now)) }
+    ensures left { (n : ℕ) → Rises n 0 (entries F.value u.now) → Rises n 0 (entries F.value v.now)
+        → IfErr result (IsEither F.value F.holds (F.value p) (entries F.value u.now) (F.value r)
+        (entries F.value v.now) columns.now) }
 {
     for i in 0..columns.len() {
         match compare_at(u, p, v, r, columns[i]) {
@@ -98,10 +108,15 @@ fn better<F: Field>(
 ) -> Result<Option<usize>, TestLeft<F>>
     requires inside { i < length rows.now }
     requires found { MatchOption best ⊤ (λ r. r < length rows.now) }
-    requires lines { (n : ℕ) × AreLines n (lines F.value rows.now) × IsLeaving (lines F.value rows.now) col columns.now i best }
+    requires lines { (n : ℕ) × AreLines n (lines F.value rows.now)
+        × IsLeaving (lines F.value rows.now) col columns.now i best }
     ensures found { IfOk result (λ r. MatchOption r ⊤ (λ r. r < length rows.now)) }
-    ensures ok { (n : ℕ) → AreLines n (lines F.value rows.now) → IsLeaving (lines F.value rows.now) col columns.now i best → IfOk result (IsLeaving (lines F.value rows.now) col columns.now (i + 1)) }
-    ensures left { (n : ℕ) → AreLines n (lines F.value rows.now) → IfErr result (λ test. IsTestLeft F.value F.holds (lines F.value rows.now) col columns.now test.row test.left) }
+    ensures ok { (n : ℕ) → AreLines n (lines F.value rows.now)
+        → IsLeaving (lines F.value rows.now) col columns.now i best
+        → IfOk result (IsLeaving (lines F.value rows.now) col columns.now (i + 1)) }
+    ensures left { (n : ℕ) → AreLines n (lines F.value rows.now)
+        → IfErr result (λ test. IsTestLeft F.value F.holds (lines F.value rows.now) col columns.now
+        test.row test.left) }
     ensures row { IfErr result (λ test. test.row ≤ i) }
 {
     let p = entry_at(&rows[i], col);
@@ -131,7 +146,8 @@ pub fn leaving<F: Field>(
     requires inside { count ≤ length rows.now }
     requires lines { (n : ℕ) × AreLines n (lines F.value rows.now) }
     ensures ok { IfOk result (IsLeaving (lines F.value rows.now) col columns.now count) }
-    ensures left { IfErr result (λ test. IsTestLeft F.value F.holds (lines F.value rows.now) col columns.now test.row test.left) }
+    ensures left { IfErr result (λ test. IsTestLeft F.value F.holds (lines F.value rows.now) col
+        columns.now test.row test.left) }
     ensures row { IfErr result (λ test. test.row < count) }
 {
     let mut best = None;
@@ -166,7 +182,8 @@ fn better_column<F: Field>(cell: Cell<F>, greatest: &[u32], best: Option<Candida
 
 /// A column among the first `count` at which the row is negative: of those that serve best the first.
 fn best_column<F: Field>(row: &[Cell<F>], count: u32, greatest: &[u32]) -> Option<Candidate>
-    ensures { (n : ℕ) → Rises n 0 (entries F.value row.now) → IsEnteringCandidate (entries F.value row.now) count result }
+    ensures { (n : ℕ) → Rises n 0 (entries F.value row.now)
+        → IsEnteringCandidate (entries F.value row.now) count result }
 {
     let mut best = None;
     for i in 0..row.len() {
@@ -188,7 +205,8 @@ pub fn entering<F: Field>(
     greatest: &mut [u32],
 ) -> Option<u32>
     requires { equations ≤ length rows.now }
-    ensures { (n : ℕ) → Rises n 0 (entries F.value row.now) → IsEntering (entries F.value row.now) count result }
+    ensures { (n : ℕ) → Rises n 0 (entries F.value row.now)
+        → IsEntering (entries F.value row.now) count result }
 {
     measure(rows, equations, greatest);
     match best_column(row, count, greatest) {

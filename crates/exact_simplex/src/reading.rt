@@ -31,7 +31,9 @@ fn signed<F: Field>(right: F, x: F) -> F
 fn dual<F: Field>(tableau: &Tableau<F>, system: &System<F>) -> Result<Items<F>, NoMemory>
     requires lengths { HasLengths system.now }
     requires held { IsTableauOf F.value (system_of F.value system.now) tableau.now }
-    ensures { IfOk result (λ v. map F.value v ≡ multipliers (system_of F.value system.now) (table_in F.value (system_of F.value system.now) tableau.now)) }
+    ensures { IfOk result (λ v. map F.value v
+        ≡ multipliers (system_of F.value system.now)
+        (table_in F.value (system_of F.value system.now) tableau.now)) }
 {
     let mut out = Items::new(tableau.alloc);
     for i in 0..system.rows {
@@ -46,7 +48,9 @@ fn dual<F: Field>(tableau: &Tableau<F>, system: &System<F>) -> Result<Items<F>, 
 fn farkas<F: Field>(tableau: &mut Tableau<F>, system: &System<F>) -> Result<Items<F>, RowFault<F>>
     requires lengths { HasLengths system.now }
     requires held { IsTableauOf F.value (system_of F.value system.now) tableau.old }
-    ensures ok { IfOk result (λ v. map F.value v ≡ first_multipliers (system_of F.value system.now) (table_in F.value (system_of F.value system.now) tableau.old)) }
+    ensures ok { IfOk result (λ v. map F.value v
+        ≡ first_multipliers (system_of F.value system.now)
+        (table_in F.value (system_of F.value system.now) tableau.old)) }
     ensures same { OnOk result (tableau.new ≡ tableau.old) }
     ensures left { IfErr result (IsSystemFault F.value F.holds (system_of F.value system.now)) }
 {
@@ -77,7 +81,9 @@ fn columns_of<F: Field>(tableau: &Tableau<F>, system: &System<F>) -> Result<Item
 fn solution_at<F: Field>(tableau: &Tableau<F>, system: &System<F>) -> Result<Items<F>, NoMemory>
     requires lengths { HasLengths system.now }
     requires held { IsTableauOf F.value (system_of F.value system.now) tableau.now }
-    ensures { IfOk result (λ x. map F.value x ≡ solution (system_of F.value system.now) tableau.now.basis.items (table_in F.value (system_of F.value system.now) tableau.now)) }
+    ensures { IfOk result (λ x. map F.value x
+        ≡ solution (system_of F.value system.now) tableau.now.basis.items
+        (table_in F.value (system_of F.value system.now) tableau.now)) }
 {
     let values = column_values(
         tableau.alloc,
@@ -96,8 +102,13 @@ pub fn infeasible<F: Field>(
 ) -> Result<LpEnd<F>, RowFault<F>>
     requires lengths { HasLengths system.now }
     requires primal { IsPrimal F.value (system_of F.value system.now) tableau.old }
-    requires best { IsBest (system_of F.value system.now) (first_cost (system_of F.value system.now)) (table_in F.value (system_of F.value system.now) tableau.old) }
-    requires below { at (table_in F.value (system_of F.value system.now) tableau.old) (first_cost (system_of F.value system.now)) (right_column (system_of F.value system.now)) <ℚ zero_ℚ }
+    requires best { IsBest (system_of F.value system.now)
+        (first_cost (system_of F.value system.now))
+        (table_in F.value (system_of F.value system.now) tableau.old) }
+    requires below { at (table_in F.value (system_of F.value system.now) tableau.old)
+        (first_cost (system_of F.value system.now))
+        (right_column (system_of F.value system.now))
+        <ℚ zero_ℚ }
     ensures certified { IfOk result (IsCertified F.value (system_of F.value system.now)) }
     ensures read_off { IfOk result (IsReadOff F.value (system_of F.value system.now)) }
     ensures left { IfErr result (IsSystemFault F.value F.holds (system_of F.value system.now)) }
@@ -111,10 +122,13 @@ pub fn infeasible<F: Field>(
 pub fn optimal<F: Field>(tableau: &Tableau<F>, system: &System<F>) -> Result<LpEnd<F>, NoMemory>
     requires lengths { HasLengths system.now }
     requires feasible { IsFeasible F.value (system_of F.value system.now) tableau.now }
-    requires best { IsBest (system_of F.value system.now) (second_cost (system_of F.value system.now)) (table_in F.value (system_of F.value system.now) tableau.now) }
+    requires best { IsBest (system_of F.value system.now)
+        (second_cost (system_of F.value system.now))
+        (table_in F.value (system_of F.value system.now) tableau.now) }
     ensures certified { IfOk result (IsCertified F.value (system_of F.value system.now)) }
     ensures read_off { IfOk result (IsReadOff F.value (system_of F.value system.now)) }
-    ensures basis { IfOk result (IsOptimalEnd (λ basis. basis ≡ take system.now.rows tableau.now.basis.items)) }
+    ensures basis { IfOk result
+        (IsOptimalEnd (λ basis. basis ≡ take system.now.rows tableau.now.basis.items)) }
 {
     let x = solution_at(tableau, system)?;
     let dual = dual(tableau, system)?;
@@ -133,8 +147,11 @@ pub fn unbounded<F: Field>(
     requires idle { IsIdle F.value (system_of F.value system.now) tableau.now }
     requires low { 1 ≤ col }
     requires high { col ≤ unknown_count (system_of F.value system.now) }
-    requires betters { at (table_in F.value (system_of F.value system.now) tableau.now) (second_cost (system_of F.value system.now)) col <ℚ zero_ℚ }
-    requires unlimited { (i : ℕ) → 1 ≤ i → i ≤ equation_count (system_of F.value system.now) → at (table_in F.value (system_of F.value system.now) tableau.now) i col ≤ℚ zero_ℚ }
+    requires betters { at (table_in F.value (system_of F.value system.now) tableau.now)
+        (second_cost (system_of F.value system.now)) col
+        <ℚ zero_ℚ }
+    requires unlimited { (i : ℕ) → 1 ≤ i → i ≤ equation_count (system_of F.value system.now)
+        → at (table_in F.value (system_of F.value system.now) tableau.now) i col ≤ℚ zero_ℚ }
     ensures certified { IfOk result (IsCertified F.value (system_of F.value system.now)) }
     ensures read_off { IfOk result (IsReadOff F.value (system_of F.value system.now)) }
 {

@@ -31,8 +31,14 @@ fn first_phase<F: Field>(tableau: &mut Tableau<F>, system: &System<F>) -> Result
     requires lengths { HasLengths system.now }
     requires primal { IsPrimal F.value (system_of F.value system.now) tableau.old }
     ensures primal { OnOk result (IsPrimal F.value (system_of F.value system.now) tableau.new) }
-    ensures best { OnOk result (IsBest (system_of F.value system.now) (first_cost (system_of F.value system.now)) (table_in F.value (system_of F.value system.now) tableau.new)) }
-    ensures below { IfOk result (λ below. IsTrue below ↔ (at (table_in F.value (system_of F.value system.now) tableau.new) (first_cost (system_of F.value system.now)) (right_column (system_of F.value system.now)) <ℚ zero_ℚ)) }
+    ensures best { OnOk result (IsBest (system_of F.value system.now)
+        (first_cost (system_of F.value system.now))
+        (table_in F.value (system_of F.value system.now) tableau.new)) }
+    ensures below { IfOk result (λ below. IsTrue below
+        ↔ (at (table_in F.value (system_of F.value system.now) tableau.new)
+        (first_cost (system_of F.value system.now))
+        (right_column (system_of F.value system.now))
+        <ℚ zero_ℚ)) }
     ensures left { IfErr result (IsSystemFault F.value F.holds (system_of F.value system.now)) }
 {
     let cost = system.rows as usize;
@@ -54,7 +60,11 @@ fn second_phase<F: Field>(
     ensures read_off { IfOk result (IsReadOff F.value (system_of F.value system.now)) }
     ensures left { IfErr result (IsSystemFault F.value F.holds (system_of F.value system.now)) }
     ensures last { OnOk result (CanGoOn F.value system.now tableau.new) }
-    ensures still { IsBest (system_of F.value system.now) (second_cost (system_of F.value system.now)) (table_in F.value (system_of F.value system.now) tableau.old) → IfOk result (IsOptimalEnd (λ basis. basis ≡ take system.now.rows tableau.old.basis.items)) }
+    ensures still { IsBest (system_of F.value system.now)
+        (second_cost (system_of F.value system.now))
+        (table_in F.value (system_of F.value system.now) tableau.old)
+        → IfOk result
+        (IsOptimalEnd (λ basis. basis ≡ take system.now.rows tableau.old.basis.items)) }
 {
     match optimize(tableau, system, system.rows as usize + 1)? {
         None => Ok(optimal(tableau, system)?),
@@ -94,7 +104,8 @@ fn begun_at<F: Field>(
     requires { HasLengths system.now }
     ensures begun { IfOk result (IsBegun F.value system.now) }
     ensures left { IfErr result (IsSystemFault F.value F.holds (system_of F.value system.now)) }
-    ensures hint { IsBestBasis (system_of F.value system.now) columns.now → IfOk result (IsBegunBest F.value (system_of F.value system.now) columns.now) }
+    ensures hint { IsBestBasis (system_of F.value system.now) columns.now
+        → IfOk result (IsBegunBest F.value (system_of F.value system.now) columns.now) }
 {
     match hinted(alloc, system, columns)? {
         Some(tableau) => Ok(Begun::At(tableau)),
@@ -129,11 +140,14 @@ struct Finished<F: Field> {
 /// The end of a program that has begun.
 fn finish<F: Field>(begun: Begun<F>, system: &System<F>) -> Result<Finished<F>, RowFault<F>>
     requires { IsBegun F.value system.now begun }
-    ensures certified { IfOk result (λ f. IsCertified F.value (system_of F.value system.now) f.end) }
+    ensures certified { IfOk result
+        (λ f. IsCertified F.value (system_of F.value system.now) f.end) }
     ensures read_off { IfOk result (λ f. IsReadOff F.value (system_of F.value system.now) f.end) }
     ensures last { IfOk result (λ f. MatchOption f.last ⊤ (CanGoOn F.value system.now)) }
     ensures left { IfErr result (IsSystemFault F.value F.holds (system_of F.value system.now)) }
-    ensures best { (columns : List ℕ) → IsBegunBest F.value (system_of F.value system.now) columns begun → IfOk result (λ f. IsOptimalEnd (NameSame columns) f.end) }
+    ensures best { (columns : List ℕ)
+        → IsBegunBest F.value (system_of F.value system.now) columns begun
+        → IfOk result (λ f. IsOptimalEnd (NameSame columns) f.end) }
 {
     match begun {
         Begun::Ended(end) => Ok(Finished { end, last: None }),
@@ -187,7 +201,8 @@ fn solved_from<F: Field>(
     ensures certified { IfOk result (IsCertified F.value (system_of F.value system.now)) }
     ensures read_off { IfOk result (IsReadOff F.value (system_of F.value system.now)) }
     ensures left { IfErr result (IsSystemFault F.value F.holds (system_of F.value system.now)) }
-    ensures hint { IsBestBasis (system_of F.value system.now) columns.now → IfOk result (IsOptimalEnd (NameSame columns.now)) }
+    ensures hint { IsBestBasis (system_of F.value system.now) columns.now
+        → IfOk result (IsOptimalEnd (NameSame columns.now)) }
 {
     let begun = begun_at(alloc, system, columns)?;
     let done = finish(begun, system)?;
@@ -208,7 +223,8 @@ pub fn solve_lp_from<F: Field>(
     ensures certified { IfOk result (IsCertified F.value (system_of F.value system.now)) }
     ensures read_off { IfOk result (IsReadOff F.value (system_of F.value system.now)) }
     ensures left { IfErr result (IsLpFault F.value F.holds (system_of F.value system.now)) }
-    ensures hint { IsBestBasis (system_of F.value system.now) columns.now → IfOk result (IsOptimalEnd (NameSame columns.now)) }
+    ensures hint { IsBestBasis (system_of F.value system.now) columns.now
+        → IfOk result (IsOptimalEnd (NameSame columns.now)) }
 {
     match solved_from(alloc, system, columns) {
         Ok(end) => Ok(end),
@@ -224,7 +240,8 @@ fn solved_on<F: Field>(
 ) -> Result<Finished<F>, RowFault<F>>
     requires lengths { HasLengths system.now }
     requires table { MatchOption tableau ⊤ (IsTableFor F.value system.now) }
-    ensures certified { IfOk result (λ f. IsCertified F.value (system_of F.value system.now) f.end) }
+    ensures certified { IfOk result
+        (λ f. IsCertified F.value (system_of F.value system.now) f.end) }
     ensures read_off { IfOk result (λ f. IsReadOff F.value (system_of F.value system.now) f.end) }
     ensures last { IfOk result (λ f. MatchOption f.last ⊤ (CanGoOn F.value system.now)) }
     ensures left { IfErr result (IsSystemFault F.value F.holds (system_of F.value system.now)) }
@@ -307,9 +324,12 @@ pub fn solve_lp_with_cost<F: Field>(
     kept: &mut Kept<F>,
 ) -> Result<LpEnd<F>, LpFault<F>>
     requires { (s : Equations) × IsCosted F.value cost kept.old s }
-    ensures certified { (s : Equations) → IsCosted F.value cost kept.old s → IfOk result (IsCertified F.value s) }
-    ensures read_off { (s : Equations) → IsCosted F.value cost kept.old s → IfOk result (IsReadOff F.value s) }
-    ensures left { (s : Equations) → IsCosted F.value cost kept.old s → IfErr result (IsLpFault F.value F.holds s) }
+    ensures certified { (s : Equations) → IsCosted F.value cost kept.old s
+        → IfOk result (IsCertified F.value s) }
+    ensures read_off { (s : Equations) → IsCosted F.value cost kept.old s
+        → IfOk result (IsReadOff F.value s) }
+    ensures left { (s : Equations) → IsCosted F.value cost kept.old s
+        → IfErr result (IsLpFault F.value F.holds s) }
     ensures kept { (s : Equations) → IsKeptFor s kept.old → IsKeptFor s kept.new }
 {
     match kept.last.take() {

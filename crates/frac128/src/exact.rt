@@ -6,7 +6,8 @@ use crate::size::WORD;
 
 /// A step of Newton's: of an inverse modulo a power of 2 it makes one modulo the square.
 fn closer(odd: u64, inverse: u64) -> u64
-    ensures { (k : ℕ) → 0 < k → 2 * k ≤ 64 → odd * inverse % 2 ^ k ≡ 1 → odd * result % 2 ^ (2 * k) ≡ 1 }
+    ensures { (k : ℕ) → 0 < k → 2 * k ≤ 64 → odd * inverse % 2 ^ k ≡ 1
+        → odd * result % 2 ^ (2 * k) ≡ 1 }
 {
     inverse.wrapping_mul(2u64.wrapping_sub(odd.wrapping_mul(inverse)))
 }

@@ -43,11 +43,13 @@ impl Model for Frac {
 
     ghost coded = { coded_ℚ };
 
-    ghost view = { λ f. record { num = f.num; den = f.den; positive = f.positive; lowest = f.lowest } };
+    ghost view = { λ f. record
+        { num = f.num; den = f.den; positive = f.positive; lowest = f.lowest } };
 
     ghost invariant = { λ f. (unsigned_abs f.num < 2 ^ 120) × (f.den < 2 ^ 120) };
 
-    ghost inverse = { λ q. record { num = q.num; den = q.den; positive = q.positive; lowest = q.lowest } };
+    ghost inverse = { λ q. record
+        { num = q.num; den = q.den; positive = q.positive; lowest = q.lowest } };
 }
 
 impl Frac {

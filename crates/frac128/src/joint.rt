@@ -121,7 +121,10 @@ impl Carry {
         requires second_small { unsigned_abs second.whole < 2 ^ 120 }
         requires left_below { self.left < 2 ^ (place + 4) }
         requires right_below { self.right < 2 ^ (place + 4) }
-        ensures value { pos (2 ^ place) *ℤ mixed_value divisor result.sum +ℤ mixed_value divisor first *ℤ pos result.left +ℤ mixed_value divisor second *ℤ pos result.right ≡ pos (2 ^ (place + 4)) *ℤ mixed_value divisor self.sum +ℤ mixed_value divisor first *ℤ pos self.left +ℤ mixed_value divisor second *ℤ pos self.right }
+        ensures value { pos (2 ^ place) *ℤ mixed_value divisor result.sum +ℤ mixed_value divisor
+            first *ℤ pos result.left +ℤ mixed_value divisor second *ℤ pos result.right
+            ≡ pos (2 ^ (place + 4)) *ℤ mixed_value divisor self.sum +ℤ mixed_value divisor first *ℤ
+            pos self.left +ℤ mixed_value divisor second *ℤ pos self.right }
         ensures rest { result.sum.rest < divisor }
         ensures left { result.left < 2 ^ place }
         ensures right { result.right < 2 ^ place }
@@ -151,7 +154,8 @@ fn joint(a: i128, x: u128, c: i128, y: u128, divisor: u128) -> Option<Mixed>
     requires c_small { unsigned_abs c < 2 ^ 120 }
     requires x_small { x < 2 ^ 120 }
     requires y_small { y < 2 ^ 120 }
-    ensures { MatchOption result (2 ^ 120 * divisor ≤ unsigned_abs (a *ℤ pos x +ℤ c *ℤ pos y)) (IsMixed divisor (a *ℤ pos x +ℤ c *ℤ pos y)) }
+    ensures { MatchOption result (2 ^ 120 * divisor ≤ unsigned_abs (a *ℤ pos x +ℤ c *ℤ pos y))
+        (IsMixed divisor (a *ℤ pos x +ℤ c *ℤ pos y)) }
 {
     let first = Mixed::of(a, divisor);
     let second = Mixed::of(c, divisor);
@@ -203,7 +207,8 @@ pub(crate) fn numerator(a: i128, x: u128, c: i128, y: u128, divisor: u128) -> Op
     requires c_small { unsigned_abs c < 2 ^ 120 }
     requires x_small { x < 2 ^ 120 }
     requires y_small { y < 2 ^ 120 }
-    ensures { MatchOption result (2 ^ 120 * divisor ≤ unsigned_abs (a *ℤ pos x +ℤ c *ℤ pos y)) (IsTotal divisor (a *ℤ pos x +ℤ c *ℤ pos y)) }
+    ensures { MatchOption result (2 ^ 120 * divisor ≤ unsigned_abs (a *ℤ pos x +ℤ c *ℤ pos y))
+        (IsTotal divisor (a *ℤ pos x +ℤ c *ℤ pos y)) }
 {
     if is_short(a.unsigned_abs(), x) && is_short(c.unsigned_abs(), y) {
         Some(Total::of(a * x as i128 + c * y as i128, divisor))

@@ -32,11 +32,13 @@ impl Model for Tiny {
 
     ghost coded = { coded_ℚ };
 
-    ghost view = { λ f. record { num = f.num; den = f.den; positive = f.positive; lowest = f.lowest } };
+    ghost view = { λ f. record
+        { num = f.num; den = f.den; positive = f.positive; lowest = f.lowest } };
 
     ghost invariant = { λ f. (unsigned_abs f.num < 2 ^ 7) × (f.den < 2 ^ 7) };
 
-    ghost inverse = { λ q. record { num = q.num; den = q.den; positive = q.positive; lowest = q.lowest } };
+    ghost inverse = { λ q. record
+        { num = q.num; den = q.den; positive = q.positive; lowest = q.lowest } };
 }
 
 impl Tiny {
@@ -63,7 +65,8 @@ impl Tiny {
 
     /// The number, where its parts are below 2^7.
     fn held(exact: Option<Frac>) -> Option<Tiny>
-        ensures { (q : ℚ) → AnswersHeld (λ x. x) is_held q exact → AnswersHeld (λ x. x) is_tiny q result }
+        ensures { (q : ℚ) → AnswersHeld (λ x. x) is_held q exact
+            → AnswersHeld (λ x. x) is_tiny q result }
     {
         let exact = exact?;
         if exact.num().unsigned_abs() < 128 && exact.den() < 128 {

@@ -38,7 +38,10 @@ impl<F: Drop> From<NoMemory> for ExchangeFault<F> {
 /// A number less a product, with the number of steps before.
 fn less_product<F: Field>(y: F, last: F, c: F, done: u64) -> Result<F, ExchangeFault<F>>
     requires { done + 2 < 18446744073709551616 }
-    ensures runs { (steps left : List Step) → IsSoFar F.holds steps (entry_steps (F.value last) (F.value y) (F.value c) ++ left) done → MatchResult result (λ r. IsSoFar F.holds steps left (done + 2)) (λ fault. IsExchangeFault F.value F.holds steps fault) }
+    ensures runs { (steps left : List Step)
+        → IsSoFar F.holds steps (entry_steps (F.value last) (F.value y) (F.value c) ++ left) done
+        → MatchResult result (λ r. IsSoFar F.holds steps left (done + 2))
+        (λ fault. IsExchangeFault F.value F.holds steps fault) }
     ensures value { IfOk result (λ r. F.value r ≡ F.value y -ℚ F.value last *ℚ F.value c) }
 {
     match last.mul(c) {
@@ -78,9 +81,13 @@ pub fn exchange<F: Field>(
     requires normed { entry (map F.value c.now) (length c.now) ≡ one_ℚ }
     ensures row { IfOk result
         (λ row. map F.value row ≡ exchange_row (map F.value c.now) (map F.value y.now) t) }
-    ensures slack { IfOk result (λ row. (normal : List ℚ) (bound : ℚ) → length normal ≡ length y.now → dot (map F.value row) (dual_vector normal bound (map F.value c.now)) ≡ dot normal (map F.value y.now) -ℚ (if t then bound else zero_ℚ)) }
-    ensures held { OnOk result (All (IsHeld F.holds) (exchange_steps (map F.value y.now) (map F.value c.now))) }
-    ensures left { IfErr result (λ fault. IsExchangeFault F.value F.holds (exchange_steps (map F.value y.now) (map F.value c.now)) fault) }
+    ensures slack { IfOk result (λ row. (normal : List ℚ) (bound : ℚ) → length normal ≡ length y.now
+        → dot (map F.value row) (dual_vector normal bound (map F.value c.now))
+        ≡ dot normal (map F.value y.now) -ℚ (if t then bound else zero_ℚ)) }
+    ensures held { OnOk result
+        (All (IsHeld F.holds) (exchange_steps (map F.value y.now) (map F.value c.now))) }
+    ensures left { IfErr result (λ fault. IsExchangeFault F.value F.holds
+        (exchange_steps (map F.value y.now) (map F.value c.now)) fault) }
 {
     let last = y.len() - 1;
     let mut row = Items::new(alloc);

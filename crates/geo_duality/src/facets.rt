@@ -17,7 +17,9 @@ use std::alloc::Global;
 
 /// Whether a set of generators lies in another only where both are the same.
 fn is_no_part(set: &Marks, other: &Marks) -> bool
-    ensures { (generators : List (List ℚ)) (r s : List ℚ) → set.now ≡ tight_places generators r → other.now ≡ tight_places generators s → result ≡ (not (tight_lies_in generators r s) || tight_lies_in generators s r) }
+    ensures { (generators : List (List ℚ)) (r s : List ℚ) → set.now ≡ tight_places generators r
+        → other.now ≡ tight_places generators s
+        → result ≡ (not (tight_lies_in generators r s) || tight_lies_in generators s r) }
 {
     !lies_in(set, other) || lies_in(other, set)
 }
@@ -25,7 +27,8 @@ fn is_no_part(set: &Marks, other: &Marks) -> bool
 /// Whether the set of a row does not lie in that of row 0, and lies in that of another row only where both are the same.
 fn may_be_named(sets: &[Marks], k: usize) -> bool
     requires { k < length sets.now }
-    ensures { (generators rows : List (List ℚ)) → sets.now ≡ map (tight_places generators) rows → result ≡ may_be_facet generators rows (row_at rows k) }
+    ensures { (generators rows : List (List ℚ)) → sets.now ≡ map (tight_places generators) rows
+        → result ≡ may_be_facet generators rows (row_at rows k) }
 {
     if lies_in(&sets[k], &sets[0]) {
         return false;
@@ -42,7 +45,8 @@ fn may_be_named(sets: &[Marks], k: usize) -> bool
 fn is_listed(sets: &[Marks], listed: &[u32], k: usize) -> bool
     requires place { k < length sets.now }
     requires listed { All (λ j. j < length sets.now) listed.now }
-    ensures { (generators rows : List (List ℚ)) → sets.now ≡ map (tight_places generators) rows → result ≡ list_any (λ j. same_at generators rows j k) listed.now }
+    ensures { (generators rows : List (List ℚ)) → sets.now ≡ map (tight_places generators) rows
+        → result ≡ list_any (λ j. same_at generators rows j k) listed.now }
 {
     for i in 0..listed.len() {
         let set = &sets[listed[i] as usize];
@@ -57,7 +61,10 @@ fn is_listed(sets: &[Marks], listed: &[u32], k: usize) -> bool
 fn is_facet(sets: &[Marks], listed: &[u32], k: usize) -> bool
     requires place { k < length sets.now }
     requires listed { All (λ j. j < length sets.now) listed.now }
-    ensures { (generators rows : List (List ℚ)) → sets.now ≡ map (tight_places generators) rows → result ≡ (may_be_facet generators rows (row_at rows k) && not (list_any (λ j. same_at generators rows j k) listed.now)) }
+    ensures { (generators rows : List (List ℚ)) → sets.now ≡ map (tight_places generators) rows
+        → result
+        ≡ (may_be_facet generators rows (row_at rows k)
+        && not (list_any (λ j. same_at generators rows j k) listed.now)) }
 {
     may_be_named(sets, k) && !is_listed(sets, listed, k)
 }
@@ -66,8 +73,11 @@ fn is_facet(sets: &[Marks], listed: &[u32], k: usize) -> bool
 /// not the same, of rows with one set the first, rising. The cost is the square of the number of rows times the words of a set
 /// of generators.
 pub fn facets_of<F: Field>(alloc: Global, dd: &Dd<F>) -> Result<Items<u32>, NoMemory>
-    ensures rows { IfOk result (λ facets. facets ≡ facet_rows (vectors dd.now.list.live) dd.now.rows) }
-    ensures named { (n : ℕ) (cuts : List Inequality) → dd.now.rows ≡ rows_of n cuts → IfOk result (λ facets. map (cut_at cuts) facets ≡ named_first n cuts (vectors dd.now.list.live)) }
+    ensures rows { IfOk result
+        (λ facets. facets ≡ facet_rows (vectors dd.now.list.live) dd.now.rows) }
+    ensures named { (n : ℕ) (cuts : List Inequality) → dd.now.rows ≡ rows_of n cuts
+        → IfOk result
+        (λ facets. map (cut_at cuts) facets ≡ named_first n cuts (vectors dd.now.list.live)) }
 {
     let sets = tight_sets(alloc, dd)?;
     let mut facets = Items::new(alloc);

@@ -14,7 +14,8 @@ use std::alloc::Global;
 /// The places of the live generators that are tight at row `k`.
 fn tight_at<F: Field>(alloc: Global, dd: &Dd<F>, k: u32) -> Result<Marks, NoMemory>
     requires { k < length dd.now.rows }
-    ensures { IfOk result (λ marks. marks ≡ tight_places (vectors dd.now.list.live) (slice_index_or dd.now.rows k [])) }
+    ensures { IfOk result (λ marks. marks
+        ≡ tight_places (vectors dd.now.list.live) (slice_index_or dd.now.rows k [])) }
 {
     let live = dd.live();
     let mut marks = Marks::new(alloc, live.len() as u32)?;
@@ -28,7 +29,8 @@ fn tight_at<F: Field>(alloc: Global, dd: &Dd<F>, k: u32) -> Result<Marks, NoMemo
 
 /// The same of each row, in their order. They take a bit for each row and generator.
 pub fn tight_sets<F: Field>(alloc: Global, dd: &Dd<F>) -> Result<Items<Marks>, NoMemory>
-    ensures { IfOk result (λ sets. sets ≡ map (tight_places (vectors dd.now.list.live)) dd.now.rows) }
+    ensures { IfOk result
+        (λ sets. sets ≡ map (tight_places (vectors dd.now.list.live)) dd.now.rows) }
 {
     let mut sets = Items::new(alloc);
     for k in 0..dd.row_count() {
@@ -39,7 +41,8 @@ pub fn tight_sets<F: Field>(alloc: Global, dd: &Dd<F>) -> Result<Items<Marks>, N
 
 /// Whether each generator of the one set is in the other.
 pub fn lies_in(a: &Marks, b: &Marks) -> bool
-    ensures { (generators : List (List ℚ)) (r s : List ℚ) → a.now ≡ tight_places generators r → b.now ≡ tight_places generators s → result ≡ tight_lies_in generators r s }
+    ensures { (generators : List (List ℚ)) (r s : List ℚ) → a.now ≡ tight_places generators r
+        → b.now ≡ tight_places generators s → result ≡ tight_lies_in generators r s }
 {
     b.contains_all(a)
 }

@@ -59,7 +59,8 @@ pub fn set_mark(words: &mut Vec<u64>, k: usize)
 
 /// Whether the first words have each number of the others.
 pub fn contains_words(words: &[u64], other: &[u64]) -> bool
-    ensures { IsTrue result ↔ ((k : ℕ) → IsTrue (is_marked other.now k) → IsTrue (is_marked words.now k)) }
+    ensures { IsTrue result
+        ↔ ((k : ℕ) → IsTrue (is_marked other.now k) → IsTrue (is_marked words.now k)) }
 {
     for (i, word) in other.iter().enumerate() {
         if *word & word_at(words, i) != *word {
@@ -71,7 +72,9 @@ pub fn contains_words(words: &[u64], other: &[u64]) -> bool
 
 /// Whether the first words have each common number of the two others.
 pub fn covers_words(words: &[u64], a: &[u64], b: &[u64]) -> bool
-    ensures { IsTrue result ↔ ((k : ℕ) → IsTrue (is_marked a.now k) → IsTrue (is_marked b.now k) → IsTrue (is_marked words.now k)) }
+    ensures { IsTrue result
+        ↔ ((k : ℕ) → IsTrue (is_marked a.now k) → IsTrue (is_marked b.now k)
+        → IsTrue (is_marked words.now k)) }
 {
     for (i, word) in a.iter().enumerate() {
         let common = *word & word_at(b, i);
@@ -84,7 +87,8 @@ pub fn covers_words(words: &[u64], a: &[u64], b: &[u64]) -> bool
 
 /// Whether the words have at least as many numbers as `count`. It stops at the first words that do.
 pub fn have_at_least(words: &[u64], count: u32) -> bool
-    ensures { (bound : ℕ) → AreBounded words.now bound → IsTrue result ↔ (count ≤ size (marks_below bound words.now)) }
+    ensures { (bound : ℕ) → AreBounded words.now bound
+        → IsTrue result ↔ (count ≤ size (marks_below bound words.now)) }
 {
     let mut missing = count;
     for word in words {
@@ -99,7 +103,8 @@ pub fn have_at_least(words: &[u64], count: u32) -> bool
 
 /// How many numbers the set has, where its bound is below 2^32.
 pub fn count_marks(words: &[u64]) -> u32
-    ensures { (bound : ℕ) → AreBounded words.now bound → bound < 2 ^ 32 → result ≡ size (marks_below bound words.now) }
+    ensures { (bound : ℕ) → AreBounded words.now bound → bound < 2 ^ 32
+        → result ≡ size (marks_below bound words.now) }
 {
     let mut total: u32 = 0;
     for word in words {
@@ -111,7 +116,8 @@ pub fn count_marks(words: &[u64]) -> u32
 /// Makes the words have exactly the common numbers of the two others, as far as they have room.
 pub fn write_meet(words: &mut Vec<u64>, a: &[u64], b: &[u64])
     ensures room { vec_len words.new ≡ vec_len words.old }
-    ensures common { (k : ℕ) → k < 64 * vec_len words.old → is_marked words.new.items k ≡ (is_marked a.now k && is_marked b.now k) }
+    ensures common { (k : ℕ) → k < 64 * vec_len words.old
+        → is_marked words.new.items k ≡ (is_marked a.now k && is_marked b.now k) }
 {
     for i in 0..words.len() {
         words[i] = word_at(a, i) & word_at(b, i);

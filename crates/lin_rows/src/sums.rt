@@ -16,10 +16,13 @@ use std::alloc::Global;
 /// The total and a product, which is not formed where a factor is 0.
 pub fn add_product<F: Field>(total: F, x: F, y: F) -> Result<F, Left<F>>
     ensures ok { IfOk result (λ r. F.value r ≡ F.value total +ℚ F.value x *ℚ F.value y) }
-    ensures held { IfOk result (λ r. F.value x ≢ zero_ℚ → F.value y ≢ zero_ℚ → IsTrue (F.holds (F.value x *ℚ F.value y)) × IsTrue (F.holds (F.value total +ℚ F.value x *ℚ F.value y))) }
+    ensures held { IfOk result (λ r. F.value x ≢ zero_ℚ → F.value y ≢ zero_ℚ
+        → IsTrue (F.holds (F.value x *ℚ F.value y))
+        × IsTrue (F.holds (F.value total +ℚ F.value x *ℚ F.value y))) }
     ensures first { IfErr result (λ left. F.value x ≢ zero_ℚ) }
     ensures second { IfErr result (λ left. F.value y ≢ zero_ℚ) }
-    ensures left { IfErr result (λ left. IsTermLeft F.value F.holds (F.value total) (F.value x) (F.value y) left) }
+    ensures left { IfErr result
+        (λ left. IsTermLeft F.value F.holds (F.value total) (F.value x) (F.value y) left) }
 {
     if is_zero(x) {
         return Ok(total);
@@ -36,8 +39,10 @@ pub fn add_product<F: Field>(total: F, x: F, y: F) -> Result<F, Left<F>>
 pub fn dot<F: Field>(a: &[F], b: &[F]) -> Result<F, Left<F>>
     requires { length a.now ≡ length b.now }
     ensures ok { IfOk result (λ r. F.value r ≡ product (map F.value a.now) (map F.value b.now)) }
-    ensures held { IfOk result (λ r. AreHeld F.holds (map F.value a.now) (map F.value b.now) (length a.now)) }
-    ensures left { IfErr result (IsDotLeft F.value F.holds (map F.value a.now) (map F.value b.now)) }
+    ensures held { IfOk result
+        (λ r. AreHeld F.holds (map F.value a.now) (map F.value b.now) (length a.now)) }
+    ensures left { IfErr result
+        (IsDotLeft F.value F.holds (map F.value a.now) (map F.value b.now)) }
 {
     let mut total = F::zero();
     for i in 0..a.len() {
@@ -49,7 +54,8 @@ pub fn dot<F: Field>(a: &[F], b: &[F]) -> Result<F, Left<F>>
 /// A number and a product.
 fn plus_product<F: Field>(x: F, k: F, y: F) -> Result<F, Stop<F>>
     ensures ok { IfOk result (λ r. F.value r ≡ F.value x +ℚ F.value k *ℚ F.value y) }
-    ensures held { IfOk result (λ r. IsTrue (F.holds (F.value k *ℚ F.value y)) × IsTrue (F.holds (F.value x +ℚ F.value k *ℚ F.value y))) }
+    ensures held { IfOk result (λ r. IsTrue (F.holds (F.value k *ℚ F.value y))
+        × IsTrue (F.holds (F.value x +ℚ F.value k *ℚ F.value y))) }
     ensures left { IfErr result (PlusStops F.value F.holds (F.value x) (F.value k) (F.value y)) }
 {
     match k.mul(y) {
@@ -82,9 +88,12 @@ fn fault_at<F: Field>(alloc: Global, index: usize, stop: Stop<F>) -> RowFault<F>
 pub fn combine<F: Field>(alloc: Global, a: &[F], k: F, b: &[F]) -> Result<Items<F>, RowFault<F>>
     requires same { length a.now ≡ length b.now }
     requires short { length a.now ≤ 4294967294 }
-    ensures ok { IfOk result (λ r. map F.value r ≡ plus (map F.value a.now) (scaled (F.value k) (map F.value b.now))) }
-    ensures held { IfOk result (λ r. AreSumsHeld F.holds (map F.value a.now) (F.value k) (map F.value b.now) (length a.now)) }
-    ensures left { IfErr result (IsCombineFault F.value F.holds (map F.value a.now) (F.value k) (map F.value b.now)) }
+    ensures ok { IfOk result
+        (λ r. map F.value r ≡ plus (map F.value a.now) (scaled (F.value k) (map F.value b.now))) }
+    ensures held { IfOk result (λ r. AreSumsHeld F.holds (map F.value a.now) (F.value k)
+        (map F.value b.now) (length a.now)) }
+    ensures left { IfErr result
+        (IsCombineFault F.value F.holds (map F.value a.now) (F.value k) (map F.value b.now)) }
 {
     let mut out = Items::new(alloc);
     for i in 0..a.len() {
@@ -112,7 +121,8 @@ fn product_of<F: Field>(k: F, y: F) -> Result<F, Stop<F>>
 pub fn scale<F: Field>(alloc: Global, a: &[F], k: F) -> Result<Items<F>, RowFault<F>>
     requires { length a.now ≤ 4294967294 }
     ensures ok { IfOk result (λ r. map F.value r ≡ scaled (F.value k) (map F.value a.now)) }
-    ensures held { IfOk result (λ r. AreProductsHeld F.holds (F.value k) (map F.value a.now) (length a.now)) }
+    ensures held { IfOk result
+        (λ r. AreProductsHeld F.holds (F.value k) (map F.value a.now) (length a.now)) }
     ensures left { IfErr result (IsScaleFault F.value F.holds (F.value k) (map F.value a.now)) }
 {
     let mut out = Items::new(alloc);

@@ -74,7 +74,8 @@ fn are_accounted(sets: &TightSets, facets: &[u32], count: u32) -> bool
     requires rows { count < length sets.now.sets }
     requires facets { All (λ place. place < length sets.now.sets) facets.now }
     ensures { (rows : List (List ℚ)) (gens : List Generator) → AreTight rows gens sets.now.sets
-        → result ≡ list_all (is_accounted_at rows (live_of gens) facets.now) (numbers_from 1 count) }
+        → result
+        ≡ list_all (is_accounted_at rows (live_of gens) facets.now) (numbers_from 1 count) }
 {
     for i in 0..count {
         if !sets.is_accounted(facets, i + 1) {
@@ -107,7 +108,8 @@ impl Solving {
         gamma: Frac,
         u: &[Spot],
     ) -> Result<(), NoMemory>
-        ensures { (file : Problem) (before : List Entry) (v : List Spot) → IsSolving file before self.old
+        ensures { (file : Problem) (before : List Entry) (v : List Spot)
+            → IsSolving file before self.old
             → OnOk result (IsSolving file (before ++ entry.Cut w.now gamma u.now v ∷ []) self.new) }
     {
         let cut = Cut {
@@ -134,9 +136,11 @@ impl Solving {
         requires entries { length directions.now ≡ length named.now * objs }
         requires within { All (λ k. (1 ≤ k) × (k ≤ length self.old.cuts.items)) named.now }
         requires rise { AllPairs (λ k j. k < j) named.now }
-        ensures { (file : Problem) (before : List Entry) → file.objs ≡ objs → StandsBefore file before order.start self.old
+        ensures { (file : Problem) (before : List Entry) → file.objs ≡ objs
+            → StandsBefore file before order.start self.old
             → Meets file before (entry.Start named.now point.now directions.now)
-            → OnOk result (IsSolving file (before ++ entry.Start named.now point.now directions.now ∷ []) self.new) }
+            → OnOk result (IsSolving file
+            (before ++ entry.Start named.now point.now directions.now ∷ []) self.new) }
     {
         self.uses = Uses::of(alloc, self.cuts.len(), named)?;
         self.live = Live::start(alloc, objs, named.len() as u32, point, directions)?;
@@ -154,11 +158,16 @@ impl Solving {
         point: &[Frac],
         directions: &[Frac],
     ) -> Result<(), Stop>
-        requires { (before : List Entry) × (StandsBefore problem.now before order.start self.old × (lines.now ≡ lines_of before)) }
-        ensures { (before : List Entry) → StandsBefore problem.now before order.start self.old → lines.now ≡ lines_of before
-            → Runs is_held (start_events problem.now lines.now (state problem.now.objs before) named.now point.now directions.now) 0
-            (steps (start_events problem.now lines.now (state problem.now.objs before) named.now point.now directions.now))
-            (λ _. IsSolving problem.now (before ++ entry.Start named.now point.now directions.now ∷ []) self.new) result }
+        requires { (before : List Entry)
+            × (StandsBefore problem.now before order.start self.old
+            × (lines.now ≡ lines_of before)) }
+        ensures { (before : List Entry) → StandsBefore problem.now before order.start self.old
+            → lines.now ≡ lines_of before
+            → Runs is_held (start_events problem.now lines.now (state problem.now.objs before)
+            named.now point.now directions.now) 0 (steps (start_events problem.now lines.now
+            (state problem.now.objs before) named.now point.now directions.now)) (λ _. IsSolving
+            problem.now (before ++ entry.Start named.now point.now directions.now ∷ [])
+            self.new) result }
     {
         check_start(
             problem,
@@ -184,16 +193,21 @@ impl Solving {
     /// Whether the cut is there and not in use.
     fn is_unused(&self, cut: u32) -> bool
         ensures { (used : List ℕ) → AreUses (length self.now.cuts.items) used self.now.uses
-            → result ≡ (nat_le 1 cut && nat_le cut (length self.now.cuts.items) && not (contains used cut)) }
+            → result
+            ≡ (nat_le 1 cut && nat_le cut (length self.now.cuts.items)
+            && not (contains used cut)) }
     {
         self.is_cut(cut) && self.uses.place(cut) == 0
     }
 
     /// The events of an `add` entry.
     pub fn add(&mut self, alloc: Global, cut: u32, pairs: &[LogPair]) -> Result<(), Stop>
-        requires { (file : Problem) × ((before : List Entry) × StandsBefore file before order.add self.old) }
-        ensures { (file : Problem) (before : List Entry) → StandsBefore file before order.add self.old
-            → Runs is_held (add_events file (state file.objs before) cut pairs.now) 0 (steps (add_events file (state file.objs before) cut pairs.now))
+        requires { (file : Problem)
+            × ((before : List Entry) × StandsBefore file before order.add self.old) }
+        ensures { (file : Problem) (before : List Entry)
+            → StandsBefore file before order.add self.old
+            → Runs is_held (add_events file (state file.objs before) cut pairs.now) 0
+            (steps (add_events file (state file.objs before) cut pairs.now))
             (λ _. IsSolving file (before ++ entry.Add cut pairs.now ∷ []) self.new) result }
     {
         pass(Rule::Index, self.is_unused(cut))?;
@@ -214,9 +228,12 @@ impl Solving {
         pairs: &[LogPair],
         hints: &[u32],
     ) -> Result<(), Stop>
-        requires { (file : Problem) × ((before : List Entry) × StandsBefore file before order.add self.old) }
-        ensures { (file : Problem) (before : List Entry) → StandsBefore file before order.add self.old
-            → Runs is_held (hinted_events file (state file.objs before) cut pairs.now hints.now) 0 (steps (hinted_events file (state file.objs before) cut pairs.now hints.now))
+        requires { (file : Problem)
+            × ((before : List Entry) × StandsBefore file before order.add self.old) }
+        ensures { (file : Problem) (before : List Entry)
+            → StandsBefore file before order.add self.old
+            → Runs is_held (hinted_events file (state file.objs before) cut pairs.now hints.now) 0
+            (steps (hinted_events file (state file.objs before) cut pairs.now hints.now))
             (λ _. IsSolving file (before ++ entry.Add cut pairs.now ∷ []) self.new) result }
     {
         pass(Rule::Index, self.is_unused(cut))?;
@@ -239,8 +256,10 @@ impl Solving {
         cut: u32,
         pairs: &[LogPair],
     ) -> Result<Items<u32>, NoMemory>
-        requires { (file : Problem) × (before : List Entry) × PassesAdd file before cut pairs.now self.now }
-        ensures { (file : Problem) (before : List Entry) → PassesAdd file before cut pairs.now self.now
+        requires { (file : Problem) × (before : List Entry)
+            × PassesAdd file before cut pairs.now self.now }
+        ensures { (file : Problem) (before : List Entry)
+            → PassesAdd file before cut pairs.now self.now
             → IfOk result (λ hints. hints ≡ hints_of file before cut pairs.now) }
     {
         let row = &self.cuts[cut as usize - 1];
@@ -251,10 +270,12 @@ impl Solving {
     /// Gives the generator at a place a copy of its pre-image.
     fn give(&mut self, alloc: Global, place: usize, x: &[Spot]) -> Result<(), Stop>
         requires { place < length self.old.live.generators.items }
-        ensures point { (file : Problem) (before : List Entry) (k : ℕ) (m : List Spot) → StandsBefore file before order.point self.old
+        ensures point { (file : Problem) (before : List Entry) (k : ℕ) (m : List Spot)
+            → StandsBefore file before order.point self.old
             → IsOpenAt file.objs before (state file.objs before) k one_ℚ self.old.live place
             → OnOk result (IsSolving file (before ++ entry.Point k x.now m ∷ []) self.new) }
-        ensures ray { (file : Problem) (before : List Entry) (k : ℕ) (m : List Spot) → StandsBefore file before order.ray self.old
+        ensures ray { (file : Problem) (before : List Entry) (k : ℕ) (m : List Spot)
+            → StandsBefore file before order.ray self.old
             → IsOpenAt file.objs before (state file.objs before) k zero_ℚ self.old.live place
             → OnOk result (IsSolving file (before ++ entry.Ray k x.now m ∷ []) self.new) }
         ensures memory { IfErr result (λ stop. stop ≡ stopped.NoMemory) }
@@ -281,11 +302,14 @@ impl Solving {
         requires sheet { IsSheetOf problem.now sheet.now }
         requires preimage { IsSparse x.now }
         requires multipliers { IsSparse m.now }
-        requires standing { (before : List Entry) × StandsBefore problem.now before order.point self.old }
+        requires standing { (before : List Entry)
+            × StandsBefore problem.now before order.point self.old }
         ensures { (before : List Entry) → StandsBefore problem.now before order.point self.old
-            → Runs is_held (point_events problem.now before (state problem.now.objs before) number x.now m.now) 0
-            (steps (point_events problem.now before (state problem.now.objs before) number x.now m.now))
-            (λ _. IsSolving problem.now (before ++ entry.Point number x.now m.now ∷ []) self.new) result }
+            → Runs is_held
+            (point_events problem.now before (state problem.now.objs before) number x.now m.now)
+            0 (steps (point_events problem.now before (state problem.now.objs before) number
+            x.now m.now)) (λ _. IsSolving problem.now
+            (before ++ entry.Point number x.now m.now ∷ []) self.new) result }
     {
         match self.live.place_open(number, Frac::from(1)) {
             Some(place) => {
@@ -311,11 +335,15 @@ impl Solving {
         requires sheet { IsSheetOf problem.now sheet.now }
         requires preimage { IsSparse x.now }
         requires multipliers { IsSparse m.now }
-        requires standing { (before : List Entry) × StandsBefore problem.now before order.ray self.old }
+        requires standing { (before : List Entry)
+            × StandsBefore problem.now before order.ray self.old }
         ensures { (before : List Entry) → StandsBefore problem.now before order.ray self.old
-            → Runs is_held (ray_events problem.now before (state problem.now.objs before) number x.now m.now) 0
-            (steps (ray_events problem.now before (state problem.now.objs before) number x.now m.now))
-            (λ _. IsSolving problem.now (before ++ entry.Ray number x.now m.now ∷ []) self.new) result }
+            → Runs is_held
+            (ray_events problem.now before (state problem.now.objs before) number x.now m.now) 0
+            (steps (ray_events problem.now before (state problem.now.objs before) number x.now
+            m.now))
+            (λ _. IsSolving problem.now (before ++ entry.Ray number x.now m.now ∷ []) self.new)
+            result }
     {
         match self.live.place_open(number, Frac::from(0)) {
             Some(place) => {
@@ -348,7 +376,9 @@ impl Solving {
     /// Whether the cut is in use and not named.
     fn is_unnamed(&self, cut: u32) -> bool
         ensures { (file : Problem) (before : List Entry) → IsSolving file before self.now
-            → result ≡ (contains (state file.objs before).used cut && not (contains (named before) cut)) }
+            → result
+            ≡ (contains (state file.objs before).used cut
+            && not (contains (named before) cut)) }
     {
         self.uses.place(cut) != 0 && !has_number(self.named.as_slice(), cut)
     }
@@ -356,11 +386,21 @@ impl Solving {
     /// Whether the cut at this place among the rows in use has a largest set of tight generators, which is that of no
     /// facet.
     fn is_facet(&self, place: u32) -> bool
-        requires standing { (file : Problem) × ((before : List Entry) × ((cut : ℕ) × (IsSolving file before self.now × IsTrue (contains (state file.objs before).used cut) × (place ≡ place_of (state file.objs before).used cut)))) }
+        requires standing { (file : Problem)
+            × ((before : List Entry)
+            × ((cut : ℕ)
+            × (IsSolving file before self.now
+            × IsTrue (contains (state file.objs before).used cut)
+            × (place ≡ place_of (state file.objs before).used cut)))) }
         requires made { IsSome self.now.sets }
         ensures { (file : Problem) (before : List Entry) (cut : ℕ) → IsSolving file before self.now
-            → IsTrue (contains (state file.objs before).used cut) → place ≡ place_of (state file.objs before).used cut
-            → result ≡ (is_largest file.objs (state file.objs before) (cut_row (state file.objs before) cut) && not (is_taken (state file.objs before) (named before) (cut_row (state file.objs before) cut))) }
+            → IsTrue (contains (state file.objs before).used cut)
+            → place ≡ place_of (state file.objs before).used cut
+            → result
+            ≡ (is_largest file.objs (state file.objs before)
+            (cut_row (state file.objs before) cut)
+            && not (is_taken (state file.objs before) (named before)
+            (cut_row (state file.objs before) cut))) }
     {
         match &self.sets {
             Some(sets) => sets.is_largest(place) && !sets.is_taken(self.facets.as_slice(), place),
@@ -370,10 +410,13 @@ impl Solving {
 
     /// Whether each cut in use is accounted for.
     fn is_accounted(&self) -> bool
-        requires standing { (file : Problem) × ((before : List Entry) × IsSolving file before self.now) }
+        requires standing { (file : Problem)
+            × ((before : List Entry) × IsSolving file before self.now) }
         requires made { IsSome self.now.sets }
         ensures { (file : Problem) (before : List Entry) → IsSolving file before self.now
-            → result ≡ list_all (λ k. is_accounted file.objs (state file.objs before) (named before) (cut_row (state file.objs before) k)) (state file.objs before).used }
+            → result
+            ≡ list_all (λ k. is_accounted file.objs (state file.objs before) (named before)
+            (cut_row (state file.objs before) k)) (state file.objs before).used }
     {
         match &self.sets {
             Some(sets) => are_accounted(sets, self.facets.as_slice(), self.uses.list.len() as u32),
@@ -384,7 +427,8 @@ impl Solving {
     /// Lists a facet.
     fn list_facet(&mut self, cut: u32, place: u32) -> Result<(), NoMemory>
         ensures { (file : Problem) (before : List Entry) → IsSolving file before self.old
-            → IsTrue (contains (state file.objs before).used cut) → place ≡ place_of (state file.objs before).used cut
+            → IsTrue (contains (state file.objs before).used cut)
+            → place ≡ place_of (state file.objs before).used cut
             → OnOk result (IsSolving file (before ++ entry.Facet cut ∷ []) self.new) }
     {
         self.named.push(cut)?;
@@ -395,9 +439,12 @@ impl Solving {
     /// The events of a `facet` entry. It costs the rows in use and the facets, each times the words of a set of
     /// generators; the first one, and else the end, costs the rows times the generators.
     pub fn name_facet(&mut self, alloc: Global, cut: u32) -> Result<(), Stop>
-        requires { (file : Problem) × ((before : List Entry) × StandsBefore file before order.facet self.old) }
-        ensures { (file : Problem) (before : List Entry) → StandsBefore file before order.facet self.old
-            → Runs is_held (facet_events file before (state file.objs before) cut) 0 (steps (facet_events file before (state file.objs before) cut))
+        requires { (file : Problem)
+            × ((before : List Entry) × StandsBefore file before order.facet self.old) }
+        ensures { (file : Problem) (before : List Entry)
+            → StandsBefore file before order.facet self.old
+            → Runs is_held (facet_events file before (state file.objs before) cut) 0
+            (steps (facet_events file before (state file.objs before) cut))
             (λ _. IsSolving file (before ++ entry.Facet cut ∷ []) self.new) result }
     {
         pass(Rule::Index, self.is_unnamed(cut))?;
@@ -414,8 +461,12 @@ impl Solving {
 
     /// Whether there was a `start`, and each live generator has a pre-image.
     fn is_reached(&self, started: bool) -> bool
-        ensures { (file : Problem) (before : List Entry) → IsSolving file before self.now → started ≡ order.has order.start before
-            → result ≡ (order.has order.start before && list_all (λ g. not (length (preimages before g.number) == 0)) (state file.objs before).list.live) }
+        ensures { (file : Problem) (before : List Entry) → IsSolving file before self.now
+            → started ≡ order.has order.start before
+            → result
+            ≡ (order.has order.start before
+            && list_all (λ g. not (length (preimages before g.number) == 0))
+            (state file.objs before).list.live) }
     {
         started && self.live.are_reached()
     }
@@ -424,8 +475,10 @@ impl Solving {
     /// generators, and the generators.
     pub fn end(&mut self, alloc: Global, started: bool) -> Result<(), Stop>
         requires { (file : Problem) × ((before : List Entry) × IsSolving file before self.old) }
-        ensures { (file : Problem) (before : List Entry) → IsSolving file before self.old → started ≡ order.has order.start before
-            → Runs is_held (end_events file before (state file.objs before) end.Solved) 0 (steps (end_events file before (state file.objs before) end.Solved))
+        ensures { (file : Problem) (before : List Entry) → IsSolving file before self.old
+            → started ≡ order.has order.start before
+            → Runs is_held (end_events file before (state file.objs before) end.Solved) 0
+            (steps (end_events file before (state file.objs before) end.Solved))
             (λ _. IsSolving file (before ++ entry.End end.Solved ∷ []) self.new) result }
     {
         if !self.is_reached(started) {

@@ -88,7 +88,8 @@ fn are_normed(count: usize, objs: usize, directions: &[Frac]) -> bool
     requires few { objs ≤ 100000 }
     requires many { count ≤ 100000 }
     requires entries { length directions.now ≡ count * objs }
-    ensures { result ≡ list_all (λ d. same_ℚ (magnitude (leading d)) one_ℚ) (pieces count objs directions.now) }
+    ensures { result
+        ≡ list_all (λ d. same_ℚ (magnitude (leading d)) one_ℚ) (pieces count objs directions.now) }
 {
     for a in 0..count {
         let from = a * objs;
@@ -103,7 +104,8 @@ fn are_normed(count: usize, objs: usize, directions: &[Frac]) -> bool
 fn is_tight(counter: &mut Steps, w: &[Frac], gamma: Frac, point: &[Frac]) -> Result<(), Stop>
     requires lengths { length w.now ≡ length point.now }
     requires room { counter.old.taken + steps (tight_events point.now w.now gamma) < 2 ^ 63 }
-    ensures { Runs is_held (tight_events point.now w.now gamma) counter.old.taken counter.new.taken (λ _. ⊤) result }
+    ensures { Runs is_held (tight_events point.now w.now gamma) counter.old.taken counter.new.taken
+        (λ _. ⊤) result }
 {
     let product = counter.dot(w, point)?;
     pass(Rule::Corner, product == gamma)
@@ -113,8 +115,11 @@ fn is_tight(counter: &mut Steps, w: &[Frac], gamma: Frac, point: &[Frac]) -> Res
 fn are_tight(counter: &mut Steps, cuts: &[Cut], named: &[u32], point: &[Frac]) -> Result<(), Stop>
     requires widths { All (λ cut. length cut.w ≡ length point.now) cuts.now }
     requires named { numbers_within (length cuts.now) named.now ≡ true }
-    requires room { counter.old.taken + steps (tights_events point.now (named_from (map stated cuts.now) named.now)) < 2 ^ 63 }
-    ensures { Runs is_held (tights_events point.now (named_from (map stated cuts.now) named.now)) counter.old.taken counter.new.taken (λ _. ⊤) result }
+    requires room { counter.old.taken
+        + steps (tights_events point.now (named_from (map stated cuts.now) named.now))
+        < 2 ^ 63 }
+    ensures { Runs is_held (tights_events point.now (named_from (map stated cuts.now) named.now))
+        counter.old.taken counter.new.taken (λ _. ⊤) result }
 {
     for k in 0..named.len() {
         let cut = &cuts[named[k] as usize - 1];
@@ -143,7 +148,8 @@ pub fn meets_direction(
 ) -> Result<(), Stop>
     requires lengths { length w.now ≡ length direction.now }
     requires room { counter.old.taken + steps (corner_events w.now own direction.now) < 2 ^ 63 }
-    ensures { Runs is_held (corner_events w.now own direction.now) counter.old.taken counter.new.taken (λ _. ⊤) result }
+    ensures { Runs is_held (corner_events w.now own direction.now) counter.old.taken
+        counter.new.taken (λ _. ⊤) result }
 {
     let product = counter.dot(w, direction)?;
     pass(Rule::Corner, fits_corner(own, product))
@@ -162,8 +168,11 @@ fn meets_directions(
     requires many { count ≤ 100000 }
     requires entries { length directions.now ≡ count * objs }
     requires width { length w.now ≡ objs }
-    requires room { counter.old.taken + steps (corners_events (pieces count objs directions.now) w.now number) < 2 ^ 63 }
-    ensures { Runs is_held (corners_events (pieces count objs directions.now) w.now number) counter.old.taken counter.new.taken (λ _. ⊤) result }
+    requires room { counter.old.taken
+        + steps (corners_events (pieces count objs directions.now) w.now number)
+        < 2 ^ 63 }
+    ensures { Runs is_held (corners_events (pieces count objs directions.now) w.now number)
+        counter.old.taken counter.new.taken (λ _. ⊤) result }
 {
     for a in 0..count {
         let from = a * objs;
@@ -186,8 +195,13 @@ fn meet_directions(
     requires entries { length directions.now ≡ count * objs }
     requires widths { All (λ cut. length cut.w ≡ objs) cuts.now }
     requires named { numbers_within (length cuts.now) named.now ≡ true }
-    requires room { counter.old.taken + steps (all_corners (pieces count objs directions.now) (named_from (map stated cuts.now) named.now)) < 2 ^ 63 }
-    ensures { Runs is_held (all_corners (pieces count objs directions.now) (named_from (map stated cuts.now) named.now)) counter.old.taken counter.new.taken (λ _. ⊤) result }
+    requires room { counter.old.taken
+        + steps (all_corners (pieces count objs directions.now)
+        (named_from (map stated cuts.now) named.now))
+        < 2 ^ 63 }
+    ensures { Runs is_held (all_corners (pieces count objs directions.now)
+        (named_from (map stated cuts.now) named.now)) counter.old.taken counter.new.taken (λ _. ⊤)
+        result }
 {
     for k in 0..named.len() {
         let cut = &cuts[named[k] as usize - 1];
@@ -224,7 +238,8 @@ pub fn check_start(
     requires widths { All (λ cut. length cut.w ≡ problem.now.objs) cuts.now }
     ensures { (s : State) → s.cuts ≡ map stated cuts.now
         → Runs is_held (start_events problem.now lines.now s named.now point.now directions.now) 0
-        (steps (start_events problem.now lines.now s named.now point.now directions.now)) (λ _. ⊤) result }
+        (steps (start_events problem.now lines.now s named.now point.now directions.now))
+        (λ _. ⊤) result }
 {
     let mut counter = Steps { taken: 0 };
     let objs = problem.objs as usize;

@@ -88,7 +88,8 @@ fn ends_before(line: &Vector, place: usize) -> bool
 /// Whether this is so for each line.
 fn all_before(lines: &[Vector], place: usize) -> bool
     ensures { result
-        ≡ list_all (λ e. nat_lt (leading_place e) place && is_number_zero (entry e place)) lines.now }
+        ≡ list_all (λ e. nat_lt (leading_place e) place && is_number_zero (entry e place))
+        lines.now }
 {
     lines.iter().all(|line| ends_before(line, place))
 }
@@ -156,8 +157,10 @@ pub fn check_line(
     requires multipliers { IsSparse m.now }
     requires back { IsSparse back.now }
     requires back_multipliers { IsSparse n.now }
-    ensures { Runs is_held (line_events problem.now lines.now d.now x.now ray.now m.now back.now n.now) 0
-        (steps (line_events problem.now lines.now d.now x.now ray.now m.now back.now n.now)) (λ _. ⊤) result }
+    ensures { Runs is_held
+        (line_events problem.now lines.now d.now x.now ray.now m.now back.now n.now) 0
+        (steps (line_events problem.now lines.now d.now x.now ray.now m.now back.now n.now))
+        (λ _. ⊤) result }
 {
     let mut counter = Steps { taken: 0 };
     pass(Rule::Length, d.len() == problem.objs as usize)?;

@@ -73,7 +73,8 @@ impl<'a> Repeats<'a> {
 
     /// With the vector of one entry more.
     fn meet(&mut self, vector: &'a [Spot]) -> Result<(), NoMemory>
-        ensures { (entries : List Entry) (e : Entry) → body e ≡ Some vector.now → AreStandings entries [] self.old
+        ensures { (entries : List Entry) (e : Entry) → body e ≡ Some vector.now
+            → AreStandings entries [] self.old
             → OnOk result (AreStandings (entries ++ e ∷ []) [] self.new) }
     {
         if vector.is_empty() {
@@ -92,9 +93,11 @@ impl<'a> Repeats<'a> {
     /// How the next entry has its vector, which is shared where it stands in several entries.
     pub(crate) fn take(&mut self, vector: &'a [Spot]) -> Result<Place, NoMemory>
         requires { self.old.shared < 4294967295 }
-        ensures place { (all : List Entry) (vectors : List (List Spot)) → AreStandings all vectors self.old
+        ensures place { (all : List Entry) (vectors : List (List Spot))
+            → AreStandings all vectors self.old
             → IfOk result (λ place. place ≡ place_of all vectors vector.now) }
-        ensures standings { (all : List Entry) (vectors : List (List Spot)) → AreStandings all vectors self.old
+        ensures standings { (all : List Entry) (vectors : List (List Spot))
+            → AreStandings all vectors self.old
             → OnOk result (AreStandings all (with_place all vectors vector.now) self.new) }
     {
         let key = VectorKey { spots: vector };

@@ -75,8 +75,10 @@ fn at_place(
 ) -> Result<Upgraded, NoMemory>
     requires formed { IsTrue (is_formed entry.now) }
     requires vector { body entry.now ≡ Some vector.now }
-    ensures is { IfOk result (λ upgraded. in_place entry.now upgraded ≡ placed vector.now entry.now place) }
-    ensures formed { IfOk result (λ upgraded. IsTrue (list_all is_formed (in_place entry.now upgraded))) }
+    ensures is { IfOk result
+        (λ upgraded. in_place entry.now upgraded ≡ placed vector.now entry.now place) }
+    ensures formed { IfOk result
+        (λ upgraded. IsTrue (list_all is_formed (in_place entry.now upgraded))) }
 {
     match place {
         Place::Own => Ok(Upgraded::Same),
@@ -112,9 +114,11 @@ fn hinted(alloc: Global, cut: u32, pairs: &[LogPair], hints: Items<u32>) -> Resu
 /// What stands in the place of an entry that has no vector to share.
 fn with_hints(alloc: Global, checker: &Checker, entry: &Entry) -> Result<Upgraded, NoMemory>
     requires none { body entry.now ≡ None }
-    requires next { (file : Problem) × (all before : List Entry) × (vectors : List (List Spot)) × (after : List Entry) × (repeats : Repeats)
+    requires next { (file : Problem) × (all before : List Entry) × (vectors : List (List Spot))
+        × (after : List Entry) × (repeats : Repeats)
         × IsNext file all before vectors entry.now after checker.now repeats }
-    ensures { (file : Problem) (all before : List Entry) (vectors : List (List Spot)) (after : List Entry) (repeats : Repeats)
+    ensures { (file : Problem) (all before : List Entry) (vectors : List (List Spot))
+        (after : List Entry) (repeats : Repeats)
         → IsNext file all before vectors entry.now after checker.now repeats
         → IfOk result (IsUpgraded file.objs all before vectors entry.now) }
 {
@@ -135,12 +139,15 @@ fn in_upgrade<'a>(
     repeats: &mut Repeats<'a>,
     entry: &'a Entry,
 ) -> Result<Upgraded, NoMemory>
-    requires { (file : Problem) × (all before : List Entry) × (vectors : List (List Spot)) × (after : List Entry)
+    requires { (file : Problem) × (all before : List Entry) × (vectors : List (List Spot))
+        × (after : List Entry)
         × IsNext file all before vectors entry.now after checker.now repeats.old }
-    ensures is { (file : Problem) (all before : List Entry) (vectors : List (List Spot)) (after : List Entry)
+    ensures is { (file : Problem) (all before : List Entry) (vectors : List (List Spot))
+        (after : List Entry)
         → IsNext file all before vectors entry.now after checker.now repeats.old
         → IfOk result (IsUpgraded file.objs all before vectors entry.now) }
-    ensures standings { (file : Problem) (all before : List Entry) (vectors : List (List Spot)) (after : List Entry)
+    ensures standings { (file : Problem) (all before : List Entry) (vectors : List (List Spot))
+        (after : List Entry)
         → IsNext file all before vectors entry.now after checker.now repeats.old
         → OnOk result (AreStandings all (more_shared all vectors entry.now) repeats.new) }
 {
@@ -183,13 +190,17 @@ impl<'a> Upgrader<'a> {
         entry: &'a Entry,
     ) -> Result<Upgraded, NoMemory>
         requires { (all before : List Entry) × (vectors : List (List Spot)) × (after : List Entry)
-            × IsNext problem.now all before vectors entry.now after self.old.checker self.old.repeats }
+            × IsNext problem.now all before vectors entry.now after self.old.checker
+            self.old.repeats }
         ensures is { (all before : List Entry) (vectors : List (List Spot)) (after : List Entry)
-            → IsNext problem.now all before vectors entry.now after self.old.checker self.old.repeats
+            → IsNext problem.now all before vectors entry.now after self.old.checker
+            self.old.repeats
             → IfOk result (IsUpgraded problem.now.objs all before vectors entry.now) }
         ensures stands { (all before : List Entry) (vectors : List (List Spot)) (after : List Entry)
-            → IsNext problem.now all before vectors entry.now after self.old.checker self.old.repeats
-            → OnOk result (StandsAt problem.now all (before ++ entry.now ∷ []) (more_shared all vectors entry.now) self.new) }
+            → IsNext problem.now all before vectors entry.now after self.old.checker
+            self.old.repeats
+            → OnOk result (StandsAt problem.now all (before ++ entry.now ∷ [])
+            (more_shared all vectors entry.now) self.new) }
     {
         let upgraded = in_upgrade(alloc, &self.checker, &mut self.repeats, entry)?;
         self.checker.take(alloc, problem, entry)?;
@@ -205,11 +216,13 @@ impl<'a> Upgrader<'a> {
         upgrade: &mut Entries,
     ) -> Result<(), NoMemory>
         requires { (all before : List Entry) × (vectors : List (List Spot)) × (after : List Entry)
-            × IsNext problem.now all before vectors entry.now after self.old.checker self.old.repeats }
+            × IsNext problem.now all before vectors entry.now after self.old.checker
+            self.old.repeats }
         ensures { (all before : List Entry) (vectors : List (List Spot)) (after : List Entry)
-            → IsNext problem.now all before vectors entry.now after self.old.checker self.old.repeats
-            → OnOk result (IsPut problem.now all before vectors entry.now upgrade.old upgrade.new
-            self.new) }
+            → IsNext problem.now all before vectors entry.now after self.old.checker
+            self.old.repeats
+            → OnOk result
+            (IsPut problem.now all before vectors entry.now upgrade.old upgrade.new self.new) }
     {
         let upgraded = self.take(alloc, problem, entry)?;
         upgraded.put(alloc, entry, upgrade)
@@ -224,9 +237,11 @@ impl<'a> Upgrader<'a> {
         text: &mut Bytes,
     ) -> Result<(), NoMemory>
         requires { (all before : List Entry) × (vectors : List (List Spot)) × (after : List Entry)
-            × IsNext problem.now all before vectors entry.now after self.old.checker self.old.repeats }
+            × IsNext problem.now all before vectors entry.now after self.old.checker
+            self.old.repeats }
         ensures { (all before : List Entry) (vectors : List (List Spot)) (after : List Entry)
-            → IsNext problem.now all before vectors entry.now after self.old.checker self.old.repeats
+            → IsNext problem.now all before vectors entry.now after self.old.checker
+            self.old.repeats
             → OnOk result ((put : List Entry)
             × IsPut problem.now all before vectors entry.now [] put self.new
             × (text.new ≡ text.old ++ log_text put)) }

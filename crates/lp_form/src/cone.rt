@@ -48,7 +48,9 @@ fn push_nonzero<F: Field>(
     kept: &mut Items<Items<F>>,
     vector: &[F],
 ) -> Result<(), NoMemory>
-    ensures { OnOk result (numbers F.value kept.new ≡ numbers F.value kept.old ++ filter (λ v. not (list_all is_nought v)) (map F.value vector.now ∷ [])) }
+    ensures { OnOk result (numbers F.value kept.new
+        ≡ numbers F.value kept.old
+        ++ filter (λ v. not (list_all is_nought v)) (map F.value vector.now ∷ [])) }
 {
     if is_zero_vector(vector) {
         return Ok(());
@@ -60,7 +62,8 @@ fn push_nonzero<F: Field>(
 
 /// Copies of the vectors that are not 0.
 fn nonzero<F: Field>(alloc: Global, vectors: &[Items<F>]) -> Result<Items<Items<F>>, NoMemory>
-    ensures { IfOk result (λ kept. numbers F.value kept ≡ filter (λ v. not (list_all is_nought v)) (numbers F.value vectors.now)) }
+    ensures { IfOk result (λ kept. numbers F.value kept
+        ≡ filter (λ v. not (list_all is_nought v)) (numbers F.value vectors.now)) }
 {
     let mut kept = Items::new(alloc);
     for vector in vectors {
@@ -78,7 +81,10 @@ fn push_columns<F: Field>(
     more: u32,
 ) -> Result<(), NoMemory>
     requires { AreWide q (numbers F.value vectors.now) }
-    ensures { OnOk result (map F.value list.new ≡ map F.value list.old ++ joined (listed q (λ i. column_of (numbers F.value vectors.now) i ++ zero_vector more))) }
+    ensures { OnOk result (map F.value list.new
+        ≡ map F.value list.old
+        ++ joined
+        (listed q (λ i. column_of (numbers F.value vectors.now) i ++ zero_vector more))) }
 {
     for i in 0..q {
         let entries = column(alloc, vectors, i + 1)?;
@@ -95,7 +101,8 @@ fn push_gaps<F: Field>(
     n: u32,
     more: u32,
 ) -> Result<(), NoMemory>
-    ensures { OnOk result (map F.value list.new ≡ map F.value list.old ++ joined (generator_gaps n more)) }
+    ensures { OnOk result
+        (map F.value list.new ≡ map F.value list.old ++ joined (generator_gaps n more)) }
 {
     for g in 0..n {
         let e = unit(alloc, n, g + 1)?;
@@ -116,7 +123,8 @@ fn interior_given<F: Field>(
     requires few { length vectors.now ≤ 100000 }
     requires wide { AreWide q (numbers F.value vectors.now) }
     requires long { length f.now ≡ q }
-    ensures { IfOk result (IsWritten F.value (interior_of_generators q (numbers F.value vectors.now) (Some (map F.value f.now)))) }
+    ensures { IfOk result (IsWritten F.value
+        (interior_of_generators q (numbers F.value vectors.now) (Some (map F.value f.now)))) }
 {
     let n = vectors.len() as u32;
     let mut a = Items::new(alloc);
@@ -133,7 +141,8 @@ fn interior_given<F: Field>(
 
 /// Appends the costs or the coefficients of e and k behind `n` zeros.
 fn push_last_two<F: Field>(list: &mut Items<F>, n: u32, e: F, k: F) -> Result<(), NoMemory>
-    ensures { OnOk result (map F.value list.new ≡ map F.value list.old ++ (zero_vector n ++ F.value e ∷ F.value k ∷ [])) }
+    ensures { OnOk result (map F.value list.new
+        ≡ map F.value list.old ++ (zero_vector n ++ F.value e ∷ F.value k ∷ [])) }
 {
     push_zeros(list, n)?;
     list.push(e)?;
@@ -149,7 +158,8 @@ fn interior_found<F: Field>(
     requires low { 1 ≤ q }
     requires few { length vectors.now ≤ 100000 }
     requires wide { AreWide q (numbers F.value vectors.now) }
-    ensures { IfOk result (IsWritten F.value (interior_of_generators q (numbers F.value vectors.now) None)) }
+    ensures { IfOk result
+        (IsWritten F.value (interior_of_generators q (numbers F.value vectors.now) None)) }
 {
     let n = vectors.len() as u32;
     let mut a = Items::new(alloc);
@@ -172,7 +182,8 @@ fn push_products<F: Field>(
     vectors: &[Items<F>],
 ) -> Result<(), NoMemory>
     requires { length vectors.now ≤ 100000 }
-    ensures { OnOk result (map F.value list.new ≡ map F.value list.old ++ joined (dual_gaps (numbers F.value vectors.now))) }
+    ensures { OnOk result (map F.value list.new
+        ≡ map F.value list.old ++ joined (dual_gaps (numbers F.value vectors.now))) }
 {
     let n = vectors.len() as u32;
     for d in 0..n {
@@ -246,7 +257,8 @@ pub fn interior<F: Field>(
     requires high { q ≤ 100000 }
     requires vectors { IsTrue (vectors_fit q cone.now) }
     requires entries { IsTrue (duality_fits q duality.now) }
-    ensures { IfOk result (IsWritten F.value (interior_system q (cone_of F.value cone.now) (duality_of F.value duality.now))) }
+    ensures { IfOk result (IsWritten F.value
+        (interior_system q (cone_of F.value cone.now) (duality_of F.value duality.now))) }
 {
     match cone {
         ConeOf::Orthant => Ok(empty(alloc)),

@@ -84,7 +84,8 @@ impl<F: Field> Data<F> {
     /// The data of a problem. The cost is that of its entries that are not 0, its rows and its columns.
     pub fn of(alloc: Global, problem: &Problem) -> Result<Data<F>, DataFault>
         ensures ok { IfOk result (IsDataOf F.value problem.now) }
-        ensures held { IfOk result (λ form. All (λ q. IsTrue (F.holds q)) (printed_numbers problem.now)) }
+        ensures held { IfOk result
+            (λ form. All (λ q. IsTrue (F.holds q)) (printed_numbers problem.now)) }
         ensures refused { IfErr result (RefusesNumber F.holds problem.now) }
     {
         test_numbers::<F>(alloc, problem)?;

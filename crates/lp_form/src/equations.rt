@@ -22,7 +22,8 @@ use std::alloc::Global;
 
 /// The program of these equations, one behind the other, right sides and costs.
 pub fn system<F: Field>(a: Items<F>, b: Items<F>, cost: Items<F>) -> System<F>
-    ensures { (s : NamedSystem) → IsSystem s → map F.value a ≡ joined s.equations → map F.value b ≡ s.right → map F.value cost ≡ s.cost → IsWritten F.value s result }
+    ensures { (s : NamedSystem) → IsSystem s → map F.value a ≡ joined s.equations
+        → map F.value b ≡ s.right → map F.value cost ≡ s.cost → IsWritten F.value s result }
 {
     System {
         rows: b.len() as u32,
@@ -35,7 +36,9 @@ pub fn system<F: Field>(a: Items<F>, b: Items<F>, cost: Items<F>) -> System<F>
 
 /// Appends an equation for each column: the sides times u are 0 there.
 pub fn push_side_columns<F: Field>(list: &mut Items<F>, form: &Data<F>) -> Result<(), NoMemory>
-    ensures { (file : File) → IsDataOf F.value file form.now → OnOk result (map F.value list.new ≡ map F.value list.old ++ joined (listed file.cols (side_column file))) }
+    ensures { (file : File) → IsDataOf F.value file form.now
+        → OnOk result (map F.value list.new
+        ≡ map F.value list.old ++ joined (listed file.cols (side_column file))) }
 {
     for j in 0..form.cols {
         push_sides_at(list, form.sides.as_slice(), j + 1)?;
@@ -50,7 +53,8 @@ pub fn push_balances<F: Field>(
     form: &Data<F>,
     more: u32,
 ) -> Result<(), NoMemory>
-    ensures { (file : File) → IsDataOf F.value file form.now → OnOk result (map F.value list.new ≡ map F.value list.old ++ joined (balances file more)) }
+    ensures { (file : File) → IsDataOf F.value file form.now
+        → OnOk result (map F.value list.new ≡ map F.value list.old ++ joined (balances file more)) }
 {
     for j in 0..form.cols {
         let w = negative_at(alloc, form.p.as_slice(), j + 1)?;
@@ -68,7 +72,8 @@ fn push_entries<F: Field>(
     m: u32,
     q: u32,
 ) -> Result<(), NoMemory>
-    ensures { OnOk result (map F.value list.new ≡ map F.value list.old ++ joined (dual_members m q cone.Orthant)) }
+    ensures { OnOk result
+        (map F.value list.new ≡ map F.value list.old ++ joined (dual_members m q cone.Orthant)) }
 {
     for i in 0..q {
         let e = unit(alloc, q, i + 1)?;
@@ -86,7 +91,9 @@ fn push_products<F: Field>(
     vectors: &[Items<F>],
 ) -> Result<(), NoMemory>
     requires { length vectors.now ≤ 100000 }
-    ensures { OnOk result (map F.value list.new ≡ map F.value list.old ++ joined (dual_members m 0 (cone.Gens (numbers F.value vectors.now)))) }
+    ensures { OnOk result (map F.value list.new
+        ≡ map F.value list.old
+        ++ joined (dual_members m 0 (cone.Gens (numbers F.value vectors.now)))) }
 {
     let n = vectors.len() as u32;
     for g in 0..n {
@@ -106,7 +113,9 @@ fn push_combination<F: Field>(
     vectors: &[Items<F>],
 ) -> Result<(), NoMemory>
     requires { AreWide q (numbers F.value vectors.now) }
-    ensures { OnOk result (map F.value list.new ≡ map F.value list.old ++ joined (dual_members m q (cone.Dual (numbers F.value vectors.now)))) }
+    ensures { OnOk result (map F.value list.new
+        ≡ map F.value list.old
+        ++ joined (dual_members m q (cone.Dual (numbers F.value vectors.now)))) }
 {
     for i in 0..q {
         let e = unit(alloc, q, i + 1)?;
@@ -126,7 +135,8 @@ pub fn push_members<F: Field>(
     cone: &ConeOf<F>,
 ) -> Result<(), NoMemory>
     requires { IsTrue (vectors_fit q cone.now) }
-    ensures { OnOk result (map F.value list.new ≡ map F.value list.old ++ joined (dual_members m q (cone_of F.value cone.now))) }
+    ensures { OnOk result (map F.value list.new
+        ≡ map F.value list.old ++ joined (dual_members m q (cone_of F.value cone.now))) }
 {
     match cone {
         ConeOf::Orthant => push_entries(alloc, list, m, q),
@@ -144,7 +154,8 @@ pub fn push_weight_members<F: Field>(
     cone: &ConeOf<F>,
 ) -> Result<(), NoMemory>
     requires { IsTrue (vectors_fit q cone.now) }
-    ensures { OnOk result (map F.value list.new ≡ map F.value list.old ++ joined (weight_members m q (cone_of F.value cone.now))) }
+    ensures { OnOk result (map F.value list.new
+        ≡ map F.value list.old ++ joined (weight_members m q (cone_of F.value cone.now))) }
 {
     match cone {
         ConeOf::Orthant | ConeOf::Gens(_) => Ok(()),
@@ -160,7 +171,10 @@ pub fn push_entries_of_w<F: Field>(
     q: u32,
     behind: &[F],
 ) -> Result<(), NoMemory>
-    ensures { OnOk result (map F.value list.new ≡ map F.value list.old ++ joined (listed q (λ i. on_parts (zero_vector m) (unit_vector q i) (map F.value behind.now)))) }
+    ensures { OnOk result (map F.value list.new
+        ≡ map F.value list.old
+        ++ joined (listed q
+        (λ i. on_parts (zero_vector m) (unit_vector q i) (map F.value behind.now)))) }
 {
     for i in 0..q {
         let e = unit(alloc, q, i + 1)?;

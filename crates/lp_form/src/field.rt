@@ -99,7 +99,8 @@ pub fn sides_in<F: Field>(
     requires one_each { length rows.now ≡ length bounds.now }
     requires rows { All (λ r. All (λ s. IsTrue (F.holds s.value)) r) rows.now }
     requires bounds { All (λ q. IsTrue (F.holds q)) bounds.now }
-    ensures vectors { IfOk result (λ sides. map (λ s. entries F.value s.g) sides ≡ map (map entry_of) rows.now) }
+    ensures vectors { IfOk result
+        (λ sides. map (λ s. entries F.value s.g) sides ≡ map (map entry_of) rows.now) }
     ensures bounds { IfOk result (λ sides. map (λ s. F.value s.beta) sides ≡ bounds.now) }
 {
     let mut sides = Items::new(alloc);

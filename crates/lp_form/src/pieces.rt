@@ -28,7 +28,8 @@ pub fn push_zeros<F: Field>(list: &mut Items<F>, n: u32) -> Result<(), NoMemory>
 
 /// Appends the negative of each entry.
 pub fn push_negated<F: Field>(list: &mut Items<F>, vector: &[F]) -> Result<(), NoMemory>
-    ensures { OnOk result (map F.value list.new ≡ map F.value list.old ++ negated (map F.value vector.now)) }
+    ensures { OnOk result
+        (map F.value list.new ≡ map F.value list.old ++ negated (map F.value vector.now)) }
 {
     for x in vector {
         list.push((*x).neg())?;
@@ -38,7 +39,8 @@ pub fn push_negated<F: Field>(list: &mut Items<F>, vector: &[F]) -> Result<(), N
 
 /// Appends a vector and its negative: the coefficients of a difference of two lists of unknowns.
 pub fn push_difference<F: Field>(list: &mut Items<F>, vector: &[F]) -> Result<(), NoMemory>
-    ensures { OnOk result (map F.value list.new ≡ (map F.value list.old ++ map F.value vector.now) ++ negated (map F.value vector.now)) }
+    ensures { OnOk result (map F.value list.new
+        ≡ (map F.value list.old ++ map F.value vector.now) ++ negated (map F.value vector.now)) }
 {
     list.append(vector)?;
     push_negated(list, vector)
@@ -99,7 +101,9 @@ pub fn push_sides_at<F: Field>(
     sides: &[SideOf<F>],
     place: u32,
 ) -> Result<(), NoMemory>
-    ensures { (n : ℕ) → IsTrue (list_all (λ s. are_places n 0 s.g) sides.now) → OnOk result (map F.value list.new ≡ map F.value list.old ++ map (λ s. sum_at (entries F.value s.g) place) sides.now) }
+    ensures { (n : ℕ) → IsTrue (list_all (λ s. are_places n 0 s.g) sides.now)
+        → OnOk result (map F.value list.new
+        ≡ map F.value list.old ++ map (λ s. sum_at (entries F.value s.g) place) sides.now) }
 {
     for side in sides {
         list.push(entry_at(side.g.as_slice(), place))?;
@@ -109,7 +113,8 @@ pub fn push_sides_at<F: Field>(
 
 /// Appends the bound of each side.
 pub fn push_bounds<F: Field>(list: &mut Items<F>, sides: &[SideOf<F>]) -> Result<(), NoMemory>
-    ensures { OnOk result (map F.value list.new ≡ map F.value list.old ++ map (λ s. F.value s.beta) sides.now) }
+    ensures { OnOk result
+        (map F.value list.new ≡ map F.value list.old ++ map (λ s. F.value s.beta) sides.now) }
 {
     for side in sides {
         list.push(side.beta)?;
@@ -123,7 +128,9 @@ pub fn negative_at<F: Field>(
     rows: &[Items<At<F>>],
     place: u32,
 ) -> Result<Items<F>, NoMemory>
-    ensures { (n : ℕ) → IsTrue (list_all (are_places n 0) rows.now) → IfOk result (λ v. map F.value v ≡ map (λ r. neg_ℚ (sum_at (entries F.value r) place)) rows.now) }
+    ensures { (n : ℕ) → IsTrue (list_all (are_places n 0) rows.now)
+        → IfOk result
+        (λ v. map F.value v ≡ map (λ r. neg_ℚ (sum_at (entries F.value r) place)) rows.now) }
 {
     let mut column = Items::new(alloc);
     for row in rows {
@@ -140,7 +147,9 @@ pub fn push_on_w<F: Field>(
     w: &[F],
     behind: &[F],
 ) -> Result<(), NoMemory>
-    ensures { OnOk result (map F.value list.new ≡ map F.value list.old ++ on_parts (zero_vector m) (map F.value w.now) (map F.value behind.now)) }
+    ensures { OnOk result (map F.value list.new
+        ≡ map F.value list.old
+        ++ on_parts (zero_vector m) (map F.value w.now) (map F.value behind.now)) }
 {
     push_zeros(list, m)?;
     push_difference(list, w)?;

@@ -24,7 +24,8 @@ use std::alloc::Global;
 
 /// Whether the sides contradict each other.
 fn feasible<F: Field>(alloc: Global, form: &Data<F>) -> Result<System<F>, NoMemory>
-    ensures { (file : File) → IsDataOf F.value file form.now → IfOk result (IsWritten F.value (feasible_system file)) }
+    ensures { (file : File) → IsDataOf F.value file form.now
+        → IfOk result (IsWritten F.value (feasible_system file)) }
 {
     let mut a = Items::new(alloc);
     push_side_columns(&mut a, form)?;
@@ -41,7 +42,10 @@ fn push_side_costs<F: Field>(
     form: &Data<F>,
     bounds: bool,
 ) -> Result<(), NoMemory>
-    ensures { (file : File) → IsDataOf F.value file form.now → OnOk result (map F.value list.new ≡ map F.value list.old ++ (if bounds then side_bounds file else zero_vector (side_total file))) }
+    ensures { (file : File) → IsDataOf F.value file form.now
+        → OnOk result (map F.value list.new
+        ≡ map F.value list.old
+        ++ (if bounds then side_bounds file else zero_vector (side_total file))) }
 {
     if bounds {
         push_bounds(list, form.sides.as_slice())
@@ -78,7 +82,9 @@ fn benson<F: Field>(
 ) -> Result<System<F>, NoMemory>
     requires c { length c.now ≡ length form.now.p }
     requires v { length v.now ≡ length form.now.p }
-    ensures { (file : File) → IsDataOf F.value file form.now → IfOk result (IsWritten F.value (benson_system file (map F.value c.now) (map F.value v.now) t)) }
+    ensures { (file : File) → IsDataOf F.value file form.now
+        → IfOk result
+        (IsWritten F.value (benson_system file (map F.value c.now) (map F.value v.now) t)) }
 {
     let m = form.sides.len() as u32;
     let q = form.p.len() as u32;
@@ -99,7 +105,8 @@ fn benson<F: Field>(
 /// The best bound of a weight vector.
 fn weight<F: Field>(alloc: Global, form: &Data<F>, w: &[F]) -> Result<System<F>, NoMemory>
     requires { length w.now ≡ length form.now.p }
-    ensures { (file : File) → IsDataOf F.value file form.now → IfOk result (IsWritten F.value (weight_system file (map F.value w.now))) }
+    ensures { (file : File) → IsDataOf F.value file form.now
+        → IfOk result (IsWritten F.value (weight_system file (map F.value w.now))) }
 {
     let m = form.sides.len() as u32;
     let q = form.p.len() as u32;
@@ -131,7 +138,9 @@ pub fn program<F: Field>(
     name: &LpName<F>,
 ) -> Result<System<F>, NoMemory>
     requires { HasWidths (length form.now.p) c.now name.now }
-    ensures { (file : File) → IsDataOf F.value file form.now → IfOk result (IsWritten F.value (named_system file (map F.value c.now) (named F.value name.now))) }
+    ensures { (file : File) → IsDataOf F.value file form.now
+        → IfOk result
+        (IsWritten F.value (named_system file (map F.value c.now) (named F.value name.now))) }
 {
     let q = form.p.len() as u32;
     match name {

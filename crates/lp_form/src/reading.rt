@@ -35,7 +35,8 @@ fn signed<F: Field>(plus: F, minus: F) -> F
 pub fn difference<F: Field>(alloc: Global, plus: &[F], negative: &[F]) -> Result<Items<F>, NoMemory>
     requires one_each { length negative.now ≡ length plus.now }
     requires apart { AreDisjoint F.value plus.now negative.now }
-    ensures { IfOk result (λ w. map F.value w ≡ minus (map F.value plus.now) (map F.value negative.now)) }
+    ensures { IfOk result
+        (λ w. map F.value w ≡ minus (map F.value plus.now) (map F.value negative.now)) }
 {
     let mut w = Items::new(alloc);
     for i in 0..plus.len() {
@@ -46,7 +47,8 @@ pub fn difference<F: Field>(alloc: Global, plus: &[F], negative: &[F]) -> Result
 
 /// What stands behind w, where the cone is in dual form.
 fn behind<F: Field>(alloc: Global, cone: &ConeOf<F>, list: &[F]) -> Result<Items<F>, NoMemory>
-    ensures { IfOk result (λ v. map F.value v ≡ kept_behind (cone_of F.value cone.now) (map F.value list.now)) }
+    ensures { IfOk result
+        (λ v. map F.value v ≡ kept_behind (cone_of F.value cone.now) (map F.value list.now)) }
 {
     match cone {
         ConeOf::Orthant | ConeOf::Gens(_) => Ok(Items::new(alloc)),
@@ -56,9 +58,11 @@ fn behind<F: Field>(alloc: Global, cone: &ConeOf<F>, list: &[F]) -> Result<Items
 
 /// The parts of a solution with unknowns for w.
 fn split<F: Field>(alloc: Global, form: &Data<F>, z: &[F]) -> Result<Parts<F>, NoMemory>
-    requires columns { length form.now.sides + length form.now.p + length form.now.p ≤ length z.now }
+    requires columns { length form.now.sides + length form.now.p + length form.now.p
+        ≤ length z.now }
     requires apart { IsSplit F.value (length form.now.sides) (length form.now.p) z.now }
-    ensures { (file : File) → IsDataOf F.value file form.now → IfOk result (AreRead F.value file (map F.value z.now)) }
+    ensures { (file : File) → IsDataOf F.value file form.now
+        → IfOk result (AreRead F.value file (map F.value z.now)) }
 {
     let m = form.sides.len();
     let q = form.p.len();
@@ -77,7 +81,8 @@ pub fn parts<F: Field>(
     z: &[F],
 ) -> Result<Parts<F>, NoMemory>
     requires columns { HasColumns F.value form.now name.now z.now }
-    ensures { (file : File) → IsDataOf F.value file form.now → IfOk result (AreParts F.value file name.now (map F.value z.now)) }
+    ensures { (file : File) → IsDataOf F.value file form.now
+        → IfOk result (AreParts F.value file name.now (map F.value z.now)) }
 {
     match name {
         LpName::Feasible => {
@@ -105,7 +110,8 @@ pub fn choice<F: Field>(
     dual: &[F],
 ) -> Result<Items<F>, NoMemory>
     requires { HasEquations F.value form.now name.now dual.now }
-    ensures { (file : File) → IsDataOf F.value file form.now → IfOk result (λ x. map F.value x ≡ choice_of file (map F.value dual.now)) }
+    ensures { (file : File) → IsDataOf F.value file form.now
+        → IfOk result (λ x. map F.value x ≡ choice_of file (map F.value dual.now)) }
 {
     copy(alloc, &dual[..form.cols as usize])
 }

@@ -45,7 +45,8 @@ pub fn push_cut_entry<F: Field>(
     entries: &mut Entries,
     cut: &Cut<F>,
 ) -> Result<(), NoMemory>
-    ensures ok { OnOk result ((e : EntryOf) × SaysCut F.value cut.now e × (entries.new ≡ entries.old ++ e ∷ [])) }
+    ensures ok { OnOk result
+        ((e : EntryOf) × SaysCut F.value cut.now e × (entries.new ≡ entries.old ++ e ∷ [])) }
     ensures err { OnErr result (entries.new ≡ entries.old) }
 {
     let w = fractions(alloc, cut.w.as_slice())?;
@@ -101,7 +102,9 @@ pub fn push_preimage<F: Field>(
 /// A `version` entry and a `duality` entry.
 fn opened(alloc: Global, opening: Entry) -> Result<Entries, NoMemory>
     ensures entries { IfOk result (λ entries. entries ≡ entry_of.Version 1 ∷ opening ∷ []) }
-    ensures written { (c weights : List ℚ) (picks : List ℕ) (inverse : List ℚ) → opening ≡ entry_of.Duality c weights picks inverse → IfOk result (λ entries. All (λ e. IsTrue (is_formed e)) entries) }
+    ensures written { (c weights : List ℚ) (picks : List ℕ) (inverse : List ℚ)
+        → opening ≡ entry_of.Duality c weights picks inverse
+        → IfOk result (λ entries. All (λ e. IsTrue (is_formed e)) entries) }
 {
     duality_is_written(&opening);
     let mut entries = Items::new(alloc);
@@ -138,7 +141,8 @@ fn push_line<F: Field>(
     x: &Items<F>,
     line: &Line<F>,
 ) -> Result<(), NoMemory>
-    ensures { OnOk result ((e : EntryOf) × SaysLine F.value x.now line.now e × (trail.new ≡ trail.old ++ e ∷ [])) }
+    ensures { OnOk result
+        ((e : EntryOf) × SaysLine F.value x.now line.now e × (trail.new ≡ trail.old ++ e ∷ [])) }
 {
     let d = written_vector(alloc, line.d.as_slice())?;
     let x = written_spots(alloc, x.as_slice())?;
@@ -184,7 +188,8 @@ pub fn begun<F: Field>(
     requires cuts { All (IsCutFor F.value task) cuts.now }
     requires choice { IsBaseChoice task.file (map F.value x.now) }
     requires lines { AreLinesFor F.value task (map (λ cut. map F.value cut.w) cuts.now) lines.now }
-    ensures begun { IfOk result (IsBegun task (map (told_by F.value) lines.now) (map (said_by F.value) cuts.now)) }
+    ensures begun { IfOk result
+        (IsBegun task (map (told_by F.value) lines.now) (map (said_by F.value) cuts.now)) }
     ensures unreached { IfOk result (λ trail. (k : ℕ) → preimages trail k ≡ []) }
 {
     let mut trail = with_cuts(alloc, opening, cuts)?;

@@ -77,7 +77,8 @@ pub fn open_places(places: &[bool]) -> u32
 /// The row of a cut without the entries at the places of lines: its w, and then its bound negated.
 pub fn cut_row<F: Field>(alloc: Global, places: &[bool], cut: &Cut<F>) -> Result<Items<F>, NoMemory>
     requires { length places.now ≡ length cut.now.w }
-    ensures { IfOk result (λ row. map F.value row ≡ without places.now (row_of (said_by F.value cut.now))) }
+    ensures { IfOk result
+        (λ row. map F.value row ≡ without places.now (row_of (said_by F.value cut.now))) }
 {
     let w = cut.w.as_slice();
     let mut row = Items::new(alloc);
@@ -92,7 +93,8 @@ pub fn cut_row<F: Field>(alloc: Global, places: &[bool], cut: &Cut<F>) -> Result
 
 /// A generator with zeros at the places of lines.
 pub fn filled<F: Field>(alloc: Global, places: &[bool], short: &[F]) -> Result<Items<F>, NoMemory>
-    ensures { IfOk result (λ full. map F.value full ≡ with_zeros places.now (map F.value short.now)) }
+    ensures { IfOk result
+        (λ full. map F.value full ≡ with_zeros places.now (map F.value short.now)) }
 {
     let mut full = Items::new(alloc);
     let mut next = 0;

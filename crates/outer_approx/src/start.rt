@@ -47,7 +47,8 @@ fn rows_of_cuts<F: Field>(
     requires few { length places.now < 4294967294 }
     requires wide { All (λ cut. length cut.w ≡ length places.now) cuts.now }
     ensures width { IfOk result (λ rows. rows.width ≡ suc (open_count places.now)) }
-    ensures rows { IfOk result (λ rows. numbers F.value rows.list ≡ map (without places.now) (rows_of (length places.now) (map (said_by F.value) cuts.now))) }
+    ensures rows { IfOk result (λ rows. numbers F.value rows.list
+        ≡ map (without places.now) (rows_of (length places.now) (map (said_by F.value) cuts.now))) }
 {
     let count = open_places(places);
     let level = level_row(alloc, count)?;
@@ -81,7 +82,8 @@ fn front_of<F: Field>(
     requires first { AreFirst (open_count places.now) dd.now.list }
     requires low { 1 ≤ g }
     requires high { g ≤ suc (open_count places.now) }
-    ensures { IfOk result (λ front. front ≡ front_with places.now (slice_index_or (vectors dd.now.list.live) (g - 1) [])) }
+    ensures { IfOk result (λ front. front
+        ≡ front_with places.now (slice_index_or (vectors dd.now.list.live) (g - 1) [])) }
 {
     let full = filled(alloc, places, dd.generator(g))?;
     let entries = full.as_slice();
@@ -99,7 +101,8 @@ fn directions_of<F: Field>(
     requires few { count < 4294967294 }
     requires first { AreFirst count dd.now.list }
     ensures long { IfOk result (λ directions. length directions ≡ count * length places.now) }
-    ensures pieces { IfOk result (λ directions. pieces count (length places.now) directions ≡ map (front_with places.now) (drop 1 (vectors dd.now.list.live))) }
+    ensures pieces { IfOk result (λ directions. pieces count (length places.now) directions
+        ≡ map (front_with places.now) (drop 1 (vectors dd.now.list.live))) }
 {
     let mut directions = Items::new(alloc);
     for k in 0..count {
@@ -151,7 +154,8 @@ pub fn started<F: Field>(
     requires some { 1 ≤ length cuts.now }
     requires many { length cuts.now + length (lines trail.old) ≡ task.file.objs }
     requires wide { All (λ cut. length cut.w ≡ task.file.objs) cuts.now }
-    requires rank { HasFullRank (open_count places.now) (map (without places.now) (map (λ cut. map F.value cut.w) cuts.now)) }
+    requires rank { HasFullRank (open_count places.now)
+        (map (without places.now) (map (λ cut. map F.value cut.w) cuts.now)) }
     ensures ok { IfOk result (IsOuter task trail.new) }
     ensures cuts { cuts_of task trail.new ≡ cuts_of task trail.old }
     ensures lines { lines trail.new ≡ lines trail.old }

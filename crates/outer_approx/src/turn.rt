@@ -49,7 +49,8 @@ fn log_pairs(alloc: Global, pairs: &[Pair]) -> Result<Items<LogPair>, NoMemory>
 
 /// Appends the entry of a cut that comes into use, with the pairs that give new generators.
 fn push_add(alloc: Global, trail: &mut Entries, cut: u32, pairs: &[Pair]) -> Result<(), NoMemory>
-    ensures ok { OnOk result (trail.new ≡ trail.old ++ entry_of.Add cut (map named pairs.now) ∷ []) }
+    ensures ok { OnOk result
+        (trail.new ≡ trail.old ++ entry_of.Add cut (map named pairs.now) ∷ []) }
     ensures written { OnOk result (IsTrue (is_formed (entry_of.Add cut (map named pairs.now)))) }
     ensures err { OnErr result (trail.new ≡ trail.old) }
 {
@@ -71,13 +72,15 @@ pub fn take<F: Field>(
     requires places { places.now ≡ line_places task trail.old }
     requires cut { IsCutFor F.value task cut.now }
     ensures ok { OnOk result (IsOuter task trail.new dd.new) }
-    ensures rows { OnOk result (rows_of_trail task trail.new ≡ rows_of_trail task trail.old ++ row_of (said_by F.value cut.now) ∷ []) }
+    ensures rows { OnOk result (rows_of_trail task trail.new
+        ≡ rows_of_trail task trail.old ++ row_of (said_by F.value cut.now) ∷ []) }
     ensures cuts { OnOk result
         (cuts_of task trail.new ≡ cuts_of task trail.old ++ said_by F.value cut.now ∷ []) }
     ensures lines { lines trail.new ≡ lines trail.old }
     ensures preimages { OnOk result ((k : ℕ) → preimages trail.new k ≡ preimages trail.old k) }
     ensures trail { IsOpenTrail task trail.new }
-    ensures same { IfErr result (λ fault. OnLicence fault (λ licence. StandForSame task trail.new dd.new)) }
+    ensures same { IfErr result
+        (λ fault. OnLicence fault (λ licence. StandForSame task trail.new dd.new)) }
     ensures left { IfErr result (Overflows F.holds (behind task trail.new) []) }
 {
     let row = cut_row(alloc, places, cut)?;
@@ -102,12 +105,15 @@ pub fn try_take<F: Field>(
     requires places { places.now ≡ line_places task trail.old }
     requires cut { IsCutFor F.value task cut.now }
     ensures ok { OnOk result (IsOuter task trail.new dd.new) }
-    ensures rows { IfOk result (λ taken. IsTrue taken → rows_of_trail task trail.new ≡ rows_of_trail task trail.old ++ row_of (said_by F.value cut.now) ∷ []) }
+    ensures rows { IfOk result (λ taken. IsTrue taken
+        → rows_of_trail task trail.new
+        ≡ rows_of_trail task trail.old ++ row_of (said_by F.value cut.now) ∷ []) }
     ensures cuts { IfOk result (λ taken. IsTrue taken
         → cuts_of task trail.new ≡ cuts_of task trail.old ++ said_by F.value cut.now ∷ []) }
     ensures lines { lines trail.new ≡ lines trail.old }
     ensures preimages { OnOk result ((k : ℕ) → preimages trail.new k ≡ preimages trail.old k) }
-    ensures as_before { IfOk result (λ taken. taken ≡ false → (trail.new ≡ trail.old) × (dd.new ≡ dd.old)) }
+    ensures as_before { IfOk result
+        (λ taken. taken ≡ false → (trail.new ≡ trail.old) × (dd.new ≡ dd.old)) }
     ensures trail { IsOpenTrail task trail.new }
 {
     let row = cut_row(alloc, places, cut)?;

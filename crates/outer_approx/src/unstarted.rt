@@ -24,7 +24,9 @@ pub fn infeasible_log(alloc: Global, u: Sparse) -> Result<Entries, NoMemory>
     ensures entries { IfOk result (λ log. log ≡ infeasible_entries u) }
     ensures log { IfOk result (λ log. IsSparse u → IsLog log) }
     ensures meet { IfOk result (λ log. (file : Problem) → MeetsFarkas file u → AllMeet file log) }
-    ensures base { IfOk result (λ log. (file : Problem) (c weights : List ℚ) → MeetsFarkas file u → IsRayOff (feasible_system file) (dense (side_total file) u) → IsBaseTrail file c weights log) }
+    ensures base { IfOk result (λ log. (file : Problem) (c weights : List ℚ) → MeetsFarkas file u
+        → IsRayOff (feasible_system file) (dense (side_total file) u)
+        → IsBaseTrail file c weights log) }
 {
     spots_are_written(u.as_slice());
     let mut entries = Items::new(alloc);
@@ -44,9 +46,14 @@ pub fn whole_log(
     m: Sparse,
 ) -> Result<Entries, NoMemory>
     ensures entries { IfOk result (λ log. log ≡ whole_entries opening x ray m) }
-    ensures log { IfOk result (λ log. (c weights : List ℚ) (picks : List ℕ) (inverse : List ℚ) → opening ≡ line.Duality c weights picks inverse → IsSparse x → IsSparse ray → IsSparse m → IsLog log) }
-    ensures meet { IfOk result (λ log. (file : Problem) (c weights : List ℚ) → ShowsWhole file c weights opening x ray m → AllMeet file log) }
-    ensures base { IfOk result (λ log. (file : Problem) (c weights : List ℚ) → ShowsWhole file c weights opening x ray m → IsReadWhole file c weights x ray m → IsBaseTrail file c weights log) }
+    ensures log { IfOk result (λ log. (c weights : List ℚ) (picks : List ℕ) (inverse : List ℚ)
+        → opening ≡ line.Duality c weights picks inverse → IsSparse x → IsSparse ray → IsSparse m
+        → IsLog log) }
+    ensures meet { IfOk result (λ log. (file : Problem) (c weights : List ℚ)
+        → ShowsWhole file c weights opening x ray m → AllMeet file log) }
+    ensures base { IfOk result (λ log. (file : Problem) (c weights : List ℚ)
+        → ShowsWhole file c weights opening x ray m → IsReadWhole file c weights x ray m
+        → IsBaseTrail file c weights log) }
 {
     duality_is_written(&opening);
     spots_are_written(x.as_slice());

@@ -44,9 +44,12 @@ fn read_off<F: Field>(
     requires weights { map F.value weights.now ≡ task.weights }
     requires fitting { IsFitting F.holds task }
     requires v { length v.now ≡ task.file.objs }
-    requires optimum { (basis : List ℕ) × IsOptimumAt (benson_system task.file task.c (map F.value v.now) t) basis (map F.value z.now) (map F.value dual.now) }
+    requires optimum { (basis : List ℕ)
+        × IsOptimumAt (benson_system task.file task.c (map F.value v.now) t) basis
+        (map F.value z.now) (map F.value dual.now) }
     ensures ok { IfOk result (IsAsked F.value task (map F.value v.now) t) }
-    ensures left { (trail : List Entry) → IsBaseStart task.file.objs trail (map F.value v.now) t → IfErr result (Overflows F.holds (behind task trail) []) }
+    ensures left { (trail : List Entry) → IsBaseStart task.file.objs trail (map F.value v.now) t
+        → IfErr result (Overflows F.holds (behind task trail) []) }
 {
     if is_positive(dual[dual.len() - 1]) {
         let cut = cut_of(alloc, form, c, v, t, z)?;
@@ -76,7 +79,8 @@ pub fn ask<F: Field>(
     requires v { length v.now ≡ task.file.objs }
     requires some { IsProper task }
     ensures ok { IfOk result (IsAsked F.value task (map F.value v.now) t) }
-    ensures left { (trail : List Entry) → IsBaseStart task.file.objs trail (map F.value v.now) t → IfErr result (Overflows F.holds (behind task trail) []) }
+    ensures left { (trail : List Entry) → IsBaseStart task.file.objs trail (map F.value v.now) t
+        → IfErr result (Overflows F.holds (behind task trail) []) }
 {
     let end = benson_end(alloc, form, c, v, t, kept)?;
     match end {

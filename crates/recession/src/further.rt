@@ -51,12 +51,15 @@ fn opposite<F: Field>(
     requires fitting { IsFitting F.holds task }
     requires some { IsProper task }
     requires wide { length d ≡ task.file.objs }
-    requires forth { IsPreimageOf F.value task.file task.c task.weights (map F.value d) false forth }
+    requires forth { IsPreimageOf F.value task.file task.c task.weights (map F.value d) false
+        forth }
     ensures ok { (cuts : List (CutOf _)) (ls : List (LineOf _)) → All (RunsBothWays F.value task) ls
         → IsNextSide task.file.objs (normals_of F.value cuts) (map (told_by F.value) ls)
         (map F.value d)
         → IfOk result (IsNext F.value task cuts ls) }
-    ensures left { (trail : List Entry) → IsSide task.file.objs (trail_normals task.file.objs trail) (map F.value d) → IfErr result (Overflows F.holds (behind task trail) []) }
+    ensures left { (trail : List Entry)
+        → IsSide task.file.objs (trail_normals task.file.objs trail) (map F.value d)
+        → IfErr result (Overflows F.holds (behind task trail) []) }
 {
     let negated = negative(alloc, d.as_slice())?;
     let asked = ask(alloc, form, c, weights, negated.as_slice(), false, kept)?;
@@ -87,7 +90,9 @@ fn found<F: Field>(
     requires found { AreFound F.value task (normals_of F.value cuts.now) (reverse lines.now) }
     requires few { length cuts.now + length lines.now < task.file.objs }
     ensures ok { IfOk result (IsNext F.value task cuts.now (reverse lines.now)) }
-    ensures left { (trail : List Entry) → trail_normals task.file.objs trail ≡ normals_of F.value cuts.now → IfErr result (Overflows F.holds (behind task trail) []) }
+    ensures left { (trail : List Entry)
+        → trail_normals task.file.objs trail ≡ normals_of F.value cuts.now
+        → IfErr result (Overflows F.holds (behind task trail) []) }
 {
     let d = across(alloc, form.p.len() as u32, cuts, lines)?;
     let asked = ask(alloc, form, c, weights, d.as_slice(), false, kept)?;

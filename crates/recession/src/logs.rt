@@ -22,7 +22,8 @@ pub fn contradiction_log<F: Field>(alloc: Global, u: &[F]) -> Result<Entries, No
     ghost file: { File }
     requires short { length u.now ≤ 4294967294 }
     requires contradiction { IsContradiction file (map F.value u.now) }
-    ensures ended { IfOk result (λ log. (c weights : List ℚ) → IsEnded (record { file = file; c = c; weights = weights }) log) }
+    ensures ended { IfOk result (λ log. (c weights : List ℚ)
+        → IsEnded (record { file = file; c = c; weights = weights }) log) }
     ensures cuts { IfOk result (λ log. (q : ℕ) → (state q log).cuts ≡ []) }
 {
     let spots = spots_of(alloc, u)?;

@@ -121,7 +121,8 @@ impl Standing {
         named: &[u32],
         gens: &[Frac],
     ) -> Result<(), NoMemory>
-        requires { (s : State) × Keeps rep.now s self.old × MeetsStart rep.now s named.now gens.now }
+        requires { (s : State) × Keeps rep.now s self.old
+            × MeetsStart rep.now s named.now gens.now }
         ensures { (s : State) → Keeps rep.now s self.old → MeetsStart rep.now s named.now gens.now
             → OnOk result (Keeps rep.now (after rep.now s (Start named.now gens.now)) self.new
             × (self.new.started ≡ true)) }

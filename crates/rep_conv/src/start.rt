@@ -99,8 +99,10 @@ fn check_generators(
     requires named { numbers_below (length rows.now) named.now ≡ true }
     requires few { length named.now ≤ 20 }
     requires entries { length gens.now ≡ length named.now * suc rep.now.width }
-    requires room { counter.old.taken + steps (flat_map (generator_events rep.now lines.now named.now)
-        (enumerate_from 1 (pieces (length named.now) (suc rep.now.width) gens.now))) < 2 ^ 63 }
+    requires room { counter.old.taken
+        + steps (flat_map (generator_events rep.now lines.now named.now)
+        (enumerate_from 1 (pieces (length named.now) (suc rep.now.width) gens.now)))
+        < 2 ^ 63 }
     ensures { Runs is_held (flat_map (generator_events rep.now lines.now named.now)
         (enumerate_from 1 (pieces (length named.now) (suc rep.now.width) gens.now)))
         counter.old.taken counter.new.taken (λ _. ⊤) result }

@@ -24,7 +24,8 @@ pub(crate) struct Columns<'a, F: Drop> {
     pub(crate) cost: Items<F>,
     ghost unknowns: { length sides.now + length others ≡ length cost },
     ghost artificial: { length units ≡ length right },
-    ghost places: { IsTrue (list_all (are_places (length right) 0) (all_columns sides.now others units)) },
+    ghost places: { IsTrue
+        (list_all (are_places (length right) 0) (all_columns sides.now others units)) },
 }
 
 impl<'a, F: Field> Columns<'a, F> {
@@ -51,7 +52,9 @@ impl<'a, F: Field> Columns<'a, F> {
     pub(crate) fn column(&self, k: usize) -> &[Cell<F>]
         requires low { 1 ≤ k }
         requires high { k ≤ length self.now.cost + length self.now.right }
-        ensures cells { result.now ≡ slice_index_or (all_columns self.now.sides.now self.now.others self.now.units) (k - 1) [] }
+        ensures cells { result.now
+            ≡ slice_index_or (all_columns self.now.sides.now self.now.others self.now.units) (k - 1)
+            [] }
         ensures places { IsTrue (are_places (length self.now.right) 0 result.now) }
     {
         let k = k - 1;
@@ -70,8 +73,11 @@ impl<'a, F: Field> Columns<'a, F> {
     pub(crate) fn listed(&self, columns: &[u32], k: u32) -> Option<&[Cell<F>]>
         requires { AreInRange self.now columns.now }
         ensures place { IfSome result (λ cells. (1 ≤ k) × (k ≤ length columns.now)) }
-        ensures places { IfSome result (λ cells. IsTrue (are_places (length self.now.right) 0 cells.now)) }
-        ensures entries { IfSome result (λ cells. (j : ℕ) → 1 ≤ j → j ≤ length self.now.right → at (vectors_in F.value self.now columns.now) k j ≡ sum_at (entries F.value cells.now) j) }
+        ensures places { IfSome result
+            (λ cells. IsTrue (are_places (length self.now.right) 0 cells.now)) }
+        ensures entries { IfSome result (λ cells. (j : ℕ) → 1 ≤ j → j ≤ length self.now.right
+            → at (vectors_in F.value self.now columns.now) k j
+            ≡ sum_at (entries F.value cells.now) j) }
     {
         if k == 0 {
             return None;

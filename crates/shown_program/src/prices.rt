@@ -39,9 +39,11 @@ fn is_tight<F: Field>(program: &Columns<'_, F>, y: &[F], k: usize) -> Option<boo
     requires low { 1 ≤ k }
     requires high { k ≤ length program.now.cost + length program.now.right }
     requires each { length y.now ≡ length program.now.right }
-    ensures bound { IsSome result → k ≤ length program.now.cost →
-        entry (map F.value program.now.cost) k ≤ℚ dot (map F.value y.now) (column_in F.value program.now k) }
-    ensures tight { IfSome result (λ yes. IsTrue yes → IsTight F.value program.now (map F.value y.now) k) }
+    ensures bound { IsSome result → k ≤ length program.now.cost
+        → entry (map F.value program.now.cost) k
+        ≤ℚ dot (map F.value y.now) (column_in F.value program.now k) }
+    ensures tight { IfSome result
+        (λ yes. IsTrue yes → IsTight F.value program.now (map F.value y.now) k) }
 {
     let price = product(program.column(k), y)?;
     let cost = program.cost_at(k);
@@ -59,7 +61,8 @@ fn tight_columns<F: Field>(
     y: &[F],
 ) -> Result<Option<Vec<bool>>, NoMemory>
     requires { length y.now ≡ length program.now.right }
-    ensures { IfOk result (λ o. IfSome o (λ tight. ArePriced F.value program.now (map F.value y.now) (length program.now.cost + length program.now.right) tight.items)) }
+    ensures { IfOk result (λ o. IfSome o (λ tight. ArePriced F.value program.now (map F.value y.now)
+        (length program.now.cost + length program.now.right) tight.items)) }
 {
     let mut tight = Vec::new(alloc);
     for k in 0..program.cost.len() + program.right.len() {
@@ -95,8 +98,10 @@ pub(crate) fn are_prices<F: Field>(
 ) -> Result<bool, NoMemory>
     requires range { AreInRange program.now columns.now }
     requires each { length y.now ≡ length program.now.right }
-    ensures bound { IfOk result (λ yes. IsTrue yes → Bound F.value program.now (map F.value y.now)) }
-    ensures tight { IfOk result (λ yes. IsTrue yes → All (IsTight F.value program.now (map F.value y.now)) columns.now) }
+    ensures bound { IfOk result
+        (λ yes. IsTrue yes → Bound F.value program.now (map F.value y.now)) }
+    ensures tight { IfOk result
+        (λ yes. IsTrue yes → All (IsTight F.value program.now (map F.value y.now)) columns.now) }
 {
     let Some(tight) = tight_columns(alloc, program, y)? else {
         return Ok(false);

@@ -57,7 +57,9 @@ fn passes<F: Field>(
     program: &Columns<'_, F>,
     guess: &Guess<F>,
 ) -> Result<bool, NoMemory>
-    ensures { IfOk result (λ yes. IsTrue yes → Passes F.value program.now guess.now.columns (map F.value guess.now.x) (map F.value guess.now.y) (order_of guess.now.order)) }
+    ensures { IfOk result (λ yes. IsTrue yes
+        → Passes F.value program.now guess.now.columns (map F.value guess.now.x)
+        (map F.value guess.now.y) (order_of guess.now.order)) }
 {
     let columns = guess.columns.as_slice();
     if !are_in_range(program, columns) {
@@ -100,8 +102,9 @@ fn optimum_at<F: Field>(
 ) -> Result<Option<Optimum<F>>, NoMemory>
     ensures certified { (s : System) → IsProgramOf F.value s program.now →
         IfOk result (λ o. IfSome o (λ e. IsOptimal s (map F.value e.x) (map F.value e.dual))) }
-    ensures read_off { (s : System) → IsProgramOf F.value s program.now →
-        IfOk result (λ o. IfSome o (λ e. (d : Table) × OptimalAt s e.basis d (map F.value e.x) (map F.value e.dual))) }
+    ensures read_off { (s : System) → IsProgramOf F.value s program.now
+        → IfOk result (λ o. IfSome o
+        (λ e. (d : Table) × OptimalAt s e.basis d (map F.value e.x) (map F.value e.dual))) }
     ensures same { IfOk result (λ o. IfSome o (λ e. e.basis ≡ guess.now.columns)) }
 {
     if !passes(alloc, program, guess)? {
@@ -134,10 +137,14 @@ pub fn optimum_of<F: Field>(
     guess: &Guess<F>,
 ) -> Result<Option<Optimum<F>>, NoMemory>
     requires { HasWidths (length form.now.p) c.now name.now }
-    ensures certified { (file : File) → IsDataOf F.value file form.now →
-        IfOk result (λ o. IfSome o (λ e. IsOptimal (named_system file (map F.value c.now) (named F.value name.now)) (map F.value e.x) (map F.value e.dual))) }
-    ensures read_off { (file : File) → IsDataOf F.value file form.now →
-        IfOk result (λ o. IfSome o (λ e. (d : Table) × OptimalAt (named_system file (map F.value c.now) (named F.value name.now)) e.basis d (map F.value e.x) (map F.value e.dual))) }
+    ensures certified { (file : File) → IsDataOf F.value file form.now
+        → IfOk result (λ o. IfSome o (λ e. IsOptimal
+        (named_system file (map F.value c.now) (named F.value name.now)) (map F.value e.x)
+        (map F.value e.dual))) }
+    ensures read_off { (file : File) → IsDataOf F.value file form.now
+        → IfOk result (λ o. IfSome o (λ e. (d : Table)
+        × OptimalAt (named_system file (map F.value c.now) (named F.value name.now)) e.basis d
+        (map F.value e.x) (map F.value e.dual))) }
     ensures same { IfOk result (λ o. IfSome o (λ e. e.basis ≡ guess.now.columns)) }
 {
     match columns_of(alloc, form, c, name)? {

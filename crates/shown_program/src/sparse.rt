@@ -30,7 +30,8 @@ pub(crate) fn put<F: Field>(list: &mut [F], place: u32, value: F)
 /// The product of a column with a multiplier for each equation; none where a number is not held.
 pub(crate) fn product<F: Field>(cells: &[Cell<F>], y: &[F]) -> Option<F>
     requires { IsTrue (are_places (length y.now) 0 cells.now) }
-    ensures { IfSome result (λ r. F.value r ≡ dot (map F.value y.now) (filled F.value (length y.now) cells.now)) }
+    ensures { IfSome result
+        (λ r. F.value r ≡ dot (map F.value y.now) (filled F.value (length y.now) cells.now)) }
 {
     let mut total = F::zero();
     for cell in cells {
@@ -45,7 +46,10 @@ pub(crate) fn product<F: Field>(cells: &[Cell<F>], y: &[F]) -> Option<F>
 /// Adds `x` times a column. Answers whether each number is held: if not, the sum is of no use.
 pub(crate) fn add_multiple<F: Field>(total: &mut [F], x: F, cells: &[Cell<F>]) -> bool
     requires { IsTrue (are_places (length total.old) 0 cells.now) }
-    ensures { IsTrue result → map F.value total.new ≡ plus (map F.value total.old) (scaled (F.value x) (filled F.value (length total.old) cells.now)) }
+    ensures { IsTrue result
+        → map F.value total.new
+        ≡ plus (map F.value total.old)
+        (scaled (F.value x) (filled F.value (length total.old) cells.now)) }
 {
     if is_zero(x) {
         return true;

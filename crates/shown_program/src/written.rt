@@ -39,7 +39,8 @@ fn negative_of<F: Field>(alloc: Global, cells: &[Cell<F>]) -> Result<Items<Cell<
 
 /// Appends a number at a place, unless it is 0.
 fn push_kept<F: Field>(list: &mut Items<Cell<F>>, at: u32, value: F) -> Result<(), NoMemory>
-    ensures { OnOk result (Writes at (F.value value) (entries F.value list.old) (entries F.value list.new)) }
+    ensures { OnOk result
+        (Writes at (F.value value) (entries F.value list.old) (entries F.value list.new)) }
 {
     if is_zero(value) {
         return Ok(());
@@ -50,9 +51,11 @@ fn push_kept<F: Field>(list: &mut Items<Cell<F>>, at: u32, value: F) -> Result<(
 /// Appends the numbers of a list at the places behind `base`.
 fn push_list<F: Field>(list: &mut Items<Cell<F>>, base: u32, numbers: &[F]) -> Result<(), NoMemory>
     requires { base + length numbers.now < 4294967296 }
-    ensures { (n : ℕ) → Rises n 0 (entries F.value list.old) →
-        last_place 0 (entries F.value list.old) ≤ base → base + length numbers.now ≤ n →
-        OnOk result (IsLonger n (base + length numbers.now) (placed base (map F.value numbers.now)) (entries F.value list.old) (entries F.value list.new)) }
+    ensures { (n : ℕ) → Rises n 0 (entries F.value list.old)
+        → last_place 0 (entries F.value list.old) ≤ base → base + length numbers.now ≤ n
+        → OnOk result (IsLonger n (base + length numbers.now)
+        (placed base (map F.value numbers.now)) (entries F.value list.old)
+        (entries F.value list.new)) }
 {
     for i in 0..numbers.len() {
         push_kept(list, base + i as u32 + 1, numbers[i])?;
@@ -91,10 +94,13 @@ fn push_member<F: Field>(
 ) -> Result<(), NoMemory>
     requires low { 1 ≤ i }
     requires high { i ≤ length form.now.p }
-    ensures { (n : ℕ) → Rises n 0 (entries F.value list.old) →
-        last_place 0 (entries F.value list.old) ≤ form.now.cols →
-        form.now.cols + dual_equations (length form.now.p) (cone_of F.value form.now.cone) ≤ n →
-        OnOk result (IsLonger n (form.now.cols + dual_equations (length form.now.p) (cone_of F.value form.now.cone)) (member form.now.cols (cone_of F.value form.now.cone) i) (entries F.value list.old) (entries F.value list.new)) }
+    ensures { (n : ℕ) → Rises n 0 (entries F.value list.old)
+        → last_place 0 (entries F.value list.old) ≤ form.now.cols
+        → form.now.cols + dual_equations (length form.now.p) (cone_of F.value form.now.cone) ≤ n
+        → OnOk result (IsLonger n
+        (form.now.cols + dual_equations (length form.now.p) (cone_of F.value form.now.cone))
+        (member form.now.cols (cone_of F.value form.now.cone) i) (entries F.value list.old)
+        (entries F.value list.new)) }
 {
     match &form.cone {
         ConeOf::Orthant | ConeOf::Dual(_) => push_kept(list, form.cols + i, F::one()),
@@ -116,7 +122,8 @@ fn weight_column<F: Field>(
     requires low { 1 ≤ i }
     requires high { i ≤ length form.now.p }
     requires c { length c.now ≡ length form.now.p }
-    ensures { IfOk result (λ list. IsLineWith (benson_equations F.value form.now) (weight_entry F.value form.now c.now i) (entries F.value list)) }
+    ensures { IfOk result (λ list. IsLineWith (benson_equations F.value form.now)
+        (weight_entry F.value form.now c.now i) (entries F.value list)) }
 {
     let mut list = negative_of(alloc, form.p.as_slice()[i as usize - 1].as_slice())?;
     push_member(alloc, &mut list, form, i)?;
@@ -133,7 +140,8 @@ fn push_weights<F: Field>(
     c: &[F],
 ) -> Result<(), NoMemory>
     requires { length c.now ≡ length form.now.p }
-    ensures { OnOk result (AreAppended F.value (benson_equations F.value form.now) (weight_row F.value form.now c.now) list.old list.new) }
+    ensures { OnOk result (AreAppended F.value (benson_equations F.value form.now)
+        (weight_row F.value form.now c.now) list.old list.new) }
 {
     for i in 0..form.p.len() as u32 {
         let cells = weight_column(alloc, form, c, i + 1)?;
@@ -144,7 +152,9 @@ fn push_weights<F: Field>(
 
 /// Appends the negative of each column.
 fn push_negatives<F: Field>(alloc: Global, list: &mut Items<Items<Cell<F>>>) -> Result<(), NoMemory>
-    ensures { (n : ℕ) → OnOk result (AreAppended F.value n (λ k. negated (across F.value k list.old)) list.old list.new) }
+    ensures { (n : ℕ)
+        → OnOk result
+        (AreAppended F.value n (λ k. negated (across F.value k list.old)) list.old list.new) }
 {
     for i in 0..list.len() {
         let cells = negative_of(alloc, list.as_slice()[i].as_slice())?;
@@ -156,7 +166,8 @@ fn push_negatives<F: Field>(alloc: Global, list: &mut Items<Items<Cell<F>>>) -> 
 /// A column of one entry.
 fn single_column<F: Field>(alloc: Global, place: u32, value: F) -> Result<Items<Cell<F>>, NoMemory>
     requires { 1 ≤ place }
-    ensures { IfOk result (λ list. (n : ℕ) → place ≤ n → IsLineWith n (single place (F.value value)) (entries F.value list)) }
+    ensures { IfOk result (λ list. (n : ℕ) → place ≤ n
+        → IsLineWith n (single place (F.value value)) (entries F.value list)) }
 {
     let mut list = Items::new(alloc);
     push_kept(&mut list, place, value)?;
@@ -170,7 +181,8 @@ fn list_column<F: Field>(
     numbers: &[F],
 ) -> Result<Items<Cell<F>>, NoMemory>
     requires { base + length numbers.now < 4294967296 }
-    ensures { IfOk result (λ list. (n : ℕ) → base + length numbers.now ≤ n → IsLineWith n (placed base (map F.value numbers.now)) (entries F.value list)) }
+    ensures { IfOk result (λ list. (n : ℕ) → base + length numbers.now ≤ n
+        → IsLineWith n (placed base (map F.value numbers.now)) (entries F.value list)) }
 {
     let mut list = Items::new(alloc);
     push_list(&mut list, base, numbers)?;
@@ -185,7 +197,8 @@ fn behind_column<F: Field>(
 ) -> Result<Items<Cell<F>>, NoMemory>
     requires low { 1 ≤ d }
     requires high { d ≤ dual_unknowns (length form.now.p) (cone_of F.value form.now.cone) }
-    ensures { IfOk result (λ list. IsLineWith (benson_equations F.value form.now) (behind form.now.cols (cone_of F.value form.now.cone) d) (entries F.value list)) }
+    ensures { IfOk result (λ list. IsLineWith (benson_equations F.value form.now)
+        (behind form.now.cols (cone_of F.value form.now.cone) d) (entries F.value list)) }
 {
     match &form.cone {
         ConeOf::Orthant | ConeOf::Gens(_) => single_column(alloc, form.cols + d, F::one().neg()),
@@ -202,7 +215,8 @@ fn push_behind<F: Field>(
     list: &mut Items<Items<Cell<F>>>,
     form: &Data<F>,
 ) -> Result<(), NoMemory>
-    ensures { OnOk result (AreAppended F.value (benson_equations F.value form.now) (behind_row F.value form.now) list.old list.new) }
+    ensures { OnOk result (AreAppended F.value (benson_equations F.value form.now)
+        (behind_row F.value form.now) list.old list.new) }
 {
     for d in 0..cone_unknowns(form) {
         let cells = behind_column(alloc, form, d + 1)?;
@@ -241,7 +255,8 @@ fn signed_one<F: Field>(right: F) -> F
 /// The artificial columns, of one entry each.
 fn units<F: Field>(alloc: Global, right: &[F]) -> Result<Items<Cell<F>>, NoMemory>
     requires { length right.now < 4294967296 }
-    ensures { IfOk result (λ units. entries F.value units ≡ unit_entries 0 (map F.value right.now)) }
+    ensures { IfOk result
+        (λ units. entries F.value units ≡ unit_entries 0 (map F.value right.now)) }
 {
     let mut units = Items::new(alloc);
     for i in 0..right.len() {
@@ -278,7 +293,9 @@ fn assembled<'a, F: Field>(
 /// Appends the bounds of the sides, or zeros.
 fn side_costs<F: Field>(alloc: Global, form: &Data<F>, bounds: bool) -> Result<Items<F>, NoMemory>
     ensures long { IfOk result (λ cost. length cost ≡ length form.now.sides) }
-    ensures costs { (file : File) → IsDataOf F.value file form.now → IfOk result (λ cost. map F.value cost ≡ (if bounds then side_bounds file else zero_vector (side_total file))) }
+    ensures costs { (file : File) → IsDataOf F.value file form.now
+        → IfOk result (λ cost. map F.value cost
+        ≡ (if bounds then side_bounds file else zero_vector (side_total file))) }
 {
     if !bounds {
         return zeros(alloc, form.sides.len() as u32);
@@ -298,8 +315,12 @@ fn benson_cost<F: Field>(
     t: bool,
 ) -> Result<Items<F>, NoMemory>
     requires { length v.now ≡ length form.now.p }
-    ensures long { IfOk result (λ cost. length cost ≡ length form.now.sides + length form.now.p + length form.now.p + dual_unknowns (length form.now.p) (cone_of F.value form.now.cone)) }
-    ensures costs { (file : File) → IsDataOf F.value file form.now → IfOk result (λ cost. map F.value cost ≡ (benson_system file [] (map F.value v.now) t).cost) }
+    ensures long { IfOk result (λ cost. length cost
+        ≡ length form.now.sides + length form.now.p + length form.now.p
+        + dual_unknowns (length form.now.p) (cone_of F.value form.now.cone)) }
+    ensures costs { (file : File) → IsDataOf F.value file form.now
+        → IfOk result
+        (λ cost. map F.value cost ≡ (benson_system file [] (map F.value v.now) t).cost) }
 {
     let mut cost = side_costs(alloc, form, t)?;
     let minus = negative(alloc, v)?;
@@ -312,7 +333,10 @@ fn benson_cost<F: Field>(
 
 /// The right sides of Benson's program.
 fn benson_right<F: Field>(alloc: Global, form: &Data<F>) -> Result<Items<F>, NoMemory>
-    ensures { IfOk result (λ right. map F.value right ≡ zero_vector (form.now.cols + dual_equations (length form.now.p) (cone_of F.value form.now.cone)) ++ one_ℚ ∷ []) }
+    ensures { IfOk result (λ right. map F.value right
+        ≡ zero_vector
+        (form.now.cols + dual_equations (length form.now.p) (cone_of F.value form.now.cone))
+        ++ one_ℚ ∷ []) }
 {
     let mut right = zeros(alloc, form.cols + cone_equations(form))?;
     right.push(F::one())?;
@@ -324,7 +348,8 @@ fn feasible_columns<'a, F: Field>(
     alloc: Global,
     form: &'a Data<F>,
 ) -> Result<Columns<'a, F>, NoMemory>
-    ensures { (file : File) → IsDataOf F.value file form.now → IfOk result (IsProgramOf F.value (feasible_system file)) }
+    ensures { (file : File) → IsDataOf F.value file form.now
+        → IfOk result (IsProgramOf F.value (feasible_system file)) }
 {
     let cost = side_costs(alloc, form, true)?;
     let right = zeros(alloc, form.cols)?;
@@ -341,7 +366,9 @@ fn benson_columns<'a, F: Field>(
 ) -> Result<Columns<'a, F>, NoMemory>
     requires c { length c.now ≡ length form.now.p }
     requires v { length v.now ≡ length form.now.p }
-    ensures { (file : File) → IsDataOf F.value file form.now → IfOk result (IsProgramOf F.value (benson_system file (map F.value c.now) (map F.value v.now) t)) }
+    ensures { (file : File) → IsDataOf F.value file form.now
+        → IfOk result
+        (IsProgramOf F.value (benson_system file (map F.value c.now) (map F.value v.now) t)) }
 {
     let cost = benson_cost(alloc, form, v, t)?;
     let right = benson_right(alloc, form)?;
@@ -357,7 +384,9 @@ pub(crate) fn columns_of<'a, F: Field>(
     name: &LpName<F>,
 ) -> Result<Option<Columns<'a, F>>, NoMemory>
     requires { HasWidths (length form.now.p) c.now name.now }
-    ensures { (file : File) → IsDataOf F.value file form.now → IfOk result (λ o. IfSome o (IsProgramOf F.value (named_system file (map F.value c.now) (named F.value name.now)))) }
+    ensures { (file : File) → IsDataOf F.value file form.now
+        → IfOk result (λ o. IfSome o (IsProgramOf F.value
+        (named_system file (map F.value c.now) (named F.value name.now)))) }
 {
     match name {
         LpName::Feasible => Ok(Some(feasible_columns(alloc, form)?)),

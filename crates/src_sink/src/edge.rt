@@ -58,7 +58,9 @@ impl<R: Read> Source for StdSource<R> {
         ensures rose { OnErr result (Rose self.old.faults self.new.faults) }
 
         ensures missing { IsTrue self.old.missing → IsErr result }
-        ensures after { self.new ≡ record self.old { faults = if is_ok result then self.old.faults else counted self.old.faults } }
+        ensures after { self.new
+            ≡ record self.old
+            { faults = if is_ok result then self.old.faults else counted self.old.faults } }
     {
         match read_once(&mut self.reader, buf) {
             Some(count) => Ok(count),
@@ -136,7 +138,9 @@ impl<W: Write> Sink for StdSink<W> {
         ensures rose { OnErr result (Rose self.old.faults self.new.faults) }
 
         ensures missing { IsTrue self.old.missing → IsErr result }
-        ensures after { self.new ≡ record self.old { faults = if is_ok result then self.old.faults else counted self.old.faults } }
+        ensures after { self.new
+            ≡ record self.old
+            { faults = if is_ok result then self.old.faults else counted self.old.faults } }
     {
         match write_once(&mut self.writer, bytes) {
             Some(count) => Ok(count),

@@ -104,8 +104,10 @@ impl Intake {
         requires limit { self.old.limit ≤ MOST_ITEMS }
         requires within { self.old.taken ≤ self.old.limit }
         ensures count { S.faults src.old ≤ S.faults src.new }
-        ensures ok { IfOk result (λ more. Refills more self.old self.new (S.left src.old) (S.left src.new)) }
-        ensures err { IfErr result (λ e. StopsRefill e self.old self.new (S.left src.old) (S.left src.new) (S.faults src.old) (S.faults src.new)) }
+        ensures ok { IfOk result
+            (λ more. Refills more self.old self.new (S.left src.old) (S.left src.new)) }
+        ensures err { IfErr result (λ e. StopsRefill e self.old self.new (S.left src.old)
+            (S.left src.new) (S.faults src.old) (S.faults src.new)) }
     {
         if self.ended {
             return Ok(false);
@@ -150,8 +152,10 @@ impl Intake {
         requires limit { self.old.limit ≤ MOST_ITEMS }
         requires within { self.old.taken ≤ self.old.limit }
         ensures count { S.faults src.old ≤ S.faults src.new }
-        ensures ok { IfOk result (λ end. Gives end (reading self.old []) (reading self.new []) (S.left src.old) (S.left src.new) line.new) }
-        ensures err { IfErr result (λ e. Stops e (reading self.old []) (reading self.new line.new) (S.left src.old) (S.left src.new) (S.faults src.old) (S.faults src.new)) }
+        ensures ok { IfOk result (λ end. Gives end (reading self.old []) (reading self.new [])
+            (S.left src.old) (S.left src.new) line.new) }
+        ensures err { IfErr result (λ e. Stops e (reading self.old []) (reading self.new line.new)
+            (S.left src.old) (S.left src.new) (S.faults src.old) (S.faults src.new)) }
     {
         loop {
             if self.give(line)? {
@@ -182,16 +186,24 @@ impl Model for Lines {
 
     ghost Value = { Reading };
 
-    ghost view = { λ s. record { kept = s.line ++ s.intake.piece; taken = s.intake.taken; limit = s.intake.limit; ended = s.intake.ended; failed = s.failed } };
+    ghost view = { λ s. record {
+      kept = s.line ++ s.intake.piece;
+      taken = s.intake.taken;
+      limit = s.intake.limit;
+      ended = s.intake.ended;
+      failed = s.failed;
+    } };
 
-    ghost invariant = { λ s. (s.intake.limit ≤ 4294967294) × (s.failed ≡ false → (s.intake.taken ≤ s.intake.limit) × (s.line ≡ [])) };
+    ghost invariant = { λ s. (s.intake.limit ≤ 4294967294)
+        × (s.failed ≡ false → (s.intake.taken ≤ s.intake.limit) × (s.line ≡ [])) };
 }
 
 impl Lines {
     /// Of a source of which no more than `limit` bytes are to be taken. No memory is taken yet.
     pub fn new(alloc: Global, limit: u64) -> Lines
         requires { limit ≤ MOST_ITEMS }
-        ensures { result ≡ record { kept = []; taken = 0; limit = limit; ended = false; failed = false } }
+        ensures { result
+            ≡ record { kept = []; taken = 0; limit = limit; ended = false; failed = false } }
     {
         Lines {
             intake: Intake {
@@ -216,9 +228,11 @@ impl Lines {
         ensures count { S.faults src.old ≤ S.faults src.new }
         ensures failed { self.new.failed ≡ is_err result }
 
-        ensures ok { IfOk result (λ end. Gives end self.old self.new (S.left src.old) (S.left src.new) line.new) }
+        ensures ok { IfOk result
+            (λ end. Gives end self.old self.new (S.left src.old) (S.left src.new) line.new) }
 
-        ensures err { IfErr result (λ e. Stops e self.old self.new (S.left src.old) (S.left src.new) (S.faults src.old) (S.faults src.new)) }
+        ensures err { IfErr result (λ e. Stops e self.old self.new (S.left src.old) (S.left src.new)
+            (S.faults src.old) (S.faults src.new)) }
         ensures as_before { OnErr result (line.new ≡ line.old) }
     {
         self.failed = true;

@@ -25,7 +25,13 @@ impl Model for MemSource {
 
     ghost Value = { Supply };
 
-    ghost view = { λ s. record { left = drop s.taken s.contents; most = s.most; fails = s.fails; calls = s.calls; faults = s.faults } };
+    ghost view = { λ s. record {
+      left = drop s.taken s.contents;
+      most = s.most;
+      fails = s.fails;
+      calls = s.calls;
+      faults = s.faults;
+    } };
 
     ghost invariant = { λ s. (s.taken ≤ length s.contents) × (0 < s.most) };
 }
@@ -35,7 +41,8 @@ impl MemSource {
     /// fail whose numbers, counted from 1, stand in `fails`.
     pub fn new(contents: Bytes, most: usize, fails: Items<u64>) -> MemSource
         requires { 0 < most }
-        ensures { result ≡ record { left = contents; most = most; fails = fails; calls = 0; faults = 0 } }
+        ensures { result
+            ≡ record { left = contents; most = most; fails = fails; calls = 0; faults = 0 } }
     {
         MemSource {
             contents,
@@ -65,8 +72,14 @@ impl Source for MemSource {
 
         // Which calls fail, and how many bytes the others give.
         ensures fails { IsErr result ↔ Contains self.old.fails (counted self.old.calls) }
-        ensures exact { IfOk result (λ k. k ≡ min (min (length self.old.left) self.old.most) (length buf.old)) }
-        ensures after { self.new ≡ record self.old { left = self.new.left; calls = counted self.old.calls; faults = if is_ok result then self.old.faults else counted self.old.faults } }
+        ensures exact { IfOk result
+            (λ k. k ≡ min (min (length self.old.left) self.old.most) (length buf.old)) }
+        ensures after { self.new
+            ≡ record self.old {
+              left = self.new.left;
+              calls = counted self.old.calls;
+              faults = if is_ok result then self.old.faults else counted self.old.faults;
+            } }
     {
         self.calls = self.calls.saturating_add(1);
         if self.fails.as_slice().contains(&self.calls) {
@@ -98,9 +111,17 @@ impl Model for MemSink {
 
     ghost Value = { Store };
 
-    ghost view = { λ s. record { held = s.held.items; room = s.room; most = s.most; fails = s.fails; calls = s.calls; faults = s.faults } };
+    ghost view = { λ s. record {
+      held = s.held.items;
+      room = s.room;
+      most = s.most;
+      fails = s.fails;
+      calls = s.calls;
+      faults = s.faults;
+    } };
 
-    ghost invariant = { λ s. (vec_len s.held ≤ s.room) × (s.room ≤ vec_capacity s.held) × (0 < s.most) };
+    ghost invariant = { λ s. (vec_len s.held ≤ s.room) × (s.room ≤ vec_capacity s.held)
+        × (0 < s.most) };
 }
 
 impl MemSink {
@@ -114,7 +135,9 @@ impl MemSink {
     ) -> Result<MemSink, NoMemory>
         requires room { room ≤ MOST_ITEMS }
         requires most { 0 < most }
-        ensures { IfOk result (λ sink. sink ≡ record { held = []; room = room; most = most; fails = fails; calls = 0; faults = 0 }) }
+        ensures { IfOk result (λ sink. sink
+            ≡ record
+            { held = []; room = room; most = most; fails = fails; calls = 0; faults = 0 }) }
     {
         Ok(MemSink {
             held: Vec::with_capacity(alloc, room)?,
@@ -150,9 +173,16 @@ impl Sink for MemSink {
         ensures kept { OnErr result (self.new.held ≡ self.old.held) }
 
         // Which calls fail, and how many bytes the others take.
-        ensures fails { IsErr result ↔ (Contains self.old.fails (counted self.old.calls) ⊎ IsFullFor self.old bytes.now) }
-        ensures exact { IfOk result (λ k. k ≡ min (min (length bytes.now) self.old.most) (self.old.room - length self.old.held)) }
-        ensures after { self.new ≡ record self.old { held = self.new.held; calls = counted self.old.calls; faults = if is_ok result then self.old.faults else counted self.old.faults } }
+        ensures fails { IsErr result
+            ↔ (Contains self.old.fails (counted self.old.calls) ⊎ IsFullFor self.old bytes.now) }
+        ensures exact { IfOk result (λ k. k
+            ≡ min (min (length bytes.now) self.old.most) (self.old.room - length self.old.held)) }
+        ensures after { self.new
+            ≡ record self.old {
+              held = self.new.held;
+              calls = counted self.old.calls;
+              faults = if is_ok result then self.old.faults else counted self.old.faults;
+            } }
     {
         self.calls = self.calls.saturating_add(1);
         let is_full = !bytes.is_empty() && self.held.len() == self.room;

@@ -20,7 +20,8 @@ pub trait Source {
         ensures count { NeverFalls (faults self.old) (faults self.new) }
 
         ensures within { IfOk result (λ k. k ≤ length buf.new) }
-        ensures taken { IfOk result (λ k. Consumes (left self.old) (left self.new) (take k buf.new)) }
+        ensures taken { IfOk result
+            (λ k. Consumes (left self.old) (left self.new) (take k buf.new)) }
         ensures end { IfOk result (λ k. k ≡ 0 → 0 < length buf.old → IsAtEnd (left self.new)) }
 
         ensures rose { OnErr result (Rose (faults self.old) (faults self.new)) }
@@ -42,7 +43,8 @@ pub trait Sink {
 
         ensures within { IfOk result (λ k. k ≤ length bytes.now) }
         ensures some { IfOk result (λ k. 0 < length bytes.now → 0 < k) }
-        ensures appended { IfOk result (λ k. Appends (held self.old) (held self.new) (take k bytes.now)) }
+        ensures appended { IfOk result
+            (λ k. Appends (held self.old) (held self.new) (take k bytes.now)) }
 
         ensures rose { OnErr result (Rose (faults self.old) (faults self.new)) }
         ensures kept { OnErr result (Keeps (held self.old) (held self.new)) };

@@ -65,7 +65,8 @@ pub fn read_all<S: Source>(alloc: Global, src: &mut S, limit: u64) -> Result<Byt
     ensures end { OnOk result (IsAtEnd (S.left src.new)) }
     ensures within { IfOk result (λ bytes. length bytes ≤ limit) }
 
-    ensures err { IfErr result (λ e. Explains e limit (S.left src.old) (S.left src.new) (S.faults src.old) (S.faults src.new)) }
+    ensures err { IfErr result (λ e. Explains e limit (S.left src.old) (S.left src.new)
+        (S.faults src.old) (S.faults src.new)) }
 {
     let mut bytes = Bytes::new(alloc);
     let mut piece = [0; PIECE];
@@ -90,7 +91,8 @@ pub fn write_all<K: Sink>(sink: &mut K, bytes: &[u8]) -> Result<(), WriteFault>
 
     ensures rose { OnErr result (Rose (K.faults sink.old) (K.faults sink.new)) }
     ensures within { IfErr result (λ e. e.sent < length bytes.now) }
-    ensures front { IfErr result (λ e. Appends (K.held sink.old) (K.held sink.new) (take e.sent bytes.now)) }
+    ensures front { IfErr result
+        (λ e. Appends (K.held sink.old) (K.held sink.new) (take e.sent bytes.now)) }
 {
     let mut sent = 0;
     while sent < bytes.len() {

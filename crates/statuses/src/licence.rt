@@ -54,7 +54,10 @@ fn put_pair(
     step: u64,
     into: &mut Bytes,
 ) -> Result<(), NoMemory>
-    ensures { OnOk result (into.new ≡ into.old ++ spaced (codes "pair" ∷ family_name family ∷ decimal first ∷ decimal second ∷ decimal step ∷ [])) }
+    ensures { OnOk result (into.new
+        ≡ into.old
+        ++ spaced (codes "pair" ∷ family_name family ∷ decimal first ∷ decimal second
+        ∷ decimal step ∷ [])) }
 {
     put_word(b"pair", into)?;
     put_named(

@@ -19,7 +19,8 @@ pub(crate) fn put_word(word: &[u8], into: &mut Bytes) -> Result<(), NoMemory>
 
 /// Appends natural numbers.
 fn put_counts(numbers: &[u64], into: &mut Bytes) -> Result<(), NoMemory>
-    ensures { OnOk result (into.new ≡ into.old ++ flat_map (λ n. spaced (decimal n ∷ [])) numbers.now) }
+    ensures { OnOk result
+        (into.new ≡ into.old ++ flat_map (λ n. spaced (decimal n ∷ [])) numbers.now) }
 {
     for number in numbers {
         put_natural(*number as usize, into)?;

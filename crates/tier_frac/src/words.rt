@@ -33,11 +33,13 @@ impl Model for Words {
 
     ghost coded = { coded_ℚ };
 
-    ghost view = { λ w. record { num = w.num; den = w.den; positive = w.positive; lowest = w.lowest } };
+    ghost view = { λ w. record
+        { num = w.num; den = w.den; positive = w.positive; lowest = w.lowest } };
 
     ghost invariant = { λ w. IsTrue (fit w.num w.den) };
 
-    ghost inverse = { λ q. record { num = q.num; den = q.den; positive = q.positive; lowest = q.lowest } };
+    ghost inverse = { λ q. record
+        { num = q.num; den = q.den; positive = q.positive; lowest = q.lowest } };
 }
 
 /// `a x`, of all its bits.

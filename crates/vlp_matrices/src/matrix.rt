@@ -67,7 +67,8 @@ pub fn spots_by(
     requires few { count ≤ 100000 }
     requires from_one { All (λ c. 1 ≤ key_of axis c) cells.now }
     requires to_end { All (λ c. key_of axis c ≤ count) cells.now }
-    ensures { IfOk result (λ lists. lists ≡ map (spots_in axis dir cells.now) (numbers_from 1 count)) }
+    ensures { IfOk result
+        (λ lists. lists ≡ map (spots_in axis dir cells.now) (numbers_from 1 count)) }
 {
     let mut lists = empty_lists(alloc, count)?;
     for cell in cells {
@@ -154,7 +155,8 @@ impl Sides {
         vector: &[Spot],
         bound: Frac,
     ) -> Result<(), NoMemory>
-        ensures normals { OnOk result (self.new.normals ≡ self.old.normals ++ map (turned_spot dir) vector.now ∷ []) }
+        ensures normals { OnOk result
+            (self.new.normals ≡ self.old.normals ++ map (turned_spot dir) vector.now ∷ []) }
         ensures bounds { OnOk result (self.new.bounds ≡ self.old.bounds ++ signed dir bound ∷ []) }
     {
         let normal = turned(alloc, dir, vector)?;
@@ -164,7 +166,8 @@ impl Sides {
 
     /// Appends those of one bound, the lower one first.
     fn push_bound(&mut self, alloc: Global, vector: &[Spot], bound: &Bound) -> Result<(), NoMemory>
-        ensures normals { OnOk result (self.new.normals ≡ self.old.normals ++ side_spots vector.now bound.now) }
+        ensures normals { OnOk result
+            (self.new.normals ≡ self.old.normals ++ side_spots vector.now bound.now) }
         ensures bounds { OnOk result (self.new.bounds ≡ self.old.bounds ++ side_values bound.now) }
     {
         let (lower, upper) = match bound {
@@ -191,8 +194,10 @@ impl Sides {
         bounds: &[Bound],
     ) -> Result<(), NoMemory>
         requires { length vectors.now ≡ length bounds.now }
-        ensures normals { OnOk result (self.new.normals ≡ self.old.normals ++ all_side_spots vectors.now bounds.now) }
-        ensures bounds { OnOk result (self.new.bounds ≡ self.old.bounds ++ flat_map side_values bounds.now) }
+        ensures normals { OnOk result
+            (self.new.normals ≡ self.old.normals ++ all_side_spots vectors.now bounds.now) }
+        ensures bounds { OnOk result
+            (self.new.bounds ≡ self.old.bounds ++ flat_map side_values bounds.now) }
     {
         for i in 0..bounds.len() {
             self.push_bound(alloc, vectors[i].as_slice(), &bounds[i])?;

@@ -42,8 +42,10 @@ impl Matrix {
         requires cells { IsTrue (are_cells rows cols cells.now) }
         requires rows { rows ≤ 100000 }
         requires cols { cols ≤ 100000 }
-        ensures rows { IfOk result (λ m. m.rows ≡ map (spots_in axis.Row dir cells.now) (numbers_from 1 rows)) }
-        ensures columns { IfOk result (λ m. m.columns ≡ map (spots_in axis.Column dir cells.now) (numbers_from 1 cols)) }
+        ensures rows { IfOk result
+            (λ m. m.rows ≡ map (spots_in axis.Row dir cells.now) (numbers_from 1 rows)) }
+        ensures columns { IfOk result
+            (λ m. m.columns ≡ map (spots_in axis.Column dir cells.now) (numbers_from 1 cols)) }
     {
         let rows = spots_by(alloc, Axis::Row, dir, cells, rows)?;
         let columns = spots_by(alloc, Axis::Column, dir, cells, cols)?;
@@ -56,7 +58,8 @@ impl Matrix {
         requires rows { length rows ≤ 400000 }
         requires cols { cols ≤ 100000 }
         ensures rows { IfOk result (λ m. m.rows ≡ rows) }
-        ensures columns { IfOk result (λ m. m.columns ≡ map (spots_in axis.Column dir.Min (cells_from 1 rows)) (numbers_from 1 cols)) }
+        ensures columns { IfOk result (λ m. m.columns
+            ≡ map (spots_in axis.Column dir.Min (cells_from 1 rows)) (numbers_from 1 cols)) }
     {
         let cells = cells_of(alloc, rows.as_slice())?;
         let columns = spots_by(alloc, Axis::Column, Dir::Min, cells.as_slice(), cols)?;
@@ -67,7 +70,8 @@ impl Matrix {
 /// The inequalities of a problem, those of the rows first.
 fn sides_of(alloc: Global, problem: &Problem) -> Result<Sides, NoMemory>
     ensures vectors { IfOk result (λ s. All (IsVector problem.now.cols) s.normals) }
-    ensures normals { IfOk result (λ s. map (dense problem.now.cols) s.normals ≡ normals problem.now) }
+    ensures normals { IfOk result
+        (λ s. map (dense problem.now.cols) s.normals ≡ normals problem.now) }
     ensures bounds { IfOk result (λ s. s.bounds ≡ side_bounds problem.now) }
 {
     let cells = problem.a.as_slice();

@@ -49,8 +49,9 @@ impl Draft {
     pub(crate) fn new(alloc: Global, sizes: Sizes) -> Result<Draft, AllocError>
         requires { IsTrue (is_none (sizes_fault sizes)) }
         ensures sizes { IfOk result (λ draft. draft.sizes ≡ sizes) }
-        ensures has { IfOk result (λ draft. (earlier : List Statement) →
-            list_all is_silent earlier ≡ true → Has draft (earlier ++ Statement.Heading sizes ∷ [])) }
+        ensures has { IfOk result (λ draft. (earlier : List Statement)
+            → list_all is_silent earlier ≡ true
+            → Has draft (earlier ++ Statement.Heading sizes ∷ [])) }
     {
         Ok(Draft {
             sizes,
@@ -92,9 +93,10 @@ impl Draft {
         number: u32,
         bound: Result<Bound, FileKind>,
     ) -> Result<(), LineEnd>
-        ensures bound { MatchResult result
-            (λ _. (slot_fault (bounds_of self.old axis) number bound ≡ None)
-            × (bounds_of self.new axis ≡ slice_set (bounds_of self.old axis) (number - 1) (Some (bound_value bound))))
+        ensures bound { MatchResult result (λ _. (slot_fault (bounds_of self.old axis) number bound
+            ≡ None)
+            × (bounds_of self.new axis
+            ≡ slice_set (bounds_of self.old axis) (number - 1) (Some (bound_value bound))))
             (ComesFrom (slot_fault (bounds_of self.old axis) number bound)) }
         ensures others { SameButBounds axis self.old self.new }
     {

@@ -119,7 +119,8 @@ impl<'a> Mantissa<'a> {
 
     /// The digits without the zeros at their front.
     fn without_leading_zeros(self) -> Mantissa<'a>
-        ensures { result.whole.now ++ result.decimals.now ≡ leading_of (self.entry.whole.now ++ self.entry.decimals.now) }
+        ensures { result.whole.now ++ result.decimals.now
+            ≡ leading_of (self.entry.whole.now ++ self.entry.decimals.now) }
     {
         let whole = without_leading_zeros(self.whole);
         let decimals = if whole.is_empty() {
@@ -132,7 +133,8 @@ impl<'a> Mantissa<'a> {
 
     /// The digits without the zeros at their end.
     fn without_trailing_zeros(self) -> Mantissa<'a>
-        ensures { result.whole.now ++ result.decimals.now ≡ trailing_of (self.entry.whole.now ++ self.entry.decimals.now) }
+        ensures { result.whole.now ++ result.decimals.now
+            ≡ trailing_of (self.entry.whole.now ++ self.entry.decimals.now) }
     {
         let decimals = without_trailing_zeros(self.decimals);
         let whole = if decimals.is_empty() {
@@ -147,7 +149,8 @@ impl<'a> Mantissa<'a> {
     fn value(self) -> i128
         requires digits { IsTrue (all_ascii_digits (self.whole.now ++ self.decimals.now)) }
         requires short { length (self.whole.now ++ self.decimals.now) ≤ 36 }
-        ensures value { result ≡ pos (digits_value 10 (self.entry.whole.now ++ self.entry.decimals.now)) }
+        ensures value { result
+            ≡ pos (digits_value 10 (self.entry.whole.now ++ self.entry.decimals.now)) }
         ensures bound { unsigned_abs result < 10 ^ 36 }
     {
         extended(extended(0, self.whole), self.decimals) as i128
@@ -213,7 +216,8 @@ fn scaled(digits: i128, power: i128) -> Result<Frac, FileKind>
 /// The number of significant digits times a power of ten.
 fn number_at(negative: bool, digits: Mantissa, power: i128) -> Result<Frac, FileKind>
     requires { IsTrue (all_ascii_digits (digits.whole.now ++ digits.decimals.now)) }
-    ensures { result ≡ number_at_power negative (digits.entry.whole.now ++ digits.entry.decimals.now) power }
+    ensures { result
+        ≡ number_at_power negative (digits.entry.whole.now ++ digits.entry.decimals.now) power }
 {
     if digits.len() == 0 {
         return Ok(Frac::from(0));
@@ -230,7 +234,8 @@ fn number_at(negative: bool, digits: Mantissa, power: i128) -> Result<Frac, File
 /// The number of the digits of a mantissa with an exponent.
 fn number_from(negative: bool, digits: Mantissa, exponent: i128) -> Result<Frac, FileKind>
     requires { unsigned_abs exponent < 2 ^ 32 }
-    ensures { result ≡ number_of_parts negative (digits.entry.whole.now ++ digits.entry.decimals.now)
+    ensures { result
+        ≡ number_of_parts negative (digits.entry.whole.now ++ digits.entry.decimals.now)
         (length digits.entry.decimals.now) (Some exponent) }
 {
     if !digits.is_natural() {

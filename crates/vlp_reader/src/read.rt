@@ -45,9 +45,10 @@ fn begin(alloc: Global, words: &[u8]) -> Result<Draft, LineEnd>
 
 /// Takes a line of a kind behind the sizes, and answers whether it is an `e` line.
 fn take_words(draft: &mut Draft, kind: u8, words: &[u8]) -> Result<bool, LineEnd>
-    ensures { (earlier : List Statement) → Has draft.old earlier → MatchResult result
-        (TakesWords kind (words_of words.now) earlier draft.old draft.new)
-        (ComesFrom (formed (statement_of kind (words_of words.now)) (statement_fault earlier draft.old.sizes))) }
+    ensures { (earlier : List Statement) → Has draft.old earlier
+        → MatchResult result (TakesWords kind (words_of words.now) earlier draft.old draft.new)
+        (ComesFrom (formed (statement_of kind (words_of words.now))
+        (statement_fault earlier draft.old.sizes))) }
 {
     let Some(statement) = Statement::read(kind, words) else {
         return Err(LineEnd::Kind(FileKind::BadLine));
@@ -94,7 +95,8 @@ fn take_line(alloc: Global, draft: &mut Option<Draft>, line: &[u8]) -> Result<bo
 
 /// The problem that all lines give.
 fn close(alloc: Global, draft: Option<Draft>) -> Result<Problem, LineEnd>
-    ensures { (statements : List Statement) → HasRead draft statements → ClosesOr statements result }
+    ensures { (statements : List Statement) → HasRead draft statements
+        → ClosesOr statements result }
 {
     match draft {
         None => Err(LineEnd::Kind(FileKind::NoProblem)),
@@ -104,7 +106,8 @@ fn close(alloc: Global, draft: Option<Draft>) -> Result<Problem, LineEnd>
 
 /// What closing gave, on this line.
 fn ended(line: u32, closed: Result<Problem, LineEnd>) -> Result<Problem, VlpEnd>
-    ensures { MatchResult closed (λ problem. result ≡ Ok problem) (λ end. result ≡ Err (end_at line end)) }
+    ensures { MatchResult closed (λ problem. result ≡ Ok problem)
+        (λ end. result ≡ Err (end_at line end)) }
 {
     match closed {
         Ok(problem) => Ok(problem),

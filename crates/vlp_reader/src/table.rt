@@ -65,8 +65,8 @@ impl Table {
     ) -> Result<(), LineEnd>
         ensures rows { self.new.rows ≡ self.old.rows }
         ensures cols { self.new.cols ≡ self.old.cols }
-        ensures given { MatchResult result
-            (λ _. (place_fault self.old row col number ≡ None) × Adds self.old self.new row col number)
+        ensures given { MatchResult result (λ _. (place_fault self.old row col number ≡ None)
+            × Adds self.old self.new row col number)
             (ComesFrom (place_fault self.old row col number)) }
     {
         if !self.is_place(row, col) {

@@ -31,8 +31,8 @@ fn without_return(piece: &[u8]) -> &[u8]
 
 /// The first line, and what stands behind it.
 pub(crate) fn next_line(text: &[u8]) -> Option<(&[u8], &[u8])>
-    ensures { MatchOption result (lines_of text.now ≡ [])
-        (λ p. (lines_of text.now ≡ p.0.now ∷ lines_of p.1.now) × (length p.1.now < length text.now)) }
+    ensures { MatchOption result (lines_of text.now ≡ []) (λ p. (lines_of text.now
+        ≡ p.0.now ∷ lines_of p.1.now) × (length p.1.now < length text.now)) }
 {
     if text.is_empty() {
         return None;

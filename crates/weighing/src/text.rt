@@ -123,8 +123,10 @@ fn entries_at(points: &[Gen], number: u32) -> &[Frac]
 
 /// Appends the line of each of some points, by their numbers.
 fn put_points(points: &[Gen], numbers: &[u32], into: &mut Bytes) -> Result<(), NoMemory>
-    ensures { OnOk result (into.new ≡ into.old
-        ++ flat_map (λ k. line_text (vector_line (codes "1") (point_at points.now k))) numbers.now) }
+    ensures { OnOk result (into.new
+        ≡ into.old
+        ++ flat_map (λ k. line_text (vector_line (codes "1") (point_at points.now k)))
+        numbers.now) }
 {
     for number in numbers {
         put_vector_line(b"1", entries_at(points, *number), into)?;

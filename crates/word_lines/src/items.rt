@@ -171,7 +171,8 @@ pub fn put_items<T: Printed>(items: &[T], into: &mut Bytes) -> Result<(), NoMemo
 
 /// Appends items behind their count.
 pub fn put_list<T: Printed>(items: &[T], into: &mut Bytes) -> Result<(), NoMemory>
-    ensures { OnOk result (into.new ≡ into.old ++ spaced (decimal (length items.now) ∷ flat_map T.words_of items.now)) }
+    ensures { OnOk result (into.new
+        ≡ into.old ++ spaced (decimal (length items.now) ∷ flat_map T.words_of items.now)) }
 {
     put_count(items.len(), into)?;
     put_items(items, into)?;

@@ -20,8 +20,9 @@ const LIMIT: u128 = 1 << 120;
 
 /// The number that digits write, or `LIMIT` where it is not below that.
 fn value(digits: &[u8]) -> Option<u128>
-    ensures { MatchOption result (all_ascii_digits digits.now ≡ false)
-        (λ v. (all_ascii_digits digits.now ≡ true) × (v ≡ min (digits_value 10 digits.now) (2 ^ 120))) }
+    ensures { MatchOption result (all_ascii_digits digits.now ≡ false) (λ v. (all_ascii_digits
+        digits.now
+        ≡ true) × (v ≡ min (digits_value 10 digits.now) (2 ^ 120))) }
 {
     let mut value: u128 = 0;
     for b in digits {
@@ -35,8 +36,9 @@ fn value(digits: &[u8]) -> Option<u128>
 
 /// The number of a word of digits that does not begin with `0`, or `LIMIT` where it is not below that.
 fn positive(word: &[u8]) -> Option<u128>
-    ensures { MatchOption result (is_positive_numeral word.now ≡ false)
-        (λ v. (is_positive_numeral word.now ≡ true) × (v ≡ min (digits_value 10 word.now) (2 ^ 120))) }
+    ensures { MatchOption result (is_positive_numeral word.now ≡ false) (λ v. (is_positive_numeral
+        word.now
+        ≡ true) × (v ≡ min (digits_value 10 word.now) (2 ^ 120))) }
 {
     if word.is_empty() || word[0] == b'0' {
         return None;
@@ -70,8 +72,9 @@ struct Quotient {
 
 /// The parts of a numerator alone.
 fn whole_number(num: &[u8]) -> Option<Quotient>
-    ensures { MatchOption result (is_positive_numeral num.now ≡ false) (λ q. (is_positive_numeral num.now ≡ true)
-        × (q.num ≡ min (digits_value 10 num.now) (2 ^ 120)) × (q.den ≡ 1)) }
+    ensures { MatchOption result (is_positive_numeral num.now ≡ false) (λ q. (is_positive_numeral
+        num.now
+        ≡ true) × (q.num ≡ min (digits_value 10 num.now) (2 ^ 120)) × (q.den ≡ 1)) }
 {
     let num = positive(num)?;
     Some(Quotient { num, den: 1 })
@@ -79,9 +82,10 @@ fn whole_number(num: &[u8]) -> Option<Quotient>
 
 /// The parts of a numerator and a denominator above 1.
 fn quotient_of(num: &[u8], den: &[u8]) -> Option<Quotient>
-    ensures { let pieces = num.now ∷ den.now ∷ [] in
-        MatchOption result (is_quotient pieces ≡ false) (λ q. (is_quotient pieces ≡ true)
-        × (q.num ≡ min (numerator pieces) (2 ^ 120)) × (q.den ≡ min (denominator pieces) (2 ^ 120))) }
+    ensures { let pieces = num.now ∷ den.now
+        ∷ [] in MatchOption result (is_quotient pieces ≡ false) (λ q. (is_quotient pieces ≡ true)
+        × (q.num ≡ min (numerator pieces) (2 ^ 120))
+        × (q.den ≡ min (denominator pieces) (2 ^ 120))) }
 {
     match (positive(num), positive(den)) {
         (Some(num), Some(den)) if den > 1 => Some(Quotient { num, den }),
@@ -91,9 +95,10 @@ fn quotient_of(num: &[u8], den: &[u8]) -> Option<Quotient>
 
 /// The parts of a fraction's word without its minus.
 fn parts_of(word: &[u8]) -> Option<Quotient>
-    ensures { let pieces = slice_split (λ b. b == 47) word.now in
-        MatchOption result (is_quotient pieces ≡ false) (λ q. (is_quotient pieces ≡ true)
-        × (q.num ≡ min (numerator pieces) (2 ^ 120)) × (q.den ≡ min (denominator pieces) (2 ^ 120))) }
+    ensures { let pieces = slice_split (λ b. b == 47) word.now in MatchOption result
+        (is_quotient pieces ≡ false) (λ q. (is_quotient pieces ≡ true)
+        × (q.num ≡ min (numerator pieces) (2 ^ 120))
+        × (q.den ≡ min (denominator pieces) (2 ^ 120))) }
 {
     let (num, behind) = first_piece(word, b'/');
     match behind {
@@ -119,8 +124,8 @@ fn lowest(num: i128, den: i128) -> Option<Frac>
     requires num_small { unsigned_abs num < 2 ^ 120 }
     requires den_small { unsigned_abs den < 2 ^ 120 }
     requires positive { pos 0 <ℤ den }
-    ensures { let lowest = gcd (unsigned_abs num) (unsigned_abs den) == 1 in
-        MatchOption result (lowest ≡ false) (λ q. (lowest ≡ true) × (q.num ≡ num) × (pos q.den ≡ den)) }
+    ensures { let lowest = gcd (unsigned_abs num) (unsigned_abs den) == 1 in MatchOption result
+        (lowest ≡ false) (λ q. (lowest ≡ true) × (q.num ≡ num) × (pos q.den ≡ den)) }
 {
     match Frac::of(num, den) {
         Some(q) if q.den() == den => Some(q),
@@ -142,7 +147,8 @@ fn in_lowest_terms(negative: bool, num: u128, den: u128) -> Option<Frac>
 /// Whether a word begins with a minus, and what stands behind that.
 fn signed_word(word: &[u8]) -> (bool, &[u8])
     ensures sign { result.0 ≡ starts_with_minus word.now }
-    ensures rest { result.1.now ≡ (if starts_with_minus word.now then drop 1 word.now else word.now) }
+    ensures rest { result.1.now
+        ≡ (if starts_with_minus word.now then drop 1 word.now else word.now) }
 {
     if !word.is_empty() && word[0] == b'-' {
         (true, &word[1..])

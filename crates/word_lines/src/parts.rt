@@ -68,7 +68,8 @@ pub fn take_kind(words: &mut Words) -> Result<EndKind, Stop>
 }
 
 fn kind_of(word: &[u8]) -> Option<EndKind>
-    ensures { MatchOption result (kind_fault word.now ≡ Some LogKind.BadLine) (λ kind. word.now ≡ end_word kind) }
+    ensures { MatchOption result (kind_fault word.now ≡ Some LogKind.BadLine)
+        (λ kind. word.now ≡ end_word kind) }
 {
     if is_word(word, b"infeasible") {
         Some(EndKind::Infeasible)
@@ -85,7 +86,8 @@ fn kind_of(word: &[u8]) -> Option<EndKind>
 
 /// A place above `last`.
 fn take_place(last: u32, words: &mut Words) -> Result<u32, Stop>
-    ensures { TakesItem (λ n. decimal n ∷ []) (λ n. is_short n && nat_lt last n) (one_word (place_fault last)) words.old words.new result }
+    ensures { TakesItem (λ n. decimal n ∷ []) (λ n. is_short n && nat_lt last n)
+        (one_word (place_fault last)) words.old words.new result }
 {
     let at = u32::take(words)?;
     if at > last {
@@ -97,7 +99,8 @@ fn take_place(last: u32, words: &mut Words) -> Result<u32, Stop>
 
 /// The number of a word that is not `0`.
 fn nonzero(word: &[u8]) -> Result<Frac, LogKind>
-    ensures { MatchResult result (λ q. (is_held q ≡ true) × (not (is_zero q) ≡ true) × (word.now ≡ frac_text q))
+    ensures { MatchResult result
+        (λ q. (is_held q ≡ true) × (not (is_zero q) ≡ true) × (word.now ≡ frac_text q))
         (λ kind. value_fault word.now ≡ Some kind) }
 {
     if is_word(word, b"0") {
@@ -108,7 +111,8 @@ fn nonzero(word: &[u8]) -> Result<Frac, LogKind>
 
 /// A number other than 0.
 fn take_value(words: &mut Words) -> Result<Frac, Stop>
-    ensures { TakesItem (λ q. frac_text q ∷ []) (λ q. is_held q && not (is_zero q)) (one_word value_fault) words.old words.new result }
+    ensures { TakesItem (λ q. frac_text q ∷ []) (λ q. is_held q && not (is_zero q))
+        (one_word value_fault) words.old words.new result }
 {
     match words.next() {
         Some(word) => Ok(nonzero(word)?),

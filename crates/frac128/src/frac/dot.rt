@@ -74,7 +74,8 @@ impl Sum {
         requires num_small { unsigned_abs num < 2 ^ 60 }
         requires den_small { den < 2 ^ 60 }
         requires positive { 0 < den }
-        ensures { IfSome result (λ s. fraction s.num s.den ≡ fraction self.num self.den +ℚ fraction num den) }
+        ensures { IfSome result
+            (λ s. fraction s.num s.den ≡ fraction self.num self.den +ℚ fraction num den) }
     {
         let common = gcd_words(self.den, den);
         let left = quotient_words(self.den, common);
@@ -92,7 +93,8 @@ impl Sum {
         requires num_small { unsigned_abs num < 2 ^ 60 }
         requires den_small { den < 2 ^ 60 }
         requires positive { 0 < den }
-        ensures { IfSome result (λ s. fraction s.num s.den ≡ fraction self.num self.den +ℚ fraction num den) }
+        ensures { IfSome result
+            (λ s. fraction s.num s.den ≡ fraction self.num self.den +ℚ fraction num den) }
     {
         if den == self.den {
             Sum::of(self.num + num, den)
@@ -105,7 +107,8 @@ impl Sum {
     fn plus_narrow(self, a: Frac, b: Frac) -> Option<Sum>
         requires a_narrow { IsNarrow a }
         requires b_narrow { IsNarrow b }
-        ensures value { IfSome result (λ s. fraction s.num s.den ≡ fraction self.num self.den +ℚ a *ℚ b) }
+        ensures value { IfSome result
+            (λ s. fraction s.num s.den ≡ fraction self.num self.den +ℚ a *ℚ b) }
         ensures held { IsTrue (is_held (a *ℚ b)) }
     {
         let num = narrow_product(a.num, b.num);
@@ -115,7 +118,8 @@ impl Sum {
 
     /// The sum and one more product, where its parts and those of the factors are short enough.
     pub fn plus_product(self, a: Frac, b: Frac) -> Option<Sum>
-        ensures value { IfSome result (λ s. fraction s.num s.den ≡ fraction self.num self.den +ℚ a *ℚ b) }
+        ensures value { IfSome result
+            (λ s. fraction s.num s.den ≡ fraction self.num self.den +ℚ a *ℚ b) }
         ensures held { IfSome result (λ s. IsTrue (is_held (a *ℚ b))) }
     {
         if a.num == 0 || b.num == 0 {

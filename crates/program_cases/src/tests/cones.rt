@@ -54,7 +54,8 @@ gens; 1 0, -1 1, 64 -1/2; pair 1 2 5 rows 1 0, -1 1, 64 -1/2,. add 1 127";
 
 /// Whether rows have full rank.
 fn has_full_rank<F: Field>(alloc: Global, rows: &Rows<F>) -> Result<bool, RowFault<F>>
-    ensures { IfOk result (λ full. IsTrue full → HasFullRank rows.now.width (numbers F.value rows.now.list)) }
+    ensures { IfOk result
+        (λ full. IsTrue full → HasFullRank rows.now.width (numbers F.value rows.now.list)) }
 {
     match independent(alloc, rows, rows.width())? {
         Indep::Basis(_) => Ok(true),
