@@ -25,6 +25,7 @@ abbrev pub IsEitherAt : {F : Type 0} → (F → ℚ) → (ℚ → Bool) → ℚ 
 IsEitherAt value holds p us r vs col (First left) = (left.op ≡ Div) × (value left.a ≡ sum_at us col) × (value left.b ≡ p) × IsFalse (holds (sum_at us col /ℚ p))
 IsEitherAt value holds p us r vs col (Second left) = (left.op ≡ Div) × (value left.a ≡ sum_at vs col) × (value left.b ≡ r) × IsFalse (holds (sum_at vs col /ℚ r))
 
+-- a quotient of one of two rows is not held at one of these columns
 abbrev pub IsEither : {F : Type 0} → (F → ℚ) → (ℚ → Bool) → ℚ → List Entry → ℚ → List Entry → List ℕ → Either F → Type 0
 IsEither value holds p us r vs columns (First left) = IsRatioLeft value holds p us columns left
 IsEither value holds p us r vs columns (Second left) = IsRatioLeft value holds r vs columns left
