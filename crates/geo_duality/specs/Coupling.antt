@@ -29,6 +29,7 @@ slack e y = dot e.normal y -ℚ e.bound
 abbrev pub joined : ℚ → ℚ → ℚ → ℚ → ℚ
 joined direct weight height bound = direct +ℚ height *ℚ (one_ℚ -ℚ weight) -ℚ bound
 
+-- the four steps of this, in their order
 abbrev pub joining_steps : ℚ → ℚ → ℚ → ℚ → List Step
 joining_steps direct weight height bound =
     record { op = Sub; a = one_ℚ; b = weight }
