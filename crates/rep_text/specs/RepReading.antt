@@ -17,6 +17,7 @@ use Rattle.rep_text.specs.declared.fault.RepEnd.{RepEnd}
 use Rattle.rep_text.specs.declared.fault.RepEnd.TheVariants.{Fault, NoMemory}
 use Rattle.rep_text.specs.declared.rep.RepRow.{RepRow}
 
+-- a width is from 1 to 19
 abbrev pub is_width : ℕ → Bool
 is_width n = nat_le 1 n && nat_le n 19
 
