@@ -42,6 +42,7 @@ pub record ArePlacesReaders (n : ℕ) (lines : List (List ℚ)) : Type 0 where
   pub reads : AreReaders (places_of n lines) lines
   pub reduced : (v : List ℚ) → IsReduced lines v ↔ All (λ r. IsTight r v) (places_of n lines)
 
+-- so it is for lines in reduced echelon form
 abbrev pub PlacesAreReaders : Type 0
 PlacesAreReaders = (n : ℕ) (lines : List (List ℚ)) → AreEchelon n lines → ArePlacesReaders n lines
 
