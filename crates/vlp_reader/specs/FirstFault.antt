@@ -10,6 +10,7 @@ use Rattle.vlp_reader.specs.declared.sizes.Sizes.{Sizes}
 use Rattle.vlp_reader.specs.declared.statement.Statement.{Statement}
 use Rattle.vlp_reader.specs.declared.statement.Statement.TheVariants.{End}
 
+-- whether a statement ends the file
 abbrev pub is_end : Statement → Bool
 is_end End = true
 is_end _ = false

@@ -2,6 +2,7 @@
 use Rattle.std.specs.Prelude.{ℕ, ◌-◌, ◌==◌, Bool, ◌||◌, nat_lt, if◌then◌else◌, List, [], ◌∷◌, length, map, filter, take, slice_index}
 use Rattle.std.specs.List.{slice_split}
 
+-- the line feed
 abbrev pub is_line_feed : ℕ → Bool
 is_line_feed b = b == 10
 

@@ -23,12 +23,15 @@ natural_value word = min (digits_value 10 word) 4294967295
 abbrev pub natural : List ℕ → Option ℕ
 natural word = if is_natural word then Some (natural_value word) else None
 
+-- the letter before an exponent,
 abbrev pub is_e : ℕ → Bool
 is_e b = b == byte "e" || b == byte "E"
 
+-- the decimal point,
 abbrev pub is_point : ℕ → Bool
 is_point b = b == byte "."
 
+-- and the digit 0
 abbrev pub is_nought : ℕ → Bool
 is_nought b = b == byte "0"
 
@@ -51,10 +54,12 @@ exponent_of text =
     then option_map (signed (starts_with_minus (after_first is_e text))) (natural (without_leading_sign (after_first is_e text)))
     else Some (pos 0)
 
+-- digits from the first that is not 0 on
 abbrev pub without_leading_zeros : List ℕ → List ℕ
 without_leading_zeros [] = []
 without_leading_zeros (d ∷ digits) = if is_nought d then without_leading_zeros digits else d ∷ digits
 
+-- digits up to the last that is not 0
 abbrev pub without_trailing_zeros : List ℕ → List ℕ
 without_trailing_zeros [] = []
 without_trailing_zeros (d ∷ digits) = if list_all is_nought (d ∷ digits) then [] else d ∷ without_trailing_zeros digits
@@ -73,6 +78,7 @@ abbrev pub scaled : ℤ → ℤ → ℚ
 scaled m (pos k) = whole (m *ℤ pos (10 ^ k))
 scaled m (negsuc k) = fraction m (10 ^ (k + 1))
 
+-- powers of ten from -36 to 36
 abbrev pub in_range : ℤ → Bool
 in_range power = int_le (negsuc 35) power && int_le power (pos 36)
 

@@ -35,6 +35,7 @@ pub record Closes (statements : List Statement) (problem : Problem) : Type 0 whe
   pub given : first_given given_sizes statements ≡ Some sizes
   pub gives : Gives statements sizes problem
 
+-- the problem that the statements give, or the first test after the last line that they fail
 abbrev pub ClosesOr : List Statement → Result Problem LineEnd → Type 0
 ClosesOr statements result = MatchResult result (Closes statements) (ComesFrom (closing_fault (first_given given_sizes statements) statements))
 
