@@ -8,6 +8,7 @@ use Rattle.word_lines.specs.declared.fault.LogKind.{LogKind}
 use Rattle.word_lines.specs.declared.fault.LogKind.TheVariants.{NoEnd}
 use Rattle.word_lines.specs.declared.fault.LogFault.{LogFault}
 
+-- the first word of a line, empty where there is none
 abbrev pub first_word : List (List ℕ) → List ℕ
 first_word [] = []
 first_word (w ∷ words) = w
@@ -24,6 +25,7 @@ LineTest = List TextLine → TextLine → Option LogKind
 abbrev pub line_test : Forms → LineTest
 line_test forms before line = line_fault forms (list_any is_end_line before) line.whole line.text
 
+-- the same of a line that may be missing, which fails no test
 abbrev pub fault_of_line : LineTest → List TextLine → Option TextLine → Option LogKind
 fault_of_line test before None = None
 fault_of_line test before (Some line) = test before line
@@ -43,5 +45,6 @@ IsFirstFault test lines f =
     ((1 ≤ f.line) × Pass test lines (f.line - 1) × (fault_at test lines f.line ≡ Some f.kind))
     ⊎ (Pass test lines (length lines) × (list_any is_end_line lines ≡ false) × (f ≡ record { line = length lines + 1; kind = NoEnd }))
 
+-- the first fault of a text, by its lines
 abbrev pub FirstFault : LineTest → List ℕ → LogFault → Type 0
 FirstFault test bytes f = IsFirstFault test (lines_of bytes) f

@@ -20,6 +20,7 @@ pub data Form : Type 0 where
   pairs : Form
   kind : Form
 
+-- the form of a given part
 abbrev pub form_of : Part → Form
 form_of (part.natural n) = natural
 form_of (part.number q) = number
@@ -72,6 +73,7 @@ spots last zero words = Ok words
 spots last (suc n) [] = Err BadLine
 spots last (suc n) (at ∷ words) = unless (place_fault last at) (and_then (word value_fault words) (spots (digits_value 10 at) n))
 
+-- the word of an end must be one of the four kinds
 abbrev pub kind_fault : List ℕ → Option LogKind
 kind_fault w =
     if same_word w (codes "infeasible") || (same_word w (codes "whole") || (same_word w (codes "novertex") || same_word w (codes "solved")))
@@ -91,6 +93,7 @@ behind sparse words = counted (spots 0) words
 behind pairs words = counted (times pair) words
 behind kind words = word kind_fault words
 
+-- the words that are left after parts of these forms, in their order
 abbrev pub behind_all : List Form → List (List ℕ) → Left
 behind_all [] words = Ok words
 behind_all (form ∷ forms) words = and_then (behind form words) (behind_all forms)

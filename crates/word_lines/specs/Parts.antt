@@ -34,6 +34,7 @@ pair_words p = decimal p.plus ∷ decimal p.minus ∷ []
 abbrev pub sparse_words : List Spot → List (List ℕ)
 sparse_words u = decimal (length u) ∷ flat_map spot_words u
 
+-- the word of each kind of end
 abbrev pub end_word : EndKind → List ℕ
 end_word Infeasible = codes "infeasible"
 end_word WholeEnd = codes "whole"
