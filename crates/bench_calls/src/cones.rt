@@ -14,7 +14,7 @@ use lin_rows::{Indep, Rows, independent};
 use src_sink::Items;
 use std::alloc::Global;
 
-/// So many rows, one behind the other.
+/// So many rows, one after the other.
 #[tactic(auto, using(crate::proofs::RowsOf::read_more))]
 fn rows_from(alloc: Global, width: u32, count: u32, entries: &[i64]) -> Option<Rows<Frac>>
     ensures width { IfSome result (λ rows. rows.width ≡ width) }

@@ -58,7 +58,7 @@ pub record Written (text : List ℕ) (old new : Channel) : Type 0 where
   pub appended : Appends old.bytes new.bytes text
   pub counted : old.faults ≤ new.faults
 
--- the output failed behind the first `sent` bytes of the text that was to be written
+-- the output failed after the first `sent` bytes of the text that was to be written
 pub record PartlyWritten (sent : ℕ) (text : List ℕ) (old new : Channel) : Type 0 where
   pub part : sent < length text
   pub appended : Appends old.bytes new.bytes (take sent text)

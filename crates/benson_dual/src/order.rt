@@ -139,7 +139,7 @@ impl Walk {
         Ok(())
     }
 
-    /// The order, with the facets that are not listed behind the others.
+    /// The order, with the facets that are not listed after the others.
     fn into_order(self, count: u32) -> Result<Items<u32>, NoMemory>
         requires { AreListed count self.listed.items self.order }
         ensures { IfOk result (IsOrder count) }

@@ -187,7 +187,7 @@ impl Draft {
         Ok(())
     }
 
-    /// One side, behind another whose row has no bound from above yet. The row of this one, if it has
+    /// One side, after another whose row has no bound from above yet. The row of this one, if it has
     /// one of which the same is true.
     fn push_side<F: Field>(
         &mut self,
@@ -285,7 +285,7 @@ impl Draft {
     }
 }
 
-/// What a vector's product with the objectives has at each column, and behind them the negative of its
+/// What a vector's product with the objectives has at each column, and after them the negative of its
 /// product with the duality vector.
 fn product_sums<F: Field>(
     alloc: Global,

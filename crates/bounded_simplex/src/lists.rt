@@ -1,8 +1,8 @@
-//! Lists of places, one behind the other.
+//! Lists of places, one after the other.
 use std::alloc::Global;
 use whole_simplex::{Stop, at, put};
 
-/// The sum of a first number and a place behind it, as a number from 1.
+/// The sum of a first number and a place after it, as a number from 1.
 pub(crate) fn numbered(base: usize, i: usize) -> Result<u32, Stop> {
     let k = base.saturating_add(i);
     if k < 4_294_967_294 {

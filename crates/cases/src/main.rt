@@ -26,7 +26,7 @@
 //! | `calls` | with each of the calls 1 to 20 of each object failing, where what is written is a front of what is written without a fault |
 //!
 //! An object that the words do not name fails at its first call. Of every case the program tries that fault lines begin with their
-//! status, that nothing is written with the statuses 2, 6 and 7, and to the log's output only behind a report, and that `sent` is
+//! status, that nothing is written with the statuses 2, 6 and 7, and to the log's output only after a report, and that `sent` is
 //! the length of what was written. Where `solve FILE LOG` or `dual FILE LOG` ends with 0, `check` accepts the log with the same
 //! report, and without LOG the report is the same; the log of `dual` has as many cuts as facets, and what it tells before the
 //! witnesses is what `solve` tells. Where `project FILE K LOG` ends with 0, `check` accepts the log with the text of

@@ -1,4 +1,4 @@
-//! Each entry of a log against its rules, behind entries without a failure.
+//! Each entry of a log against its rules, after entries without a failure.
 ghost use Rattle.std.specs.Prelude.{◌≡◌, List, [], ◌∷◌, ◌++◌, IsTrue, IfOk, OnOk};
 ghost use Rattle.frac128.specs.Held.{is_held};
 ghost use Rattle.deriv_log.specs.Formed.{is_formed, IsLog};
@@ -16,16 +16,16 @@ use crate::found::{Found, FoundWhole};
 use crate::known::Known;
 use crate::testing::take_entry;
 use deriv_log::{EndKind, Entry};
+use entry_checks::pass;
 use frac128::Vector;
 use log_answer::solved_answer;
 use log_rules::{Answer, Rule, Stop};
 use log_solved::Solving;
-use log_tests::pass;
 use src_sink::NoMemory;
 use std::alloc::Global;
 use vlp_reader::{Dir, Problem};
 
-/// What is known of a log's entries so far, none of whose events fails. Behind an error of `take`
+/// What is known of a log's entries so far, none of whose events fails. After an error of `take`
 /// the value is of no use. It takes memory for the cuts, the lines, the shared vectors, and the
 /// live generators with their tight sets and pre-images, and none for what is live no more.
 ///

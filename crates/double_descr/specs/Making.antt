@@ -80,7 +80,7 @@ pair_numbers p = (p.plus, p.minus)
 abbrev pub live_numbers : LivePair → ℕ × ℕ
 live_numbers pair = (pair.plus_side.number, pair.minus_side.number)
 
--- of all pairs some are made, behind the generators that stay, and the candidates that are left give the others
+-- of all pairs some are made, after the generators that stay, and the candidates that are left give the others
 pub record IsMadeSoFar {F : Type 0} (value : F → ℚ) (holds : ℚ → Bool) (rows : List (List ℚ)) (row : List ℚ) (live kept : List Numbered) (next : ℕ)
     (left : List LivePair) (m : Made F) : Type 0 where
   pub done : List LivePair

@@ -6,7 +6,7 @@ use exact_field::Left;
 use lin_rows::RowFault;
 use src_sink::{Items, NoMemory};
 
-/// How a linear program ends. A basis names for each equation its column: from 1 those of the unknowns, and behind them one
+/// How a linear program ends. A basis names for each equation its column: from 1 those of the unknowns, and after them one
 /// artificial column for each equation.
 #[derive(Debug, Drop)]
 pub enum LpEnd<F: Drop> {
@@ -44,7 +44,7 @@ pub enum LpFault<F: Drop> {
     Left {
         /// The basis of the dictionary in which the pivot is: for each row its column, and 0 for none.
         basis: Items<u32>,
-        /// The row of the pivot, from 1, or the first cost row, behind the equations, where multipliers are read off it.
+        /// The row of the pivot, from 1, or the first cost row, after the equations, where multipliers are read off it.
         row: u32,
         /// The column of the pivot, from 1.
         col: u32,

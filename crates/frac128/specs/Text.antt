@@ -1,4 +1,4 @@
--- The canonical text of a number: the numerator, and behind a `/` the denominator where it is not 1.
+-- The canonical text of a number: the numerator, and after a `/` the denominator where it is not 1.
 use Rattle.std.specs.Prelude.{ℕ, List, [], ◌∷◌, ◌++◌, ◌==◌, if◌then◌else◌, decimal}
 use Rattle.std.specs.Fmt.{signed_decimal}
 use Rattle.exact_field.specs.Rational.{ℚ}

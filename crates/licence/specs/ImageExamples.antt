@@ -1,5 +1,5 @@
 -- Rows and generators of the image in a trail with a start, and the numbers of entries of a trail
--- or behind one, beside near ones that are none: each example would fail if a definition were
+-- or after one, beside near ones that are none: each example would fail if a definition were
 -- wrong.
 use Rattle.std.specs.Prelude.{◌||◌, pos, negsuc, codes, Bool, List, [], ◌∷◌, ◌++◌, Some, refl}
 use Rattle.exact_field.specs.Rational.{ℚ, fraction}
@@ -28,7 +28,7 @@ quarter = fraction (pos 1) 4
 abbrev pub three_quarters : ℚ
 three_quarters = fraction (pos 3) 4
 
--- behind (y_1 + y_2) / 2 ≥ 0 the cuts y_2 ≥ 0, y_1 / 4 + 3 y_2 / 4 ≥ 3 and y_2 ≥ 4; the first two
+-- after (y_1 + y_2) / 2 ≥ 0 the cuts y_2 ≥ 0, y_1 / 4 + 3 y_2 / 4 ≥ 3 and y_2 ≥ 4; the first two
 -- meet in (0, 0), and the third one comes into use
 abbrev pub chain : List Entry
 chain =

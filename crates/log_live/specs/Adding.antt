@@ -110,7 +110,7 @@ abbrev pub Matches : List LogPair → ℕ → Bool → ℕ → List LogPair → 
 Matches pairs old result new block = (more : List LogPair) → same_pairs (drop old pairs) (block ++ more) ≡ (if result then same_pairs (drop new pairs) more else false)
 
 -- ---- the whole entry
--- the events of an `add` entry behind the test that its number is that of a cut that is not in use
+-- the events of an `add` entry after the test that its number is that of a cut that is not in use
 abbrev pub added_events : ℕ → State → ℕ → List LogPair → List Event
 added_events q s cut pairs =
     flat_map (value_steps q (cut_at s.cuts cut)) s.list.live

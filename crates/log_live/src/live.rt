@@ -17,20 +17,20 @@ ghost use Rattle.log_live.specs.Adding.{IsAddition, IsChange, added_events, kept
 ghost use Rattle.log_live.specs.Hinting.{PassesAddition, hinted_added_events};
 ghost use Rattle.log_live.specs.Live.{HasPreimages, IsListOf, IsOpenAt, StandsFor};
 
-use crate::adding::{keep_all, new_generators, number_behind};
+use crate::adding::{keep_all, new_generators, number_after};
 use crate::asking::{hints_told, test_hints, test_pairs};
 use crate::generator::{Generator, find};
 use crate::starting::{start_direction, start_point};
 use crate::values::values_at;
 use deriv_log::LogPair;
+use entry_checks::Steps;
 use frac128::{Frac, Sparse};
 use log_rules::Stop;
-use log_tests::Steps;
 use src_sink::{Items, NoMemory};
 use std::alloc::Global;
 use std::mem::replace;
 
-/// The live generators of a log behind some of its entries, each with the rows in use that are
+/// The live generators of a log after some of its entries, each with the rows in use that are
 /// tight at it and the pre-image that it has.
 #[derive(Debug, Drop)]
 pub struct Live {
@@ -105,7 +105,7 @@ impl Live {
         })
     }
 
-    /// What an `add` entry changes, by its events behind the test of its number.
+    /// What an `add` entry changes, by its events after the test of its number.
     fn change_at(
         &self,
         alloc: Global,
@@ -136,11 +136,11 @@ impl Live {
             pairs,
             first_new,
         )?;
-        let next = number_behind(first_new, pairs.len())?;
+        let next = number_after(first_new, pairs.len())?;
         Ok(Change { values, made, next })
     }
 
-    /// What an `addh` entry changes, by its events behind the test of its number.
+    /// What an `addh` entry changes, by its events after the test of its number.
     fn change_hinted(
         &self,
         alloc: Global,
@@ -157,7 +157,7 @@ impl Live {
             (steps (hinted_added_events file.objs s cut pairs.now hints.now))
             (IsChange file.objs s cut pairs.now self.now) result }
     {
-        let behind_all = self.next;
+        let after_all = self.next;
         let generators = self.generators.as_slice();
         let mut counter = Steps { taken: 0 };
         let values = values_at(alloc, &mut counter, w, gamma, generators)?;
@@ -170,9 +170,9 @@ impl Live {
             generators,
             at_row,
             pairs,
-            behind_all,
+            after_all,
         )?;
-        let next = number_behind(behind_all, pairs.len())?;
+        let next = number_after(after_all, pairs.len())?;
         Ok(Change { values, made, next })
     }
 
@@ -196,9 +196,9 @@ impl Live {
         Ok(())
     }
 
-    /// The events of an `add` entry behind the test of its number, for the cut `w.y >= gamma`: its
+    /// The events of an `add` entry after the test of its number, for the cut `w.y >= gamma`: its
     /// values at the live generators, the test of the pairs, and the new generators. Those at which
-    /// it is negative are dropped, and the others keep their pre-images. Behind an error the value
+    /// it is negative are dropped, and the others keep their pre-images. After an error the value
     /// is of no use. The cost is at the worst that of the opposite pairs times the generators times
     /// the words of a tight set; most pairs are decided by counts of tight rows.
     pub fn add(
@@ -226,7 +226,7 @@ impl Live {
         }
     }
 
-    /// The events of an `addh` entry behind the test of its number: as `add`, but each opposite
+    /// The events of an `addh` entry after the test of its number: as `add`, but each opposite
     /// pair that is not listed has a hint, a third live generator that covers it, and is not
     /// searched for.
     pub fn add_hinted(

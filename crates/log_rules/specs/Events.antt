@@ -291,7 +291,7 @@ abbrev pub whole_events : Problem → List ℚ → List Spot → List Spot → L
 whole_events file c x ray m = in_feasible file x ++ in_recession file ray ++ above file (map neg_ℚ c) ray m
 
 -- d goes on the reduced echelon form of the lines before it: its first entry that is not 0 is 1 and
--- stands behind their places, and they are 0 at its place
+-- stands after their places, and they are 0 at its place
 abbrev pub goes_on : List (List ℚ) → List ℚ → Bool
 goes_on ls d =
     same_ℚ (leading d) one_ℚ
@@ -343,7 +343,7 @@ end_events file before s kind.Solved =
 abbrev pub never : List Event
 never = test rule.Order false ∷ []
 
--- the tests and steps of an entry behind the entries before it, after the test of its order
+-- the tests and steps of an entry after the entries before it, after the test of its order
 abbrev pub kind_events : Problem → List Entry → State → Entry → List Event
 kind_events file before s (Version n) = test rule.Version (n == 1) ∷ []
 kind_events file before s (Duality c weights picks inverse) = duality_events file c weights picks inverse
@@ -363,7 +363,7 @@ kind_events file before s (PointOf _ _ _) = never
 kind_events file before s (RayOf _ _ _) = never
 kind_events file before s (AddHints _ _ _) = never
 
--- the tests and steps of an entry behind the entries before it
+-- the tests and steps of an entry after the entries before it
 abbrev pub events : Problem → List Entry → Entry → List Event
 events file before e = test rule.Order (in_order before (order.kind e)) ∷ kind_events file before (state file.objs before) e
 
@@ -373,7 +373,7 @@ pub record Failing : Type 0 where
   pub entry : ℕ
   pub failure : Failure
 
--- the first failure of the entries, behind those before them
+-- the first failure of the entries, after those before them
 abbrev pub first_failing : (ℚ → Bool) → Problem → List Entry → List Entry → Option Failing
 first_failing holds file before [] = None
 first_failing holds file before (e ∷ entries) =

@@ -129,7 +129,7 @@ abbrev pub solved_end : List Entry
 solved_end = entry.End kind.Solved ∷ []
 
 -- the log as it should be; the bound of a cut changed; a pair left out; no pre-image of a
--- direction; a facet not named; an `add` behind a facet
+-- direction; a facet not named; an `add` after a facet
 pub record SmallLogs : Type 0 where
   pub solved : Passes small (small_front ++ last_ray ∷ entry.Facet 1 ∷ entry.Facet 2 ∷ entry.Facet 3 ∷ solved_end)
   pub bound : Fails small (small_cuts (n 4) ++ solved_end) (6 ∷ 0 ∷ 10 ∷ [])
@@ -350,8 +350,8 @@ empty = record {
 abbrev pub farkas_log : ℚ → List Entry
 farkas_log u = entry.Version 1 ∷ entry.Farkas (at 1 (n 1) ∷ at 2 u ∷ []) ∷ entry.End kind.Infeasible ∷ []
 
--- a line, behind a cut and before it, and a start whose direction is not reduced, or whose point is not;
--- a line twice, one behind the start, and the end that no log has. A row that comes into use beside a
+-- a line, after a cut and before it, and a start whose direction is not reduced, or whose point is not;
+-- a line twice, one after the start, and the end that no log has. A row that comes into use beside a
 -- line, and its one pair left out. Two lines, of which the first is not 0 at the place of the second,
 -- and whose places fall
 pub record LineLogs : Type 0 where

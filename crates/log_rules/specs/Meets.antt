@@ -1,4 +1,4 @@
--- What an entry must meet behind the entries before it: rule by rule, over exact numbers, in no
+-- What an entry must meet after the entries before it: rule by rule, over exact numbers, in no
 -- order.
 use Rattle.polyhedra.specs.DoubleDescription.{leading}
 use Rattle.lineality.specs.Lines.{leading_place}
@@ -131,7 +131,7 @@ MeetsKind file before s (PointOf _ _ _) = ⊥
 MeetsKind file before s (RayOf _ _ _) = ⊥
 MeetsKind file before s (AddHints _ _ _) = ⊥
 
--- the entry meets each of its rules behind the entries before it
+-- the entry meets each of its rules after the entries before it
 pub record Meets (file : Problem) (before : List Entry) (e : Entry) : Type 0 where
   pub order : IsTrue (in_order before (order.kind e))
   pub rules : MeetsKind file before (state file.objs before) e

@@ -16,7 +16,7 @@ ghost use Rattle.log_rules.specs.Meets.{Meets};
 ghost use Rattle.log_rules.specs.Order as order;
 ghost use Rattle.log_rules.specs.Runs.{Runs, steps};
 ghost use Rattle.log_rules.specs.declared.stop.Stop.TheVariants as stopped;
-ghost use Rattle.vlp_matrices.specs.Sheets.{IsSheetOf};
+ghost use Rattle.vlp_matrices.specs.Matrices.{AreMatricesOf};
 ghost use Rattle.log_live.specs.Live.{IsOpenAt, live_of};
 ghost use Rattle.log_live.specs.Tight.{AreTight, is_accounted_at};
 ghost use Rattle.log_live.specs.declared.generator.Generator.{Generator};
@@ -28,16 +28,16 @@ ghost use Rattle.log_solved.specs.Uses.{AreUses};
 use crate::shown::{shows_point, shows_ray};
 use crate::uses::Uses;
 use deriv_log::LogPair;
+use entry_checks::{Cut, check_start, pass};
 use frac128::{Frac, Spot, Vector};
 use log_live::{Live, TightSets};
 use log_rules::{Rule, Stop};
-use log_tests::{Cut, check_start, pass};
 use src_sink::{Items, MOST_ITEMS, NoMemory};
 use std::alloc::Global;
-use vlp_matrices::Sheet;
+use vlp_matrices::Matrices;
 use vlp_reader::Problem;
 
-/// What stands of a solved log behind some of its entries. Behind an error of a call that changes it the value is of no
+/// What stands of a solved log after some of its entries. After an error of a call that changes it the value is of no
 /// use: the check of the log has ended.
 #[derive(Debug, Drop)]
 pub struct Solving {
@@ -49,7 +49,7 @@ pub struct Solving {
     pub named: Items<u32>,
     /// Their places among the rows in use.
     pub facets: Items<u32>,
-    /// The sets of tight generators by rows, from the first entry on that compares them. Behind it no row comes into use.
+    /// The sets of tight generators by rows, from the first entry on that compares them. After it no row comes into use.
     pub sets: Option<TightSets>,
 }
 
@@ -148,7 +148,7 @@ impl Solving {
         Ok(())
     }
 
-    /// The events of a `start` entry behind these lines.
+    /// The events of a `start` entry after these lines.
     pub fn start(
         &mut self,
         alloc: Global,
@@ -220,7 +220,7 @@ impl Solving {
         }
     }
 
-    /// The events of an `addh` entry. What stands behind it is what stands behind an `add` of its pairs.
+    /// The events of an `addh` entry. What stands after it is what stands after an `add` of its pairs.
     pub fn add_hinted(
         &mut self,
         alloc: Global,
@@ -294,12 +294,12 @@ impl Solving {
         &mut self,
         alloc: Global,
         problem: &Problem,
-        sheet: &Sheet,
+        matrices: &Matrices,
         number: u32,
         x: &[Spot],
         m: &[Spot],
     ) -> Result<(), Stop>
-        requires sheet { IsSheetOf problem.now sheet.now }
+        requires matrices { AreMatricesOf problem.now matrices.now }
         requires preimage { IsSparse x.now }
         requires multipliers { IsSparse m.now }
         requires standing { (before : List Entry)
@@ -315,7 +315,7 @@ impl Solving {
             Some(place) => {
                 let vector = self.live.generators[place].vector.as_slice();
                 let y = &vector[..problem.objs as usize];
-                shows_point(alloc, problem, sheet, y, x, m)?;
+                shows_point(alloc, problem, matrices, y, x, m)?;
                 self.give(alloc, place, x)
             }
             None => Err(Stop::Wrong(Rule::Index)),
@@ -327,12 +327,12 @@ impl Solving {
         &mut self,
         alloc: Global,
         problem: &Problem,
-        sheet: &Sheet,
+        matrices: &Matrices,
         number: u32,
         x: &[Spot],
         m: &[Spot],
     ) -> Result<(), Stop>
-        requires sheet { IsSheetOf problem.now sheet.now }
+        requires matrices { AreMatricesOf problem.now matrices.now }
         requires preimage { IsSparse x.now }
         requires multipliers { IsSparse m.now }
         requires standing { (before : List Entry)
@@ -349,7 +349,7 @@ impl Solving {
             Some(place) => {
                 let vector = self.live.generators[place].vector.as_slice();
                 let y = &vector[..problem.objs as usize];
-                shows_ray(alloc, problem, sheet, y, x, m)?;
+                shows_ray(alloc, problem, matrices, y, x, m)?;
                 self.give(alloc, place, x)
             }
             None => Err(Stop::Wrong(Rule::Index)),

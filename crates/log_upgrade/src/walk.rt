@@ -160,7 +160,7 @@ fn in_upgrade<'a>(
     }
 }
 
-/// What is known behind some entries of a log.
+/// What is known after some entries of a log.
 #[derive(Drop)]
 pub(crate) struct Upgrader<'a> {
     checker: Checker,
@@ -228,7 +228,7 @@ impl<'a> Upgrader<'a> {
         upgraded.put(alloc, entry, upgrade)
     }
 
-    /// Puts the lines of what stands in the place of the next entry behind a text.
+    /// Puts the lines of what stands in the place of the next entry after a text.
     fn print_next(
         &mut self,
         alloc: Global,
@@ -289,7 +289,7 @@ impl<'a> Upgrader<'a> {
     }
 }
 
-/// Puts the line of an entry behind a text, and lets the entry go.
+/// Puts the line of an entry after a text, and lets the entry go.
 fn print_made(entry: Entry, text: &mut Bytes) -> Result<(), NoMemory>
     ensures { OnOk result (text.new ≡ text.old ++ line_text (entry_words entry)) }
 {
@@ -316,7 +316,7 @@ impl Upgraded {
         }
     }
 
-    /// Puts its lines behind a text.
+    /// Puts its lines after a text.
     pub(crate) fn print(self, entry: &Entry, text: &mut Bytes) -> Result<(), NoMemory>
         ensures { OnOk result (text.new ≡ text.old ++ log_text (in_place entry.now self)) }
     {

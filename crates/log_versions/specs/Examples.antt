@@ -145,12 +145,12 @@ half_line_start = entry.Start (1 ∷ []) (n 1 ∷ []) (n 1 ∷ [])
 abbrev pub shared_front : List Entry
 shared_front = entry.Version 2 ∷ one_duality ∷ unit ∷ shared_cut 1 ∷ []
 
--- from the start on, with these pre-images, and these entries behind the facet
+-- from the start on, with these pre-images, and these entries after the facet
 abbrev pub half_line_end : Entry → Entry → List Entry → List Entry
 half_line_end point ray more =
     half_line_start ∷ point ∷ ray ∷ entry.Facet 1 ∷ more ++ solved_end
 
--- the upgrade of a log with a vector that stands in two entries; a vector shared behind a facet and
+-- the upgrade of a log with a vector that stands in two entries; a vector shared after a facet and
 -- never used, and one shared before the duality vector; a cut, a point and a direction by a vector
 -- that is not there, and a point by number 0
 pub record SharedVectors : Type 0 where

@@ -17,7 +17,7 @@ shares entries = filter_map share_in entries
 abbrev pub shared : List (List Spot) → ℕ → List Spot
 shared vectors k = slice_index_or vectors (k - 1) []
 
--- an entry as it stands in the plain log, behind so many shared vectors; none where it only shares
+-- an entry as it stands in the plain log, after so many shared vectors; none where it only shares
 -- one
 abbrev pub plain_entry : List (List Spot) → Entry → List Entry
 plain_entry vectors (Version n) = Version (if n == 2 then 1 else n) ∷ []

@@ -59,7 +59,7 @@ with_hints q before (Add cut pairs) =
     AddHints cut pairs (least_hints (rows_in_use q s) s.list.live (cut_row s cut) pairs)
 with_hints q before e = e
 
--- an entry of the log, behind those before it and so many shared vectors
+-- an entry of the log, after those before it and so many shared vectors
 abbrev pub upgraded_entry : ℕ → List Entry → List Entry → List (List Spot) → Entry → List Entry
 upgraded_entry q all before vectors e =
     elim (body e) [
@@ -67,7 +67,7 @@ upgraded_entry q all before vectors e =
       | None ↦ with_hints q before e ∷ []
     ]
 
--- the vectors that are shared behind one more entry
+-- the vectors that are shared after one more entry
 abbrev pub more_shared : List Entry → List (List Spot) → Entry → List (List Spot)
 more_shared all vectors e =
     elim (body e) [

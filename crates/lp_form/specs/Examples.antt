@@ -85,7 +85,7 @@ v = numbers (codes "4 5")
 abbrev pub w : List ℚ
 w = numbers (codes "7 9")
 
--- ---- the programs: u has four entries, w two and two, and the rest stands behind
+-- ---- the programs: u has four entries, w two and two, and the rest stands after them
 pub record SideExamples : Type 0 where
   pub feasible : named_system plain [] Feasible ≡ written (codes "2 1 1 0" ∷ codes "1 2 0 1" ∷ []) (codes "0 0") (codes "6 6 0 0")
   pub benson : named_system plain c (Benson v true)

@@ -10,7 +10,7 @@ use frac128::Frac;
 use lin_rows::cells::Cell;
 use src_sink::{Items, NoMemory};
 use std::alloc::Global;
-use vlp_matrices::Sheet;
+use vlp_matrices::Matrices;
 use vlp_reader::Problem;
 
 /// An entry that is not 0, with its place, from 1. In a list of these the places rise.
@@ -89,9 +89,13 @@ impl<F: Field> Data<F> {
         ensures refused { IfErr result (RefusesNumber F.holds problem.now) }
     {
         test_numbers::<F>(alloc, problem)?;
-        let sheet = Sheet::of(alloc, problem)?;
-        let sides = sides_in(alloc, sheet.sides.rows.as_slice(), sheet.bounds.as_slice())?;
-        let p = lines_in(alloc, sheet.objectives.rows.as_slice())?;
+        let matrices = Matrices::of(alloc, problem)?;
+        let sides = sides_in(
+            alloc,
+            matrices.sides.rows.as_slice(),
+            matrices.bounds.as_slice(),
+        )?;
+        let p = lines_in(alloc, matrices.objectives.rows.as_slice())?;
         let cone = cone_in(alloc, &problem.cone)?;
         let duality = duality_in(alloc, &problem.duality)?;
         Ok(Data {

@@ -45,7 +45,7 @@ pub fn difference<F: Field>(alloc: Global, plus: &[F], negative: &[F]) -> Result
     Ok(w)
 }
 
-/// What stands behind w, where the cone is in dual form.
+/// What stands after w, where the cone is in dual form.
 fn behind<F: Field>(alloc: Global, cone: &ConeOf<F>, list: &[F]) -> Result<Items<F>, NoMemory>
     ensures { IfOk result
         (λ v. map F.value v ≡ kept_behind (cone_of F.value cone.now) (map F.value list.now)) }

@@ -1,4 +1,4 @@
-//! The end of the log of an image, behind its named facets.
+//! The end of the log of an image, after its named facets.
 ghost use Rattle.std.specs.Prelude.{◌≡◌, ◌≢◌, ◌++◌, [], All, map, OnOk};
 ghost use Rattle.deriv_log.specs.declared.entry.Entry.TheVariants as entry_of;
 ghost use Rattle.log_rules.specs.Live.{preimages};

@@ -90,7 +90,7 @@ fn front_of<F: Field>(
     fractions(alloc, &entries[..places.len()])
 }
 
-/// Those of the generators from 2 on, one behind the other.
+/// Those of the generators from 2 on, one after the other.
 fn directions_of<F: Field>(
     alloc: Global,
     places: &[bool],

@@ -58,7 +58,7 @@ fn push_add(alloc: Global, trail: &mut Entries, cut: u32, pairs: &[Pair]) -> Res
     trail.push(Entry::Add { cut, pairs })
 }
 
-/// Brings one more cut into use, where the double description has no entries at the places of lines. After an overflow it stands behind the others and is not in use. After want of memory the double
+/// Brings one more cut into use, where the double description has no entries at the places of lines. After an overflow it stands after the others and is not in use. After want of memory the double
 /// description may have its row where the trail does not have it in use.
 pub fn take<F: Field>(
     alloc: Global,

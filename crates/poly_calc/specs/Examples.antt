@@ -25,7 +25,7 @@ abbrev pub at_least_zero : Inequality
 at_least_zero = record { normal = one_ℚ ∷ zero_ℚ ∷ minus_one ∷ []; bound = zero_ℚ }
 
 -- ---- parts of matrices
--- a cell moved two rows and one column; a unit matrix behind one row; the negatives of the cells in
+-- a cell moved two rows and one column; a unit matrix after one row; the negatives of the cells in
 -- row 1, two columns further on; the entries of (1, 0, -1) from column 3 on; the first row of
 -- z - x - y in the plane; the row of a side in columns 2 to 4, with its multiplier in column 6, and
 -- that of a side with the bound 0; and, where z, x and y have one entry each, the row of k + l and the

@@ -20,7 +20,7 @@ use Rattle.vlp_reader.specs.declared.problem.Problem.{Problem}
 abbrev pub moved : ℕ → ℕ → List Cell → List Cell
 moved rows cols cells = map (λ c. cell (c.row + rows) (c.col + cols) c.value) cells
 
--- a unit matrix of n rows, behind so many rows
+-- a unit matrix of n rows, after so many rows
 abbrev pub unit_cells : ℕ → ℕ → List Cell
 unit_cells rows n = map (λ j. cell (rows + j) j one_ℚ) (numbers_from 1 n)
 

@@ -37,7 +37,7 @@ fn front(alloc: Global, k: u32, vector: &Vector) -> Result<Vector, NoMemory>
     Ok(entries)
 }
 
-/// A point or direction without the entries behind the first k.
+/// A point or direction without the entries after the first k.
 pub(crate) fn short_gen(alloc: Global, k: u32, member: &Gen) -> Result<Gen, NoMemory>
     ensures { IfOk result (λ short. short ≡ shortened k member.now) }
 {
@@ -47,7 +47,7 @@ pub(crate) fn short_gen(alloc: Global, k: u32, member: &Gen) -> Result<Gen, NoMe
     })
 }
 
-/// A line without the entries behind the first k.
+/// A line without the entries after the first k.
 fn short_line(alloc: Global, k: u32, line: &LineGen) -> Result<LineGen, NoMemory>
     ensures { IfOk result (λ short. short ≡ shortened_line k line.now) }
 {
@@ -70,7 +70,7 @@ fn same_facet(alloc: Global, facet: &Facet) -> Result<Facet, NoMemory>
     })
 }
 
-/// All points without the entries behind the first k.
+/// All points without the entries after the first k.
 pub(crate) fn short_gens(alloc: Global, k: u32, members: &[Gen]) -> Result<Items<Gen>, NoMemory>
     ensures { IfOk result (λ short. short ≡ map (shortened k) members.now) }
 {
@@ -81,7 +81,7 @@ pub(crate) fn short_gens(alloc: Global, k: u32, members: &[Gen]) -> Result<Items
     Ok(short)
 }
 
-/// All lines without the entries behind the first k.
+/// All lines without the entries after the first k.
 pub(crate) fn short_lines(
     alloc: Global,
     k: u32,

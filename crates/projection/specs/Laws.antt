@@ -67,7 +67,7 @@ LevelDirections = (k : ℕ) (file made : Problem) (c : List ℚ)
     (d x : List ℚ) → Contains directions d → IsDirectionPreimage made d x →
     IsLevel d ↔ (Begins k x (take k d) × (take k d ≡ zeros k → ⊥))
 
--- vectors without the entries behind the first k, and those whose entries sum to 0
+-- vectors without the entries after the first k, and those whose entries sum to 0
 abbrev pub fronts : ℕ → List (List ℚ) → List (List ℚ)
 fronts k vs = map (take k) vs
 

@@ -15,7 +15,7 @@ use Rattle.log_rules.specs.Events.Event.{test, step}
 use Rattle.log_rules.specs.Live.{value, find, contains, required_pairs}
 use Rattle.word_lines.specs.declared.part.LogPair.{LogPair}
 use Rattle.log_rules.specs.declared.rule.Rule.TheVariants as rule
-use Rattle.log_tests.specs.Parts.{corner_events}
+use Rattle.entry_checks.specs.Parts.{corner_events}
 use Rattle.rep_conv.specs.Rows.{text_rows, row_at, has_rows}
 use Rattle.rep_conv.specs.Live.{State, state, rows_in_use}
 use Rattle.rep_conv.specs.Meets.{in_order}
@@ -80,7 +80,7 @@ pair_of row live pair =
       | None ↦ []
     ]
 
--- behind the test of the row's number
+-- after the test of the row's number
 abbrev pub added_events : List (List ℚ) → List Numbered → List ℚ → List LogPair → List Event
 added_events rows live row pairs =
     flat_map (λ g. dot_steps row g.vector) live

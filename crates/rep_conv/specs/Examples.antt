@@ -304,7 +304,7 @@ pub record AddedLogs : Type 0 where
 
 -- lines in falling order, one too few, one at which a row is not 0, and one that does not begin with
 -- 1; a generator that is not reduced, not normed, and of the other sign; another version, no `conv`,
--- no `start`, a line behind the start, and a line where there are no rows; and a product that is not
+-- no `start`, a line after the start, and a line where there are no rows; and a product that is not
 -- held
 pub record StartedLogs : Type 0 where
   pub lines_fall : Fails plane_point

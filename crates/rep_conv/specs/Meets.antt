@@ -1,4 +1,4 @@
--- What an entry of a conversion must meet behind the entries before it: rule by rule, over exact
+-- What an entry of a conversion must meet after the entries before it: rule by rule, over exact
 -- numbers, in no order.
 use Rattle.std.specs.Prelude.{◌≡◌, ◌≢◌, ℕ, suc, ◌+◌, ◌*◌, ◌<◌, ◌==◌, Bool, true, false, not, ◌&&◌, IsTrue, List, [], ◌∷◌, ◌++◌, map, length, All, AllPairs, Contains, slice_index_or}
 use Rattle.std.specs.List.{list_any}
@@ -25,7 +25,7 @@ is_start _ = false
 abbrev pub has_start : List ConvEntry → Bool
 has_start before = list_any is_start before
 
--- an entry that stands behind a `start` alone
+-- an entry that stands after a `start` alone
 abbrev pub needs_start : ConvEntry → Bool
 needs_start (Add _ _) = true
 needs_start _ = false
@@ -88,7 +88,7 @@ pub record Meets (rep : Rep) (before : List ConvEntry) (e : ConvEntry) : Type 0 
   pub order : IsTrue (in_order (has_rows rep) before e)
   pub rules : MeetsKind rep (state rep before) e
 
--- each entry meets its rules behind those before it
+-- each entry meets its rules after those before it
 abbrev pub AllMeet : Rep → List ConvEntry → Type 0
 AllMeet rep entries = (before : List ConvEntry) (e : ConvEntry) (after : List ConvEntry) →
     entries ≡ before ++ e ∷ after → Meets rep before e

@@ -16,14 +16,14 @@ ghost use Rattle.rep_conv.specs.Adding.{AreAtRow, IsChange, between_steps, quoti
 ghost use Rattle.rep_conv.specs.Events.{added_events, pair_of};
 
 use crate::start::norming;
+use entry_checks::{Steps, magnitude, pass};
 use exact_field::Field;
 use frac128::{Frac, Vector};
 use log_live::{
     Generator, append, append_generator, common_and_next, divided, has_pairs, meeting, no_rows,
-    number_behind, place_of,
+    number_after, place_of,
 };
 use log_rules::{Rule, Stop};
-use log_tests::{Steps, magnitude, pass};
 use src_sink::{Items, NoMemory};
 use std::alloc::Global;
 use word_lines::LogPair;
@@ -190,14 +190,14 @@ fn new_generators(
 {
     let mut made = Vec::new(alloc);
     for i in 0..pairs.len() {
-        let number = number_behind(next, i)?;
+        let number = number_after(next, i)?;
         let generator = new_generator(alloc, counter, generators, values, pairs[i], number)?;
         append_generator(&mut made, generator)?;
     }
     Ok(made)
 }
 
-/// What an `add` entry changes, by its events behind the test of its number: the values of the row,
+/// What an `add` entry changes, by its events after the test of its number: the values of the row,
 /// the test of the pairs, and the new generators. The cost is at the worst that of the opposite
 /// pairs times the generators times the words of a tight set.
 pub fn change_at(
@@ -219,10 +219,10 @@ pub fn change_at(
     let at_row = values.as_slice();
     test_pairs(alloc, generators, at_row, pairs)?;
     let made = new_generators(alloc, &mut counter, generators, at_row, pairs, next)?;
-    let behind = number_behind(next, pairs.len())?;
+    let after = number_after(next, pairs.len())?;
     Ok(Change {
         values,
         made,
-        next: behind,
+        next: after,
     })
 }

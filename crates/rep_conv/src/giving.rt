@@ -1,4 +1,4 @@
-//! The other representation, from what stands behind the log of a conversion.
+//! The other representation, from what stands after the log of a conversion.
 ghost use Rattle.std.specs.Prelude.{◌≡◌, ◌≢◌, ◌-◌, ◌<◌, ◌++◌, ℕ, List, All, AllPairs, IfOk, OnOk, length, map, take};
 ghost use Rattle.std.specs.Cmp.Lexicographic.{slice_cmp};
 ghost use Rattle.std.specs.List.{flat_map, list_all};
@@ -9,7 +9,7 @@ ghost use Rattle.log_rules.specs.Proves.{IsSorting};
 ghost use Rattle.rep_conv.specs.Converted.{Gives, GivesGenerators, GivesInequalities, GivesRows, as_rows, at_height, nothing_meets, with_normal};
 ghost use Rattle.rep_conv.specs.Giving.{IsGiven, front_at, side_of};
 ghost use Rattle.rep_conv.specs.Live.{State, state};
-ghost use Rattle.rep_conv.specs.Progress.{StandsBehind};
+ghost use Rattle.rep_conv.specs.Progress.{StandsAfter};
 ghost use Rattle.rep_conv.specs.Rows.{has_rows};
 ghost use Rattle.rep_text.specs.declared.conv.ConvEntry.{ConvEntry};
 
@@ -233,7 +233,7 @@ fn other_rows(
 }
 
 /// The other representation, by whether there are rows, and by the lines and the vectors of the live
-/// generators that stand behind all entries. The cost is that of two sorts.
+/// generators that stand after all entries. The cost is that of two sorts.
 pub fn other(
     alloc: Global,
     rep: &Rep,
@@ -267,10 +267,10 @@ fn vectors_of(alloc: Global, generators: &[Generator]) -> Result<Vectors, NoMemo
     Ok(list)
 }
 
-/// The other representation, by what stands behind all entries.
-pub fn other_behind(alloc: Global, rep: &Rep, standing: &Standing) -> Result<Rep, NoMemory>
-    requires { (entries : List ConvEntry) × StandsBehind rep.now entries standing.now }
-    ensures { (entries : List ConvEntry) → StandsBehind rep.now entries standing.now
+/// The other representation, by what stands after all entries.
+pub fn other_after(alloc: Global, rep: &Rep, standing: &Standing) -> Result<Rep, NoMemory>
+    requires { (entries : List ConvEntry) × StandsAfter rep.now entries standing.now }
+    ensures { (entries : List ConvEntry) → StandsAfter rep.now entries standing.now
         → IfOk result (Gives rep.now entries) }
 {
     let some = standing.rows.len() != 0;

@@ -7,9 +7,9 @@ ghost use Rattle.log_rules.specs.Runs.{Runs, steps};
 ghost use Rattle.rep_conv.specs.Events.{line_events, tight_events};
 ghost use Rattle.rep_conv.specs.Rows.{text_rows};
 
+use entry_checks::{Steps, goes_on, pass};
 use frac128::{Frac, Vector, is_zero};
 use log_rules::{Rule, Stop};
-use log_tests::{Steps, goes_on, pass};
 use rep_text::Rep;
 
 /// Two tests, one after the other.
@@ -47,7 +47,7 @@ fn are_tight(counter: &mut Steps, d: &[Frac], rows: &[Vector]) -> Result<(), Sto
     Ok(())
 }
 
-/// The tests of a `line` entry behind these lines: `d` goes on their reduced echelon form, and each
+/// The tests of a `line` entry after these lines: `d` goes on their reduced echelon form, and each
 /// row is 0 at it. It costs the entries of the rows and of the lines.
 pub fn check_line(rep: &Rep, rows: &[Vector], lines: &[Vector], d: &[Frac]) -> Result<(), Stop>
     requires rows { rows.now ≡ text_rows rep.now }

@@ -1,4 +1,4 @@
-//! What stands behind some entries of a conversion.
+//! What stands after some entries of a conversion.
 ghost use Rattle.std.specs.Prelude.{◌≡◌, ◌≤◌, ◌<◌, ◌++◌, ◌∷◌, ◌&&◌, ◌||◌, [], ℕ, List, Bool, not, nat_lt, true, slice_set, IfOk, OnOk, length};
 ghost use Rattle.exact_field.specs.Rational.{ℚ};
 ghost use Rattle.std.specs.List.{list_all, range_with_len};
@@ -12,7 +12,7 @@ ghost use Rattle.rep_conv.specs.Events.{add_events, all_used as are_all_used, ev
 ghost use Rattle.rep_conv.specs.Live.{State, after};
 ghost use Rattle.rep_conv.specs.Meets.{MeetsStart, has_start, in_order as is_in_order, is_start, needs_start};
 ghost use Rattle.rep_conv.specs.Rows.{text_rows as rows_of};
-ghost use Rattle.rep_conv.specs.Progress.{Holds, Keeps, StandsBehind};
+ghost use Rattle.rep_conv.specs.Progress.{Holds, Keeps, StandsAfter};
 ghost use Rattle.rep_text.specs.declared.conv.ConvEntry.{ConvEntry};
 ghost use Rattle.rep_text.specs.declared.conv.ConvEntry.TheVariants.{Add, Line, Start};
 
@@ -21,18 +21,18 @@ use crate::firsts::{copied, first_generators, set_of};
 use crate::line::check_line;
 use crate::rows::text_rows;
 use crate::start::check_start;
+use entry_checks::pass;
 use frac128::{Frac, Vectors};
 use incid_sets::Marks;
 use log_live::{Generator, keep_all};
 use log_rules::{Rule, Stop};
-use log_tests::pass;
 use rep_text::{ConvEntry, Rep};
 use src_sink::{Items, NoMemory};
 use std::alloc::Global;
 use std::mem::replace;
 use word_lines::LogPair;
 
-/// What stands behind some entries of a conversion.
+/// What stands after some entries of a conversion.
 #[derive(Debug, Drop)]
 pub struct Standing {
     /// The rows of the representation.
@@ -48,7 +48,7 @@ pub struct Standing {
     pub next: u32,
 }
 
-/// Whether an entry may stand behind so many, where there are rows or not, and was a `start` or not.
+/// Whether an entry may stand after so many, where there are rows or not, and was a `start` or not.
 fn in_order(some: bool, number: usize, started: bool, entry: &ConvEntry) -> bool
     ensures { (before : List ConvEntry) → length before ≡ number → has_start before ≡ started
         → result ≡ is_in_order some before entry.now }
@@ -71,7 +71,7 @@ fn has_all(marks: &Marks) -> bool
 impl Standing {
     /// What stands before all entries.
     pub fn new(alloc: Global, rep: &Rep) -> Result<Standing, NoMemory>
-        ensures { IfOk result (StandsBehind rep.now []) }
+        ensures { IfOk result (StandsAfter rep.now []) }
     {
         let rows = text_rows(alloc, rep)?;
         if rows.len() > 4294967294 {
@@ -97,7 +97,7 @@ impl Standing {
         Ok(())
     }
 
-    /// A `line` entry behind the test of its order.
+    /// A `line` entry after the test of its order.
     fn take_line(&mut self, alloc: Global, rep: &Rep, d: &[Frac]) -> Result<(), Stop>
         requires { (s : State) × Keeps rep.now s self.old }
         ensures { (s : State) → Keeps rep.now s self.old
@@ -136,7 +136,7 @@ impl Standing {
         Ok(())
     }
 
-    /// A `start` entry behind the test of its order.
+    /// A `start` entry after the test of its order.
     fn take_start(
         &mut self,
         alloc: Global,
@@ -197,7 +197,7 @@ impl Standing {
         Ok(())
     }
 
-    /// An `add` entry behind the test of its order.
+    /// An `add` entry after the test of its order.
     fn take_add(
         &mut self,
         alloc: Global,
@@ -235,7 +235,7 @@ impl Standing {
         has_all(&self.in_use)
     }
 
-    /// An entry behind the test of its order.
+    /// An entry after the test of its order.
     fn take_kind(&mut self, alloc: Global, rep: &Rep, entry: &ConvEntry) -> Result<(), Stop>
         requires { (s : State) × Holds rep.now s self.old
             × (needs_start entry.now ≡ true → self.old.started ≡ true) }
@@ -257,7 +257,7 @@ impl Standing {
         }
     }
 
-    /// Goes through an entry behind so many.
+    /// Goes through an entry after so many.
     pub fn take(
         &mut self,
         alloc: Global,
@@ -265,13 +265,13 @@ impl Standing {
         number: usize,
         entry: &ConvEntry,
     ) -> Result<(), Stop>
-        requires { (before : List ConvEntry) × StandsBehind rep.now before self.old
+        requires { (before : List ConvEntry) × StandsAfter rep.now before self.old
             × (length before ≡ number) }
-        ensures { (before : List ConvEntry) → StandsBehind rep.now before self.old
+        ensures { (before : List ConvEntry) → StandsAfter rep.now before self.old
             → length before ≡ number
             → Runs is_held (events rep.now before entry.now) 0
             (steps (events rep.now before entry.now))
-            (λ _. StandsBehind rep.now (before ++ entry.now ∷ []) self.new) result }
+            (λ _. StandsAfter rep.now (before ++ entry.now ∷ []) self.new) result }
     {
         pass(
             Rule::Order,

@@ -10,9 +10,9 @@ ghost use Rattle.rep_conv.specs.Rows.{text_rows};
 ghost use Rattle.upper_image.specs.Spots.{pieces};
 
 use crate::line::pass_both;
+use entry_checks::{Steps, is_reduced, leading, magnitude, meets_direction, pass, rises};
 use frac128::{Frac, Vector, is_zero};
 use log_rules::{Rule, Stop};
-use log_tests::{Steps, is_reduced, leading, magnitude, meets_direction, pass, rises};
 use rep_text::Rep;
 
 /// Whether each number is less than `bound`.
@@ -132,7 +132,7 @@ fn are_picks(bound: usize, named: &[u32]) -> bool
     rises(named) && all_below(bound, named)
 }
 
-/// The tests of a `start` entry behind these lines. They cost the square of the number of its rows
+/// The tests of a `start` entry after these lines. They cost the square of the number of its rows
 /// times their width.
 pub fn check_start(
     rep: &Rep,

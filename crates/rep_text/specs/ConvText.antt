@@ -17,7 +17,7 @@ conv_name (Start rows gens) = codes "start"
 conv_name (Add row ps) = codes "add"
 conv_name End = codes "end"
 
--- what stands behind it, in order
+-- what stands after it, in order
 abbrev pub conv_parts : ConvEntry → List Part
 conv_parts (Conv n) = natural n ∷ []
 conv_parts (Line d) = vector d ∷ []
@@ -30,7 +30,7 @@ abbrev pub is_conv_end : ConvEntry → Bool
 is_conv_end End = true
 is_conv_end _ = false
 
--- what stands behind the first word of a line; other first words have no line
+-- what stands after the first word of a line; other first words have no line
 abbrev pub conv_forms : Forms
 conv_forms name =
     if same_word name (codes "conv") then Some (form.natural ∷ [])

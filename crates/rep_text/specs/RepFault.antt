@@ -23,7 +23,7 @@ width_fault w = option_or (natural_fault w) (if nat_le 1 (digits_value 10 w) && 
 abbrev pub is_head : List ℕ → Bool
 is_head name = same_word name (codes "sides") || same_word name (codes "gens")
 
--- the words that are left behind the first line's, or the first test that fails
+-- the words that are left after the first line's, or the first test that fails
 abbrev pub behind_head : List ℕ → List (List ℕ) → Left
 behind_head name words = if is_head name then word width_fault words else Err BadLine
 
@@ -50,7 +50,7 @@ abbrev pub behind_kind : ℕ → Option RepKind → List (List ℕ) → Left
 behind_kind width None words = Err BadLine
 behind_kind width (Some kind) words = times (word number_fault) (row_length width kind) words
 
--- what stands behind the first word of a row or of the end, under a first line of this kind and width
+-- what stands after the first word of a row or of the end, under a first line of this kind and width
 abbrev pub behind_row : Bool → ℕ → List ℕ → List (List ℕ) → Left
 behind_row gens width name words = if same_word name (codes "end") then Ok words else behind_kind width (kind_named gens name) words
 
@@ -63,12 +63,12 @@ row_fault gens width (name ∷ words) = left_over (behind_row gens width name wo
 abbrev pub words_in : TextLine → List (List ℕ)
 words_in line = slice_split (λ b. b == 32) line.text
 
--- a line behind a first line of these words
+-- a line after a first line of these words
 abbrev pub row_under : List (List ℕ) → List (List ℕ) → Option LogKind
 row_under (head ∷ width ∷ _) words = row_fault (same_word head (codes "gens")) (digits_value 10 width) words
 row_under _ words = Some BadLine
 
--- the first line, or one behind it
+-- the first line, or one after it
 abbrev pub fault_behind : List TextLine → List (List ℕ) → Option LogKind
 fault_behind [] words = head_fault words
 fault_behind (first ∷ _) words = row_under (words_in first) words
@@ -77,7 +77,7 @@ fault_behind (first ∷ _) words = row_under (words_in first) words
 abbrev pub words_fault : List TextLine → List (List ℕ) → Option LogKind
 words_fault before words = if list_any (λ w. length w == 0) words then Some BadLine else fault_behind before words
 
--- the first test that a line fails, behind the lines before it; the first is that it is none behind the 10,000th
+-- the first test that a line fails, after the lines before it; the first is that it is none after the 10,000th
 abbrev pub rep_test : LineTest
 rep_test before line =
     if nat_le 10000 (length before) then Some OutOfRange

@@ -11,7 +11,7 @@ pub enum ConvEntry {
     Conv(u32),
     /// A vector at which all rows are 0.
     Line { d: Vector },
-    /// The rows with which double description starts, and its first generators, one behind the other.
+    /// The rows with which double description starts, and its first generators, one after the other.
     Start { rows: Items<u32>, gens: Vector },
     /// A row that comes into use, with the pairs of generators that give new ones.
     Add { row: u32, pairs: Items<LogPair> },

@@ -27,7 +27,7 @@ AreReaders (r ∷ readers) (l ∷ lines) =
     (dot r l ≡ one_ℚ) × All (λ k. dot r k ≡ zero_ℚ) lines × All (λ s. IsTight s l) readers
     × AreReaders readers lines
 
--- the vector with 1 behind so many zeros and before so many
+-- the vector with 1 after so many zeros and before so many
 abbrev pub unit_at : ℕ → ℕ → List ℚ
 unit_at before behind = zeros before ++ one_ℚ ∷ zeros behind
 

@@ -33,7 +33,7 @@ fn put_entry(row: u32, col: u32, value: Frac, into: &mut Items<Cell>) -> Result<
     into.push(Cell { row, col, value })
 }
 
-/// Appends the entries of an objective, from the draws behind a state, and gives the last state.
+/// Appends the entries of an objective, from the draws after a state, and gives the last state.
 fn put_objective(row: u32, cols: u32, state: u32, into: &mut Items<Cell>) -> Result<u32, NoMemory>
     ensures state { IfOk result (λ s. s ≡ state_after state cols) }
     ensures cells { OnOk result (into.new ≡ into.old ++ drawn_row state row cols) }

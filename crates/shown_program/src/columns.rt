@@ -48,7 +48,7 @@ impl<'a, F: Field> Columns<'a, F> {
         }
     }
 
-    /// Column `k`: those of the unknowns, and behind them the artificial ones.
+    /// Column `k`: those of the unknowns, and after them the artificial ones.
     pub(crate) fn column(&self, k: usize) -> &[Cell<F>]
         requires low { 1 ≤ k }
         requires high { k ≤ length self.now.cost + length self.now.right }

@@ -28,7 +28,7 @@ pub struct Order {
 #[derive(Debug, Drop)]
 pub struct Guess<F: Drop> {
     /// The columns of a basis, as many as there are equations: from 1 those of the unknowns, and
-    /// behind them one artificial column for each equation.
+    /// after them one artificial column for each equation.
     pub columns: Items<u32>,
     /// A value for each of the columns.
     pub x: Items<F>,

@@ -17,7 +17,7 @@ use std::mem;
 pub enum LineEnd {
     /// Its line feed stood.
     Whole,
-    /// The source ended without one, behind at least one byte.
+    /// The source ended without one, after at least one byte.
     Torn,
     /// There is no line: no bytes are to come.
     End,

@@ -37,7 +37,7 @@ pub(crate) fn put_named(name: &[u8], numbers: &[u64], into: &mut Bytes) -> Resul
     Ok(())
 }
 
-/// Appends a vector behind its length.
+/// Appends a vector after its length.
 pub(crate) fn put_vector(entries: &[Frac], into: &mut Bytes) -> Result<(), NoMemory>
     ensures { OnOk result (into.new ≡ into.old ++ spaced (part_words (vector entries.now))) }
 {
@@ -46,7 +46,7 @@ pub(crate) fn put_vector(entries: &[Frac], into: &mut Bytes) -> Result<(), NoMem
     Ok(())
 }
 
-/// Appends natural numbers behind their count.
+/// Appends natural numbers after their count.
 pub(crate) fn put_list(numbers: &[u32], into: &mut Bytes) -> Result<(), NoMemory>
     ensures { OnOk result (into.new ≡ into.old ++ spaced (part_words (naturals numbers.now))) }
 {
@@ -55,7 +55,7 @@ pub(crate) fn put_list(numbers: &[u32], into: &mut Bytes) -> Result<(), NoMemory
     Ok(())
 }
 
-/// Appends places and values behind their count.
+/// Appends places and values after their count.
 pub(crate) fn put_sparse(spots: &[Spot], into: &mut Bytes) -> Result<(), NoMemory>
     ensures { OnOk result (into.new ≡ into.old ++ spaced (part_words (sparse spots.now))) }
 {

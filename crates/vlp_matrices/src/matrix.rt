@@ -1,6 +1,6 @@
 //! Matrices by their cells, and by the sparse vectors of their rows or columns.
 ghost use Rattle.std.specs.Prelude.{◌≡◌, ℕ, suc, ◌+◌, ◌<◌, ◌≤◌, replicate, map, length, All, IfOk, OnOk, List, [], ◌∷◌, ◌++◌};
-ghost use Rattle.vlp_matrices.specs.Sheets.{key_of, spot_of, spots_in, row_cells, cells_from, turned_spot, unit_spots};
+ghost use Rattle.vlp_matrices.specs.Matrices.{key_of, spot_of, spots_in, row_cells, cells_from, turned_spot, unit_spots};
 ghost use Rattle.upper_image.specs.UpperImage.{signed};
 ghost use Rattle.vlp_reader.specs.Sides.{numbers_from};
 
@@ -144,7 +144,7 @@ pub struct Sides {
 }
 
 impl Sides {
-    ghost use Rattle.vlp_matrices.specs.Sheets.{side_spots, side_values, all_side_spots};
+    ghost use Rattle.vlp_matrices.specs.Matrices.{side_spots, side_values, all_side_spots};
     ghost use Rattle.std.specs.List.{flat_map};
 
     /// Appends an inequality "at least" or, turned round, one "at most".

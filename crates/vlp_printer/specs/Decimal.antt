@@ -10,7 +10,7 @@ abbrev pub places_from : (den k n : ℕ) → Option ℕ
 places_from den k zero = None
 places_from den k (suc n) = if 10 ^ k % den == 0 then Some k else places_from den (k + 1) n
 
--- the least number of places behind the point that a number needs, where 36 are enough
+-- the least number of places after the point that a number needs, where 36 are enough
 abbrev pub places : ℚ → Option ℕ
 places q = places_from q.den 0 37
 

@@ -106,7 +106,7 @@ bound_line letter k bound = if is_unsaid bound then [] else line_text (letter �
 abbrev pub bounds_text : List ℕ → List Bound → List ℕ
 bounds_text letter bounds = flat_map (λ k. bound_line letter k (slice_index_or bounds (k - 1) Unsaid)) (numbers_from 1 (length bounds))
 
--- words, each behind a blank
+-- words, each after a blank
 abbrev pub behind : List (List ℕ) → List ℕ
 behind words = flat_map (λ w. 32 ∷ w) words
 

@@ -65,7 +65,7 @@ abbrev pub is_silent : Statement → Bool
 is_silent Silent = true
 is_silent _ = false
 
--- a draft is begun by a line of these words, behind lines that say nothing
+-- a draft is begun by a line of these words, after lines that say nothing
 pub record Begins (words : List (List ℕ)) (draft : Draft) : Type 0 where
   pub passes : formed (sizes_of words) sizes_fault ≡ None
   pub sizes : sizes_of words ≡ Some draft.sizes

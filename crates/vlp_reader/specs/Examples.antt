@@ -110,7 +110,7 @@ counted = codes "p vlp min 1 1 1 1 0" ∷ codes "a 1 1 0" ∷ []
 abbrev pub with_cone : List ℕ → List (List ℕ)
 with_cone number = (codes "p vlp min 1 1 0 1 0 cone 1 " ++ number) ∷ codes "k 1 0 1" ∷ codes "k 1 1 1" ∷ []
 
--- the lines that are looked at, and the tests behind the last one
+-- the lines that are looked at, and the tests after the last one
 pub record ClosingExamples : Type 0 where
   pub first_end : looked_at (codes "a" ∷ codes "e x" ∷ codes "e" ∷ []) ≡ codes "a" ∷ codes "e x" ∷ []
   pub nothing : fault_behind [] ≡ Some NoProblem

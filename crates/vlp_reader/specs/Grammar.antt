@@ -1,4 +1,4 @@
--- The grammar of files: the first test that a line fails, the tests behind the last line, and the problem
+-- The grammar of files: the first test that a line fails, the tests after the last line, and the problem
 -- that the lines give.
 use Rattle.std.specs.Prelude.{◌≡◌, ℕ, ◌+◌, ◌==◌, Bool, true, false, not, ◌&&◌, ◌||◌, nat_lt, nat_le, if◌then◌else◌, List, [], ◌∷◌, length, map, count_by, Option, None, Some, is_some, unwrap_or, Result, Ok, Err}
 use Rattle.std.specs.Option.{option_or}
@@ -140,7 +140,7 @@ abbrev pub limit_fault : (count n : ℕ) → Result Bound FileKind → Option Bo
 limit_fault count n bound before =
     option_or (must (nat_lt 0 n && nat_le n count) OutOfRange) (option_or (wrong bound) (must (not (is_some before)) Twice))
 
--- the tests of a statement behind these, under the sizes
+-- the tests of a statement after these, under the sizes
 abbrev pub statement_fault : List Statement → Sizes → Statement → Option FileKind
 statement_fault earlier s (Entry m i j number) =
     entry_fault (matrix_rows s m) (matrix_cols s m) i j number (first_given (given_entry m i j) earlier)
@@ -175,7 +175,7 @@ words_fault earlier (first ∷ words) =
 abbrev pub line_fault : List Statement → List ℕ → Option FileKind
 line_fault earlier line = if nat_lt 4096 (length line) then Some LineLong else words_fault earlier (words_of line)
 
--- ---- the tests behind the last line
+-- ---- the tests after the last line
 -- whether as many entries of the cone are given as the sizes say, those of the duality vector counted with them or not
 abbrev pub cone_counts : Option ConeSizes → List Statement → Bool
 cone_counts None statements = true

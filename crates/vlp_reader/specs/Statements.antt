@@ -86,7 +86,7 @@ single_bound type v =
     else if type == byte "s" then Some (bound_by Fixed v)
     else None
 
--- a type of bounds, and the words behind it: none for `f`, one for `l`, `u` and `s`, two for `d`
+-- a type of bounds, and the words after it: none for `f`, one for `l`, `u` and `s`, two for `d`
 abbrev pub bound_of : ℕ → List (List ℕ) → Option (Result Bound FileKind)
 bound_of type [] = if type == byte "f" then Some (Ok Free) else None
 bound_of type (v ∷ []) = single_bound type (number_of v)
@@ -103,7 +103,7 @@ abbrev pub limit_of : Axis → List (List ℕ) → Option Statement
 limit_of axis (n ∷ type ∷ values) = limit_from axis (natural n) (bound_of (letter type) values)
 limit_of axis _ = None
 
--- what the words behind a first word of this letter say, or that they have not the form of its kind
+-- what the words after a first word of this letter say, or that they have not the form of its kind
 abbrev pub statement_of : ℕ → List (List ℕ) → Option Statement
 statement_of kind words =
     if kind == byte "p" then option_map Heading (sizes_of words)

@@ -106,7 +106,7 @@ impl Draft {
         }
     }
 
-    /// Takes what the next line says, behind the sizes.
+    /// Takes what the next line says, after the sizes.
     pub(crate) fn take(&mut self, statement: Statement) -> Result<(), LineEnd>
         ensures { (earlier : List Statement) → Has self.old earlier → MatchResult result
             (λ _. (statement_fault earlier self.old.sizes statement ≡ None)

@@ -50,14 +50,14 @@ fn without_trailing_zeros(digits: &[u8]) -> &[u8]
     &digits[..end]
 }
 
-/// The digits before and behind a point.
+/// The digits before and after a point.
 #[derive(Clone, Copy)]
 struct Mantissa<'a> {
     whole: &'a [u8],
     decimals: &'a [u8],
 }
 
-/// The number that digits write behind those of `start`, or the greatest that fits.
+/// The number that digits write after those of `start`, or the greatest that fits.
 fn extended(start: u128, digits: &[u8]) -> u128
     requires { IsTrue (all_ascii_digits digits.now) }
     ensures { result ≡ min (digits_value_after 10 start digits.now) (2 ^ 128 - 1) }

@@ -43,7 +43,7 @@ fn begin(alloc: Global, words: &[u8]) -> Result<Draft, LineEnd>
     Ok(Draft::new(alloc, sizes)?)
 }
 
-/// Takes a line of a kind behind the sizes, and answers whether it is an `e` line.
+/// Takes a line of a kind after the sizes, and answers whether it is an `e` line.
 fn take_words(draft: &mut Draft, kind: u8, words: &[u8]) -> Result<bool, LineEnd>
     ensures { (earlier : List Statement) → Has draft.old earlier
         → MatchResult result (TakesWords kind (words_of words.now) earlier draft.old draft.new)

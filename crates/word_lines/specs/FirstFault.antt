@@ -17,11 +17,11 @@ first_word (w ∷ words) = w
 abbrev pub is_end_line : TextLine → Bool
 is_end_line line = same_word (first_word (slice_split (λ b. b == 32) line.text)) (codes "end")
 
--- the first test that a line fails, behind the lines before it
+-- the first test that a line fails, after the lines before it
 abbrev pub LineTest : Type 0
 LineTest = List TextLine → TextLine → Option LogKind
 
--- the tests of lines by the parts behind each first word
+-- the tests of lines by the parts after each first word
 abbrev pub line_test : Forms → LineTest
 line_test forms before line = line_fault forms (list_any is_end_line before) line.whole line.text
 
@@ -38,7 +38,7 @@ fault_at test lines n = fault_of_line test (take (n - 1) lines) (slice_get lines
 abbrev pub Pass : LineTest → List TextLine → ℕ → Type 0
 Pass test lines n = (i : ℕ) → 1 ≤ i → i ≤ n → fault_at test lines i ≡ None
 
--- this is the first fault: of a line behind lines that pass, or, where all pass and none is an `end` line,
+-- this is the first fault: of a line after lines that pass, or, where all pass and none is an `end` line,
 -- that there is no end
 abbrev pub IsFirstFault : LineTest → List TextLine → LogFault → Type 0
 IsFirstFault test lines f =

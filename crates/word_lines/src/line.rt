@@ -66,7 +66,7 @@ pub fn read_line<E: LineEntry>(
     }
 }
 
-/// Puts the line of an entry behind a text, with its line feed.
+/// Puts the line of an entry after a text, with its line feed.
 pub fn print_line<E: LineEntry>(entry: &E, into: &mut Bytes) -> Result<(), NoMemory>
     ensures { OnOk result (into.new ≡ into.old ++ line_text (entry_words E.grammar entry.now)) }
 {

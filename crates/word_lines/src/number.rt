@@ -144,7 +144,7 @@ fn in_lowest_terms(negative: bool, num: u128, den: u128) -> Option<Frac>
     lowest(signed_number(negative, num), signed_number(false, den))
 }
 
-/// Whether a word begins with a minus, and what stands behind that.
+/// Whether a word begins with a minus, and what stands after that.
 fn signed_word(word: &[u8]) -> (bool, &[u8])
     ensures sign { result.0 ≡ starts_with_minus word.now }
     ensures rest { result.1.now

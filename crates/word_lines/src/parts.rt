@@ -33,21 +33,21 @@ pub fn take_number(words: &mut Words) -> Result<Frac, Stop>
     Frac::take(words)
 }
 
-/// A vector behind its count.
+/// A vector after its count.
 pub fn take_vector(alloc: Global, words: &mut Words) -> Result<Vector, Stop>
     ensures { Takes part.vector form.vector words.old words.new result }
 {
     take_list(alloc, words)
 }
 
-/// Natural numbers behind their count.
+/// Natural numbers after their count.
 pub fn take_naturals(alloc: Global, words: &mut Words) -> Result<Items<u32>, Stop>
     ensures { Takes part.naturals form.naturals words.old words.new result }
 {
     take_list(alloc, words)
 }
 
-/// Pairs behind their count.
+/// Pairs after their count.
 pub fn take_pairs(alloc: Global, words: &mut Words) -> Result<Items<LogPair>, Stop>
     ensures { Takes part.pairs form.pairs words.old words.new result }
 {
@@ -143,7 +143,7 @@ fn take_spots(alloc: Global, count: u32, words: &mut Words) -> Result<Sparse, St
     Ok(spots)
 }
 
-/// A sparse vector behind its count.
+/// A sparse vector after its count.
 pub fn take_sparse(alloc: Global, words: &mut Words) -> Result<Sparse, Stop>
     ensures { Takes part.sparse form.sparse words.old words.new result }
 {

@@ -8,7 +8,7 @@ use crate::line::{LineEntry, print_line, read_line};
 use src_sink::{Bytes, Items, MOST_ITEMS, NoMemory, first_piece};
 use std::alloc::Global;
 
-/// What stands behind a line, where its line feed stood; else nothing.
+/// What stands after a line, where its line feed stood; else nothing.
 pub fn text_behind(behind: Option<&[u8]>) -> &[u8]
     ensures { result.now ≡ text_behind behind.entry }
 {

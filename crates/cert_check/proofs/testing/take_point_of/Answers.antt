@@ -15,8 +15,8 @@ pub at-requires-clause-most : goal.at-requires-clause-most
 at-requires-clause-most c =
     (is_number c.has.result c.args.share _ c.has.ensures (c.in_ok-pass.ensures 0).0).1
 
-pub certify_point-requires-clause-sheet : goal.certify_point-requires-clause-sheet
-certify_point-requires-clause-sheet c = c.requires.may.1.knows.sheet
+pub certify_point-requires-clause-matrices : goal.certify_point-requires-clause-matrices
+certify_point-requires-clause-matrices c = c.requires.may.1.knows.matrices
 
 pub certify_point-requires-clause-preimage : goal.certify_point-requires-clause-preimage
 certify_point-requires-clause-preimage c =

@@ -15,8 +15,8 @@ pub at-requires-clause-most : goal.at-requires-clause-most
 at-requires-clause-most c =
     (is_number c.has.result c.args.share _ c.has.ensures (c.in_ok-pass.ensures 0).0).1
 
-pub certify_ray-requires-clause-sheet : goal.certify_ray-requires-clause-sheet
-certify_ray-requires-clause-sheet c = c.requires.may.1.knows.sheet
+pub certify_ray-requires-clause-matrices : goal.certify_ray-requires-clause-matrices
+certify_ray-requires-clause-matrices c = c.requires.may.1.knows.matrices
 
 pub certify_ray-requires-clause-preimage : goal.certify_ray-requires-clause-preimage
 certify_ray-requires-clause-preimage c =

@@ -5,8 +5,8 @@ use Rattle.log_versions.specs.Plain.{plain}
 use Rattle.cert_check.proofs.OneEntry.{sparse_at, took, took_as, took_plainly, kind_as}
 use Rattle.cert_check.proofs.testing.take_witness.Goals as goal
 
-pub certify_point-requires-clause-sheet : goal.certify_point-requires-clause-sheet
-certify_point-requires-clause-sheet c = c.requires.may.1.knows.sheet
+pub certify_point-requires-clause-matrices : goal.certify_point-requires-clause-matrices
+certify_point-requires-clause-matrices c = c.requires.may.1.knows.matrices
 
 pub certify_point-requires-clause-preimage : goal.certify_point-requires-clause-preimage
 certify_point-requires-clause-preimage c =
@@ -29,8 +29,8 @@ certify_point-requires-clause-standing c =
           c.in-Point.is from.1).stands,
     )
 
-pub certify_ray-requires-clause-sheet : goal.certify_ray-requires-clause-sheet
-certify_ray-requires-clause-sheet c = c.requires.may.1.knows.sheet
+pub certify_ray-requires-clause-matrices : goal.certify_ray-requires-clause-matrices
+certify_ray-requires-clause-matrices c = c.requires.may.1.knows.matrices
 
 pub certify_ray-requires-clause-preimage : goal.certify_ray-requires-clause-preimage
 certify_ray-requires-clause-preimage c =

@@ -1,5 +1,5 @@
 use Rattle.std.proofs.Common.{◌≡◌, map, take}
-use Rattle.vlp_matrices.specs.Sheets.{turned_spot}
+use Rattle.vlp_matrices.specs.Matrices.{turned_spot}
 use Rattle.vlp_matrices.proofs.matrix.turned.Given as goal
 
 abbrev pub invariant-loop-spot : goal.invariant-loop-spot
