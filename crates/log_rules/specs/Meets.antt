@@ -103,6 +103,7 @@ pub record MeetsSolved (file : Problem) (before : List Entry) (s : State) : Type
   pub reached : All (λ g. preimages before g.number ≢ []) s.list.live
   pub accounted : All (IsAccounted file.objs (map (λ k. inequality (cut_at s.cuts k)) (named before)) (live_vectors s)) (in_use s)
 
+-- what stands before an end of each kind; nothing ends with `novertex`
 abbrev pub MeetsEnd : Problem → List Entry → EndKind → Type 0
 MeetsEnd file before kind.Infeasible = IsTrue (order.has order.farkas before)
 MeetsEnd file before kind.Whole = IsTrue (order.has order.whole before)
