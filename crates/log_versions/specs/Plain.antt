@@ -14,6 +14,7 @@ share_in _ = None
 abbrev pub shares : List Entry → List (List Spot)
 shares entries = filter_map share_in entries
 
+-- the shared vector number k
 abbrev pub shared : List (List Spot) → ℕ → List Spot
 shared vectors k = slice_index_or vectors (k - 1) []
 
@@ -28,6 +29,7 @@ plain_entry vectors (RayOf generator share m) = Ray generator (shared vectors sh
 plain_entry vectors (AddHints cut pairs hints) = Add cut pairs ∷ []
 plain_entry vectors e = e ∷ []
 
+-- the plain entries of some entries, after these shared vectors
 abbrev pub plain_behind : List (List Spot) → List Entry → List Entry
 plain_behind vectors [] = []
 plain_behind vectors (e ∷ entries) =

@@ -18,6 +18,7 @@ body (Point generator x m) = Some x
 body (Ray generator x m) = Some x
 body _ = None
 
+-- whether two sparse vectors are one
 abbrev pub same_spots : List Spot → List Spot → Bool
 same_spots [] [] = true
 same_spots [] (_ ∷ _) = false
@@ -76,6 +77,7 @@ more_shared all vectors e =
       | None ↦ vectors
     ]
 
+-- the upgrade of some entries, after those before them and these shared vectors
 abbrev pub upgraded_behind :
     ℕ → List Entry → List Entry → List (List Spot) → List Entry → List Entry
 upgraded_behind q all before vectors [] = []

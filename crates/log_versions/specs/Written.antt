@@ -59,6 +59,7 @@ pub record WrittenMeets (file : Problem) (before : List Entry) (e : Entry) : Typ
   pub order : IsTrue (may_follow before e)
   pub rules : WrittenKind file before e
 
+-- each entry of a log meets its rules
 abbrev pub AllWrittenMeet : Problem → List Entry → Type 0
 AllWrittenMeet file entries = (before : List Entry) (e : Entry) (after : List Entry) →
     entries ≡ before ++ e ∷ after → WrittenMeets file before e

@@ -48,6 +48,7 @@ written_kind_events file before (AddHints cut pairs hints) =
 written_kind_events file before e =
     kind_events file (plain before) (state file.objs (plain before)) e
 
+-- the tests and steps of an entry, the test of its order first
 abbrev pub written_events : Problem → List Entry → Entry → List Event
 written_events file before e =
     test rule.Order (may_follow before e) ∷ written_kind_events file before e
