@@ -66,11 +66,13 @@ weight_members m q Orthant = []
 weight_members m q (Gens vectors) = []
 weight_members m q (Dual vectors) = dual_members m q (Dual vectors)
 
+-- how many unknowns they have after u and w,
 abbrev pub weight_unknowns : Cone → ℕ
 weight_unknowns Orthant = 0
 weight_unknowns (Gens vectors) = 0
 weight_unknowns (Dual vectors) = length vectors
 
+-- and how many equations they are
 abbrev pub weight_equations : ℕ → Cone → ℕ
 weight_equations q Orthant = 0
 weight_equations q (Gens vectors) = 0
