@@ -95,13 +95,15 @@ uncovered_pair rows live p m =
 abbrev pub negatives_of : List ℚ → List Numbered → List Numbered
 negatives_of row live = filter (λ g. lt_ℚ (value row g) zero_ℚ) live
 
--- the pairs of a generator with those of a list, and of the generators of a list at which the row is positive with those at which it is negative
+-- the pairs of a generator with those of a list, without those that a third one covers
 abbrev pub pairs_with : List (List ℚ) → List Numbered → Numbered → List Numbered → List LogPair
 pairs_with rows live p ms = flat_map (uncovered_pair rows live p) ms
 
+-- those of a generator at which the row is positive, with all at which it is negative
 abbrev pub pairs_at : List (List ℚ) → List Numbered → List ℚ → Numbered → List LogPair
 pairs_at rows live row p = if lt_ℚ zero_ℚ (value row p) then pairs_with rows live p (negatives_of row live) else []
 
+-- and those of the generators of a list
 abbrev pub pairs_from : List (List ℚ) → List Numbered → List ℚ → List Numbered → List LogPair
 pairs_from rows live row ps = flat_map (pairs_at rows live row) ps
 
