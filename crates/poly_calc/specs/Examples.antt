@@ -8,6 +8,7 @@ use Rattle.vlp_reader.specs.declared.problem.Problem.{Problem}
 use Rattle.poly_calc.specs.Made.{moved, unit_cells, negated_row, row_cells, sum_row, side_row, weights_row, join_row_bounds, join_col_bounds}
 use Rattle.poly_calc.specs.Sets.{IsInBoth, IsInSum, IsInJoin, IsInMap}
 
+-- -1, 2 and 3
 abbrev pub minus_one : ℚ
 minus_one = neg_ℚ one_ℚ
 
@@ -67,6 +68,7 @@ pub record SetsExample (a b : Problem) : Type 0 where
   pub in_map : IsInMap a (two ∷ [])
   pub not_in_map : IsInMap a (three ∷ []) → ⊥
 
+-- so it is for these two intervals
 abbrev pub IntervalsExample : Type 0
 IntervalsExample =
     (a b : Problem) → IsInterval zero_ℚ one_ℚ a → IsInterval one_ℚ two b → SetsExample a b
