@@ -22,6 +22,7 @@ abbrev pub is_start : ConvEntry → Bool
 is_start (Start _ _) = true
 is_start _ = false
 
+-- and whether one of these is
 abbrev pub has_start : List ConvEntry → Bool
 has_start before = list_any is_start before
 
@@ -34,6 +35,7 @@ needs_start _ = false
 abbrev pub has_begun : List ConvEntry → Bool
 has_begun before = not (length before == 0)
 
+-- whether an entry may stand after these, where there are rows or none
 abbrev pub in_order : Bool → List ConvEntry → ConvEntry → Bool
 in_order some before (Conv n) = not (has_begun before)
 in_order some before (Line d) = some && has_begun before && not (has_start before)
@@ -77,6 +79,7 @@ abbrev pub MeetsEnd : Rep → State → Type 0
 MeetsEnd rep s = (k : ℕ) → k < length (text_rows rep) → Contains s.used k
 
 -- ---- all kinds
+-- the rules of each kind of entry
 abbrev pub MeetsKind : Rep → State → ConvEntry → Type 0
 MeetsKind rep s (Conv n) = n ≡ 1
 MeetsKind rep s (Line d) = MeetsLine rep s d
@@ -84,6 +87,7 @@ MeetsKind rep s (Start rows gens) = MeetsStart rep s rows gens
 MeetsKind rep s (Add row pairs) = MeetsAdd rep s row pairs
 MeetsKind rep s End = MeetsEnd rep s
 
+-- an entry stands in order, and meets the rules of its kind
 pub record Meets (rep : Rep) (before : List ConvEntry) (e : ConvEntry) : Type 0 where
   pub order : IsTrue (in_order (has_rows rep) before e)
   pub rules : MeetsKind rep (state rep before) e
