@@ -18,6 +18,7 @@ use Rattle.rep_text.specs.declared.rep.RepKind.TheVariants.{Side}
 use Rattle.rep_conv.specs.Examples.{row}
 use Rattle.rep_convert.specs.Licensed.{IsConvLicensed}
 
+-- the whole number k
 abbrev pub n : ℕ → ℚ
 n k = whole (pos k)
 
@@ -60,9 +61,11 @@ IsLicensedWith k place left trail =
 abbrev pub adding : List ℚ → Place
 adding last = Pair RowsOfRep (first ∷ second ∷ last ∷ []) 1 0 1
 
+-- 6 times 1
 abbrev pub six : Operation ℚ
 six = operation Mul (n 6) (n 1)
 
+-- operations that are licensed for the segment's conversion, and others
 pub record LicenceExamples : Type 0 where
   -- the value of the third row at (0, 1) begins with 6 times 1
   pub value : IsLicensedWith 6 (adding third) six []
