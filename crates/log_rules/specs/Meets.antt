@@ -49,12 +49,14 @@ pub record IsOpen (q : ℕ) (before : List Entry) (s : State) (k : ℕ) (t : ℚ
   pub level : t_of q g ≡ t
   pub fresh : preimages before k ≡ []
 
+-- of a point,
 pub record MeetsPoint (file : Problem) (before : List Entry) (s : State) (k : ℕ) (x m : List Spot) : Type 0 where
   pub point : Numbered
   pub index : IsOpen file.objs before s k one_ℚ point
   pub feasible : ShowsFeasible file x
   pub above : ShowsAbove file (y_of file.objs point) x m
 
+-- and of a direction
 pub record MeetsRay (file : Problem) (before : List Entry) (s : State) (k : ℕ) (x m : List Spot) : Type 0 where
   pub direction : Numbered
   pub index : IsOpen file.objs before s k zero_ℚ direction
