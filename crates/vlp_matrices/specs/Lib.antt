@@ -1,1 +1,2 @@
+-- The subject: Matrices.
 pub mod Matrices
