@@ -1,5 +1,5 @@
-// What is true of vectors, cones and hulls over the rational numbers. Each function is a law: it does
-// nothing, and its contract is the statement.
+//! What is true of vectors, cones and hulls over the rational numbers. Each function is a law: it does
+//! nothing, and its contract is the statement.
 #![tactic(auto)]
 
 ghost use Rattle.std.specs.Prelude.{List};
