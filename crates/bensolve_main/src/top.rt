@@ -125,7 +125,7 @@ pub fn run<S: Source, L: Source, T: Sink, K: Sink>(
     }
 }
 
-/// Runs a command.
+/// Makes the reply of a command, and writes it where there is one.
 fn run_command<S: Source, L: Source, T: Sink, K: Sink>(
     alloc: Global,
     command: Command<'_>,
