@@ -24,7 +24,7 @@ use std::alloc::Global;
 pub(crate) struct OrderedFacets<F: Drop> {
     /// First cuts of the image: with its lines as many as there are objectives.
     pub first: Vec<Cut<F>>,
-    /// The other facets.
+    /// The facets that are not among these.
     pub others: Vec<Cut<F>>,
 }
 
@@ -52,7 +52,6 @@ fn copy_of<F: Field>(alloc: Global, cut: &Cut<F>) -> Result<Cut<F>, NoMemory>
     })
 }
 
-/// Appends a cut.
 fn push_last<F: Field>(list: &mut Vec<Cut<F>>, cut: Cut<F>) -> Result<(), NoMemory>
     ensures { OnOk result (list.new.items ≡ list.old.items ++ cut ∷ []) }
 {
