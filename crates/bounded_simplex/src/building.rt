@@ -6,7 +6,6 @@ use src_sink::Items;
 use std::alloc::Global;
 use whole_simplex::{Program, Ratio, Solver, Stop, Term, at, item, put};
 
-/// Whether a number is 0.
 pub(crate) fn is_zero<F: Field>(x: F) -> bool {
     x.sign() == 0
 }
