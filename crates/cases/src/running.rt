@@ -93,7 +93,7 @@ impl<'a> Trial<'a> {
         MemSink::new(alloc, ROOM, self.bytes_a_call(), calls)
     }
 
-    /// Runs the words.
+    /// Runs the words over sources and sinks in memory.
     pub(crate) fn seen(&self, alloc: Global) -> Result<Seen, NoMemory> {
         let mut problem = self.source(alloc, Object::Problem, self.file)?;
         let mut log_in = self.source(alloc, Object::Log, self.log)?;
