@@ -30,7 +30,6 @@ pub struct Found {
     pub ended: Option<EndKind>,
 }
 
-/// A copy of a list.
 pub fn copied<T: Copy + Drop>(alloc: Global, items: &Items<T>) -> Result<Items<T>, NoMemory>
     ensures { IfOk result (λ copy. copy ≡ items.now) }
 {
