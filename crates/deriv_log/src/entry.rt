@@ -69,7 +69,7 @@ pub enum Entry {
         back: Sparse,
         n: Sparse,
     },
-    /// A cut that is a facet.
+    /// The number of a cut that is a facet.
     Facet {
         cut: u32,
     },
@@ -107,7 +107,6 @@ pub enum Entry {
     },
 }
 
-/// A copy of a list.
 fn copied<T: Copy + Drop>(alloc: Global, items: &Items<T>) -> Result<Items<T>, NoMemory>
     ensures { IfOk result (λ copy. copy ≡ items.now) }
 {
