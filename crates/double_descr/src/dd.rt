@@ -95,7 +95,7 @@ impl<F: Field> Dd<F> {
         self.rows.len() as u32
     }
 
-    /// Row `k`.
+    /// Row `k`, counted from 0.
     pub fn row(&self, k: u32) -> &[F]
         requires { k < length self.now.rows }
         ensures { values F.value result.now ≡ slice_index_or self.now.rows k [] }

@@ -21,7 +21,7 @@ use std::alloc::Global;
 /// The pairs of an addition so far, with their new generators.
 #[derive(Debug, Drop)]
 pub struct Made<F: Drop> {
-    /// The pairs.
+    /// The pairs so far, by the numbers of their generators.
     pub pairs: Items<Pair>,
     /// The generators that stay, and then a new one for each pair.
     pub generators: Items<Generator<F>>,

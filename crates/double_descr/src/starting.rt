@@ -94,7 +94,6 @@ pub fn normed_all<F: Field>(
     Ok(out)
 }
 
-/// A copy of the rows.
 pub fn copied<F: Copy>(alloc: Global, rows: &Rows<F>) -> Result<Items<Items<F>>, NoMemory>
     ensures { IfOk result (λ list. list ≡ rows.now.list) }
 {
