@@ -50,7 +50,7 @@ pub fn places_within(most: usize, spots: &[Spot]) -> Result<(), Stop>
     pass(Rule::Index, are_within(most, spots))
 }
 
-/// Each value is above 0.
+/// The test that each value is above 0.
 pub fn values_positive(spots: &[Spot]) -> Result<(), Stop>
     ensures { (taken : ℕ)
         → Runs is_held (values_positive spots.now ∷ []) taken taken (λ _. ⊤) result }

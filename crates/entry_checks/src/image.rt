@@ -132,7 +132,6 @@ pub fn in_recession(
     keeps_sides(counter, matrices.sides.rows.as_slice(), values.as_slice())
 }
 
-/// Appends a number.
 pub fn append(list: &mut Vec<Frac>, value: Frac) -> Result<(), Stop>
     ensures { (taken : ℕ)
         → Runs is_held [] taken taken (λ _. list.new.items ≡ list.old.items ++ value ∷ []) result }
