@@ -44,27 +44,27 @@ pub trait Field: Copy + Eq + Ord {
         ensures part { result ≡ pos (value self).den }
         ensures held { IsTrue (holds (value self)) };
 
-    /// The negative.
+    /// The negative, which is always held.
     fn neg(self) -> Self
         ensures { value result ≡ neg_ℚ (value self) };
 
-    /// -1, 0 or 1.
+    /// -1, 0 or 1, as the number is below, at or above 0.
     fn sign(self) -> i8
         ensures { result ≡ sign_ℚ (value self) };
 
-    /// The sum.
+    /// The exact sum, or the operands where it is not held.
     fn add(self, other: Self) -> Result<Self, Left<Self>>
         ensures { Answers value holds Add self other (value self +ℚ value other) result };
 
-    /// The difference.
+    /// The exact difference, likewise.
     fn sub(self, other: Self) -> Result<Self, Left<Self>>
         ensures { Answers value holds Sub self other (value self -ℚ value other) result };
 
-    /// The product.
+    /// The exact product, likewise.
     fn mul(self, other: Self) -> Result<Self, Left<Self>>
         ensures { Answers value holds Mul self other (value self *ℚ value other) result };
 
-    /// The quotient.
+    /// The exact quotient, likewise.
     fn div(self, other: Self) -> Result<Self, Left<Self>>
         requires { value other ≢ zero_ℚ }
         ensures { Answers value holds Div self other (value self /ℚ value other) result };
