@@ -12,7 +12,7 @@ use src_sink::{Items, NoMemory};
 pub enum LpEnd<F: Drop> {
     /// A solution of the greatest cost, and the multipliers of the equations that show it.
     Optimal {
-        /// The solution.
+        /// A value for each unknown.
         x: Items<F>,
         /// A multiplier for each equation.
         dual: Items<F>,
@@ -28,7 +28,7 @@ pub enum LpEnd<F: Drop> {
     },
     /// The cost grows without end.
     Unbounded {
-        /// A solution.
+        /// A solution from which the cost grows.
         x: Items<F>,
         /// The direction in which the cost grows.
         ray: Items<F>,

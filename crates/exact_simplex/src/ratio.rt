@@ -15,9 +15,9 @@ use std::cmp::Ordering;
 
 /// Which of two rows an overflow concerns.
 pub enum Either<F> {
-    /// The first.
+    /// A quotient of the first row.
     First(Left<F>),
-    /// The second.
+    /// A quotient of the second row.
     Second(Left<F>),
 }
 
@@ -84,7 +84,7 @@ fn is_before<F: Field>(
 pub struct TestLeft<F: Drop> {
     /// The row, counted from 0.
     pub row: usize,
-    /// The operands.
+    /// The quotient that is not held.
     pub left: Left<F>,
 }
 
