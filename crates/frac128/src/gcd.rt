@@ -175,7 +175,7 @@ pub(crate) fn divided(x: u128, y: u128) -> (u128, u128)
     (whole, x - whole * y)
 }
 
-/// The remainder.
+/// The remainder of `x` by `y`.
 pub(crate) fn remainder(x: u128, y: u128) -> u128
     requires { 0 < y }
     ensures { result ≡ x % y }

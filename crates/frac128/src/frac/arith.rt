@@ -146,7 +146,7 @@ impl Frac {
         Some(Frac::signed(opposite(self.num, other.num), num, den))
     }
 
-    /// The reciprocal.
+    /// The reciprocal, with the sign in the numerator.
     pub fn reciprocal(self) -> Frac
         requires { self ≢ zero_ℚ }
         ensures { result ≡ inverse_ℚ self }
