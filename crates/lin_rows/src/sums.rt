@@ -105,7 +105,7 @@ pub fn combine<F: Field>(alloc: Global, a: &[F], k: F, b: &[F]) -> Result<Items<
     Ok(out)
 }
 
-/// A product.
+/// A product, which is step 2.
 fn product_of<F: Field>(k: F, y: F) -> Result<F, Stop<F>>
     ensures ok { IfOk result (λ r. F.value r ≡ F.value k *ℚ F.value y) }
     ensures held { IfOk result (λ r. IsTrue (F.holds (F.value k *ℚ F.value y))) }
@@ -117,7 +117,7 @@ fn product_of<F: Field>(k: F, y: F) -> Result<F, Stop<F>>
     }
 }
 
-/// `k a`.
+/// The vector `k a`.
 pub fn scale<F: Field>(alloc: Global, a: &[F], k: F) -> Result<Items<F>, RowFault<F>>
     requires { length a.now ≤ 4294967294 }
     ensures ok { IfOk result (λ r. map F.value r ≡ scaled (F.value k) (map F.value a.now)) }
