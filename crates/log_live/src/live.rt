@@ -45,7 +45,7 @@ pub struct Live {
 pub struct Change {
     /// The values of the row at the live generators.
     pub values: Items<Frac>,
-    /// The new generators.
+    /// The new generators, one for each listed pair.
     pub made: Vec<Generator>,
     /// The number that the next new one gets.
     pub next: u32,

@@ -24,7 +24,7 @@ use std::alloc::Global;
 pub struct Telling {
     /// How many listed pairs were met.
     pub listed: usize,
-    /// The hints so far.
+    /// A hint for each other pair so far.
     pub hints: Items<u32>,
     /// Where the common tight rows of a pair are written.
     pub common: Marks,
