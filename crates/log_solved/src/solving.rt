@@ -53,7 +53,6 @@ pub struct Solving {
     pub sets: Option<TightSets>,
 }
 
-/// A copy of a list.
 fn copied<T: Copy + Drop>(alloc: Global, items: &[T]) -> Result<Items<T>, NoMemory>
     ensures { IfOk result (λ copy. copy ≡ items.now) }
 {
@@ -424,7 +423,7 @@ impl Solving {
         }
     }
 
-    /// Lists a facet.
+    /// Lists a facet, whose row has this place.
     fn list_facet(&mut self, cut: u32, place: u32) -> Result<(), NoMemory>
         ensures { (file : Problem) (before : List Entry) → IsSolving file before self.old
             → IsTrue (contains (state file.objs before).used cut)
