@@ -16,7 +16,6 @@ pub(crate) fn is_second(entries: &[Entry]) -> bool
     matches!(entries, [Entry::Version(2), ..])
 }
 
-/// A copy of a log.
 pub(crate) fn copied(alloc: Global, entries: &Entries) -> Result<Entries, NoMemory>
     ensures { IfOk result (λ copy. copy ≡ entries.now) }
 {
