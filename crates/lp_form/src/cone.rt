@@ -20,7 +20,7 @@ use lin_rows::cells::is_zero;
 use src_sink::{Items, NoMemory};
 use std::alloc::Global;
 
-/// Appends ones.
+/// Appends `n` ones.
 pub fn push_ones<F: Field>(list: &mut Items<F>, n: u32) -> Result<(), NoMemory>
     ensures { OnOk result (map F.value list.new ≡ map F.value list.old ++ replicate n one_ℚ) }
 {

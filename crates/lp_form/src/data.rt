@@ -23,7 +23,7 @@ pub struct SideOf<F: Drop> {
     pub beta: F,
 }
 
-/// The ordering cone.
+/// The ordering cone, with its vectors in the field.
 #[derive(Debug, Drop)]
 pub enum ConeOf<F: Drop> {
     /// All vectors without a negative entry.
@@ -38,7 +38,7 @@ pub enum ConeOf<F: Drop> {
 /// and the duality vector that it gives.
 #[derive(Debug, Drop)]
 pub struct Data<F: Drop> {
-    /// The variables.
+    /// How many variables there are.
     pub cols: u32,
     pub sides: Items<SideOf<F>>,
     /// The objectives, one list for each.

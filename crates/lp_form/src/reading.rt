@@ -14,7 +14,6 @@ use lin_rows::cells::is_zero;
 use src_sink::{Items, NoMemory};
 use std::alloc::Global;
 
-/// A copy of a list.
 fn copy<F: Field>(alloc: Global, list: &[F]) -> Result<Items<F>, NoMemory>
     ensures { IfOk result (λ copy. copy ≡ list.now) }
 {
