@@ -60,7 +60,7 @@ pub fn push_cut_entry<F: Field>(
     entries.push(Entry::Cut { w, gamma, u, v })
 }
 
-/// Appends a cut.
+/// Appends the entry of a cut.
 pub fn push_cut<F: Field>(alloc: Global, trail: &mut Entries, cut: &Cut<F>) -> Result<(), NoMemory>
     ghost task: { Task }
     requires trail { IsOpenTrail task trail.old }

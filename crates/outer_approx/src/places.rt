@@ -13,7 +13,6 @@ use lp_form::Cut;
 use src_sink::{Items, NoMemory};
 use std::alloc::Global;
 
-/// Whether a number is 0.
 fn is_zero<F: Field>(x: F) -> bool
     ensures { result ≡ is_zero (F.value x) }
 {
