@@ -7,7 +7,7 @@ use log_rules::{Facet, Gen, LineGen};
 use src_sink::{Items, NoMemory};
 use std::alloc::Global;
 
-/// The same list.
+/// A copy of a list.
 pub(crate) fn same<T: Copy>(alloc: Global, list: &Items<T>) -> Result<Items<T>, NoMemory>
     ensures { IfOk result (λ copy. copy ≡ list.now) }
 {
@@ -58,7 +58,7 @@ fn short_line(alloc: Global, k: u32, line: &LineGen) -> Result<LineGen, NoMemory
     })
 }
 
-/// The same facet.
+/// A copy of a facet.
 fn same_facet(alloc: Global, facet: &Facet) -> Result<Facet, NoMemory>
     ensures { IfOk result (λ copy. copy ≡ facet.now) }
 {
@@ -96,7 +96,7 @@ pub(crate) fn short_lines(
     Ok(short)
 }
 
-/// The same facets.
+/// A copy of facets.
 pub(crate) fn same_facets(alloc: Global, facets: &[Facet]) -> Result<Items<Facet>, NoMemory>
     ensures { IfOk result (λ copy. copy ≡ facets.now) }
 {

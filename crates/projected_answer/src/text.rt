@@ -31,7 +31,7 @@ fn put_head(k: u32, found: &Projection, into: &mut Bytes) -> Result<(), NoMemory
     Ok(())
 }
 
-/// Appends the set.
+/// Appends the lines, points, directions and sides.
 fn put_set(found: &Projection, into: &mut Bytes) -> Result<(), NoMemory>
     ensures { OnOk result (into.new ≡ into.old ++ lines_text (set_lines found.now)) }
 {
