@@ -31,10 +31,10 @@ pub enum First<F: Drop> {
     Whole {
         /// A feasible point.
         x: Items<F>,
-        /// What shows it.
+        /// What shows that the image is everything.
         parts: WholeParts<F>,
     },
-    /// The image is neither.
+    /// The image is neither empty nor everything.
     Cuts {
         /// A feasible point.
         x: Items<F>,

@@ -28,7 +28,7 @@ use std::alloc::Global;
 /// What is found after some cuts and lines.
 #[derive(Debug, Drop)]
 pub enum Next<F: Drop> {
-    /// One more cut.
+    /// One more cut, whose normal is independent of theirs.
     Cut(Cut<F>),
     /// One more line.
     Line(Line<F>),
