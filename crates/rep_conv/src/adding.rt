@@ -33,7 +33,7 @@ use word_lines::LogPair;
 pub struct Change {
     /// The values of the row at the live generators.
     pub values: Items<Frac>,
-    /// The new generators.
+    /// The new generators, one for each pair.
     pub made: Vec<Generator>,
     /// The number that the next new one gets.
     pub next: u32,

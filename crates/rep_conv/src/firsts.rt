@@ -27,7 +27,6 @@ pub fn set_of(alloc: Global, bound: u32, numbers: &[u32]) -> Result<Marks, NoMem
     Ok(marks)
 }
 
-/// A copy of a vector.
 pub fn copied(alloc: Global, v: &[Frac]) -> Result<Vector, NoMemory>
     ensures { IfOk result (λ copy. copy ≡ v.now) }
 {

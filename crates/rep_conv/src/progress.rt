@@ -40,7 +40,7 @@ pub struct Standing {
     /// Whether there was a `start`.
     pub started: bool,
     pub lines: Vectors,
-    /// The rows in use.
+    /// The numbers of the rows in use.
     pub in_use: Marks,
     /// The live generators by rising numbers, each with the set of the rows in use that are 0 at it.
     pub generators: Vec<Generator>,
@@ -88,7 +88,6 @@ impl Standing {
         })
     }
 
-    /// Lists a line.
     fn push_line(&mut self, alloc: Global, d: &[Frac]) -> Result<(), NoMemory>
         ensures { OnOk result
             (self.new ≡ record self.old { lines = self.old.lines ++ d.now ∷ [] }) }
