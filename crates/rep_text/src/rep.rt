@@ -13,11 +13,11 @@ pub enum RepKind {
     Side,
     /// The equation `h.z = gamma`, with gamma after h.
     Equal,
-    /// A line.
+    /// A direction in which the polyhedron goes on both ways.
     Line,
-    /// A point.
+    /// A member of the polyhedron.
     Point,
-    /// A direction.
+    /// A direction in which the polyhedron goes on.
     Direction,
 }
 
