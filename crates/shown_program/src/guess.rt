@@ -20,11 +20,11 @@ pub struct Order {
     pub vectors: Items<u32>,
     /// These equations, in rising order.
     pub places: Items<u32>,
-    /// The last columns.
+    /// The last columns, each with the equation that it leaves.
     pub back: Items<Pair>,
 }
 
-/// A guess of an optimum.
+/// A guess of an optimum, of which nothing is promised.
 #[derive(Debug, Drop)]
 pub struct Guess<F: Drop> {
     /// The columns of a basis, as many as there are equations: from 1 those of the unknowns, and

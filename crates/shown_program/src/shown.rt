@@ -28,7 +28,7 @@ fn is_number(k: usize, most: usize) -> bool
     k >= 1 && k <= most
 }
 
-/// Whether all are so.
+/// Whether each is from 1 to `most`.
 fn are_numbers(columns: &[u32], most: usize) -> bool
     ensures low { IsTrue result → All (λ c. 1 ≤ c) columns.now }
     ensures high { IsTrue result → All (λ c. c ≤ most) columns.now }
@@ -85,7 +85,6 @@ fn passes<F: Field>(
     is_shown(alloc, program, columns, &guess.order)
 }
 
-/// A copy of a list.
 fn copied<T: Copy>(alloc: Global, list: &[T]) -> Result<Items<T>, NoMemory>
     ensures { IfOk result (λ copy. copy ≡ list.now) }
 {
