@@ -13,7 +13,7 @@ pub struct Solution {
     pub answer: Answer,
 }
 
-/// Why there is none.
+/// Why a problem has no solution here.
 #[derive(Debug, Drop)]
 pub enum SolveEnd {
     /// The first fault of the ordering cone.
