@@ -39,7 +39,6 @@ pub(crate) fn cone_fault_line(alloc: Global, fault: &ConeFault) -> Result<Bytes,
     }
 }
 
-/// The name of a part.
 fn part_name(second: bool) -> &'static [u8]
     ensures { result.now ≡ part_name second }
 {

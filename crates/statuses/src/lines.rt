@@ -105,7 +105,6 @@ pub(crate) fn rep_fault_line(alloc: Global, line: u32, kind: LogKind) -> Result<
     Ok(bytes)
 }
 
-/// The bytes of a text.
 fn bytes_of(alloc: Global, text: &str) -> Result<Bytes, NoMemory>
     ensures { IfOk result (λ bytes. bytes ≡ text.now) }
 {

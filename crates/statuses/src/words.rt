@@ -8,7 +8,7 @@ use frac128::{Frac, Spot};
 use sol_writer::{put_entries, put_natural, put_naturals, put_spots};
 use src_sink::{Bytes, NoMemory};
 
-/// Appends a word.
+/// Appends a blank and a word.
 pub(crate) fn put_word(word: &[u8], into: &mut Bytes) -> Result<(), NoMemory>
     ensures { OnOk result (into.new ≡ into.old ++ spaced (word.now ∷ [])) }
 {
