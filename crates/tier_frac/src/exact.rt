@@ -87,7 +87,6 @@ impl Exact {
         Exact::of(negative, num, den)
     }
 
-    /// A fraction.
     pub(crate) fn of_frac(value: Frac) -> Exact
         ensures { result ≡ value }
     {

@@ -61,7 +61,6 @@ fn sum_of_products(a: i64, x: u64, c: i64, y: u64) -> i128
 }
 
 impl Words {
-    /// A whole number.
     pub(crate) fn whole(v: i64) -> Words
         ensures value { result ≡ whole v }
         ensures small { IsTrue (is_small result) }
@@ -90,7 +89,6 @@ impl Words {
         self.num
     }
 
-    /// The denominator.
     pub(crate) fn den(self) -> u64
         ensures part { result ≡ self.den }
         ensures small { IsTrue (is_small self) }
@@ -153,7 +151,6 @@ impl Words {
         Exact::of(sum < 0, num, den)
     }
 
-    /// The sum.
     pub(crate) fn plus(self, other: Words) -> Exact
         ensures { result ≡ self +ℚ other }
     {
@@ -164,7 +161,6 @@ impl Words {
         }
     }
 
-    /// The product.
     pub(crate) fn times(self, other: Words) -> Exact
         ensures { result ≡ self *ℚ other }
     {
