@@ -120,7 +120,7 @@ fn turned(alloc: Global, dir: Dir, spots: &[Spot]) -> Result<Sparse, NoMemory>
     Ok(copy)
 }
 
-/// The unit vectors.
+/// The first `count` unit vectors, each as a sparse vector.
 pub fn units(alloc: Global, count: u32) -> Result<Vec<Sparse>, NoMemory>
     ensures { IfOk result (λ lists. lists.items ≡ map unit_spots (numbers_from 1 count)) }
 {
