@@ -147,7 +147,7 @@ impl Draft {
         self.cone_fits()
     }
 
-    /// The ordering cone.
+    /// The ordering cone that was given.
     fn cone(&self, alloc: Global) -> Result<Cone, NoMemory>
         ensures { IfOk result (λ cone. cone ≡ draft_cone self.now self.now.sizes.cone) }
     {

@@ -179,7 +179,6 @@ fn signed(negative: bool, number: i128) -> i128
     if negative { -number } else { number }
 }
 
-/// A power of ten.
 fn power_of_ten(exponent: u32) -> i128
     requires { exponent ≤ 36 }
     ensures value { result ≡ pos (10 ^ exponent) }

@@ -30,7 +30,7 @@ pub enum Axis {
 /// with it.
 #[derive(Clone, Copy, Debug)]
 pub enum Statement {
-    /// Nothing.
+    /// Nothing, as a blank line or a comment.
     Silent,
     /// The sizes of the problem.
     Heading(Sizes),
