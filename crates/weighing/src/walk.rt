@@ -54,14 +54,13 @@ fn is_down(direction: Dir, value: Frac) -> bool
     is_below(signed(direction, value), Frac::zero())
 }
 
-/// Whether a number is 0.
 fn is_zero(value: Frac) -> bool
     ensures { IsTrue result ↔ (value ≡ zero_ℚ) }
 {
     value == Frac::zero()
 }
 
-/// The same vector.
+/// A copy of a vector.
 fn same(alloc: Global, v: &[Frac]) -> Result<Vector, NoMemory>
     ensures { IfOk result (λ copy. copy ≡ v.now) }
 {
