@@ -19,14 +19,14 @@ use frac128::{Frac, Sparse, Spot, Vector};
 use src_sink::Items;
 use std::alloc::Global;
 
-/// A natural number.
+/// Takes the word of a natural number.
 pub fn take_natural(words: &mut Words) -> Result<u32, Stop>
     ensures { Takes part.natural form.natural words.old words.new result }
 {
     u32::take(words)
 }
 
-/// A fraction.
+/// Takes the word of a fraction.
 pub fn take_number(words: &mut Words) -> Result<Frac, Stop>
     ensures { Takes part.number form.number words.old words.new result }
 {
@@ -54,7 +54,7 @@ pub fn take_pairs(alloc: Global, words: &mut Words) -> Result<Items<LogPair>, St
     take_list(alloc, words)
 }
 
-/// The kind of an end.
+/// Takes the word of an end.
 pub fn take_kind(words: &mut Words) -> Result<EndKind, Stop>
     ensures { Takes part.kind form.kind words.old words.new result }
 {
@@ -84,7 +84,7 @@ fn kind_of(word: &[u8]) -> Option<EndKind>
     }
 }
 
-/// A place above `last`.
+/// Takes a place, which is above `last`.
 fn take_place(last: u32, words: &mut Words) -> Result<u32, Stop>
     ensures { TakesItem (λ n. decimal n ∷ []) (λ n. is_short n && nat_lt last n)
         (one_word (place_fault last)) words.old words.new result }
@@ -109,7 +109,7 @@ fn nonzero(word: &[u8]) -> Result<Frac, LogKind>
     fraction(word)
 }
 
-/// A number other than 0.
+/// Takes a number, which is not 0.
 fn take_value(words: &mut Words) -> Result<Frac, Stop>
     ensures { TakesItem (λ q. frac_text q ∷ []) (λ q. is_held q && not (is_zero q))
         (one_word value_fault) words.old words.new result }

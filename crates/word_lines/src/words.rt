@@ -29,7 +29,7 @@ impl<'a> Words<'a> {
         Words { rest: Some(line) }
     }
 
-    /// The next word.
+    /// Takes the next word; `None` where none is left.
     pub fn next(&mut self) -> Option<&'a [u8]>
         ensures { MatchOption result ((self.old ≡ []) × (self.new ≡ []))
             (λ word. self.old ≡ word.now ∷ self.new) }
