@@ -108,7 +108,8 @@ fn products<F: Field>(first: F, second: F, rounds: u32) -> u32
     counted
 }
 
-/// Multiplies the fractions, and in each next round their negatives, and counts the products that are held.
+/// Multiplies the fractions, and in each next round their negatives, and counts the products that
+/// are held.
 #[unsafe(no_mangle)]
 pub extern "C" fn bench_products(operands: &Operands, rounds: u32) -> u32
     ensures { result ≡ count (λ p q. is_held (p *ℚ q)) operands.now rounds }
@@ -150,7 +151,8 @@ fn comparisons<F: Field>(first: F, second: F, rounds: u32) -> u32
     counted
 }
 
-/// Compares the fractions, and in each next round their negatives, and counts how often they differ.
+/// Compares the fractions, and in each next round their negatives, and counts how often they
+/// differ.
 #[unsafe(no_mangle)]
 pub extern "C" fn bench_comparisons(operands: &Operands, rounds: u32) -> u32
     ensures { result ≡ count (λ p q. not (same_ℚ p q)) operands.now rounds }
