@@ -9,8 +9,8 @@ use src_sink::Items;
 use std::alloc::Global;
 use whole_simplex::{Stop, at, item};
 
-/// How the large program is laid out: the first number, from 0, of each kind of column, and how many
-/// equations there are.
+/// How the large program is laid out: the first number, from 0, of each kind of column, and how
+/// many equations there are.
 #[derive(Clone, Copy, Debug)]
 pub(crate) struct Layout {
     weights: usize,
