@@ -6,8 +6,8 @@ use src_sink::{Bytes, MemSink};
 use statuses::Status;
 use std::alloc::Global;
 
-/// What of a run its case does not want, told in words; none where it wants all of it. Where calls fail, `whole` is the
-/// run in which none does.
+/// What of a run its case does not want, told in words; none where it wants all of it. Where calls
+/// fail, `whole` is the run in which none does.
 pub(crate) fn finding(
     alloc: Global,
     case: &Case,
@@ -129,8 +129,8 @@ fn has_its_form(seen: &Seen) -> bool {
     }
 }
 
-/// What differs where what was written is no front of what is written without a fault, or not the whole though no call
-/// failed before its end.
+/// What differs where what was written is no front of what is written without a fault, or not the
+/// whole though no call failed before its end.
 fn front_difference(seen: &Seen, whole: &Seen) -> Option<&'static str> {
     let (out, log_out) = (seen.out.contents(), seen.log_out.contents());
     let (all, all_log) = (whole.out.contents(), whole.log_out.contents());
@@ -230,8 +230,8 @@ fn has_facets_alone(log: &str) -> bool {
     cuts == facets
 }
 
-/// What differs where `check` reads the log that was written and that which was read, or where it is
-/// written once more.
+/// What differs where `check` reads the log that was written and that which was read, or where it
+/// is written once more.
 fn relogged_difference(
     alloc: Global,
     trial: Trial<'_>,
@@ -247,7 +247,8 @@ fn relogged_difference(
     ]))
 }
 
-/// What differs where `check` reads the log that was written beside the text of `associate`, or where no log is named.
+/// What differs where `check` reads the log that was written beside the text of `associate`, or
+/// where no log is named.
 fn projected_difference(
     alloc: Global,
     trial: Trial<'_>,
