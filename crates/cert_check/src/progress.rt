@@ -29,20 +29,10 @@ use vlp_reader::{Dir, Problem};
 /// the value is of no use. It takes memory for the cuts, the lines, the shared vectors, and the
 /// live generators with their tight sets and pre-images, and none for what is live no more.
 ///
-/// Each entry costs what its tests and operations cost, and what it gives is copied: `duality` the
-/// entries of the cone's vectors, and for a cone by generators the cube of the number of
-/// objectives; `cut` the entries of the sides and of the objectives, and the test in the dual cone;
-/// `start` twice the cube of the number of objectives, and once a place for each cut; `add` the
-/// entries of the live generators, and at the worst its opposite pairs times the generators times
-/// the words of a tight set; `point` and `ray` the entries of the sides and of the objectives;
-/// `facet` the rows in use and the facets, each times the words of a set of generators;
-/// `end solved` the rows in use times the facets times those words. The first entry that compares
-/// rows makes their sets, once: rows times generators.
-///
-/// `share` costs the places of its vector, which is kept; `cutof`, `pointof` and `rayof` what
-/// `cut`, `point` and `ray` do. A pair that `addh` lists costs what one of `add` does; each other
-/// opposite pair costs the search of its hint by number, and two passes over the words of tight
-/// sets.
+/// Each entry costs what the tests and operations of its kind cost, and a copy of what it gives.
+/// The most is that of an `add`: at the worst its opposite pairs times the generators times the
+/// words of a tight set. The first entry that compares rows makes their sets, once: rows times
+/// generators.
 #[derive(Debug, Drop)]
 pub struct Progress {
     pub known: Known,
