@@ -98,7 +98,8 @@ fn has_products(counter: &mut Steps, vectors: &[Vector], e: &[Frac]) -> Result<(
     Ok(())
 }
 
-/// The product of the entries at one place of the vectors, counted from 0, with multipliers of the vectors.
+/// The product of the entries at one place of the vectors, counted from 0, with multipliers of the
+/// vectors.
 fn column_dot(
     counter: &mut Steps,
     vectors: &[Vector],
@@ -193,8 +194,8 @@ fn in_orthant(e: &[Frac], m: &[Spot]) -> Result<(), Stop>
     no_entry_is_negative(e)
 }
 
-/// `e` is in the cone, by multipliers where it is given by generators. It costs the entries of the cone's
-/// vectors at the places of `m`, or all of them where the cone is given by rows.
+/// `e` is in the cone, by multipliers where it is given by generators. It costs the entries of the
+/// cone's vectors at the places of `m`, or all of them where the cone is given by rows.
 pub fn in_cone(counter: &mut Steps, cone: &Cone, e: &[Frac], m: &[Spot]) -> Result<(), Stop>
     requires fits { IsTrue (cone_fits (length e.now) cone.now) }
     requires sparse { IsSparse m.now }
@@ -209,7 +210,8 @@ pub fn in_cone(counter: &mut Steps, cone: &Cone, e: &[Frac], m: &[Spot]) -> Resu
     }
 }
 
-/// `w` is in the dual cone of the cone, by multipliers where the cone is given by rows, which generate it.
+/// `w` is in the dual cone of the cone, by multipliers where the cone is given by rows, which
+/// generate it.
 pub fn in_dual_cone(counter: &mut Steps, cone: &Cone, w: &[Frac], v: &[Spot]) -> Result<(), Stop>
     requires fits { IsTrue (cone_fits (length w.now) cone.now) }
     requires sparse { IsSparse v.now }

@@ -1,5 +1,5 @@
-//! The entry `start`: the first generators, those of the cone of as many cuts as there are objectives
-//! beside the lines.
+//! The entry `start`: the first generators, those of the cone of as many cuts as there are
+//! objectives beside the lines.
 ghost use Rattle.std.specs.Prelude.{◌≡◌, ⊤, ℕ, nat_le, Bool, true, if◌then◌else◌, ◌+◌, ◌*◌, ◌^◌, ◌<◌, ◌≤◌, ◌&&◌, ◌==◌, length, map, All, [], ◌∷◌, ◌++◌};
 ghost use Rattle.std.specs.List.{list_all};
 ghost use Rattle.exact_field.specs.Order.{same_ℚ};
@@ -224,9 +224,9 @@ fn lists_fit(objs: u32, lines: usize, named: &[u32], point: &[Frac], directions:
         && directions.len() == count * objs as usize
 }
 
-/// The tests of a `start` entry, where these cuts and lines stand: the point and the directions are 0
-/// at the places of the lines, the named cuts meet in the point, and each has its direction, along
-/// which it rises and the others stay. It costs twice the cube of the number of objectives.
+/// The tests of a `start` entry, where these cuts and lines stand: the point and the directions are
+/// 0 at the places of the lines, the named cuts meet in the point, and each has its direction,
+/// along which it rises and the others stay. It costs twice the cube of the number of objectives.
 pub fn check_start(
     problem: &Problem,
     cuts: &[Cut],

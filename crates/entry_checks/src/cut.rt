@@ -135,8 +135,8 @@ fn is_scaled(counter: &mut Steps, w: &[Frac], c: &[Frac]) -> Result<(), Stop>
     pass(Rule::Scaled, product == Frac::from(1))
 }
 
-/// The tests of a `farkas` entry: `u` shows that the sides contradict each other. It costs the entries of
-/// the sides, the numbers of sides and of columns, and the places of `u`.
+/// The tests of a `farkas` entry: `u` shows that the sides contradict each other. It costs the
+/// entries of the sides, the numbers of sides and of columns, and the places of `u`.
 pub fn check_farkas(
     alloc: Global,
     problem: &Problem,
@@ -161,9 +161,9 @@ pub fn check_farkas(
     has_positive_bound(&mut counter, bounds, u)
 }
 
-/// The tests of a `cut` entry: `w.y >= gamma` is valid for the image by the dual vector `u`, where `c` is the
-/// duality vector. It costs the entries of the sides and of the objectives, the numbers of sides and of
-/// columns, the places of `u`, and the test in the dual cone.
+/// The tests of a `cut` entry: `w.y >= gamma` is valid for the image by the dual vector `u`, where
+/// `c` is the duality vector. It costs the entries of the sides and of the objectives, the numbers
+/// of sides and of columns, the places of `u`, and the test in the dual cone.
 pub fn check_cut(
     alloc: Global,
     problem: &Problem,

@@ -252,8 +252,8 @@ fn inverts(
     Ok(())
 }
 
-/// `c` is interior to the cone of the generators: their sum with positive weights, of which as many as there are
-/// entries have an inverse.
+/// `c` is interior to the cone of the generators: their sum with positive weights, of which as many
+/// as there are entries have an inverse.
 fn is_solid(
     counter: &mut Steps,
     vectors: &[Vector],
@@ -344,9 +344,9 @@ fn is_interior(
     }
 }
 
-/// The tests of a `duality` entry: `c` is interior to the ordering cone, and as the problem asks for it. It costs
-/// at most the cube of the number of objectives, where the cone is given by generators, and the entries of the
-/// cone's vectors else.
+/// The tests of a `duality` entry: `c` is interior to the ordering cone, and as the problem asks
+/// for it. It costs at most the cube of the number of objectives, where the cone is given by
+/// generators, and the entries of the cone's vectors else.
 pub fn check_duality(
     problem: &Problem,
     c: &[Frac],

@@ -182,8 +182,9 @@ fn differences(
     Ok(rest)
 }
 
-/// `y` minus the objectives' value at `x` is in the ordering cone, by multipliers where the cone is given by
-/// generators. It costs the entries of the objectives, the number of columns, and the test in the cone.
+/// `y` minus the objectives' value at `x` is in the ordering cone, by multipliers where the cone is
+/// given by generators. It costs the entries of the objectives, the number of columns, and the test
+/// in the cone.
 pub fn above(
     alloc: Global,
     counter: &mut Steps,

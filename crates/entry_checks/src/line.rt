@@ -101,9 +101,9 @@ pub fn goes_on(lines: &[Vector], d: &[Frac]) -> bool
     leading(d) == Frac::from(1) && all_before(lines, leading_place(d))
 }
 
-/// The tests of a `whole` entry: `x` is feasible, and along `ray` the image reaches minus the duality vector
-/// `c`. It costs the entries of the sides and of the objectives, the numbers of columns, and the test in the
-/// cone.
+/// The tests of a `whole` entry: `x` is feasible, and along `ray` the image reaches minus the
+/// duality vector `c`. It costs the entries of the sides and of the objectives, the numbers of
+/// columns, and the test in the cone.
 pub fn check_whole(
     alloc: Global,
     problem: &Problem,
