@@ -66,8 +66,8 @@ impl Frac {
         self.num.unsigned_abs() < SHORT && self.den < SHORT
     }
 
-    /// The sum: with g the greatest common divisor of the denominators, t = a (d / g) + c (b / g) and k that of t and g,
-    /// it is t / k over (b / g) (d / k).
+    /// The sum: with g the greatest common divisor of the denominators, t = a (d / g) + c (b / g)
+    /// and k that of t and g, it is t / k over (b / g) (d / k).
     fn short_sum(self, other: Frac) -> Frac
         requires short { IsShort self }
         requires other_short { IsShort other }
