@@ -34,8 +34,8 @@ pub fn add_product<F: Field>(total: F, x: F, y: F) -> Result<F, Left<F>>
     total.add(product)
 }
 
-/// The sum of the products of two lists of one length, over the places at which neither entry is 0, from the first on:
-/// each takes one product, and then one sum with the total.
+/// The sum of the products of two lists of one length, over the places at which neither entry is 0,
+/// from the first on: each takes one product, and then one sum with the total.
 pub fn dot<F: Field>(a: &[F], b: &[F]) -> Result<F, Left<F>>
     requires { length a.now ≡ length b.now }
     ensures ok { IfOk result (λ r. F.value r ≡ product (map F.value a.now) (map F.value b.now)) }
