@@ -37,8 +37,8 @@ use std::alloc::Global;
 use vlp_matrices::Matrices;
 use vlp_reader::Problem;
 
-/// What stands of a solved log after some of its entries. After an error of a call that changes it the value is of no
-/// use: the check of the log has ended.
+/// What stands of a solved log after some of its entries. After an error of a call that changes it
+/// the value is of no use: the check of the log has ended.
 #[derive(Debug, Drop)]
 pub struct Solving {
     /// The cuts: number k stands at place k - 1.
@@ -49,7 +49,8 @@ pub struct Solving {
     pub named: Items<u32>,
     /// Their places among the rows in use.
     pub facets: Items<u32>,
-    /// The sets of tight generators by rows, from the first entry on that compares them. After it no row comes into use.
+    /// The sets of tight generators by rows, from the first entry on that compares them. After it
+    /// no row comes into use.
     pub sets: Option<TightSets>,
 }
 
@@ -219,7 +220,8 @@ impl Solving {
         }
     }
 
-    /// The events of an `addh` entry. What stands after it is what stands after an `add` of its pairs.
+    /// The events of an `addh` entry. What stands after it is what stands after an `add` of its
+    /// pairs.
     pub fn add_hinted(
         &mut self,
         alloc: Global,
@@ -246,8 +248,8 @@ impl Solving {
         }
     }
 
-    /// The least hints of an `add` entry that passes: for each opposite pair that it does not list, in
-    /// their order, the least generator that covers it. They cost the opposite pairs times the
+    /// The least hints of an `add` entry that passes: for each opposite pair that it does not list,
+    /// in their order, the least generator that covers it. They cost the opposite pairs times the
     /// generators in front of those.
     pub fn least_hints(
         &self,
@@ -288,7 +290,8 @@ impl Solving {
         }
     }
 
-    /// The events of a `point` entry: they cost those of its pre-image, and the logarithm of the number of generators.
+    /// The events of a `point` entry: they cost those of its pre-image, and the logarithm of the
+    /// number of generators.
     pub fn certify_point(
         &mut self,
         alloc: Global,
@@ -382,8 +385,8 @@ impl Solving {
         self.uses.place(cut) != 0 && !has_number(self.named.as_slice(), cut)
     }
 
-    /// Whether the cut at this place among the rows in use has a largest set of tight generators, which is that of no
-    /// facet.
+    /// Whether the cut at this place among the rows in use has a largest set of tight generators,
+    /// which is that of no facet.
     fn is_facet(&self, place: u32) -> bool
         requires standing { (file : Problem)
             × ((before : List Entry)
@@ -435,8 +438,9 @@ impl Solving {
         Ok(())
     }
 
-    /// The events of a `facet` entry. It costs the rows in use and the facets, each times the words of a set of
-    /// generators; the first one, and else the end, costs the rows times the generators.
+    /// The events of a `facet` entry. It costs the rows in use and the facets, each times the words
+    /// of a set of generators; the first one, and else the end, costs the rows times the
+    /// generators.
     pub fn name_facet(&mut self, alloc: Global, cut: u32) -> Result<(), Stop>
         requires { (file : Problem)
             × ((before : List Entry) × StandsBefore file before order.facet self.old) }
@@ -470,8 +474,8 @@ impl Solving {
         started && self.live.are_reached()
     }
 
-    /// The events of an `end solved` entry. It costs the rows in use times the facets times the words of a set of
-    /// generators, and the generators.
+    /// The events of an `end solved` entry. It costs the rows in use times the facets times the
+    /// words of a set of generators, and the generators.
     pub fn end(&mut self, alloc: Global, started: bool) -> Result<(), Stop>
         requires { (file : Problem) × ((before : List Entry) × IsSolving file before self.old) }
         ensures { (file : Problem) (before : List Entry) → IsSolving file before self.old
