@@ -22,9 +22,9 @@ use src_sink::{Bytes, NoMemory};
 use std::alloc::Global;
 use vlp_reader::Problem;
 
-/// The log of version 2 that says the same as a log which `check` accepts: each `add` gets the least
-/// generators that cover as hints, and each vector that stands in several entries is shared. A log of
-/// version 2 is its own. It costs about what two checks cost.
+/// The log of version 2 that says the same as a log which `check` accepts: each `add` gets the
+/// least generators that cover as hints, and each vector that stands in several entries is shared.
+/// A log of version 2 is its own. It costs about what two checks cost.
 pub fn upgrade(alloc: Global, problem: &Problem, entries: &Entries) -> Result<Entries, Refusal>
     requires { IsLog entries.now }
     ensures ok { IfOk result (IsUpgradeOf problem.now entries.now) }

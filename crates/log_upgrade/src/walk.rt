@@ -182,7 +182,8 @@ impl<'a> Upgrader<'a> {
         })
     }
 
-    /// What stands in the place of the next entry. Its copies are all that it takes memory for, besides the hints.
+    /// What stands in the place of the next entry. Its copies are all that it takes memory for,
+    /// besides the hints.
     pub(crate) fn take(
         &mut self,
         alloc: Global,
@@ -269,7 +270,8 @@ impl<'a> Upgrader<'a> {
         Ok(())
     }
 
-    /// Puts its text into an empty one: at each entry what stands in its place is printed, and let go.
+    /// Puts its text into an empty one: at each entry what stands in its place is printed, and let
+    /// go.
     pub(crate) fn print_all(
         &mut self,
         alloc: Global,
