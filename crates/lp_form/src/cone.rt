@@ -72,7 +72,8 @@ fn nonzero<F: Field>(alloc: Global, vectors: &[Items<F>]) -> Result<Items<Items<
     Ok(kept)
 }
 
-/// Appends an equation for each entry: the vectors times unknowns, and nothing of the `more` unknowns after these.
+/// Appends an equation for each entry: the vectors times unknowns, and nothing of the `more`
+/// unknowns after these.
 fn push_columns<F: Field>(
     alloc: Global,
     list: &mut Items<F>,

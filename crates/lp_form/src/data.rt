@@ -34,8 +34,8 @@ pub enum ConeOf<F: Drop> {
     Dual(Items<Items<F>>),
 }
 
-/// A problem in a field: its sides in their order, the rows of its objectives (negated where it maximises), its ordering cone
-/// and the duality vector that it gives.
+/// A problem in a field: its sides in their order, the rows of its objectives (negated where it
+/// maximises), its ordering cone and the duality vector that it gives.
 #[derive(Debug, Drop)]
 pub struct Data<F: Drop> {
     /// How many variables there are.
@@ -81,7 +81,8 @@ impl<F: Field> Data<F> {
     ghost use Rattle.vlp_reader.specs.Values.{printed_numbers};
     ghost use Rattle.lp_form.specs.Data.{IsDataOf, RefusesNumber};
 
-    /// The data of a problem. The cost is that of its entries that are not 0, its rows and its columns.
+    /// The data of a problem. The cost is that of its entries that are not 0, its rows and its
+    /// columns.
     pub fn of(alloc: Global, problem: &Problem) -> Result<Data<F>, DataFault>
         ensures ok { IfOk result (IsDataOf F.value problem.now) }
         ensures held { IfOk result

@@ -46,7 +46,8 @@ pub fn push_side_columns<F: Field>(list: &mut Items<F>, form: &Data<F>) -> Resul
     Ok(())
 }
 
-/// Appends an equation for each column: the sides times u, less the objectives times w, are 0 there.
+/// Appends an equation for each column: the sides times u, less the objectives times w, are 0
+/// there.
 pub fn push_balances<F: Field>(
     alloc: Global,
     list: &mut Items<F>,

@@ -140,7 +140,8 @@ pub fn negative_at<F: Field>(
     Ok(column)
 }
 
-/// Appends an equation on w and the unknowns after it, in which none of the `m` unknowns before w has a part.
+/// Appends an equation on w and the unknowns after it, in which none of the `m` unknowns before w
+/// has a part.
 pub fn push_on_w<F: Field>(
     list: &mut Items<F>,
     m: u32,

@@ -71,8 +71,9 @@ fn split<F: Field>(alloc: Global, form: &Data<F>, z: &[F]) -> Result<Parts<F>, N
     Ok(Parts { u, w, v })
 }
 
-/// The parts of a solution `z`: w as the one of its two columns in each entry that is not 0, with its sign, and no sum; v where the
-/// ordering cone is in dual form. `Feasible` has u alone, and the programs of the cone have none of the three.
+/// The parts of a solution `z`: w as the one of its two columns in each entry that is not 0, with
+/// its sign, and no sum; v where the ordering cone is in dual form. `Feasible` has u alone, and the
+/// programs of the cone have none of the three.
 pub fn parts<F: Field>(
     alloc: Global,
     form: &Data<F>,
@@ -101,7 +102,8 @@ pub fn parts<F: Field>(
     }
 }
 
-/// The point that multipliers of the equations say, in the programs of the sides: those of the columns of the problem.
+/// The point that multipliers of the equations say, in the programs of the sides: those of the
+/// columns of the problem.
 pub fn choice<F: Field>(
     alloc: Global,
     form: &Data<F>,
