@@ -23,7 +23,8 @@ fn push_facets(trail: &mut Entries, facets: &[u32]) -> Result<(), NoMemory>
     Ok(())
 }
 
-/// Names the facets of an outer approximation all of whose live generators have pre-images, and ends its log.
+/// Names the facets of an outer approximation all of whose live generators have pre-images, and
+/// ends its log.
 pub fn solved<F: Field>(alloc: Global, trail: &mut Entries, dd: &Dd<F>) -> Result<(), NoMemory>
     ghost task: { Task }
     requires outer { IsOuter task trail.old dd.now }
