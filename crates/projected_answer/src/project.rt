@@ -9,9 +9,9 @@ use log_rules::Answer;
 use src_sink::NoMemory;
 use std::alloc::Global;
 
-/// The projection of a feasible set on its first k columns, from a right answer to the problem that is
-/// associated with it and with k: its lines, its points and those of its directions whose entries sum
-/// to 0, each without its last entry, and all its facets. No number is calculated.
+/// The projection of a feasible set on its first k columns, from a right answer to the problem that
+/// is associated with it and with k: its lines, its points and those of its directions whose
+/// entries sum to 0, each without its last entry, and all its facets. No number is calculated.
 pub fn project_answer(alloc: Global, k: u32, answer: &Answer) -> Result<Projection, NoMemory>
     requires { AnswersAssociated k answer.now }
     ensures { IfOk result (IsProjectionFrom k answer.now) }
