@@ -69,8 +69,8 @@ fn opposite<F: Field>(
     }
 }
 
-/// What is found after cuts and lines, fewer than there are objectives. The lines stand in the order
-/// in which they were found.
+/// What is found after cuts and lines, fewer than there are objectives. The lines stand in the
+/// order in which they were found.
 fn found<F: Field>(
     alloc: Global,
     form: &Data<F>,
@@ -102,8 +102,8 @@ fn found<F: Field>(
     }
 }
 
-/// The entries of cuts, one each, in their order: with an overflow of an elimination of their normals
-/// they are its trail.
+/// The entries of cuts, one each, in their order: with an overflow of an elimination of their
+/// normals they are its trail.
 pub fn entries_of<F: Field>(alloc: Global, cuts: &[Cut<F>]) -> Result<Entries, NoMemory>
     ensures { IfOk result (SayCuts F.value cuts.now) }
 {
@@ -114,8 +114,8 @@ pub fn entries_of<F: Field>(alloc: Global, cuts: &[Cut<F>]) -> Result<Entries, N
     Ok(entries)
 }
 
-/// What is found after cuts and lines, fewer than there are objectives. The lines stand in the order
-/// in which they were found. Where an operation overflows, its trail has the cuts.
+/// What is found after cuts and lines, fewer than there are objectives. The lines stand in the
+/// order in which they were found. Where an operation overflows, its trail has the cuts.
 pub(crate) fn next_of<F: Field>(
     alloc: Global,
     form: &Data<F>,
