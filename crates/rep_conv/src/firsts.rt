@@ -35,8 +35,8 @@ pub fn copied(alloc: Global, v: &[Frac]) -> Result<Vector, NoMemory>
     Ok(copy)
 }
 
-/// The first generator of this place, counted from 0: of `count` rows that of its place alone is not
-/// tight at it.
+/// The first generator of this place, counted from 0: of `count` rows that of its place alone is
+/// not tight at it.
 fn first_generator(
     alloc: Global,
     count: u32,

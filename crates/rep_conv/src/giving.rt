@@ -232,8 +232,8 @@ fn other_rows(
     inequality_rows(alloc, lines, generators)
 }
 
-/// The other representation, by whether there are rows, and by the lines and the vectors of the live
-/// generators that stand after all entries. The cost is that of two sorts.
+/// The other representation, by whether there are rows, and by the lines and the vectors of the
+/// live generators that stand after all entries. The cost is that of two sorts.
 pub fn other(
     alloc: Global,
     rep: &Rep,

@@ -1,5 +1,5 @@
-//! The two representations of a polyhedron, by inequalities and by points, directions and lines: how
-//! double description turns one into the other, and the log of it.
+//! The two representations of a polyhedron, by inequalities and by points, directions and lines:
+//! how double description turns one into the other, and the log of it.
 #![tactic(auto)]
 
 mod adding;

@@ -42,7 +42,8 @@ pub struct Standing {
     pub lines: Vectors,
     /// The numbers of the rows in use.
     pub in_use: Marks,
-    /// The live generators by rising numbers, each with the set of the rows in use that are 0 at it.
+    /// The live generators by rising numbers, each with the set of the rows in use that are 0 at
+    /// it.
     pub generators: Vec<Generator>,
     /// The number that the next new generator gets.
     pub next: u32,
@@ -171,8 +172,8 @@ impl Standing {
         (row as usize) < self.rows.len() && !self.in_use.has(row)
     }
 
-    /// Brings a row into use: drops the generators at which it is negative, gives the others the row,
-    /// and lists the new ones.
+    /// Brings a row into use: drops the generators at which it is negative, gives the others the
+    /// row, and lists the new ones.
     fn grow(&mut self, alloc: Global, row: u32, change: Change) -> Result<(), NoMemory>
         requires values { length change.values ≡ length self.old.generators.items }
         requires few { length change.values ≤ 4294967294 }
