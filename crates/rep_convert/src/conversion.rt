@@ -36,10 +36,10 @@ fn without_rows(alloc: Global, rep: &Rep) -> Result<Converted, NoMemory>
     Ok(Converted { rep: found, log })
 }
 
-/// Converts a representation of a polyhedron into the other one by double description, with a log of
-/// it that `check_conv` of `rep_conv` accepts. Where an operation's exact result is not held, it is
-/// told with its licence. The cost is that of one elimination of all rows, and of a step of double
-/// description for each.
+/// Converts a representation of a polyhedron into the other one by double description, with a log
+/// of it that `check_conv` of `rep_conv` accepts. Where an operation's exact result is not held, it
+/// is told with its licence. The cost is that of one elimination of all rows, and of a step of
+/// double description for each.
 pub fn convert(alloc: Global, rep: &Rep) -> Result<Converted, ConvFault>
     ensures ok { IfOk result (IsConversion rep.now) }
     ensures left { IfErr result (IsConvLeft is_held rep.now) }
