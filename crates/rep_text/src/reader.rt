@@ -169,8 +169,8 @@ fn may_stand(before: u32, ended: bool, whole: bool) -> Result<(), LogKind>
     }
 }
 
-/// What was read of a text, so many lines: the first line, the rows, and whether an `end` line stands after
-/// them.
+/// What was read of a text, so many lines: the first line, the rows, and whether an `end` line
+/// stands after them.
 #[derive(Drop)]
 pub(crate) struct Reading {
     pub head: Head,
@@ -233,8 +233,8 @@ fn read_first(alloc: Global, text: &[u8], whole: bool) -> Result<Reading, RepEnd
     }
 }
 
-/// The representation of this text, or its first fault. Lines are read one at a time, up to the first
-/// that has a fault; there are at most 10,000.
+/// The representation of this text, or its first fault. Lines are read one at a time, up to the
+/// first that has a fault; there are at most 10,000.
 pub fn read_rep(alloc: Global, bytes: &[u8]) -> Result<Rep, RepEnd>
     ensures ok { IfOk result (IsRepText bytes.now) }
     ensures refused { IfErr result (RefusesRep bytes.now) }
