@@ -68,7 +68,8 @@ fn unit_bounds(alloc: Global, cols: u32) -> Result<Items<Bound>, NoMemory>
     Ok(bounds)
 }
 
-/// The sample file of a number: 3 objectives of 8 to 24 columns, whose entries are drawn from -9 to 9.
+/// The sample file of a number: 3 objectives of 8 to 24 columns, whose entries are drawn from -9 to
+/// 9.
 pub fn sample_file(alloc: Global, number: u32) -> Result<Problem, NoMemory>
     ensures { IfOk result (IsSample number) }
 {
