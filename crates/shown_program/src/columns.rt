@@ -9,7 +9,8 @@ use lin_rows::cells::Cell;
 use lp_form::SideOf;
 use src_sink::Items;
 
-/// A linear program in equations by its columns, of which each keeps only its entries that are not 0.
+/// A linear program in equations by its columns, of which each keeps only its entries that are not
+/// 0.
 #[derive(Drop)]
 pub(crate) struct Columns<'a, F: Drop> {
     /// The first unknowns have the vectors of these sides.

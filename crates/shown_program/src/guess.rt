@@ -10,8 +10,9 @@ pub struct Pair {
 }
 
 /// An order in which the columns of a basis are seen to be independent: columns that leave one
-/// equation each, then as many that leave equations together, and columns that leave one each again.
-/// A column leaves equations if it has no entries but in them and in those that were left before.
+/// equation each, then as many that leave equations together, and columns that leave one each
+/// again. A column leaves equations if it has no entries but in them and in those that were left
+/// before.
 #[derive(Debug, Drop)]
 pub struct Order {
     /// The first columns, each with the equation that it leaves.
