@@ -108,8 +108,8 @@ fn put_basis(place: &Place, into: &mut Bytes) -> Result<(), NoMemory>
     }
 }
 
-/// The fault line of a licence: the place, the operation with its operands, and the basis where the place has one. The
-/// trail and the vectors of the place are not told.
+/// The fault line of a licence: the place, the operation with its operands, and the basis where the
+/// place has one. The trail and the vectors of the place are not told.
 pub fn licence_line(alloc: Global, licence: &Licence) -> Result<Bytes, NoMemory>
     ensures { IfOk result (λ text. text ≡ licence_text licence.now) }
 {
