@@ -1,4 +1,5 @@
-//! Numbers in lowest terms as operations on words give them, before it is known which size holds them.
+//! Numbers in lowest terms as operations on words give them, before it is known which size holds
+//! them.
 
 ghost use Rattle.std.specs.Prelude.{◌≡◌, ◌*◌, ◌<◌, unsigned_abs};
 ghost use Rattle.std.specs.Int.{IsGcd};

@@ -1,4 +1,5 @@
-//! Fractions whose parts fit into words: their sums, products, quotients and order by word arithmetic.
+//! Fractions whose parts fit into words: their sums, products, quotients and order by word
+//! arithmetic.
 
 ghost use Rattle.std.specs.Prelude.{◌≡◌, ◌≢◌, ◌-◌, ◌<◌, ◌≤◌, ◌^◌, pos, ◌+ℤ◌, ◌*ℤ◌, unsigned_abs, IsTrue, IfSome};
 ghost use Rattle.std.specs.Int.{IsGcd};
@@ -188,7 +189,8 @@ impl Words {
         self.num == other.num && self.den == other.den
     }
 
-    /// The order: of the numerators where the denominators are equal, and else of the products across.
+    /// The order: of the numerators where the denominators are equal, and else of the products
+    /// across.
     pub(crate) fn compare(self, other: Words) -> Ordering
         ensures { result ≡ cmp_ℚ self other }
     {
