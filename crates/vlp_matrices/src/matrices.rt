@@ -1,4 +1,5 @@
-//! The sides and the objectives of a problem by their entries that are not 0, once by rows and once by columns.
+//! The sides and the objectives of a problem by their entries that are not 0, once by rows and once
+//! by columns.
 ghost use Rattle.std.specs.Prelude.{◌≡◌, ◌≤◌, map, length, All, IfOk, IsTrue};
 ghost use Rattle.vlp_matrices.specs.Matrices.{cells_from, spots_in};
 ghost use Rattle.vlp_reader.specs.Cells.{are_cells};

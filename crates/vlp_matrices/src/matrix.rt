@@ -55,8 +55,8 @@ fn spot_of(axis: Axis, dir: Dir, cell: &Cell) -> Spot
     }
 }
 
-/// The rows, or the columns, of a matrix by its cells, in working coordinates. It costs the cells and the number of
-/// rows or columns.
+/// The rows, or the columns, of a matrix by its cells, in working coordinates. It costs the cells
+/// and the number of rows or columns.
 pub fn spots_by(
     alloc: Global,
     axis: Axis,
