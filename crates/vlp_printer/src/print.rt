@@ -259,12 +259,10 @@ fn put_cone_vectors(cone: &Cone, into: &mut Bytes) -> Result<(), NoMemory>
     }
 }
 
-/// The text of a problem as a vlp file: the problem line, the entries of B and of P by row and then
-/// column, those of the duality vector and of the cone vectors, the bounds of rows and of columns, and an
-/// `e` line. A number that is not whole is printed as `MeK`, with a whole M and a K below 0. Within the
-/// limits of `read_vlp` the text reads back as the same problem. `NotDecimal` names the first number, in
-/// this order, that no word of a file has as its value. The time is linear in the size of the problem, and
-/// each number takes at most 37 divisions, twice.
+/// The text of a problem as a vlp file. A number that is not whole is printed as `MeK`, with a
+/// whole M and a K below 0. Within the limits of `read_vlp` the text reads back as the same
+/// problem. `NotDecimal` names the first number, in the order of the text, that no word of a file
+/// has as its value. The time is linear in the size of the problem.
 pub fn print_vlp(alloc: Global, problem: &Problem) -> Result<Bytes, PrintFault>
     ensures { MatchResult result (Prints problem.now) (RefusesText problem.now) }
 {
