@@ -13,8 +13,8 @@ pub enum Dir {
     Max,
 }
 
-/// The bounds of a row's product or of a column's variable. `Unsaid` is that of a row or column that
-/// the file gives none; it is free, as `Free` is.
+/// The bounds of a row's product or of a column's variable. `Unsaid` is that of a row or column
+/// that the file gives none; it is free, as `Free` is.
 #[derive(Clone, Copy, Debug, PartialEq, Eq)]
 pub enum Bound {
     Unsaid,

@@ -26,8 +26,8 @@ pub enum Axis {
     Column,
 }
 
-/// What the words of a line say. Where a word should be a number, this is its value, or what is wrong
-/// with it.
+/// What the words of a line say. Where a word should be a number, this is its value, or what is
+/// wrong with it.
 #[derive(Clone, Copy, Debug)]
 pub enum Statement {
     /// Nothing, as a blank line or a comment.
