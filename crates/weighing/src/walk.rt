@@ -1,5 +1,5 @@
-//! The products of weights with the lines and the directions of an answer, up to the first that ends
-//! the work.
+//! The products of weights with the lines and the directions of an answer, up to the first that
+//! ends the work.
 ghost use Rattle.std.specs.Prelude.{◌≡◌, ◌≤◌, ◌+◌, ◌↔◌, List, All, length, map, IfErr, IfOk, IsTrue};
 ghost use Rattle.exact_field.specs.Rational.{zero_ℚ, ◌<ℚ◌};
 ghost use Rattle.exact_field.specs.Vector.{dot};
@@ -113,8 +113,8 @@ pub(crate) fn walk_lines(
     Ok(None)
 }
 
-/// The first direction whose product with the weights goes down, if there is one. So many items come
-/// before the directions.
+/// The first direction whose product with the weights goes down, if there is one. So many items
+/// come before the directions.
 pub(crate) fn walk_directions(
     alloc: Global,
     direction: Dir,
