@@ -34,7 +34,8 @@ fn value(digits: &[u8]) -> Option<u128>
     Some(value)
 }
 
-/// The number of a word of digits that does not begin with `0`, or `LIMIT` where it is not below that.
+/// The number of a word of digits that does not begin with `0`, or `LIMIT` where it is not below
+/// that.
 fn positive(word: &[u8]) -> Option<u128>
     ensures { MatchOption result (is_positive_numeral word.now ≡ false) (λ v. (is_positive_numeral
         word.now
@@ -157,8 +158,8 @@ fn signed_word(word: &[u8]) -> (bool, &[u8])
     }
 }
 
-/// The fraction that a word writes, whole or as `NUMERATOR/DENOMINATOR` in lowest terms. Its parts have
-/// a magnitude below 2^120 (`NumberWide`); any other word is a `BadNumber`.
+/// The fraction that a word writes, whole or as `NUMERATOR/DENOMINATOR` in lowest terms. Its parts
+/// have a magnitude below 2^120 (`NumberWide`); any other word is a `BadNumber`.
 pub fn fraction(word: &[u8]) -> Result<Frac, LogKind>
     ensures { MatchResult result (λ q. IsTrue (is_held q) × (word.now ≡ frac_text q))
         (λ kind. number_fault word.now ≡ Some kind) }

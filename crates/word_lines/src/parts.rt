@@ -1,4 +1,5 @@
-//! The parts of an entry, read from the words of its line. Each stands first and is taken, or its first word that fails is told.
+//! The parts of an entry, read from the words of its line. Each stands first and is taken, or its
+//! first word that fails is told.
 ghost use Rattle.std.specs.Prelude.{◌≡◌, ◌∷◌, [], ◌&&◌, not, nat_lt, decimal, Some, true, MatchOption, MatchResult};
 ghost use Rattle.frac128.specs.Held.{is_held};
 ghost use Rattle.frac128.specs.Sparse.{is_zero};

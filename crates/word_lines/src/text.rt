@@ -18,8 +18,8 @@ pub fn text_behind(behind: Option<&[u8]>) -> &[u8]
     }
 }
 
-/// The entries of this text, or its first fault. Lines are read one at a time, up to the first that has a
-/// fault.
+/// The entries of this text, or its first fault. Lines are read one at a time, up to the first that
+/// has a fault.
 pub fn read_entries<E: LineEntry>(alloc: Global, bytes: &[u8]) -> Result<Items<E>, LogEnd>
     requires { length bytes.now ≤ MOST_ITEMS }
     ensures ok { IfOk result (IsTextOf E.grammar bytes.now) }

@@ -44,8 +44,8 @@ impl<'a> Words<'a> {
         }
     }
 
-    /// Room for so many items of `each` words, where so many words are left; else no room is wanted, since a
-    /// word will be missing.
+    /// Room for so many items of `each` words, where so many words are left; else no room is
+    /// wanted, since a word will be missing.
     pub(crate) fn room(&self, count: u32, each: usize) -> usize
         requires { 0 < each }
     {
