@@ -96,7 +96,7 @@ fn are_same_vectors<F: Field>(one: &[Items<F>], other: &[Items<F>]) -> bool
     true
 }
 
-/// Whether two lines are the same, entry by entry.
+/// Whether two sparse rows are the same, entry by entry.
 fn is_same_line<F: Field>(one: &[At<F>], other: &[At<F>]) -> bool
     ensures { IsTrue result → one.now ≡ other.now }
 {
@@ -111,7 +111,7 @@ fn is_same_line<F: Field>(one: &[At<F>], other: &[At<F>]) -> bool
     true
 }
 
-/// Whether two lists of lines are the same.
+/// Whether two lists of sparse rows are the same.
 fn are_same_lines<F: Field>(one: &[Items<At<F>>], other: &[Items<At<F>>]) -> bool
     ensures { IsTrue result → one.now ≡ other.now }
 {
