@@ -1,4 +1,4 @@
--- The quotients of a row that the ratio test compares, over lines.
+-- The quotients of a row that the ratio test compares, over sparse rows.
 use Rattle.std.specs.Prelude.{ℕ, ◌<◌, ◌≤◌, ◌≡◌, false, Bool, IsFalse, List, [], map, length, slice_index_or, Option, None, Some}
 use Rattle.exact_field.specs.Rational.{ℚ, zero_ℚ, ◌/ℚ◌, ◌≤ℚ◌, ◌<ℚ◌}
 use Rattle.exact_field.specs.declared.op.Op.TheVariants.{Div}
@@ -36,14 +36,14 @@ IsLeast entry_of ratios_of n None = (i : ℕ) → i < n → entry_of i ≤ℚ ze
 IsLeast entry_of ratios_of n (Some r) =
     (r < n) × (zero_ℚ <ℚ entry_of r) × ((i : ℕ) → i < n → zero_ℚ <ℚ entry_of i → lex_less (ratios_of i) (ratios_of r) ≡ false)
 
--- the entry of line i in a column, and its quotients by this entry
+-- the entry of sparse row i in a column, and its quotients by this entry
 abbrev pub entry_in : List (List Entry) → ℕ → ℕ → ℚ
 entry_in ls col i = sum_at (slice_index_or ls i []) col
 
 abbrev pub ratios_in : List (List Entry) → ℕ → List ℕ → ℕ → List ℚ
 ratios_in ls col columns i = ratios (entry_in ls col i) (slice_index_or ls i []) columns
 
--- the ratio test over the first n lines
+-- the ratio test over the first n sparse rows
 abbrev pub IsLeaving : List (List Entry) → ℕ → List ℕ → ℕ → Option ℕ → Type 0
 IsLeaving ls col columns n best = IsLeast (entry_in ls col) (ratios_in ls col columns) n best
 
