@@ -124,7 +124,7 @@ placed-at base (x ∷ xs) (suc i) =
     (ap (placed (suc base) xs) same ∙ placed-at (suc base) xs i)
     ∙ zero-add_ℚ (slice_index_or xs i zero_ℚ)
 
--- ---- lines that grow
+-- ---- sparse rows that grow
 pub longer_none : (n top : ℕ) (es : List Entry) → Rises n 0 es → last_place 0 es ≤ top →
     IsLonger n top (placed top []) es es
 longer_none n top es h l =

@@ -24,12 +24,12 @@ abbrev pub placed : ℕ → List ℚ → ℕ → ℚ
 placed base [] k = zero_ℚ
 placed base (x ∷ xs) k = single (suc base) x k +ℚ placed (suc base) xs k
 
--- a line has these numbers, and no others
+-- a sparse row has these numbers, and no others
 pub record IsLineWith (n : ℕ) (f : ℕ → ℚ) (es : List Entry) : Type 0 where
   pub rises : Rises n 0 es
   pub sums : (k : ℕ) → sum_at es k ≡ f k
 
--- a line gets these numbers in addition, and ends at the place `top` or before it
+-- a sparse row gets these numbers in addition, and ends at the place `top` or before it
 pub record IsLonger (n top : ℕ) (f : ℕ → ℚ) (old new : List Entry) : Type 0 where
   pub rises : Rises n 0 new
   pub last : last_place 0 new ≤ top
