@@ -1,14 +1,14 @@
 //! What of a run its case does not want.
 use crate::Fault;
 use crate::case::{Case, words_of};
-use crate::running::{Seen, Trial, printed_problem};
+use crate::running::{Seen, Trial, print_problem};
 use src_sink::{Bytes, MemSink};
 use statuses::Status;
 use std::alloc::Global;
 
 /// What of a run its case does not want, told in words; none where it wants all of it. Where calls fail, `whole` is the
 /// run in which none does.
-pub(crate) fn finding(
+pub(crate) fn find_difference(
     alloc: Global,
     case: &Case,
     trial: Trial<'_>,
@@ -306,7 +306,7 @@ fn print_finding(alloc: Global, case: &Case, trial: Trial<'_>) -> Result<Option<
         return Ok(Some(String::from_str(alloc, "it is refused")?));
     };
     let text = std::str::from_utf8(printed.as_slice()).unwrap_or("no text");
-    let again = printed_problem(alloc, printed.as_slice());
+    let again = print_problem(alloc, printed.as_slice());
     let is_log = trial
         .words
         .get(1)

@@ -40,7 +40,7 @@ mod running;
 mod texts;
 
 use case::{Case, Each, Object, case_of};
-use judging::finding;
+use judging::find_difference;
 use running::{Seen, Trial};
 use src_sink::NoMemory;
 use std::alloc::{AllocError, AllocFailed};
@@ -99,7 +99,7 @@ impl Tally {
         whole: Option<&Seen>,
     ) -> Result<(), Fault> {
         self.cases = self.cases.saturating_add(1);
-        if let Some(what) = finding(rt.alloc(), case, trial, whole)? {
+        if let Some(what) = find_difference(rt.alloc(), case, trial, whole)? {
             let name = &case.name;
             println!(rt; "{name}, {number}: {what}")?;
         }

@@ -117,7 +117,7 @@ impl<'a> Trial<'a> {
     /// What the words `print ..` print; none where a text is refused, or the words are others.
     pub(crate) fn printed(&self, alloc: Global) -> Option<Bytes> {
         match self.words {
-            [_, what] if what.as_str() == "problem" => printed_problem(alloc, self.file),
+            [_, what] if what.as_str() == "problem" => print_problem(alloc, self.file),
             [_, what] if what.as_str() == "log" && self.log.len() <= MOST_ITEMS => {
                 let log = read_log(alloc, self.log).ok()?;
                 print_log(alloc, &log).ok()
@@ -129,7 +129,7 @@ impl<'a> Trial<'a> {
 }
 
 /// The problem of a text, printed; none where the text is refused, or a number of it.
-pub(crate) fn printed_problem(alloc: Global, text: &[u8]) -> Option<Bytes> {
+pub(crate) fn print_problem(alloc: Global, text: &[u8]) -> Option<Bytes> {
     if text.len() > MOST_ITEMS {
         return None;
     }

@@ -65,7 +65,7 @@ impl Progress {
     {
         Ok(Progress {
             known: Known::new(alloc, problem)?,
-            found: Found::none(alloc),
+            found: Found::new(alloc),
             solving: Solving::new(alloc),
         })
     }

@@ -16,7 +16,7 @@ ghost use Rattle.entry_checks.specs.Parts.{tight_events, tights_events, corner_e
 ghost use Rattle.polyhedra.specs.DoubleDescription.{magnitude, leading};
 ghost use Rattle.upper_image.specs.Spots.{pieces};
 
-use crate::line::{is_reduced, leading};
+use crate::line::{is_reduced, leading_entry};
 use crate::numbers::are_picks;
 use crate::steps::{Steps, is_nonnegative, is_positive, pass};
 use exact_field::Field;
@@ -47,7 +47,7 @@ pub fn magnitude(value: Frac) -> Frac
 fn is_normed(v: &[Frac]) -> bool
     ensures { result ≡ same_ℚ (magnitude (leading v.now)) one_ℚ }
 {
-    magnitude(leading(v)) == Frac::from(1)
+    magnitude(leading_entry(v)) == Frac::from(1)
 }
 
 /// Whether each of so many rows of `objs` numbers is 0 at the place of each line.

@@ -21,7 +21,7 @@ use vlp_matrices::Matrices;
 use vlp_reader::Problem;
 
 /// The negative of a vector.
-fn negated(alloc: Global, v: &[Frac]) -> Result<Vec<Frac>, Stop>
+fn negate(alloc: Global, v: &[Frac]) -> Result<Vec<Frac>, Stop>
     ensures { (taken : ℕ) → Runs is_held [] taken taken (λ u. u.items ≡ map neg_ℚ v.now) result }
 {
     let mut opposite = Vec::new(alloc);
@@ -32,7 +32,7 @@ fn negated(alloc: Global, v: &[Frac]) -> Result<Vec<Frac>, Stop>
 }
 
 /// The first entry that is not 0, or 0 where there is none.
-pub fn leading(v: &[Frac]) -> Frac
+pub fn leading_entry(v: &[Frac]) -> Frac
     ensures { result ≡ leading v.now }
 {
     for x in v {
@@ -98,7 +98,7 @@ fn all_before(lines: &[Vector], place: usize) -> bool
 pub fn goes_on(lines: &[Vector], d: &[Frac]) -> bool
     ensures { result ≡ goes_on lines.now d.now }
 {
-    leading(d) == Frac::from(1) && all_before(lines, leading_place(d))
+    leading_entry(d) == Frac::from(1) && all_before(lines, leading_place(d))
 }
 
 /// The tests of a `whole` entry: `x` is feasible, and along `ray` the image reaches minus the duality vector
@@ -124,7 +124,7 @@ pub fn check_whole(
     let mut counter = Steps { taken: 0 };
     in_feasible(alloc, &mut counter, problem, matrices, x)?;
     in_recession(alloc, &mut counter, problem, matrices, ray)?;
-    let target = negated(alloc, c)?;
+    let target = negate(alloc, c)?;
     above(
         alloc,
         &mut counter,
@@ -169,7 +169,7 @@ pub fn check_line(
     in_recession(alloc, &mut counter, problem, matrices, ray)?;
     above(alloc, &mut counter, problem, matrices, d, ray, m)?;
     in_recession(alloc, &mut counter, problem, matrices, back)?;
-    let opposite = negated(alloc, d)?;
+    let opposite = negate(alloc, d)?;
     above(
         alloc,
         &mut counter,

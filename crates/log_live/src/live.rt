@@ -60,7 +60,7 @@ fn are_given(generators: &[Generator]) -> bool
 
 impl Live {
     /// No generators, as before a `start`.
-    pub fn none(alloc: Global) -> Live
+    pub fn new(alloc: Global) -> Live
         ensures list { (q : ℕ) (s : State) → s.list ≡ nothing.list → IsListOf q s result }
         ensures preimages { (before : List Entry) → ((k : ℕ) → 1 ≤ k → preimages before k ≡ [])
             → HasPreimages before result }

@@ -54,7 +54,7 @@ pub struct Solving {
 }
 
 /// A copy of a list.
-fn copied<T: Copy + Drop>(alloc: Global, items: &[T]) -> Result<Items<T>, NoMemory>
+fn copy_list<T: Copy + Drop>(alloc: Global, items: &[T]) -> Result<Items<T>, NoMemory>
     ensures { IfOk result (λ copy. copy ≡ items.now) }
 {
     let mut copy = Items::new(alloc);
@@ -92,8 +92,8 @@ impl Solving {
     {
         Solving {
             cuts: Vec::new(alloc),
-            uses: Uses::none(alloc),
-            live: Live::none(alloc),
+            uses: Uses::new(alloc),
+            live: Live::new(alloc),
             named: Items::new(alloc),
             facets: Items::new(alloc),
             sets: None,
@@ -113,9 +113,9 @@ impl Solving {
             → OnOk result (IsSolving file (before ++ entry.Cut w.now gamma u.now v ∷ []) self.new) }
     {
         let cut = Cut {
-            w: copied(alloc, w)?,
+            w: copy_list(alloc, w)?,
             gamma,
-            u: copied(alloc, u)?,
+            u: copy_list(alloc, u)?,
         };
         self.cuts.push(cut)?;
         self.uses.grow()?;
@@ -280,7 +280,7 @@ impl Solving {
             → OnOk result (IsSolving file (before ++ entry.Ray k x.now m ∷ []) self.new) }
         ensures memory { IfErr result (λ stop. stop ≡ stopped.NoMemory) }
     {
-        match copied(alloc, x) {
+        match copy_list(alloc, x) {
             Ok(x) => {
                 self.live.set_preimage(place, x);
                 Ok(())

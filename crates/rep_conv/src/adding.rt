@@ -15,7 +15,7 @@ ghost use Rattle.polyhedra.specs.LiveList.{LivePair, live_pairs};
 ghost use Rattle.rep_conv.specs.Adding.{AreAtRow, IsChange, between_steps, quotients, values_at};
 ghost use Rattle.rep_conv.specs.Events.{added_events, pair_of};
 
-use crate::start::norming;
+use crate::start::norming_entry;
 use entry_checks::{Steps, magnitude, pass};
 use exact_field::Field;
 use frac128::{Frac, Vector};
@@ -123,7 +123,7 @@ fn new_vector(
     let k = counter.div(at_plus, at_minus.neg())?;
     let sum = meeting(alloc, counter, k, plus, minus)?;
     let z = sum.as_slice();
-    let by = magnitude(norming(z));
+    let by = magnitude(norming_entry(z));
     divided(alloc, counter, by, z)
 }
 

@@ -17,7 +17,7 @@ ghost use Rattle.rep_text.specs.declared.conv.ConvEntry.{ConvEntry};
 ghost use Rattle.rep_text.specs.declared.conv.ConvEntry.TheVariants.{Add, Line, Start};
 
 use crate::adding::{Change, change_at};
-use crate::firsts::{copied, first_generators, set_of};
+use crate::firsts::{copy_vector, first_generators, set_of};
 use crate::line::check_line;
 use crate::rows::text_rows;
 use crate::start::check_start;
@@ -93,7 +93,7 @@ impl Standing {
         ensures { OnOk result
             (self.new ≡ record self.old { lines = self.old.lines ++ d.now ∷ [] }) }
     {
-        self.lines.push(copied(alloc, d)?)?;
+        self.lines.push(copy_vector(alloc, d)?)?;
         Ok(())
     }
 

@@ -10,7 +10,7 @@ ghost use Rattle.rep_conv.specs.Rows.{text_rows};
 ghost use Rattle.upper_image.specs.Spots.{pieces};
 
 use crate::line::pass_both;
-use entry_checks::{Steps, is_reduced, leading, magnitude, meets_direction, pass, rises};
+use entry_checks::{Steps, is_reduced, leading_entry, magnitude, meets_direction, pass, rises};
 use frac128::{Frac, Vector, is_zero};
 use log_rules::{Rule, Stop};
 use rep_text::Rep;
@@ -23,21 +23,25 @@ fn all_below(bound: usize, numbers: &[u32]) -> bool
 }
 
 /// The entry that norms a vector: the last one or, where that is 0, the first that is not.
-pub fn norming(v: &[Frac]) -> Frac
+pub fn norming_entry(v: &[Frac]) -> Frac
     ensures { result ≡ norming_of v.now }
 {
     if v.is_empty() {
         return Frac::from(0);
     }
     let last = v[v.len() - 1];
-    if is_zero(last) { leading(v) } else { last }
+    if is_zero(last) {
+        leading_entry(v)
+    } else {
+        last
+    }
 }
 
 /// Whether a vector is reduced and normed.
 fn is_first(lines: &[Vector], v: &[Frac]) -> bool
     ensures { result ≡ is_first_of lines.now v.now }
 {
-    is_reduced(lines, v) && magnitude(norming(v)) == Frac::from(1)
+    is_reduced(lines, v) && magnitude(norming_entry(v)) == Frac::from(1)
 }
 
 /// The tests that the named rows are 0 at a generator, but that of its number, which is positive.

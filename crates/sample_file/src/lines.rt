@@ -19,7 +19,7 @@ fn put_count(name: &[u8], count: usize, into: &mut Bytes) -> Result<(), NoMemory
 }
 
 /// The lines of a number and of how many points, directions and facets there are.
-fn counted(
+fn lines_of_counts(
     alloc: Global,
     number: u32,
     points: usize,
@@ -49,7 +49,7 @@ pub fn summary(alloc: Global, number: u32, answer: &Answer) -> Result<Bytes, NoM
             directions,
             facets,
             ..
-        } => counted(alloc, number, points.len(), directions.len(), facets.len()),
+        } => lines_of_counts(alloc, number, points.len(), directions.len(), facets.len()),
         _ => unreachable!(),
     }
 }
