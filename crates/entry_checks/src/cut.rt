@@ -96,8 +96,8 @@ fn all_vanish(counter: &mut Steps, sides: &[Sparse], u: &[Frac]) -> Result<(), S
     ensures { Runs is_held (contradiction_events (map (dense (length u.now)) sides.now) u.now)
         counter.old.taken counter.new.taken (λ _. ⊤) result }
 {
-    for j in 0..sides.len() {
-        vanishes(counter, sides[j].as_slice(), u)?;
+    for column in sides {
+        vanishes(counter, column.as_slice(), u)?;
     }
     Ok(())
 }

@@ -121,8 +121,8 @@ fn meets_rows(counter: &mut Steps, rows: &[Vector], c: &[Frac]) -> Result<(), St
     ensures { Runs is_held (rows_events c.now rows.now) counter.old.taken counter.new.taken (λ _. ⊤)
         result }
 {
-    for i in 0..rows.len() {
-        meets_row(counter, rows[i].as_slice(), c)?;
+    for row in rows {
+        meets_row(counter, row.as_slice(), c)?;
     }
     Ok(())
 }
