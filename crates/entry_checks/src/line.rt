@@ -7,7 +7,7 @@ ghost use Rattle.frac128.specs.Held.{is_held};
 ghost use Rattle.frac128.specs.Sparse.{IsSparse, is_zero as is_number_zero};
 ghost use Rattle.lineality.specs.Lines.{leading_place};
 ghost use Rattle.log_rules.specs.Events.{whole_events, goes_on, line_events};
-ghost use Rattle.log_rules.specs.Runs.{Runs, steps};
+ghost use Rattle.log_rules.specs.Runs.{Runs, RunsAll, steps};
 ghost use Rattle.vlp_matrices.specs.Matrices.{AreMatricesOf};
 ghost use Rattle.polyhedra.specs.DoubleDescription.{leading};
 
@@ -118,8 +118,7 @@ pub fn check_whole(
     requires point { IsSparse x.now }
     requires direction { IsSparse ray.now }
     requires multipliers { IsSparse m.now }
-    ensures { Runs is_held (whole_events problem.now c.now x.now ray.now m.now) 0
-        (steps (whole_events problem.now c.now x.now ray.now m.now)) (λ _. ⊤) result }
+    ensures { RunsAll is_held (whole_events problem.now c.now x.now ray.now m.now) (λ _. ⊤) result }
 {
     let mut counter = Steps { taken: 0 };
     in_feasible(alloc, &mut counter, problem, matrices, x)?;
@@ -157,10 +156,9 @@ pub fn check_line(
     requires multipliers { IsSparse m.now }
     requires back { IsSparse back.now }
     requires back_multipliers { IsSparse n.now }
-    ensures { Runs is_held
-        (line_events problem.now lines.now d.now x.now ray.now m.now back.now n.now) 0
-        (steps (line_events problem.now lines.now d.now x.now ray.now m.now back.now n.now))
-        (λ _. ⊤) result }
+    ensures { RunsAll is_held
+        (line_events problem.now lines.now d.now x.now ray.now m.now back.now n.now) (λ _. ⊤)
+        result }
 {
     let mut counter = Steps { taken: 0 };
     pass(Rule::Length, d.len() == problem.objs as usize)?;

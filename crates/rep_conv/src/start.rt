@@ -3,7 +3,7 @@ ghost use Rattle.std.specs.Prelude.{◌≡◌, ⊤, ◌+◌, ◌*◌, ◌^◌, �
 ghost use Rattle.std.specs.List.{flat_map, enumerate_from};
 ghost use Rattle.frac128.specs.Held.{is_held};
 ghost use Rattle.log_rules.specs.Events.{rises as numbers_rise};
-ghost use Rattle.log_rules.specs.Runs.{Runs, steps};
+ghost use Rattle.log_rules.specs.Runs.{Runs, RunsAll, steps};
 ghost use Rattle.polyhedra.specs.DoubleDescription.{norming as norming_of};
 ghost use Rattle.rep_conv.specs.Events.{all_below as numbers_below, corners_events, generator_events, is_first as is_first_of, start_events};
 ghost use Rattle.rep_conv.specs.Rows.{text_rows};
@@ -146,8 +146,7 @@ pub fn check_start(
     gens: &[Frac],
 ) -> Result<(), Stop>
     requires rows { rows.now ≡ text_rows rep.now }
-    ensures { Runs is_held (start_events rep.now lines.now named.now gens.now) 0
-        (steps (start_events rep.now lines.now named.now gens.now)) (λ _. ⊤) result }
+    ensures { RunsAll is_held (start_events rep.now lines.now named.now gens.now) (λ _. ⊤) result }
 {
     let places = rep.width as usize + 1;
     pass_both(
