@@ -21,7 +21,7 @@ pub(crate) fn find_difference(
     {
         return print_finding(alloc, case, trial);
     }
-    let seen = trial.seen(alloc)?;
+    let seen = trial.run_words(alloc)?;
     match difference_of(alloc, case, trial, whole, &seen)? {
         None => Ok(None),
         Some(what) => {
@@ -165,7 +165,7 @@ fn calm_run<'a>(
         most,
         fails: &[],
     };
-    Ok(trial.seen(alloc)?)
+    Ok(trial.run_words(alloc)?)
 }
 
 /// What differs where `check` reads the log that was written, or where the words name no log.
@@ -302,7 +302,7 @@ fn fits(form: &str, text: &str) -> bool {
 
 /// What of a printed text is not as its case wants.
 fn print_finding(alloc: Global, case: &Case, trial: Trial<'_>) -> Result<Option<String>, Fault> {
-    let Some(printed) = trial.printed(alloc) else {
+    let Some(printed) = trial.print(alloc) else {
         return Ok(Some(String::from_str(alloc, "it is refused")?));
     };
     let text = std::str::from_utf8(printed.as_slice()).unwrap_or("no text");

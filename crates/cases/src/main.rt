@@ -145,7 +145,7 @@ fn run_calls(
     trial: Trial<'_>,
     tally: &mut Tally,
 ) -> Result<(), Fault> {
-    let whole = trial.seen(rt.alloc())?;
+    let whole = trial.run_words(rt.alloc())?;
     for object in [Object::Problem, Object::Log, Object::Out, Object::LogOut] {
         if trial.names(object) {
             for call in 1..21u8 {
