@@ -191,7 +191,7 @@ fn tell<T: Sink, K: Sink>(out: &mut T, log_out: &mut K, reply: Reply) -> Status
         None => send(out, false, status, text.as_slice()),
         Some(log) => match write_all(out, text.as_slice()) {
             Ok(()) => send(log_out, true, status, log.as_slice()),
-            Err(fault) => failed(false, fault),
+            Err(fault) => write_fault(false, fault),
         },
     }
 }
@@ -206,12 +206,12 @@ fn send<T: Sink>(sink: &mut T, log: bool, status: Status, text: &[u8]) -> Status
 {
     match write_all(sink, text) {
         Ok(()) => status,
-        Err(fault) => failed(log, fault),
+        Err(fault) => write_fault(log, fault),
     }
 }
 
 /// The status where an output (that of the log, or the other one) failed.
-fn failed(log: bool, fault: WriteFault) -> Status
+fn write_fault(log: bool, fault: WriteFault) -> Status
     ensures { result ≡ Status.WriteFault log fault.sent }
 {
     Status::WriteFault {

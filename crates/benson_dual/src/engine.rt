@@ -133,7 +133,7 @@ fn dual_with<F: Field>(
     )? {
         First::Infeasible { u } => Ok(contradiction_log(alloc, u.as_slice())?),
         First::Whole { x, parts } => {
-            let opening = duality.entry.copied(alloc)?;
+            let opening = duality.entry.copy(alloc)?;
             Ok(everything_log(alloc, opening, x.as_slice(), &parts)?)
         }
         First::Cuts { x, lines, .. } => {

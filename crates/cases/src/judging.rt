@@ -1,14 +1,14 @@
 //! What of a run its case does not want.
 use crate::Fault;
 use crate::case::{Case, words_of};
-use crate::running::{Seen, Trial, printed_problem};
+use crate::running::{Seen, Trial, print_problem};
 use src_sink::{Bytes, MemSink};
 use statuses::Status;
 use std::alloc::Global;
 
 /// What of a run its case does not want, told in words; none where it wants all of it. Where calls
 /// fail, `whole` is the run in which none does.
-pub(crate) fn finding(
+pub(crate) fn find_difference(
     alloc: Global,
     case: &Case,
     trial: Trial<'_>,
@@ -21,7 +21,7 @@ pub(crate) fn finding(
     {
         return print_finding(alloc, case, trial);
     }
-    let seen = trial.seen(alloc)?;
+    let seen = trial.run_words(alloc)?;
     match difference_of(alloc, case, trial, whole, &seen)? {
         None => Ok(None),
         Some(what) => {
@@ -165,7 +165,7 @@ fn calm_run<'a>(
         most,
         fails: &[],
     };
-    Ok(trial.seen(alloc)?)
+    Ok(trial.run_words(alloc)?)
 }
 
 /// What differs where `check` reads the log that was written, or where the words name no log.
@@ -303,11 +303,11 @@ fn fits(form: &str, text: &str) -> bool {
 
 /// What of a printed text is not as its case wants.
 fn print_finding(alloc: Global, case: &Case, trial: Trial<'_>) -> Result<Option<String>, Fault> {
-    let Some(printed) = trial.printed(alloc) else {
+    let Some(printed) = trial.print(alloc) else {
         return Ok(Some(String::from_str(alloc, "it is refused")?));
     };
     let text = std::str::from_utf8(printed.as_slice()).unwrap_or("no text");
-    let again = printed_problem(alloc, printed.as_slice());
+    let again = print_problem(alloc, printed.as_slice());
     let is_log = trial
         .words
         .get(1)

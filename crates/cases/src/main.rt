@@ -46,7 +46,7 @@ mod running;
 mod texts;
 
 use case::{Case, Each, Object, case_of};
-use judging::finding;
+use judging::find_difference;
 use running::{Seen, Trial};
 use src_sink::NoMemory;
 use std::alloc::{AllocError, AllocFailed};
@@ -105,7 +105,7 @@ impl Tally {
         whole: Option<&Seen>,
     ) -> Result<(), Fault> {
         self.cases = self.cases.saturating_add(1);
-        if let Some(what) = finding(rt.alloc(), case, trial, whole)? {
+        if let Some(what) = find_difference(rt.alloc(), case, trial, whole)? {
             let name = &case.name;
             println!(rt; "{name}, {number}: {what}")?;
         }
@@ -151,7 +151,7 @@ fn run_calls(
     trial: Trial<'_>,
     tally: &mut Tally,
 ) -> Result<(), Fault> {
-    let whole = trial.seen(rt.alloc())?;
+    let whole = trial.run_words(rt.alloc())?;
     for object in [Object::Problem, Object::Log, Object::Out, Object::LogOut] {
         if trial.names(object) {
             for call in 1..21u8 {

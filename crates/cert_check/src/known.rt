@@ -34,10 +34,10 @@ impl Known {
     {
         Ok(Known {
             matrices: Matrices::of(alloc, problem)?,
-            kinds: Kinds::none(),
+            kinds: Kinds::new(),
             c: Items::new(alloc),
             lines: Items::new(alloc),
-            shares: Shares::none(alloc),
+            shares: Shares::new(alloc),
         })
     }
 

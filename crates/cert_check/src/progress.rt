@@ -4,7 +4,7 @@ ghost use Rattle.frac128.specs.Held.{is_held};
 ghost use Rattle.deriv_log.specs.Formed.{is_formed, IsLog};
 ghost use Rattle.deriv_log.specs.declared.entry.Entry.{Entry};
 ghost use Rattle.log_rules.specs.Proves.{PlainProves};
-ghost use Rattle.log_rules.specs.Runs.{Runs, steps};
+ghost use Rattle.log_rules.specs.Runs.{RunsAll};
 ghost use Rattle.log_rules.specs.declared.answer.Answer.TheVariants.{Whole};
 ghost use Rattle.log_versions.specs.Plain.{plain};
 ghost use Rattle.log_versions.specs.WrittenEvents.{written_events};
@@ -55,7 +55,7 @@ impl Progress {
     {
         Ok(Progress {
             known: Known::new(alloc, problem)?,
-            found: Found::none(alloc),
+            found: Found::new(alloc),
             solving: Solving::new(alloc),
         })
     }
@@ -80,8 +80,7 @@ impl Progress {
         requires formed { IsTrue (is_formed entry.now) }
         requires standing { (before : List Entry) × IsAt problem.now before self.old }
         ensures { (before : List Entry) → IsAt problem.now before self.old
-            → Runs is_held (written_events problem.now before entry.now) 0
-            (steps (written_events problem.now before entry.now))
+            → RunsAll is_held (written_events problem.now before entry.now)
             (λ _. IsAt problem.now (before ++ entry.now ∷ []) self.new) result }
     {
         pass(Rule::Order, self.known.kinds.may_follow(entry))?;

@@ -92,8 +92,8 @@ fn has_products(counter: &mut Steps, vectors: &[Vector], e: &[Frac]) -> Result<(
     ensures { Runs is_held (products_events vectors.now e.now) counter.old.taken counter.new.taken
         (λ _. ⊤) result }
 {
-    for i in 0..vectors.len() {
-        has_product(counter, vectors[i].as_slice(), e)?;
+    for vector in vectors {
+        has_product(counter, vector.as_slice(), e)?;
     }
     Ok(())
 }

@@ -10,13 +10,13 @@ ghost use Rattle.frac128.specs.Sparse.{is_zero as is_number_zero};
 ghost use Rattle.lineality.specs.Lines.{leading_place};
 ghost use Rattle.log_rules.specs.Events.{start_events, all_reduced, corner as corner_of, rises as numbers_rise, all_within as numbers_within};
 ghost use Rattle.log_rules.specs.Live.{State, cut_at};
-ghost use Rattle.log_rules.specs.Runs.{Runs, steps};
+ghost use Rattle.log_rules.specs.Runs.{Runs, RunsAll, steps};
 ghost use Rattle.entry_checks.specs.Cuts.{stated, named_from};
 ghost use Rattle.entry_checks.specs.Parts.{tight_events, tights_events, corner_events, corners_events, all_corners};
 ghost use Rattle.polyhedra.specs.DoubleDescription.{magnitude, leading};
 ghost use Rattle.upper_image.specs.Spots.{pieces};
 
-use crate::line::{is_reduced, leading};
+use crate::line::{is_reduced, leading_entry};
 use crate::numbers::are_picks;
 use crate::steps::{Steps, is_nonnegative, is_positive, pass};
 use exact_field::Field;
@@ -47,7 +47,7 @@ pub fn magnitude(value: Frac) -> Frac
 fn is_normed(v: &[Frac]) -> bool
     ensures { result ≡ same_ℚ (magnitude (leading v.now)) one_ℚ }
 {
-    magnitude(leading(v)) == Frac::from(1)
+    magnitude(leading_entry(v)) == Frac::from(1)
 }
 
 /// Whether each of so many rows of `objs` numbers is 0 at the place of each line.
@@ -237,8 +237,7 @@ pub fn check_start(
 ) -> Result<(), Stop>
     requires widths { All (λ cut. length cut.w ≡ problem.now.objs) cuts.now }
     ensures { (s : State) → s.cuts ≡ map stated cuts.now
-        → Runs is_held (start_events problem.now lines.now s named.now point.now directions.now) 0
-        (steps (start_events problem.now lines.now s named.now point.now directions.now))
+        → RunsAll is_held (start_events problem.now lines.now s named.now point.now directions.now)
         (λ _. ⊤) result }
 {
     let mut counter = Steps { taken: 0 };

@@ -9,7 +9,7 @@ ghost use Rattle.deriv_log.specs.declared.entry.Entry.{Entry};
 ghost use Rattle.log_rules.specs.Events.{dot_steps, product_steps, cut_events, farkas_events};
 ghost use Rattle.log_rules.specs.Events.Event.{test};
 ghost use Rattle.log_rules.specs.Live.{duality_vector};
-ghost use Rattle.log_rules.specs.Runs.{Runs, steps};
+ghost use Rattle.log_rules.specs.Runs.{Runs, RunsAll, steps};
 ghost use Rattle.log_rules.specs.declared.rule.Rule.TheVariants as rule;
 ghost use Rattle.entry_checks.specs.Parts.{balance_events, balances_events, vanishing_events, contradiction_events, scaled_events, bound_events, positive_events};
 ghost use Rattle.vlp_matrices.specs.Matrices.{AreMatricesOf};
@@ -96,8 +96,8 @@ fn all_vanish(counter: &mut Steps, sides: &[Sparse], u: &[Frac]) -> Result<(), S
     ensures { Runs is_held (contradiction_events (map (dense (length u.now)) sides.now) u.now)
         counter.old.taken counter.new.taken (λ _. ⊤) result }
 {
-    for j in 0..sides.len() {
-        vanishes(counter, sides[j].as_slice(), u)?;
+    for column in sides {
+        vanishes(counter, column.as_slice(), u)?;
     }
     Ok(())
 }
@@ -145,8 +145,7 @@ pub fn check_farkas(
 ) -> Result<(), Stop>
     requires matrices { AreMatricesOf problem.now matrices.now }
     requires sparse { IsSparse u.now }
-    ensures { Runs is_held (farkas_events problem.now u.now) 0
-        (steps (farkas_events problem.now u.now)) (λ _. ⊤) result }
+    ensures { RunsAll is_held (farkas_events problem.now u.now) (λ _. ⊤) result }
 {
     let mut counter = Steps { taken: 0 };
     let bounds = matrices.bounds.as_slice();
@@ -179,8 +178,7 @@ pub fn check_cut(
     requires multipliers { IsSparse u.now }
     requires cone_multipliers { IsSparse v.now }
     ensures { (before : List Entry) → duality_vector before ≡ c.now
-        → Runs is_held (cut_events problem.now before w.now gamma u.now v.now) 0
-        (steps (cut_events problem.now before w.now gamma u.now v.now)) (λ _. ⊤) result }
+        → RunsAll is_held (cut_events problem.now before w.now gamma u.now v.now) (λ _. ⊤) result }
 {
     let mut counter = Steps { taken: 0 };
     let bounds = matrices.bounds.as_slice();

@@ -8,7 +8,7 @@ ghost use Rattle.frac128.specs.Held.{is_held};
 ghost use Rattle.frac128.specs.Sparse.{is_zero as is_number_zero};
 ghost use Rattle.log_rules.specs.Events.{dot_steps, duality_events, follows_given, interior, inverse_steps, has_lengths as lists_have_lengths, rises as numbers_rise, all_within as numbers_within};
 ghost use Rattle.log_rules.specs.Events.Event.{test};
-ghost use Rattle.log_rules.specs.Runs.{Runs, steps};
+ghost use Rattle.log_rules.specs.Runs.{Runs, RunsAll, steps};
 ghost use Rattle.log_rules.specs.declared.rule.Rule.TheVariants as rule;
 ghost use Rattle.entry_checks.specs.Parts.{quotient_events, quotients_events, row_events, rows_events, weight_events, weights_events, unit_events, units_events, follow_events};
 ghost use Rattle.upper_image.specs.Shows.{picked};
@@ -121,8 +121,8 @@ fn meets_rows(counter: &mut Steps, rows: &[Vector], c: &[Frac]) -> Result<(), St
     ensures { Runs is_held (rows_events c.now rows.now) counter.old.taken counter.new.taken (λ _. ⊤)
         result }
 {
-    for i in 0..rows.len() {
-        meets_row(counter, rows[i].as_slice(), c)?;
+    for row in rows {
+        meets_row(counter, row.as_slice(), c)?;
     }
     Ok(())
 }
@@ -354,9 +354,8 @@ pub fn check_duality(
     picks: &[u32],
     inverse: &[Frac],
 ) -> Result<(), Stop>
-    ensures { Runs is_held (duality_events problem.now c.now weights.now picks.now inverse.now) 0
-        (steps (duality_events problem.now c.now weights.now picks.now inverse.now)) (λ _. ⊤)
-        result }
+    ensures { RunsAll is_held
+        (duality_events problem.now c.now weights.now picks.now inverse.now) (λ _. ⊤) result }
 {
     let mut counter = Steps { taken: 0 };
     let objs = problem.objs;

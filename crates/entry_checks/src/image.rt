@@ -87,8 +87,8 @@ fn keeps_sides(counter: &mut Steps, rows: &[Sparse], x: &[Frac]) -> Result<(), S
     ensures { Runs is_held (recession_events (map (dense (length x.now)) rows.now) x.now)
         counter.old.taken counter.new.taken (λ _. ⊤) result }
 {
-    for i in 0..rows.len() {
-        meets_side(counter, rows[i].as_slice(), x, Frac::from(0))?;
+    for row in rows {
+        meets_side(counter, row.as_slice(), x, Frac::from(0))?;
     }
     Ok(())
 }

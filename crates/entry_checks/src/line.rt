@@ -7,7 +7,7 @@ ghost use Rattle.frac128.specs.Held.{is_held};
 ghost use Rattle.frac128.specs.Sparse.{IsSparse, is_zero as is_number_zero};
 ghost use Rattle.lineality.specs.Lines.{leading_place};
 ghost use Rattle.log_rules.specs.Events.{whole_events, goes_on, line_events};
-ghost use Rattle.log_rules.specs.Runs.{Runs, steps};
+ghost use Rattle.log_rules.specs.Runs.{Runs, RunsAll, steps};
 ghost use Rattle.vlp_matrices.specs.Matrices.{AreMatricesOf};
 ghost use Rattle.polyhedra.specs.DoubleDescription.{leading};
 
@@ -21,7 +21,7 @@ use vlp_matrices::Matrices;
 use vlp_reader::Problem;
 
 /// The negative of a vector.
-fn negated(alloc: Global, v: &[Frac]) -> Result<Vec<Frac>, Stop>
+fn negate(alloc: Global, v: &[Frac]) -> Result<Vec<Frac>, Stop>
     ensures { (taken : ℕ) → Runs is_held [] taken taken (λ u. u.items ≡ map neg_ℚ v.now) result }
 {
     let mut opposite = Vec::new(alloc);
@@ -32,7 +32,7 @@ fn negated(alloc: Global, v: &[Frac]) -> Result<Vec<Frac>, Stop>
 }
 
 /// The first entry that is not 0, or 0 where there is none.
-pub fn leading(v: &[Frac]) -> Frac
+pub fn leading_entry(v: &[Frac]) -> Frac
     ensures { result ≡ leading v.now }
 {
     for x in v {
@@ -98,7 +98,7 @@ fn all_before(lines: &[Vector], place: usize) -> bool
 pub fn goes_on(lines: &[Vector], d: &[Frac]) -> bool
     ensures { result ≡ goes_on lines.now d.now }
 {
-    leading(d) == Frac::from(1) && all_before(lines, leading_place(d))
+    leading_entry(d) == Frac::from(1) && all_before(lines, leading_place(d))
 }
 
 /// The tests of a `whole` entry: `x` is feasible, and along `ray` the image reaches minus the
@@ -118,13 +118,12 @@ pub fn check_whole(
     requires point { IsSparse x.now }
     requires direction { IsSparse ray.now }
     requires multipliers { IsSparse m.now }
-    ensures { Runs is_held (whole_events problem.now c.now x.now ray.now m.now) 0
-        (steps (whole_events problem.now c.now x.now ray.now m.now)) (λ _. ⊤) result }
+    ensures { RunsAll is_held (whole_events problem.now c.now x.now ray.now m.now) (λ _. ⊤) result }
 {
     let mut counter = Steps { taken: 0 };
     in_feasible(alloc, &mut counter, problem, matrices, x)?;
     in_recession(alloc, &mut counter, problem, matrices, ray)?;
-    let target = negated(alloc, c)?;
+    let target = negate(alloc, c)?;
     above(
         alloc,
         &mut counter,
@@ -157,10 +156,9 @@ pub fn check_line(
     requires multipliers { IsSparse m.now }
     requires back { IsSparse back.now }
     requires back_multipliers { IsSparse n.now }
-    ensures { Runs is_held
-        (line_events problem.now lines.now d.now x.now ray.now m.now back.now n.now) 0
-        (steps (line_events problem.now lines.now d.now x.now ray.now m.now back.now n.now))
-        (λ _. ⊤) result }
+    ensures { RunsAll is_held
+        (line_events problem.now lines.now d.now x.now ray.now m.now back.now n.now) (λ _. ⊤)
+        result }
 {
     let mut counter = Steps { taken: 0 };
     pass(Rule::Length, d.len() == problem.objs as usize)?;
@@ -169,7 +167,7 @@ pub fn check_line(
     in_recession(alloc, &mut counter, problem, matrices, ray)?;
     above(alloc, &mut counter, problem, matrices, d, ray, m)?;
     in_recession(alloc, &mut counter, problem, matrices, back)?;
-    let opposite = negated(alloc, d)?;
+    let opposite = negate(alloc, d)?;
     above(
         alloc,
         &mut counter,

@@ -11,7 +11,7 @@ ghost use Rattle.vlp_reader.specs.declared.problem.Problem.{Problem};
 ghost use Rattle.log_rules.specs.Events.{is_open};
 ghost use Rattle.log_rules.specs.Live.{State, after, cut_row, nothing, preimages, rows_in_use};
 ghost use Rattle.log_rules.specs.Meets.{MeetsStart};
-ghost use Rattle.log_rules.specs.Runs.{Runs, steps};
+ghost use Rattle.log_rules.specs.Runs.{RunsAll, steps};
 ghost use Rattle.log_versions.specs.Hints.{least_hints};
 ghost use Rattle.log_live.specs.Adding.{IsAddition, IsChange, added_events, kept_of};
 ghost use Rattle.log_live.specs.Hinting.{PassesAddition, hinted_added_events};
@@ -60,7 +60,7 @@ fn are_given(generators: &[Generator]) -> bool
 
 impl Live {
     /// No generators, as before a `start`.
-    pub fn none(alloc: Global) -> Live
+    pub fn new(alloc: Global) -> Live
         ensures list { (q : ℕ) (s : State) → s.list ≡ nothing.list → IsListOf q s result }
         ensures preimages { (before : List Entry) → ((k : ℕ) → 1 ≤ k → preimages before k ≡ [])
             → HasPreimages before result }
@@ -117,8 +117,7 @@ impl Live {
             × IsAddition file s cut w.now gamma self.now }
         ensures { (file : Problem) (s : State) (cut : ℕ)
             → IsAddition file s cut w.now gamma self.now
-            → Runs is_held (added_events file.objs s cut pairs.now) 0
-            (steps (added_events file.objs s cut pairs.now))
+            → RunsAll is_held (added_events file.objs s cut pairs.now)
             (IsChange file.objs s cut pairs.now self.now) result }
     {
         let first_new = self.next;
@@ -153,8 +152,7 @@ impl Live {
             × IsAddition file s cut w.now gamma self.now }
         ensures { (file : Problem) (s : State) (cut : ℕ)
             → IsAddition file s cut w.now gamma self.now
-            → Runs is_held (hinted_added_events file.objs s cut pairs.now hints.now) 0
-            (steps (hinted_added_events file.objs s cut pairs.now hints.now))
+            → RunsAll is_held (hinted_added_events file.objs s cut pairs.now hints.now)
             (IsChange file.objs s cut pairs.now self.now) result }
     {
         let after_all = self.next;
@@ -212,8 +210,7 @@ impl Live {
             × IsAddition file s cut w.now gamma self.old }
         ensures runs { (file : Problem) (s : State) (cut : ℕ)
             → IsAddition file s cut w.now gamma self.old
-            → Runs is_held (added_events file.objs s cut pairs.now) 0
-            (steps (added_events file.objs s cut pairs.now))
+            → RunsAll is_held (added_events file.objs s cut pairs.now)
             (λ _. IsListOf file.objs (after file.objs s (Add cut pairs.now)) self.new) result }
         ensures preimages { (file : Problem) (s : State) (cut : ℕ) (before : List Entry)
             → IsAddition file s cut w.now gamma self.old → HasPreimages before self.old
@@ -241,8 +238,7 @@ impl Live {
             × IsAddition file s cut w.now gamma self.old }
         ensures runs { (file : Problem) (s : State) (cut : ℕ)
             → IsAddition file s cut w.now gamma self.old
-            → Runs is_held (hinted_added_events file.objs s cut pairs.now hints.now) 0
-            (steps (hinted_added_events file.objs s cut pairs.now hints.now))
+            → RunsAll is_held (hinted_added_events file.objs s cut pairs.now hints.now)
             (λ _. IsListOf file.objs (after file.objs s (Add cut pairs.now)) self.new) result }
         ensures preimages { (file : Problem) (s : State) (cut : ℕ) (before : List Entry)
             → IsAddition file s cut w.now gamma self.old → HasPreimages before self.old

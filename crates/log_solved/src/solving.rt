@@ -14,7 +14,6 @@ ghost use Rattle.log_rules.specs.Events.{add_events, end_events, facet_events, i
 ghost use Rattle.log_rules.specs.Live.{contains, cut_row, lines as lines_of, named, preimages, state};
 ghost use Rattle.log_rules.specs.Meets.{Meets};
 ghost use Rattle.log_rules.specs.Order as order;
-ghost use Rattle.log_rules.specs.Runs.{Runs, steps};
 ghost use Rattle.log_rules.specs.declared.stop.Stop.TheVariants as stopped;
 ghost use Rattle.vlp_matrices.specs.Matrices.{AreMatricesOf};
 ghost use Rattle.log_live.specs.Live.{IsOpenAt, live_of};
@@ -22,7 +21,7 @@ ghost use Rattle.log_live.specs.Tight.{AreTight, is_accounted_at};
 ghost use Rattle.log_live.specs.declared.generator.Generator.{Generator};
 ghost use Rattle.log_versions.specs.WrittenEvents.{hinted_events};
 ghost use Rattle.log_solved.specs.Places.{place_of};
-ghost use Rattle.log_solved.specs.Solving.{IsSolving, StandsBefore, PassesAdd, hints_of};
+ghost use Rattle.log_solved.specs.Solving.{Enters, IsSolving, PassesAdd, StandsBefore, hints_of};
 ghost use Rattle.log_solved.specs.Uses.{AreUses};
 
 use crate::shown::{shows_point, shows_ray};
@@ -54,7 +53,7 @@ pub struct Solving {
     pub sets: Option<TightSets>,
 }
 
-fn copied<T: Copy + Drop>(alloc: Global, items: &[T]) -> Result<Items<T>, NoMemory>
+fn copy_list<T: Copy + Drop>(alloc: Global, items: &[T]) -> Result<Items<T>, NoMemory>
     ensures { IfOk result (λ copy. copy ≡ items.now) }
 {
     let mut copy = Items::new(alloc);
@@ -92,8 +91,8 @@ impl Solving {
     {
         Solving {
             cuts: Vec::new(alloc),
-            uses: Uses::none(alloc),
-            live: Live::none(alloc),
+            uses: Uses::new(alloc),
+            live: Live::new(alloc),
             named: Items::new(alloc),
             facets: Items::new(alloc),
             sets: None,
@@ -113,9 +112,9 @@ impl Solving {
             → OnOk result (IsSolving file (before ++ entry.Cut w.now gamma u.now v ∷ []) self.new) }
     {
         let cut = Cut {
-            w: copied(alloc, w)?,
+            w: copy_list(alloc, w)?,
             gamma,
-            u: copied(alloc, u)?,
+            u: copy_list(alloc, u)?,
         };
         self.cuts.push(cut)?;
         self.uses.grow()?;
@@ -163,11 +162,9 @@ impl Solving {
             × (lines.now ≡ lines_of before)) }
         ensures { (before : List Entry) → StandsBefore problem.now before order.start self.old
             → lines.now ≡ lines_of before
-            → Runs is_held (start_events problem.now lines.now (state problem.now.objs before)
-            named.now point.now directions.now) 0 (steps (start_events problem.now lines.now
-            (state problem.now.objs before) named.now point.now directions.now)) (λ _. IsSolving
-            problem.now (before ++ entry.Start named.now point.now directions.now ∷ [])
-            self.new) result }
+            → Enters problem.now before (entry.Start named.now point.now directions.now)
+            (start_events problem.now lines.now (state problem.now.objs before) named.now point.now
+            directions.now) self.new result }
     {
         check_start(
             problem,
@@ -206,9 +203,8 @@ impl Solving {
             × ((before : List Entry) × StandsBefore file before order.add self.old) }
         ensures { (file : Problem) (before : List Entry)
             → StandsBefore file before order.add self.old
-            → Runs is_held (add_events file (state file.objs before) cut pairs.now) 0
-            (steps (add_events file (state file.objs before) cut pairs.now))
-            (λ _. IsSolving file (before ++ entry.Add cut pairs.now ∷ []) self.new) result }
+            → Enters file before (entry.Add cut pairs.now)
+            (add_events file (state file.objs before) cut pairs.now) self.new result }
     {
         pass(Rule::Index, self.is_unused(cut))?;
         let row = &self.cuts[cut as usize - 1];
@@ -233,9 +229,8 @@ impl Solving {
             × ((before : List Entry) × StandsBefore file before order.add self.old) }
         ensures { (file : Problem) (before : List Entry)
             → StandsBefore file before order.add self.old
-            → Runs is_held (hinted_events file (state file.objs before) cut pairs.now hints.now) 0
-            (steps (hinted_events file (state file.objs before) cut pairs.now hints.now))
-            (λ _. IsSolving file (before ++ entry.Add cut pairs.now ∷ []) self.new) result }
+            → Enters file before (entry.Add cut pairs.now)
+            (hinted_events file (state file.objs before) cut pairs.now hints.now) self.new result }
     {
         pass(Rule::Index, self.is_unused(cut))?;
         let row = &self.cuts[cut as usize - 1];
@@ -281,7 +276,7 @@ impl Solving {
             → OnOk result (IsSolving file (before ++ entry.Ray k x.now m ∷ []) self.new) }
         ensures memory { IfErr result (λ stop. stop ≡ stopped.NoMemory) }
     {
-        match copied(alloc, x) {
+        match copy_list(alloc, x) {
             Ok(x) => {
                 self.live.set_preimage(place, x);
                 Ok(())
@@ -307,11 +302,9 @@ impl Solving {
         requires standing { (before : List Entry)
             × StandsBefore problem.now before order.point self.old }
         ensures { (before : List Entry) → StandsBefore problem.now before order.point self.old
-            → Runs is_held
+            → Enters problem.now before (entry.Point number x.now m.now)
             (point_events problem.now before (state problem.now.objs before) number x.now m.now)
-            0 (steps (point_events problem.now before (state problem.now.objs before) number
-            x.now m.now)) (λ _. IsSolving problem.now
-            (before ++ entry.Point number x.now m.now ∷ []) self.new) result }
+            self.new result }
     {
         match self.live.place_open(number, Frac::from(1)) {
             Some(place) => {
@@ -340,12 +333,9 @@ impl Solving {
         requires standing { (before : List Entry)
             × StandsBefore problem.now before order.ray self.old }
         ensures { (before : List Entry) → StandsBefore problem.now before order.ray self.old
-            → Runs is_held
-            (ray_events problem.now before (state problem.now.objs before) number x.now m.now) 0
-            (steps (ray_events problem.now before (state problem.now.objs before) number x.now
-            m.now))
-            (λ _. IsSolving problem.now (before ++ entry.Ray number x.now m.now ∷ []) self.new)
-            result }
+            → Enters problem.now before (entry.Ray number x.now m.now)
+            (ray_events problem.now before (state problem.now.objs before) number x.now m.now)
+            self.new result }
     {
         match self.live.place_open(number, Frac::from(0)) {
             Some(place) => {
@@ -446,9 +436,8 @@ impl Solving {
             × ((before : List Entry) × StandsBefore file before order.facet self.old) }
         ensures { (file : Problem) (before : List Entry)
             → StandsBefore file before order.facet self.old
-            → Runs is_held (facet_events file before (state file.objs before) cut) 0
-            (steps (facet_events file before (state file.objs before) cut))
-            (λ _. IsSolving file (before ++ entry.Facet cut ∷ []) self.new) result }
+            → Enters file before (entry.Facet cut)
+            (facet_events file before (state file.objs before) cut) self.new result }
     {
         pass(Rule::Index, self.is_unnamed(cut))?;
         if let Err(NoMemory) = self.compare(alloc) {
@@ -480,9 +469,8 @@ impl Solving {
         requires { (file : Problem) × ((before : List Entry) × IsSolving file before self.old) }
         ensures { (file : Problem) (before : List Entry) → IsSolving file before self.old
             → started ≡ order.has order.start before
-            → Runs is_held (end_events file before (state file.objs before) end.Solved) 0
-            (steps (end_events file before (state file.objs before) end.Solved))
-            (λ _. IsSolving file (before ++ entry.End end.Solved ∷ []) self.new) result }
+            → Enters file before (entry.End end.Solved)
+            (end_events file before (state file.objs before) end.Solved) self.new result }
     {
         if !self.is_reached(started) {
             return Err(Stop::Wrong(Rule::Missing));

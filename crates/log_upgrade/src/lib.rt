@@ -15,7 +15,7 @@ mod repeats;
 mod vectors;
 mod walk;
 
-use crate::logs::{copied, is_second, upgraded, upgraded_text};
+use crate::logs::{copy_log, is_second, make_upgrade, make_upgrade_text};
 use cert_check::{Refusal, check};
 use deriv_log::{Entries, print_log};
 use src_sink::{Bytes, NoMemory};
@@ -32,9 +32,9 @@ pub fn upgrade(alloc: Global, problem: &Problem, entries: &Entries) -> Result<En
 {
     check(alloc, problem, entries)?;
     if is_second(entries.as_slice()) {
-        Ok(copied(alloc, entries)?)
+        Ok(copy_log(alloc, entries)?)
     } else {
-        Ok(upgraded(alloc, problem, entries)?)
+        Ok(make_upgrade(alloc, problem, entries)?)
     }
 }
 
@@ -47,6 +47,6 @@ pub fn upgrade_text(alloc: Global, problem: &Problem, entries: &Entries) -> Resu
     if is_second(entries.as_slice()) {
         print_log(alloc, entries)
     } else {
-        upgraded_text(alloc, problem, entries)
+        make_upgrade_text(alloc, problem, entries)
     }
 }

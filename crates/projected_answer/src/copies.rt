@@ -8,7 +8,7 @@ use src_sink::{Items, NoMemory};
 use std::alloc::Global;
 
 /// A copy of a list.
-pub(crate) fn same<T: Copy>(alloc: Global, list: &Items<T>) -> Result<Items<T>, NoMemory>
+pub(crate) fn copy_list<T: Copy>(alloc: Global, list: &Items<T>) -> Result<Items<T>, NoMemory>
     ensures { IfOk result (λ copy. copy ≡ list.now) }
 {
     let mut copy = Items::new(alloc);
@@ -43,7 +43,7 @@ pub(crate) fn short_gen(alloc: Global, k: u32, member: &Gen) -> Result<Gen, NoMe
 {
     Ok(Gen {
         y: front(alloc, k, &member.y)?,
-        pre: same(alloc, &member.pre)?,
+        pre: copy_list(alloc, &member.pre)?,
     })
 }
 
@@ -53,8 +53,8 @@ fn short_line(alloc: Global, k: u32, line: &LineGen) -> Result<LineGen, NoMemory
 {
     Ok(LineGen {
         d: front(alloc, k, &line.d)?,
-        ray: same(alloc, &line.ray)?,
-        back: same(alloc, &line.back)?,
+        ray: copy_list(alloc, &line.ray)?,
+        back: copy_list(alloc, &line.back)?,
     })
 }
 
@@ -63,10 +63,10 @@ fn same_facet(alloc: Global, facet: &Facet) -> Result<Facet, NoMemory>
     ensures { IfOk result (λ copy. copy ≡ facet.now) }
 {
     Ok(Facet {
-        w: same(alloc, &facet.w)?,
+        w: copy_list(alloc, &facet.w)?,
         gamma: facet.gamma,
-        u: same(alloc, &facet.u)?,
-        tight: same(alloc, &facet.tight)?,
+        u: copy_list(alloc, &facet.u)?,
+        tight: copy_list(alloc, &facet.tight)?,
     })
 }
 

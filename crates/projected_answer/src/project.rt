@@ -2,7 +2,7 @@
 ghost use Rattle.std.specs.Prelude.{IfOk};
 ghost use Rattle.projected_answer.specs.Found.{AnswersAssociated, IsProjectionFrom};
 
-use crate::copies::{same, same_facets, short_gens, short_lines};
+use crate::copies::{copy_list, same_facets, short_gens, short_lines};
 use crate::found::Projection;
 use crate::levels::short_directions;
 use log_rules::Answer;
@@ -17,7 +17,9 @@ pub fn project_answer(alloc: Global, k: u32, answer: &Answer) -> Result<Projecti
     ensures { IfOk result (IsProjectionFrom k answer.now) }
 {
     match answer {
-        Answer::Infeasible { u } => Ok(Projection::Empty { u: same(alloc, u)? }),
+        Answer::Infeasible { u } => Ok(Projection::Empty {
+            u: copy_list(alloc, u)?,
+        }),
         Answer::Whole { .. } => unreachable!(),
         Answer::Solved {
             c: _,

@@ -6,7 +6,7 @@ ghost use Rattle.frac128.specs.Held.{is_held};
 ghost use Rattle.log_rules.specs.Events.{dot_steps, meeting_point, same_pairs};
 ghost use Rattle.log_rules.specs.Events.Event.{test};
 ghost use Rattle.log_rules.specs.Live.{required_pairs};
-ghost use Rattle.log_rules.specs.Runs.{Runs, steps};
+ghost use Rattle.log_rules.specs.Runs.{Runs, RunsAll, steps};
 ghost use Rattle.log_rules.specs.declared.rule.Rule.TheVariants as rule;
 ghost use Rattle.log_live.specs.Adding.{AreNew, IsBetween, pair_named};
 ghost use Rattle.log_live.specs.Live.{live_of};
@@ -15,7 +15,7 @@ ghost use Rattle.polyhedra.specs.LiveList.{LivePair, live_pairs};
 ghost use Rattle.rep_conv.specs.Adding.{AreAtRow, IsChange, between_steps, quotients, values_at};
 ghost use Rattle.rep_conv.specs.Events.{added_events, pair_of};
 
-use crate::start::norming;
+use crate::start::norming_entry;
 use entry_checks::{Steps, magnitude, pass};
 use exact_field::Field;
 use frac128::{Frac, Vector};
@@ -123,7 +123,7 @@ fn new_vector(
     let k = counter.div(at_plus, at_minus.neg())?;
     let sum = meeting(alloc, counter, k, plus, minus)?;
     let z = sum.as_slice();
-    let by = magnitude(norming(z));
+    let by = magnitude(norming_entry(z));
     divided(alloc, counter, by, z)
 }
 
@@ -210,8 +210,7 @@ pub fn change_at(
     requires at_row { (width : ℕ) × (rows : List (List ℚ))
         × AreAtRow width rows row.now generators.now }
     ensures { (width : ℕ) (rows : List (List ℚ)) → AreAtRow width rows row.now generators.now
-        → Runs is_held (added_events rows (live_of generators.now) row.now pairs.now) 0
-        (steps (added_events rows (live_of generators.now) row.now pairs.now))
+        → RunsAll is_held (added_events rows (live_of generators.now) row.now pairs.now)
         (IsChange rows row.now generators.now pairs.now next) result }
 {
     let mut counter = Steps { taken: 0 };

@@ -11,7 +11,7 @@ ghost use Rattle.rep_text.specs.declared.conv.ConvEntry.TheVariants.{End};
 ghost use Rattle.rep_conv.specs.declared.progress.Standing.{Standing};
 ghost use Rattle.rep_text.specs.declared.rep.Rep.{Rep};
 
-use crate::giving::other_after;
+use crate::giving::other_rep_after;
 use crate::progress::Standing;
 use exact_field::Left;
 use frac128::Frac;
@@ -107,6 +107,6 @@ pub fn check_conv(alloc: Global, rep: &Rep, log: &ConvLog) -> Result<Rep, ConvRe
     ensures err { IfErr result (IsRefusal rep.now log.now) }
 {
     let standing = check_entries(alloc, rep, log.as_slice())?;
-    let found = other_after(alloc, rep, &standing)?;
+    let found = other_rep_after(alloc, rep, &standing)?;
     Ok(found)
 }

@@ -27,7 +27,7 @@ pub fn set_of(alloc: Global, bound: u32, numbers: &[u32]) -> Result<Marks, NoMem
     Ok(marks)
 }
 
-pub fn copied(alloc: Global, v: &[Frac]) -> Result<Vector, NoMemory>
+pub fn copy_vector(alloc: Global, v: &[Frac]) -> Result<Vector, NoMemory>
     ensures { IfOk result (λ copy. copy ≡ v.now) }
 {
     let mut copy = Items::new(alloc);
@@ -48,7 +48,7 @@ fn first_generator(
 {
     Ok(Generator {
         number: place + 1,
-        vector: copied(alloc, entries)?,
+        vector: copy_vector(alloc, entries)?,
         tight: all_but(alloc, count, place)?,
         pre: None,
     })

@@ -3,7 +3,7 @@ ghost use Rattle.std.specs.Prelude.{◌≡◌, ⊤, ◌+◌, ◌^◌, ◌<◌, �
 ghost use Rattle.std.specs.List.{flat_map};
 ghost use Rattle.frac128.specs.Held.{is_held};
 ghost use Rattle.log_rules.specs.Events.Event.{test};
-ghost use Rattle.log_rules.specs.Runs.{Runs, steps};
+ghost use Rattle.log_rules.specs.Runs.{Runs, RunsAll, steps};
 ghost use Rattle.rep_conv.specs.Events.{line_events, tight_events};
 ghost use Rattle.rep_conv.specs.Rows.{text_rows};
 
@@ -52,8 +52,7 @@ fn are_tight(counter: &mut Steps, d: &[Frac], rows: &[Vector]) -> Result<(), Sto
 pub fn check_line(rep: &Rep, rows: &[Vector], lines: &[Vector], d: &[Frac]) -> Result<(), Stop>
     requires rows { rows.now ≡ text_rows rep.now }
     requires few { length rows.now ≤ 4294967294 }
-    ensures { Runs is_held (line_events rep.now lines.now d.now) 0
-        (steps (line_events rep.now lines.now d.now)) (λ _. ⊤) result }
+    ensures { RunsAll is_held (line_events rep.now lines.now d.now) (λ _. ⊤) result }
 {
     let width = rep.width as usize + 1;
     pass_both(

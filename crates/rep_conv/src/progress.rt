@@ -5,7 +5,7 @@ ghost use Rattle.std.specs.List.{list_all, range_with_len};
 ghost use Rattle.incid_sets.specs.Marks.{has};
 ghost use Rattle.frac128.specs.Held.{is_held};
 ghost use Rattle.log_rules.specs.Live.{contains};
-ghost use Rattle.log_rules.specs.Runs.{Runs, steps};
+ghost use Rattle.log_rules.specs.Runs.{RunsAll};
 ghost use Rattle.log_live.specs.Adding.{kept_of};
 ghost use Rattle.rep_conv.specs.Adding.{values_at};
 ghost use Rattle.rep_conv.specs.Events.{add_events, all_used as are_all_used, events, kind_events, line_events, start_events};
@@ -17,7 +17,7 @@ ghost use Rattle.rep_text.specs.declared.conv.ConvEntry.{ConvEntry};
 ghost use Rattle.rep_text.specs.declared.conv.ConvEntry.TheVariants.{Add, Line, Start};
 
 use crate::adding::{Change, change_at};
-use crate::firsts::{copied, first_generators, set_of};
+use crate::firsts::{copy_vector, first_generators, set_of};
 use crate::line::check_line;
 use crate::rows::text_rows;
 use crate::start::check_start;
@@ -93,7 +93,7 @@ impl Standing {
         ensures { OnOk result
             (self.new ≡ record self.old { lines = self.old.lines ++ d.now ∷ [] }) }
     {
-        self.lines.push(copied(alloc, d)?)?;
+        self.lines.push(copy_vector(alloc, d)?)?;
         Ok(())
     }
 
@@ -101,8 +101,7 @@ impl Standing {
     fn take_line(&mut self, alloc: Global, rep: &Rep, d: &[Frac]) -> Result<(), Stop>
         requires { (s : State) × Keeps rep.now s self.old }
         ensures { (s : State) → Keeps rep.now s self.old
-            → Runs is_held (line_events rep.now s.lines d.now) 0
-            (steps (line_events rep.now s.lines d.now))
+            → RunsAll is_held (line_events rep.now s.lines d.now)
             (λ _. Keeps rep.now (after rep.now s (Line d.now)) self.new
             × (self.new.started ≡ self.old.started)) result }
     {
@@ -146,8 +145,7 @@ impl Standing {
     ) -> Result<(), Stop>
         requires { (s : State) × Keeps rep.now s self.old }
         ensures { (s : State) → Keeps rep.now s self.old
-            → Runs is_held (start_events rep.now s.lines named.now gens.now) 0
-            (steps (start_events rep.now s.lines named.now gens.now))
+            → RunsAll is_held (start_events rep.now s.lines named.now gens.now)
             (λ _. Keeps rep.now (after rep.now s (Start named.now gens.now)) self.new
             × (self.new.started ≡ true)) result }
     {
@@ -207,8 +205,7 @@ impl Standing {
     ) -> Result<(), Stop>
         requires { (s : State) × Holds rep.now s self.old × (self.old.started ≡ true) }
         ensures { (s : State) → Holds rep.now s self.old → self.old.started ≡ true
-            → Runs is_held (add_events rep.now s row pairs.now) 0
-            (steps (add_events rep.now s row pairs.now))
+            → RunsAll is_held (add_events rep.now s row pairs.now)
             (λ _. Keeps rep.now (after rep.now s (Add row pairs.now)) self.new
             × (self.new.started ≡ true)) result }
     {
@@ -241,8 +238,7 @@ impl Standing {
             × (needs_start entry.now ≡ true → self.old.started ≡ true) }
         ensures { (s : State) → Holds rep.now s self.old
             → (needs_start entry.now ≡ true → self.old.started ≡ true)
-            → Runs is_held (kind_events rep.now s entry.now) 0
-            (steps (kind_events rep.now s entry.now))
+            → RunsAll is_held (kind_events rep.now s entry.now)
             (λ _. Keeps rep.now (after rep.now s entry.now) self.new
             × (self.new.started ≡ (self.old.started || is_start entry.now))) result }
     {
@@ -269,8 +265,7 @@ impl Standing {
             × (length before ≡ number) }
         ensures { (before : List ConvEntry) → StandsAfter rep.now before self.old
             → length before ≡ number
-            → Runs is_held (events rep.now before entry.now) 0
-            (steps (events rep.now before entry.now))
+            → RunsAll is_held (events rep.now before entry.now)
             (λ _. StandsAfter rep.now (before ++ entry.now ∷ []) self.new) result }
     {
         pass(

@@ -10,7 +10,7 @@ use crate::begin::{Begun, begin};
 use crate::ends::finish;
 use crate::fault::{ConvFault, Converted};
 use frac128::Vectors;
-use rep_conv::{other, text_rows};
+use rep_conv::{other_rep, text_rows};
 use rep_text::{ConvEntry, ConvLog, Rep};
 use src_sink::{Items, NoMemory};
 use std::alloc::Global;
@@ -32,7 +32,7 @@ fn without_rows(alloc: Global, rep: &Rep) -> Result<Converted, NoMemory>
 {
     let log = empty_log(alloc)?;
     let none: Vectors = Items::new(alloc);
-    let found = other(alloc, rep, false, none.as_slice(), none.as_slice())?;
+    let found = other_rep(alloc, rep, false, none.as_slice(), none.as_slice())?;
     Ok(Converted { rep: found, log })
 }
 

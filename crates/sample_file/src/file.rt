@@ -91,7 +91,7 @@ pub fn sample_file(alloc: Global, number: u32) -> Result<Problem, NoMemory>
 }
 
 /// The text of a sample file.
-fn printed(alloc: Global, file: &Problem) -> Result<Bytes, NoMemory>
+fn print_file(alloc: Global, file: &Problem) -> Result<Bytes, NoMemory>
     requires { (number : ℕ) × IsSample number file.now }
     ensures { IfOk result (λ text. text ≡ problem_text file.now) }
 {
@@ -107,5 +107,5 @@ pub fn sample_text(alloc: Global, number: u32) -> Result<Bytes, NoMemory>
     ensures { IfOk result (IsSampleText number) }
 {
     let file = sample_file(alloc, number)?;
-    printed(alloc, &file)
+    print_file(alloc, &file)
 }

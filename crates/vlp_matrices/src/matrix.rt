@@ -22,7 +22,7 @@ fn empty_lists(alloc: Global, count: u32) -> Result<Vec<Sparse>, NoMemory>
 }
 
 /// A number in working coordinates: its negative where the problem maximises.
-fn signed(dir: Dir, value: Frac) -> Frac
+fn turn_number(dir: Dir, value: Frac) -> Frac
     ensures { result ≡ signed dir value }
 {
     match dir {
@@ -51,7 +51,7 @@ fn spot_of(axis: Axis, dir: Dir, cell: &Cell) -> Spot
     };
     Spot {
         at,
-        value: signed(dir, cell.value),
+        value: turn_number(dir, cell.value),
     }
 }
 
@@ -107,14 +107,14 @@ pub fn cells_of(alloc: Global, rows: &[Sparse]) -> Result<Items<Cell>, NoMemory>
 }
 
 /// A copy of a sparse vector, times -1 where `dir` says so.
-fn turned(alloc: Global, dir: Dir, spots: &[Spot]) -> Result<Sparse, NoMemory>
+fn turn_vector(alloc: Global, dir: Dir, spots: &[Spot]) -> Result<Sparse, NoMemory>
     ensures { IfOk result (λ v. v ≡ map (turned_spot dir) spots.now) }
 {
     let mut copy = Items::new(alloc);
     for spot in spots {
         copy.push(Spot {
             at: spot.at,
-            value: signed(dir, spot.value),
+            value: turn_number(dir, spot.value),
         })?;
     }
     Ok(copy)
@@ -159,9 +159,9 @@ impl Sides {
             (self.new.normals ≡ self.old.normals ++ map (turned_spot dir) vector.now ∷ []) }
         ensures bounds { OnOk result (self.new.bounds ≡ self.old.bounds ++ signed dir bound ∷ []) }
     {
-        let normal = turned(alloc, dir, vector)?;
+        let normal = turn_vector(alloc, dir, vector)?;
         self.normals.push(normal)?;
-        self.bounds.push(signed(dir, bound))
+        self.bounds.push(turn_number(dir, bound))
     }
 
     /// Appends those of one bound, the lower one first.

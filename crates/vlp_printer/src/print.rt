@@ -176,7 +176,7 @@ fn put_bounds(letter: u8, bounds: &Items<Bound>, into: &mut Bytes) -> Result<(),
 }
 
 /// How many entries of a vector are not 0.
-fn nonzero(vector: &Vector) -> usize
+fn count_nonzero(vector: &Vector) -> usize
     ensures value { result ≡ count_by (λ q. not (is_zero q)) vector.now }
     ensures bound { result ≤ length vector.now }
 {
@@ -195,7 +195,7 @@ fn entry_total(vectors: &Vectors) -> u128
 {
     let mut total: u128 = 0;
     for vector in vectors.as_slice() {
-        total += nonzero(vector) as u128;
+        total += count_nonzero(vector) as u128;
     }
     total
 }

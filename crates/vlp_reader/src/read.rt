@@ -105,7 +105,7 @@ fn close(alloc: Global, draft: Option<Draft>) -> Result<Problem, LineEnd>
 }
 
 /// What closing gave, on this line.
-fn ended(line: u32, closed: Result<Problem, LineEnd>) -> Result<Problem, VlpEnd>
+fn end_reading(line: u32, closed: Result<Problem, LineEnd>) -> Result<Problem, VlpEnd>
     ensures { MatchResult closed (λ problem. result ≡ Ok problem)
         (λ end. result ≡ Err (end_at line end)) }
 {
@@ -127,10 +127,10 @@ pub fn read_vlp(alloc: Global, bytes: &[u8]) -> Result<Problem, VlpEnd>
         rest = next;
         number += 1;
         match take_line(alloc, &mut draft, line) {
-            Ok(true) => return ended(number, close(alloc, draft)),
+            Ok(true) => return end_reading(number, close(alloc, draft)),
             Ok(false) => {}
             Err(end) => return Err(VlpEnd::at(number, end)),
         }
     }
-    ended(number + 1, close(alloc, draft))
+    end_reading(number + 1, close(alloc, draft))
 }

@@ -99,7 +99,7 @@ fn take_place(last: u32, words: &mut Words) -> Result<u32, Stop>
 }
 
 /// The number of a word that is not `0`.
-fn nonzero(word: &[u8]) -> Result<Frac, LogKind>
+fn nonzero_number(word: &[u8]) -> Result<Frac, LogKind>
     ensures { MatchResult result
         (λ q. (is_held q ≡ true) × (not (is_zero q) ≡ true) × (word.now ≡ frac_text q))
         (λ kind. value_fault word.now ≡ Some kind) }
@@ -116,7 +116,7 @@ fn take_value(words: &mut Words) -> Result<Frac, Stop>
         (one_word value_fault) words.old words.new result }
 {
     match words.next() {
-        Some(word) => Ok(nonzero(word)?),
+        Some(word) => Ok(nonzero_number(word)?),
         None => Err(Stop::Fault(LogKind::BadLine)),
     }
 }

@@ -13,17 +13,17 @@ use Rattle.entry_checks.proofs.image.keeps_sides.Goals as goal
 
 pub meets_side-requires-clause-room : goal.meets_side-requires-clause-room
 meets_side-requires-clause-room c =
-    let most = at-room (λ v. side_events v c.args.x.now zero_ℚ) (map (dense (length c.args.x.now)) c.args.rows.now) c.args.counter.now.taken c.loop-i.i c.loop-i.counter.taken (dense (length c.args.x.now) c.as_slice.result.now) (rw length-map (omega arith)) (map-at (dense (length c.args.x.now)) c.args.rows.now c.loop-i.i c.as_slice.result.now (omega arith) (item-as c.args.rows.now c.loop-i.i c.index-rows-i.result c.as_slice.result.now c.as_slice.ensures.items c.index-rows-i.is)) c.loop-i.invariant in
+    let most = at-room (λ v. side_events v c.args.x.now zero_ℚ) (map (dense (length c.args.x.now)) c.args.rows.now) c.args.counter.now.taken c.loop-row.row-index c.loop-row.counter.taken (dense (length c.args.x.now) c.as_slice.result.now) (rw length-map (omega arith)) (map-at (dense (length c.args.x.now)) c.args.rows.now c.loop-row.row-index c.as_slice.result.now (omega arith) (item-as c.args.rows.now c.loop-row.row-index c.row-item.result c.as_slice.result.now c.as_slice.ensures.items c.row-item.is)) c.loop-row.invariant in
     let same = ap steps (ap (λ (z : ℚ). side_events (dense (length c.args.x.now) c.as_slice.result.now) c.args.x.now z) c.from.ensures) in
     let room = c.requires.room in
     omega (arith, most, room, same)
 
 pub returns-in_err-meets_side : goal.returns-in_err-meets_side
 returns-in_err-meets_side c =
-    let stopped = at-stop (λ v. side_events v c.args.x.now zero_ℚ) (map (dense (length c.args.x.now)) c.args.rows.now) c.args.counter.now.taken c.loop-i.i c.loop-i.counter.taken (dense (length c.args.x.now) c.as_slice.result.now) c.in_err-meets_side.field-0.0 (rw length-map (omega arith)) (map-at (dense (length c.args.x.now)) c.args.rows.now c.loop-i.i c.as_slice.result.now (omega arith) (item-as c.args.rows.now c.loop-i.i c.index-rows-i.result c.as_slice.result.now c.as_slice.ensures.items c.index-rows-i.is)) c.loop-i.invariant (subst (λ (es : List Event). Stops is_held es c.loop-i.counter.taken c.in_err-meets_side.field-0.0) (ap (λ (z : ℚ). side_events (dense (length c.args.x.now) c.as_slice.result.now) c.args.x.now z) c.from.ensures) c.in_err-meets_side.ensures) in
+    let stopped = at-stop (λ v. side_events v c.args.x.now zero_ℚ) (map (dense (length c.args.x.now)) c.args.rows.now) c.args.counter.now.taken c.loop-row.row-index c.loop-row.counter.taken (dense (length c.args.x.now) c.as_slice.result.now) c.in_err-meets_side.field-0.0 (rw length-map (omega arith)) (map-at (dense (length c.args.x.now)) c.args.rows.now c.loop-row.row-index c.as_slice.result.now (omega arith) (item-as c.args.rows.now c.loop-row.row-index c.row-item.result c.as_slice.result.now c.as_slice.ensures.items c.row-item.is)) c.loop-row.invariant (subst (λ (es : List Event). Stops is_held es c.loop-row.counter.taken c.in_err-meets_side.field-0.0) (ap (λ (z : ℚ). side_events (dense (length c.args.x.now) c.as_slice.result.now) c.args.x.now z) c.from.ensures) c.in_err-meets_side.ensures) in
     search (stopped, rules)
 
-pub loop-i-preserved : goal.loop-i-preserved
-loop-i-preserved c =
-    at-more (λ v. side_events v c.args.x.now zero_ℚ) (map (dense (length c.args.x.now)) c.args.rows.now) c.args.counter.now.taken c.loop-i.i c.loop-i.counter.taken c.meets_side.new.counter.taken (dense (length c.args.x.now) c.as_slice.result.now) (rw length-map (omega arith)) (map-at (dense (length c.args.x.now)) c.args.rows.now c.loop-i.i c.as_slice.result.now (omega arith) (item-as c.args.rows.now c.loop-i.i c.index-rows-i.result c.as_slice.result.now c.as_slice.ensures.items c.index-rows-i.is)) c.loop-i.invariant
-    (subst (λ (es : List Event). Passed es c.loop-i.counter.taken c.meets_side.new.counter.taken) (ap (λ (z : ℚ). side_events (dense (length c.args.x.now) c.as_slice.result.now) c.args.x.now z) c.from.ensures) record { none = c.in_ok-meets_side.ensures.0; count = c.in_ok-meets_side.ensures.1 })
+pub loop-row-preserved : goal.loop-row-preserved
+loop-row-preserved c =
+    at-more (λ v. side_events v c.args.x.now zero_ℚ) (map (dense (length c.args.x.now)) c.args.rows.now) c.args.counter.now.taken c.loop-row.row-index c.loop-row.counter.taken c.meets_side.new.counter.taken (dense (length c.args.x.now) c.as_slice.result.now) (rw length-map (omega arith)) (map-at (dense (length c.args.x.now)) c.args.rows.now c.loop-row.row-index c.as_slice.result.now (omega arith) (item-as c.args.rows.now c.loop-row.row-index c.row-item.result c.as_slice.result.now c.as_slice.ensures.items c.row-item.is)) c.loop-row.invariant
+    (subst (λ (es : List Event). Passed es c.loop-row.counter.taken c.meets_side.new.counter.taken) (ap (λ (z : ℚ). side_events (dense (length c.args.x.now) c.as_slice.result.now) c.args.x.now z) c.from.ensures) record { none = c.in_ok-meets_side.ensures.0; count = c.in_ok-meets_side.ensures.1 })

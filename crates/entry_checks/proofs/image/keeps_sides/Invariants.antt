@@ -5,5 +5,5 @@ use Rattle.entry_checks.specs.Parts.{side_events}
 use Rattle.entry_checks.proofs.Going.{IsAt}
 use Rattle.entry_checks.proofs.image.keeps_sides.Given as goal
 
-abbrev pub invariant-loop-i : goal.invariant-loop-i
-invariant-loop-i l = IsAt (λ v. side_events v l.fn.x zero_ℚ) (map (dense (length l.fn.x)) l.fn.rows) l.fn.counter.taken l.i l.counter.taken
+abbrev pub invariant-loop-row : goal.invariant-loop-row
+invariant-loop-row l = IsAt (λ v. side_events v l.fn.x zero_ℚ) (map (dense (length l.fn.x)) l.fn.rows) l.fn.counter.taken l.row-index l.counter.taken

@@ -59,7 +59,7 @@ divided-requires-clause-divisor c e =
     let z_is = c.as_slice-z.ensures.items ∙ c.in_ok-sum.ensures.2 ∙ ap (λ (q : ℚ). meeting_point q c.args.plus.now c.args.minus.now) k_is in
     not_zero_of_positive (magnitude (norming c.as_slice-z.result.now))
     (magnitude-positive (norming c.as_slice-z.result.now) (λ none. c.requires.not_zero (sym (ap norming z_is) ∙ none)))
-    (ap magnitude (sym c.norming.ensures) ∙ sym c.magnitude-by.ensures ∙ e)
+    (ap magnitude (sym c.norming_entry.ensures) ∙ sym c.magnitude-by.ensures ∙ e)
 
 pub divided-requires-clause-room : goal.divided-requires-clause-room
 divided-requires-clause-room c =
@@ -67,7 +67,7 @@ divided-requires-clause-room c =
     let z = meeting_point k c.args.plus.now c.args.minus.now in
     let k_is = c.in_ok-k.ensures.2 ∙ ap (λ (d : ℚ). c.args.at_plus /ℚ d) c.neg.ensures in
     let z_is = c.as_slice-z.ensures.items ∙ c.in_ok-sum.ensures.2 ∙ ap (λ (q : ℚ). meeting_point q c.args.plus.now c.args.minus.now) k_is in
-    let by_is = c.magnitude-by.ensures ∙ ap magnitude c.norming.ensures in
+    let by_is = c.magnitude-by.ensures ∙ ap magnitude c.norming_entry.ensures in
     let came : Passed (step op.Div c.args.at_plus (neg_ℚ c.args.at_minus) ∷ []) c.args.counter.now.taken c.div.new.self.taken =
     came_as _ _ _ _ (ap (λ (d : ℚ). step op.Div c.args.at_plus d ∷ []) c.neg.ensures) c.in_ok-k.ensures.0 c.in_ok-k.ensures.1 in
     let met : Passed (meeting_steps k c.args.plus.now c.args.minus.now) c.div.new.self.taken c.meeting.new.counter.taken =
@@ -82,7 +82,7 @@ returns c =
     let z = meeting_point k c.args.plus.now c.args.minus.now in
     let k_is = c.in_ok-k.ensures.2 ∙ ap (λ (d : ℚ). c.args.at_plus /ℚ d) c.neg.ensures in
     let z_is = c.as_slice-z.ensures.items ∙ c.in_ok-sum.ensures.2 ∙ ap (λ (q : ℚ). meeting_point q c.args.plus.now c.args.minus.now) k_is in
-    let by_is = c.magnitude-by.ensures ∙ ap magnitude c.norming.ensures in
+    let by_is = c.magnitude-by.ensures ∙ ap magnitude c.norming_entry.ensures in
     let came : Passed (step op.Div c.args.at_plus (neg_ℚ c.args.at_minus) ∷ []) c.args.counter.now.taken c.div.new.self.taken =
     came_as _ _ _ _ (ap (λ (d : ℚ). step op.Div c.args.at_plus d ∷ []) c.neg.ensures) c.in_ok-k.ensures.0 c.in_ok-k.ensures.1 in
     let met : Passed (meeting_steps k c.args.plus.now c.args.minus.now) c.div.new.self.taken c.meeting.new.counter.taken =
