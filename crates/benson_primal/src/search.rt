@@ -25,9 +25,9 @@ use std::alloc::Global;
 /// Which live generators are asked.
 #[derive(Clone, Copy)]
 pub(crate) enum Scope {
-    /// Directions alone.
+    /// Those with last entry 0.
     Directions,
-    /// Points and directions.
+    /// Those and the points.
     Both,
 }
 
