@@ -141,7 +141,7 @@ impl Found {
         }
     }
 
-    /// With one entry more.
+    /// Keeps what an answer needs of one more entry.
     pub fn keep(&mut self, alloc: Global, dir: Dir, entry: &Entry) -> Result<(), NoMemory>
         ensures { (before : List Entry) → HasFound dir (plain before) self.old
             → OnOk result (HasFound dir (plain (before ++ entry.now ∷ [])) self.new) }

@@ -41,7 +41,7 @@ impl Known {
         })
     }
 
-    /// With one entry more.
+    /// Keeps what later tests need of one more entry.
     pub fn keep(&mut self, alloc: Global, entry: &Entry) -> Result<(), NoMemory>
         requires { IsTrue (is_formed entry.now) }
         ensures { (file : Problem) (before : List Entry) → IsKnown file before self.old
