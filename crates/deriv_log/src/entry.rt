@@ -73,7 +73,7 @@ pub enum Entry {
     Facet {
         cut: u32,
     },
-    /// The end of the log.
+    /// The end of the log, and of which kind it is.
     End(EndKind),
     /// A vector that later entries share; it gets the next number, from 1.
     Share {
