@@ -21,7 +21,6 @@ pub enum ExchangeFault<F: Drop> {
         /// The operation, with its operands.
         left: Left<F>,
     },
-    /// Want of memory.
     NoMemory,
 }
 
