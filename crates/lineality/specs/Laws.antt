@@ -52,7 +52,7 @@ pub record OfNegativesAlong (n : ℕ) (Set Directions : List ℚ → Type 0)
       IsInHull n points directions lines y
       ↔ IsInHull n (map negated points) (map negated directions) lines (negated y)
 
--- so it is for lines of any number
+-- so it is for every list of lines
 abbrev pub NegativesAlong : (List ℚ → Type 0) → (List ℚ → Type 0) → Type 0
 NegativesAlong Set Directions = (n : ℕ) (lines : List (List ℚ)) →
     OfNegativesAlong n Set Directions lines
