@@ -79,7 +79,7 @@ pub(crate) struct Search<'a, F: Field> {
 }
 
 impl<'a, F: Field> Search<'a, F> {
-    /// The cuts so far.
+    /// The cuts of the certified generators.
     pub(crate) fn into_cuts(self) -> Vec<Cut<F>>
         ensures { result.items ≡ self.entry.cuts }
     {
