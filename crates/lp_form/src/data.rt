@@ -61,7 +61,6 @@ pub struct Data<F: Drop> {
 pub enum DataFault {
     /// The first number of the problem, in the order of printing, that the field does not hold.
     NotHeld(Frac),
-    /// Want of memory.
     NoMemory,
 }
 
