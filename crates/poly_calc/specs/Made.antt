@@ -68,7 +68,7 @@ IsMeet a b made =
     a.col_bounds
 
 -- ---- image: z - P x = 0
--- row i of this: the objective i of the file
+-- row i of this, by objective i of the file
 abbrev pub value_row : Problem → ℕ → List Cell
 value_row a i = cell i i one_ℚ ∷ negated_row i a.objs a.o
 
@@ -122,7 +122,7 @@ side_rows row col multiplier (side ∷ more) =
 abbrev pub weights_row : ℕ → List Cell
 weights_row n = cell (n + 1) (n + n + n + 1) one_ℚ ∷ cell (n + 1) (n + n + n + 2) one_ℚ ∷ []
 
--- the entries of its matrix, where both parts have the columns of the first
+-- the entries of its matrix, where both parts have as many columns
 abbrev pub join_cells : Problem → Problem → List Cell
 join_cells a b =
     flat_map (sum_row a.cols) (numbers_from 1 a.cols)
