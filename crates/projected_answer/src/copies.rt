@@ -7,7 +7,6 @@ use log_rules::{Facet, Gen, LineGen};
 use src_sink::{Items, NoMemory};
 use std::alloc::Global;
 
-/// A copy of a list.
 pub(crate) fn copy_list<T: Copy>(alloc: Global, list: &Items<T>) -> Result<Items<T>, NoMemory>
     ensures { IfOk result (λ copy. copy ≡ list.now) }
 {
