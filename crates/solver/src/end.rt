@@ -20,7 +20,6 @@ pub enum SolveEnd {
     Cone(ConeFault),
     /// An operation whose exact result is not held, with its licence.
     Left(Licence),
-    /// Want of memory.
     NoMemory,
 }
 
