@@ -31,7 +31,7 @@ vector_of (line d) = d
 vector_of (direction d) = d
 vector_of (point y) = y
 
--- of each kind a list
+-- the lines of an answer, its directions and its points, as items
 abbrev pub line_items : List LineGen → List Item
 line_items ls = map (λ l. line l.d) ls
 
