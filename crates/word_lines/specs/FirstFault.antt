@@ -25,7 +25,7 @@ LineTest = List TextLine → TextLine → Option LogKind
 abbrev pub line_test : Forms → LineTest
 line_test forms before line = line_fault forms (list_any is_end_line before) line.whole line.text
 
--- the same of a line that may be missing, which fails no test
+-- the first test that a line fails; one that is missing fails none
 abbrev pub fault_of_line : LineTest → List TextLine → Option TextLine → Option LogKind
 fault_of_line test before None = None
 fault_of_line test before (Some line) = test before line
