@@ -16,7 +16,7 @@ pub enum ConvEntry {
     Start { rows: Items<u32>, gens: Vector },
     /// A row that comes into use, with the pairs of generators that give new ones.
     Add { row: u32, pairs: Items<LogPair> },
-    /// The end of the log, after which every row is in use.
+    /// The end of the log: all rows are in use.
     End,
 }
 
