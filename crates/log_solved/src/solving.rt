@@ -10,7 +10,7 @@ ghost use Rattle.deriv_log.specs.declared.entry.Entry.TheVariants as entry;
 ghost use Rattle.word_lines.specs.declared.part.EndKind.TheVariants as end;
 ghost use Rattle.vlp_reader.specs.Sides.{numbers_from};
 ghost use Rattle.vlp_reader.specs.declared.problem.Problem.{Problem};
-ghost use Rattle.log_rules.specs.Events.{add_events, end_events, facet_events, is_accounted, is_largest, is_taken, point_events, ray_events, start_events};
+ghost use Rattle.log_rules.specs.Events.{add_events, end_events, facet_events, is_accounted, is_largest, is_taken, start_events};
 ghost use Rattle.log_rules.specs.Live.{contains, cut_row, lines as lines_of, named, preimages, state};
 ghost use Rattle.log_rules.specs.Meets.{Meets};
 ghost use Rattle.log_rules.specs.Order as order;
@@ -21,10 +21,11 @@ ghost use Rattle.log_live.specs.Tight.{AreTight, is_accounted_at};
 ghost use Rattle.log_live.specs.declared.generator.Generator.{Generator};
 ghost use Rattle.log_versions.specs.WrittenEvents.{hinted_events};
 ghost use Rattle.log_solved.specs.Places.{place_of};
+ghost use Rattle.log_solved.specs.Shown.{entry_of, kind_of, preimage_events};
 ghost use Rattle.log_solved.specs.Solving.{Enters, IsSolving, PassesAdd, StandsBefore, hints_of};
 ghost use Rattle.log_solved.specs.Uses.{AreUses};
 
-use crate::shown::{shows_point, shows_ray};
+use crate::shown::{GenKind, t_of, test_preimage};
 use crate::uses::Uses;
 use deriv_log::LogPair;
 use entry_checks::{Cut, check_start, pass};
@@ -287,11 +288,12 @@ impl Solving {
 
     /// The events of a `point` entry: they cost those of its pre-image, and the logarithm of the
     /// number of generators.
-    pub fn certify_point(
+    pub fn certify(
         &mut self,
         alloc: Global,
         problem: &Problem,
         matrices: &Matrices,
+        kind: GenKind,
         number: u32,
         x: &[Spot],
         m: &[Spot],
@@ -300,48 +302,17 @@ impl Solving {
         requires preimage { IsSparse x.now }
         requires multipliers { IsSparse m.now }
         requires standing { (before : List Entry)
-            × StandsBefore problem.now before order.point self.old }
-        ensures { (before : List Entry) → StandsBefore problem.now before order.point self.old
-            → Enters problem.now before (entry.Point number x.now m.now)
-            (point_events problem.now before (state problem.now.objs before) number x.now m.now)
-            self.new result }
+            × StandsBefore problem.now before (kind_of kind) self.old }
+        ensures { (before : List Entry) → StandsBefore problem.now before (kind_of kind) self.old
+            → Enters problem.now before (entry_of kind number x.now m.now)
+            (preimage_events kind problem.now before (state problem.now.objs before) number x.now
+            m.now) self.new result }
     {
-        match self.live.place_open(number, Frac::from(1)) {
+        match self.live.place_open(number, t_of(kind)) {
             Some(place) => {
                 let vector = self.live.generators[place].vector.as_slice();
                 let y = &vector[..problem.objs as usize];
-                shows_point(alloc, problem, matrices, y, x, m)?;
-                self.give(alloc, place, x)
-            }
-            None => Err(Stop::Wrong(Rule::Index)),
-        }
-    }
-
-    /// The events of a `ray` entry. They cost as much.
-    pub fn certify_ray(
-        &mut self,
-        alloc: Global,
-        problem: &Problem,
-        matrices: &Matrices,
-        number: u32,
-        x: &[Spot],
-        m: &[Spot],
-    ) -> Result<(), Stop>
-        requires matrices { AreMatricesOf problem.now matrices.now }
-        requires preimage { IsSparse x.now }
-        requires multipliers { IsSparse m.now }
-        requires standing { (before : List Entry)
-            × StandsBefore problem.now before order.ray self.old }
-        ensures { (before : List Entry) → StandsBefore problem.now before order.ray self.old
-            → Enters problem.now before (entry.Ray number x.now m.now)
-            (ray_events problem.now before (state problem.now.objs before) number x.now m.now)
-            self.new result }
-    {
-        match self.live.place_open(number, Frac::from(0)) {
-            Some(place) => {
-                let vector = self.live.generators[place].vector.as_slice();
-                let y = &vector[..problem.objs as usize];
-                shows_ray(alloc, problem, matrices, y, x, m)?;
+                test_preimage(alloc, problem, matrices, kind, y, x, m)?;
                 self.give(alloc, place, x)
             }
             None => Err(Stop::Wrong(Rule::Index)),
