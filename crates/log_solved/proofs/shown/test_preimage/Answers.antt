@@ -3,7 +3,7 @@ use Rattle.log_rules.specs.Events.{above}
 use Rattle.entry_checks.proofs.Going.{Passed, Stopped, stopped-in, ran-after, whole-run}
 use Rattle.entry_checks.proofs.StepBounds.{steps-above}
 use Rattle.log_solved.specs.Shown.{member_events, shown_events}
-use Rattle.log_solved.proofs.Kinds.{steps-member}
+use Rattle.log_solved.proofs.GenKinds.{steps-member}
 use Rattle.log_solved.proofs.shown.test_preimage.Goals as goal
 
 pub test_member-requires-clause-room : goal.test_member-requires-clause-room

@@ -6,7 +6,7 @@ use Rattle.log_rules.specs.declared.rule.Rule.TheVariants as rule
 use Rattle.log_live.specs.Live.{IsOpenAt}
 use Rattle.log_solved.specs.Shown.{kind_of, preimage_events, shown_events, t_of}
 use Rattle.log_solved.proofs.Given.{y_told, opened, stops_as, ends}
-use Rattle.log_solved.proofs.Kinds.{given_by, started}
+use Rattle.log_solved.proofs.GenKinds.{given_by, started}
 use Rattle.log_solved.proofs.Tested.{stands_for, y_wide, y_room, fails_test}
 use Rattle.log_solved.proofs.solving.Solving.certify.Goals as goal
 
