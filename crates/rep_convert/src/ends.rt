@@ -12,7 +12,7 @@ use crate::fault::ConvFault;
 use crate::start::filled_generators;
 use crate::turn::take_all;
 use frac128::Vectors;
-use rep_conv::other;
+use rep_conv::other_rep;
 use rep_text::{ConvEntry, Rep};
 use src_sink::{Items, NoMemory};
 use std::alloc::Global;
@@ -69,7 +69,7 @@ pub(crate) fn finish(
     )?;
     let generators = filled_generators(alloc, places, &begun.dd)?;
     begun.log.push(ConvEntry::End)?;
-    let found = other(
+    let found = other_rep(
         alloc,
         rep,
         true,
