@@ -3,7 +3,7 @@ use Rattle.std.specs.Prelude.{OnOk, not}
 use Rattle.log_rules.proofs.PassedTests.{contained, not_contained}
 use Rattle.rep_convert.specs.Order.{IsOrder}
 use Rattle.rep_convert.proofs.Ordered.{order_more, order_skip}
-use Rattle.rep_convert.proofs.ends.push_unused.Goals as goal
+use Rattle.rep_convert.proofs.order.push_unused.Goals as goal
 
 pub returns-then-contains : goal.returns-then-contains
 returns-then-contains c =
