@@ -1,5 +1,5 @@
 //! The rows that a conversion starts with, and their double description.
-ghost use Rattle.std.specs.Prelude.{◌≡◌, ◌+◌, ◌-◌, ◌<◌, ◌≤◌, [], suc, All, AllPairs, IfErr, IfOk, IfSome, length, map, slice_index_or};
+ghost use Rattle.std.specs.Prelude.{◌≡◌, ◌+◌, ◌-◌, ◌<◌, ◌≤◌, [], suc, All, AllPairs, IfErr, IfOk, IfSome, OnOk, length, map, slice_index_or};
 ghost use Rattle.frac128.specs.Held.{is_held};
 ghost use Rattle.lineality.specs.Without.{open_count, with_zeros, without};
 ghost use Rattle.polyhedra.specs.LiveList.{vectors};
@@ -58,16 +58,27 @@ fn from_zero(alloc: Global, numbers: &[u32]) -> Result<Items<u32>, NoMemory>
     Ok(list)
 }
 
+/// Lists a number, if it stands in another list.
+fn push_listed(found: &mut Items<u32>, list: &[u32], k: u32) -> Result<(), NoMemory>
+    requires rise { AllPairs (λ i j. i < j) found.old }
+    requires exist { All (λ j. j < k) found.old }
+    ensures rise { OnOk result (AllPairs (λ i j. i < j) found.new) }
+    ensures exist { OnOk result (All (λ j. j < k + 1) found.new) }
+{
+    if !list.contains(&k) {
+        return Ok(());
+    }
+    found.push(k)
+}
+
 /// Which of the numbers below the bound stand in a list, rising.
-fn listed(alloc: Global, count: u32, list: &[u32]) -> Result<Items<u32>, NoMemory>
-    ensures rise { IfOk result (λ found. AllPairs (λ j k. j < k) found) }
-    ensures exist { IfOk result (λ found. All (λ k. k < count) found) }
+fn rising_of(alloc: Global, count: u32, list: &[u32]) -> Result<Items<u32>, NoMemory>
+    ensures rise { IfOk result (λ found. AllPairs (λ i j. i < j) found) }
+    ensures exist { IfOk result (λ found. All (λ j. j < count) found) }
 {
     let mut found = Items::new(alloc);
     for k in 0..count {
-        if list.contains(&k) {
-            found.push(k)?;
-        }
+        push_listed(&mut found, list, k)?;
     }
     Ok(found)
 }
@@ -101,7 +112,7 @@ fn early_numbers(
     ensures starts { IfOk result (λ found. IfSome found (AreStarts rep.now lines.now)) }
 {
     let first = match order.get(..most) {
-        Some(first) => listed(alloc, short.count(), first)?,
+        Some(first) => rising_of(alloc, short.count(), first)?,
         None => return Ok(None),
     };
     let rows = picked_rows(alloc, short, first.as_slice())?;
