@@ -11,7 +11,7 @@ ghost use Rattle.double_descr.specs.Steps.{between, values};
 
 use crate::fault::{DdFault, Pair};
 use crate::generator::{Generator, between_two};
-use crate::pairs::are_adjacent;
+use crate::pairs::{are_adjacent, share_enough};
 use crate::signs::is_above;
 use exact_field::Field;
 use incid_sets::Marks;
@@ -65,6 +65,9 @@ fn try_pair<F: Field>(
         (live_of F.value generators.now) (pair_of F.value plus.now minus.now))
         (block_of F.value plus.now minus.now (F.value at_plus) (F.value at_minus)) fault) }
 {
+    if !share_enough(plus, minus) {
+        return Ok(());
+    }
     so_far.common.set_meet(&plus.tight, &minus.tight);
     if !are_adjacent(generators, plus, minus, &so_far.common, &mut so_far.last) {
         return Ok(());

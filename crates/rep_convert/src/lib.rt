@@ -10,6 +10,7 @@ mod laws;
 mod licences;
 mod lines;
 mod log;
+mod order;
 mod places;
 mod products;
 mod start;

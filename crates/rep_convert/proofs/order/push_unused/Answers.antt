@@ -1,18 +1,14 @@
-use Rattle.std.proofs.Common.{◌≡◌, ◌++◌, ◌∷◌, [], Ok, Err, sym, ◌∙◌, ap, Result}
-use Rattle.std.specs.Prelude.{OnOk, not}
+use Rattle.std.proofs.Common.{◌≡◌, ◌++◌, ◌∷◌, [], sym, ◌∙◌, ap}
+use Rattle.std.specs.Prelude.{not}
 use Rattle.log_rules.proofs.PassedTests.{contained, not_contained}
 use Rattle.rep_convert.specs.Order.{IsOrder}
-use Rattle.rep_convert.proofs.Ordered.{order_more, order_skip}
-use Rattle.rep_convert.proofs.ends.push_unused.Goals as goal
+use Rattle.rep_convert.proofs.Ordered.{on_ok, order_more, order_skip}
+use Rattle.rep_convert.proofs.order.push_unused.Goals as goal
 
 pub returns-then-contains : goal.returns-then-contains
 returns-then-contains c =
     order_skip c.args.k c.args.used.now c.args.order.now c.requires
     (contained c.args.used.now c.args.k (sym c.contains.ensures.value ∙ c.if-contains.true))
-
-on_ok : {T E : Type 0} (r : Result T E) (P Q : Type 0) → (P → Q) → OnOk r P → OnOk r Q
-on_ok (Ok x) P Q f h = f h
-on_ok (Err e) P Q f h = tt
 
 pub returns : goal.returns
 returns c =

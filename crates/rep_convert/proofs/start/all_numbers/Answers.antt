@@ -5,7 +5,7 @@ use Rattle.lin_rows.specs.Read.{numbers}
 use Rattle.rep_convert.specs.Lines.{width_without}
 use Rattle.rep_convert.proofs.Calls.{fault_here, none_here, short_here, starts_here}
 use Rattle.rep_convert.proofs.Starting.{some_rows}
-use Rattle.rep_convert.proofs.start.start_numbers.Goals as goal
+use Rattle.rep_convert.proofs.start.all_numbers.Goals as goal
 
 pub unreachable-requires : goal.unreachable-requires
 unreachable-requires c =
