@@ -21,7 +21,7 @@ use std::alloc::Global;
 /// The pairs of an addition so far, with their new generators.
 #[derive(Debug, Drop)]
 pub struct Made<F: Drop> {
-    /// The pairs.
+    /// The pairs so far, by the numbers of their generators.
     pub pairs: Items<Pair>,
     /// The generators that stay, and then a new one for each pair.
     pub generators: Items<Generator<F>>,
@@ -85,7 +85,8 @@ fn try_pair<F: Field>(
     Ok(())
 }
 
-/// Makes the new generator of one generator, at which the row is positive, with generator `j`, at which it is negative.
+/// Makes the new generator of one generator, at which the row is positive, with generator `j`, at
+/// which it is negative.
 fn meet_at<F: Field>(
     alloc: Global,
     generators: &[Generator<F>],
@@ -122,7 +123,8 @@ fn meet_at<F: Field>(
     try_pair(alloc, generators, plus, minus, at_plus, at_minus, so_far)
 }
 
-/// Makes the new generators of one generator at which the row is positive, with each at which it is negative, from their places.
+/// Makes the new generators of one generator at which the row is positive, with each at which it is
+/// negative, from their places.
 fn meet_with<F: Field>(
     alloc: Global,
     generators: &[Generator<F>],
@@ -201,9 +203,10 @@ fn try_plus<F: Field>(
     meet_with(alloc, generators, values, plus, at_plus, below, so_far)
 }
 
-/// Makes all new generators of an addition, from the values of the row at the live generators, and the places of those below 0.
-/// The cost is at the worst that of the opposite pairs times the live generators times the words of a tight set. Pairs with too
-/// few common tight rows are not scanned, and most other scans stop early.
+/// Makes all new generators of an addition, from the values of the row at the live generators, and
+/// the places of those below 0. The cost is at the worst that of the opposite pairs times the live
+/// generators times the words of a tight set. Pairs with too few common tight rows are not scanned,
+/// and most other scans stop early.
 pub fn meet_all<F: Field>(
     alloc: Global,
     generators: &[Generator<F>],

@@ -29,7 +29,7 @@ impl Model for Marks {
 }
 
 impl Marks {
-    /// The empty set.
+    /// The empty set, for numbers below `bound`.
     pub fn new(alloc: Global, bound: u32) -> Result<Marks, NoMemory>
         ensures { IfOk result (λ marks. marks ≡ no_marks bound) }
     {
@@ -37,7 +37,7 @@ impl Marks {
         Ok(Marks { words, bound })
     }
 
-    /// The bound.
+    /// The number below which all members are.
     pub fn bound(&self) -> u32
         ensures { result ≡ length self.now }
     {

@@ -1,4 +1,5 @@
-//! Bits of words, taken a word at a time. A list of words that is shorter counts as continued with zeros.
+//! Bits of words, taken a word at a time. A list of words that is shorter counts as continued with
+//! zeros.
 ghost use Rattle.std.specs.Prelude.{◌≡◌, ◌<◌, ◌/◌, ◌*◌, ◌^◌, ◌≤◌, ◌↔◌, ℕ, IsTrue, IfOk, OnOk, replicate, ◌&&◌, slice_index, vec_len};
 ghost use Rattle.incid_sets.specs.Marks.{size};
 ghost use Rattle.incid_sets.specs.Words.{common_words, is_marked, marks_below, AddsMark, AreBounded};

@@ -12,7 +12,7 @@ use crate::order::order_of;
 use crate::start::filled_generators;
 use crate::turn::take_all;
 use frac128::Vectors;
-use rep_conv::other;
+use rep_conv::other_rep;
 use rep_text::{ConvEntry, Rep};
 use std::alloc::Global;
 
@@ -47,7 +47,7 @@ pub(crate) fn finish(
     )?;
     let generators = filled_generators(alloc, places, &begun.dd)?;
     begun.log.push(ConvEntry::End)?;
-    let found = other(
+    let found = other_rep(
         alloc,
         rep,
         true,

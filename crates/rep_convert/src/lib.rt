@@ -1,5 +1,5 @@
-//! The conversion of one representation of a polyhedron into the other by double description, with a
-//! log of it that is accepted.
+//! The conversion of one representation of a polyhedron into the other by double description, with
+//! a log of it that is accepted.
 #![tactic(auto)]
 
 mod begin;

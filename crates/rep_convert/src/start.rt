@@ -268,7 +268,7 @@ fn tried_generators(
     Ok(gens)
 }
 
-/// Starts a conversion behind its lines.
+/// Starts a conversion after its lines.
 pub(crate) fn start(
     alloc: Global,
     rep: &Rep,

@@ -7,8 +7,8 @@ use Rattle.rep_convert.specs.Lines.{marks_of}
 use Rattle.rep_convert.proofs.Ended.{ended, given_off}
 use Rattle.rep_convert.proofs.ends.finish.Goals as goal
 
-pub other-requires-clause-given : goal.other-requires-clause-given
-other-requires-clause-given c =
+pub other_rep-requires-clause-given : goal.other_rep-requires-clause-given
+other_rep-requires-clause-given c =
     let rep = c.args.rep.now in
     let log = c.take_all.new.log in
     let dd = c.take_all.new.dd in
