@@ -35,10 +35,10 @@ fn covers_pair<F: Field>(
         (values F.value minus.now.vector.items)
         (values F.value third.now.vector.items))) }
 {
-    if is_one_of(third, plus, minus) {
+    if !third.tight.contains_all(common) {
         return false;
     }
-    third.tight.contains_all(common)
+    !is_one_of(third, plus, minus)
 }
 
 /// Whether no third generator covers the pair, by a scan. The one that covered last is tried first.

@@ -1,6 +1,6 @@
 //! Bits of words, taken a word at a time. A list of words that is shorter counts as continued with
 //! zeros.
-ghost use Rattle.std.specs.Prelude.{◌≡◌, ◌<◌, ◌/◌, ◌*◌, ◌^◌, ◌≤◌, ◌↔◌, ℕ, IsTrue, IfOk, OnOk, replicate, ◌&&◌, slice_index, vec_len};
+ghost use Rattle.std.specs.Prelude.{◌≡◌, ◌<◌, ◌/◌, ◌*◌, ◌^◌, ◌≤◌, ◌↔◌, ℕ, IsTrue, bit_and, count_ones, IfOk, OnOk, replicate, ◌&&◌, slice_index, vec_len};
 ghost use Rattle.incid_sets.specs.Marks.{size};
 ghost use Rattle.incid_sets.specs.Words.{common_words, is_marked, marks_below, AddsMark, AreBounded};
 
@@ -102,6 +102,17 @@ pub fn have_at_least(words: &[u64], count: u32) -> bool
     missing == 0
 }
 
+/// How many numbers of a word the word `i` of others has too. That one is not read for a word without
+/// a number.
+fn common_count(word: u64, other: &[u64], i: usize) -> usize
+    ensures { result ≡ count_ones (bit_and word (slice_index other.now i)) }
+{
+    if word == 0 {
+        return 0;
+    }
+    (word & word_at(other, i)).count_ones() as usize
+}
+
 /// Whether the two have at least as many common numbers as `count`. It stops at the first words that do.
 pub fn share_at_least(a: &[u64], b: &[u64], count: usize) -> bool
     ensures { (bound : ℕ) → AreBounded (common_words a.now b.now) bound
@@ -109,7 +120,7 @@ pub fn share_at_least(a: &[u64], b: &[u64], count: usize) -> bool
 {
     let mut missing = count;
     for (i, word) in a.iter().enumerate() {
-        let ones = (*word & word_at(b, i)).count_ones() as usize;
+        let ones = common_count(*word, b, i);
         if missing <= ones {
             return true;
         }

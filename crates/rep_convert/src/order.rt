@@ -34,9 +34,9 @@ fn below_zero(x: Frac) -> Frac {
     if x.sign() > 0 { x.neg() } else { x }
 }
 
-/// The sum of the magnitudes of a row's entries but the last by that of the last, with a minus: for
-/// a point it is the less the farther out it lies. `None` stands for the least, where the last entry
-/// is 0, as for a direction, or the number is not held.
+/// The sum of the magnitudes of a row's entries but the last over that of the last, with a minus:
+/// the less it is, the farther out a point lies. `None` stands for the least, where the last
+/// entry is 0, as for a direction, or the number is not held.
 fn nearness(row: &[Frac]) -> Option<Frac> {
     let (last, entries) = row.split_last()?;
     if is_zero(*last) {

@@ -145,8 +145,8 @@ fn all_numbers(
     }
 }
 
-/// The numbers of the rows of the start, from 0: where they can be found there, among the first of an
-/// order, and else among all rows.
+/// The numbers of the rows of the start, from 0: among the first rows of an order, where they can
+/// be found there, and else among all rows.
 fn start_numbers(
     alloc: Global,
     rep: &Rep,

@@ -1,4 +1,4 @@
-use Rattle.std.proofs.Common.{◌≡◌, ◌+◌, ◌≤◌, get_or, take, refl, sym, ap, ◌∙◌, arith, sum_by, count_ones, bit_and, eqb-true, eq-eqb}
+use Rattle.std.proofs.Common.{◌≡◌, ◌+◌, ◌≤◌, get_or, take, refl, sym, ap, ◌∙◌, arith, sum_by, count_ones, eqb-true, eq-eqb}
 use Rattle.std.proofs.lemmas.List.{take_all}
 use Rattle.std.proofs.lemmas.List.Sums.{sum_by_more, sum_by-take-le}
 use Rattle.std.proofs.Math.Facts.{Fits-lt-pow}
@@ -13,8 +13,8 @@ loop-i-preserved c =
     let words = common_words c.args.a.now c.args.b.now in
     let more : sum_by count_ones (take (c.loop-i.i + 1) words) ≡ sum_by count_ones (take c.loop-i.i words) + count_ones (get_or words c.loop-i.i 0) =
     sum_by_more count_ones words c.loop-i.i 0 (omega (arith, length-common c.args.a.now c.args.b.now, c.loop-i-test.true)) in
-    let here : count_ones (get_or words c.loop-i.i 0) ≡ count_ones (bit_and (get_or c.args.a.now c.loop-i.i 0) c.word_at.result) =
-    ap count_ones (common_at c.args.a.now c.args.b.now c.loop-i.i (omega (arith, c.loop-i-test.true)) ∙ ap (bit_and (get_or c.args.a.now c.loop-i.i 0)) (sym c.word_at.ensures)) in
+    let here : count_ones (get_or words c.loop-i.i 0) ≡ c.common_count-ones.result =
+    ap count_ones (common_at c.args.a.now c.args.b.now c.loop-i.i (omega (arith, c.loop-i-test.true))) ∙ sym c.common_count-ones.ensures in
     omega (arith, more, here, c.loop-i.invariant, c.if-missing-ones.false)
 
 pub returns-then-missing-ones : goal.returns-then-missing-ones
@@ -24,8 +24,8 @@ returns-then-missing-ones c = λ bound h.
     size_is words bound (common_low c.args.a.now c.args.b.now (λ i. Fits-lt-pow (c.type_inv.a i))) h in
     let more : sum_by count_ones (take (c.loop-i.i + 1) words) ≡ sum_by count_ones (take c.loop-i.i words) + count_ones (get_or words c.loop-i.i 0) =
     sum_by_more count_ones words c.loop-i.i 0 (omega (arith, length-common c.args.a.now c.args.b.now, c.loop-i-test.true)) in
-    let here : count_ones (get_or words c.loop-i.i 0) ≡ count_ones (bit_and (get_or c.args.a.now c.loop-i.i 0) c.word_at.result) =
-    ap count_ones (common_at c.args.a.now c.args.b.now c.loop-i.i (omega (arith, c.loop-i-test.true)) ∙ ap (bit_and (get_or c.args.a.now c.loop-i.i 0)) (sym c.word_at.ensures)) in
+    let here : count_ones (get_or words c.loop-i.i 0) ≡ c.common_count-ones.result =
+    ap count_ones (common_at c.args.a.now c.args.b.now c.loop-i.i (omega (arith, c.loop-i-test.true))) ∙ sym c.common_count-ones.ensures in
     let least : sum_by count_ones (take (c.loop-i.i + 1) words) ≤ sum_by count_ones words = sum_by-take-le count_ones words (c.loop-i.i + 1) in
     (λ _. omega (arith, all, more, here, least, c.loop-i.invariant, c.if-missing-ones.true), λ _. refl)
 
