@@ -19,7 +19,7 @@ use Rattle.lin_rows.specs.Lines.{AreLines, Rises, entries, lines, sum_at}
 use Rattle.lin_rows.specs.Pivot.{AreTableau, table_of as table_of_lines}
 use Rattle.lin_rows.specs.declared.cells.Cell.{Cell}
 use Rattle.lin_rows.specs.declared.system.System.{System as Program}
-use Rattle.lin_rows.specs.declared.tableau.Tableau.{Tableau}
+use Rattle.lin_rows.specs.Tableau.{Dictionary}
 use Rattle.lin_rows.proofs.ManyLines.{length-lines}
 use Rattle.lin_rows.proofs.Pivoted.{dense_is, row_is}
 use Rattle.exact_simplex.specs.GoingOn.{CanGoOn, HasSameEquations, IsCostLine, IsTableFor, second_row}
@@ -71,9 +71,9 @@ module _ {F : Type 0} (value : F → ℚ) (before p : Program F) (lengths : HasL
   pub width_is : right_column (system_of value p) ≡ n
   width_is = ap right_column next_system ∙ other_width s ok cost many
 
-  module _ (t : Tableau F) (h : CanGoOn value before t) (t' : Tableau F) (line : Vec (Cell F) Global) (width : t'.width ≡ t.width) (basis : t'.basis.items ≡ t.basis.items)
+  module _ (t : Dictionary) (h : CanGoOn value before t) (t' : Dictionary) (line : Vec (Cell F) Global) (width : t'.width ≡ t.width) (basis : t'.basis ≡ t.basis)
       (rows : t'.rows.items ≡ slice_set t.rows.items (before.rows + 1) line)
-      (cleared : IsCostLine s (second_row value p) t.basis.items (entries value line.items)) where
+      (cleared : IsCostLine s (second_row value p) t.basis (entries value line.items)) where
     abbrev ls : List (List Entry)
     ls = lines value t.rows.items
 
@@ -113,7 +113,7 @@ module _ {F : Type 0} (value : F → ℚ) (before p : Program F) (lengths : HasL
     }
 
     abbrev d : Table
-    d = table_in value s t
+    d = t.table
 
     abbrev e : Table
     e = table_of_lines n now
@@ -131,45 +131,45 @@ module _ {F : Type 0} (value : F → ℚ) (before p : Program F) (lengths : HasL
     row_is_line =
         ap (row_of e) (sym place_is) ∙ row_is n now now_lines place (omega (arith, inside, long)) ∙ ap (λ x. listed n (sum_at x)) here ∙ sym (dense_is n es cleared.rises)
 
-    changed : IsChanged n (table_of s) t.basis.items original (row_of e (second_cost s))
+    changed : IsChanged n (table_of s) t.basis original (row_of e (second_cost s))
     changed =
-        subst (λ (x : List ℚ). IsChanged n (table_of s) t.basis.items x (row_of e (second_cost s))) second_row_is
-        (subst (λ (x : List ℚ). IsChanged n (table_of s) t.basis.items (second_row value p) x) (sym row_is_line) cleared.changed)
+        subst (λ (x : List ℚ). IsChanged n (table_of s) t.basis x (row_of e (second_cost s))) second_row_is
+        (subst (λ (x : List ℚ). IsChanged n (table_of s) t.basis (second_row value p) x) (sym row_is_line) cleared.changed)
 
-    clear : (k : ℕ) → 1 ≤ k → k ≤ equation_count s → at e (second_cost s) (basic_column t.basis.items k) ≡ zero_ℚ
+    clear : (k : ℕ) → 1 ≤ k → k ≤ equation_count s → at e (second_cost s) (basic_column t.basis k) ≡ zero_ℚ
     clear k l u =
-        let some : basic_column t.basis.items k ≢ 0 = h.feasible.feasible.full.full k l u in
-        let within : basic_column t.basis.items k < n = h.feasible.held.dictionary.columns.within k l in
-        ap (λ v. entry v (basic_column t.basis.items k)) row_is_line
-        ∙ entry_dense n es (basic_column t.basis.items k) cleared.rises (omega (arith, some)) (omega (arith, within)) ∙ cleared.clear k l u
+        let some : basic_column t.basis k ≢ 0 = h.feasible.feasible.full.full k l u in
+        let within : basic_column t.basis k < n = h.feasible.held.dictionary.columns.within k l in
+        ap (λ v. entry v (basic_column t.basis k)) row_is_line
+        ∙ entry_dense n es (basic_column t.basis k) cleared.rises (omega (arith, some)) (omega (arith, within)) ∙ cleared.clear k l u
 
     abbrev next : System
     next = other s ok cost many
 
-    next_table : table_in value next t' ≡ e
+    next_table : t'.table ≡ e
     next_table = ap (λ w. table_of_lines w now) (other_width s ok cost many)
 
-    feasible_next : IsFeasibleAt next t.basis.items e
-    feasible_next = other_feasible s ok cost many t.basis.items d e h.feasible.held.dictionary after changed clear h.feasible.feasible
+    feasible_next : IsFeasibleAt next t.basis e
+    feasible_next = other_feasible s ok cost many t.basis d e h.feasible.held.dictionary after changed clear h.feasible.feasible
 
-    feasible_now : IsFeasibleAt next t'.basis.items (table_in value next t')
+    feasible_now : IsFeasibleAt next t'.basis t'.table
     feasible_now =
-        subst (λ (b : List ℕ). IsFeasibleAt next b (table_in value next t')) (sym basis)
-        (subst (λ (x : Table). IsFeasibleAt next t.basis.items x) (sym next_table) feasible_next)
+        subst (λ (b : List ℕ). IsFeasibleAt next b t'.table) (sym basis)
+        (subst (λ (x : Table). IsFeasibleAt next t.basis x) (sym next_table) feasible_next)
 
-    idle_now : IsIdle value next t'
+    idle_now : IsIdle next t'
     idle_now =
-        subst (λ (b : List ℕ). AreIdle next b (table_in value next t')) (sym basis)
-        (subst (λ (x : Table). AreIdle next t.basis.items x) (sym next_table)
-        (other_idle s ok cost many t.basis.items d e h.feasible.held.dictionary after changed clear h.idle))
+        subst (λ (b : List ℕ). AreIdle next b t'.table) (sym basis)
+        (subst (λ (x : Table). AreIdle next t.basis x) (sym next_table)
+        (other_idle s ok cost many t.basis d e h.feasible.held.dictionary after changed clear h.idle))
 
-    tableau_now : AreTableau (right_column next) now t'.basis.items
+    tableau_now : AreTableau (right_column next) now t'.basis
     tableau_now =
         let old = h.feasible.held.tableau in
-        subst (λ (w : ℕ). AreTableau w now t'.basis.items) (sym (other_width s ok cost many))
+        subst (λ (w : ℕ). AreTableau w now t'.basis) (sym (other_width s ok cost many))
         (record { lines = now_lines; one_each = ap length basis ∙ old.one_each ∙ sym long; numbered = omega (arith, old.numbered, long) })
 
-    held_now : IsTableauOf value next t'
+    held_now : IsTableauOf next t'
     held_now = record {
       width = width ∙ h.feasible.held.width ∙ sym (other_width s ok cost many);
       tableau = tableau_now;
@@ -179,12 +179,12 @@ module _ {F : Type 0} (value : F → ℚ) (before p : Program F) (lengths : HasL
     pub goes_on : CanGoOn value p t'
     goes_on = record {
       lengths = own;
-      feasible = subst (λ (x : System). IsFeasible value x t') (sym next_system) (record { held = held_now; feasible = feasible_now });
-      idle = subst (λ (x : System). IsIdle value x t') (sym next_system) idle_now;
+      feasible = subst (λ (x : System). IsFeasible x t') (sym next_system) (record { held = held_now; feasible = feasible_now });
+      idle = subst (λ (x : System). IsIdle x t') (sym next_system) idle_now;
     }
 
 -- a table of a program with the same equations
-pub table_for : {F : Type 0} (value : F → ℚ) (before p : Program F) (t : Option (Tableau F)) → HasSameEquations before p →
+pub table_for : {F : Type 0} (value : F → ℚ) (before p : Program F) (t : Option Dictionary) → HasSameEquations before p →
     MatchOption t ⊤ (CanGoOn value before) → MatchOption t ⊤ (IsTableFor value p)
 table_for value before p None same on = tt
 table_for value before p (Some t) same on = record { before = before; from = record { on = on; same = same } }

@@ -36,13 +36,13 @@ module _ (g : given.Over) (c : After-support g) where
 turned : (g : given.Over) (c : After-pivot g) (P : Type 0) →
     (table_of c.pivot.new.self.width (lines g.F.Field.value c.pivot.new.self.rows.items)
     ≡ pivoted (table_of c.args.tableau.now.width (lines g.F.Field.value c.args.tableau.now.rows.items)) (c.args.i + 1) c.in-Some.col →
-    AreTableau c.pivot.new.self.width (lines g.F.Field.value c.pivot.new.self.rows.items) c.pivot.new.self.basis.items →
-    c.pivot.new.self.basis.items ≡ slice_set c.args.tableau.now.basis.items c.args.i c.in-Some.col → P) → OnOk c.pivot.result P
+    AreTableau c.pivot.new.self.width (lines g.F.Field.value c.pivot.new.self.rows.items) c.pivot.new.self.basis →
+    c.pivot.new.self.basis ≡ slice_set c.args.tableau.now.basis c.args.i c.in-Some.col → P) → OnOk c.pivot.result P
 turned g c P more = on_ok3 c.pivot.result
     (table_of c.pivot.new.self.width (lines g.F.Field.value c.pivot.new.self.rows.items)
     ≡ pivoted (table_of c.args.tableau.now.width (lines g.F.Field.value c.args.tableau.now.rows.items)) (c.args.i + 1) c.in-Some.col)
-    (AreTableau c.pivot.new.self.width (lines g.F.Field.value c.pivot.new.self.rows.items) c.pivot.new.self.basis.items)
-    (c.pivot.new.self.basis.items ≡ slice_set c.args.tableau.now.basis.items c.args.i c.in-Some.col) P more c.pivot.ensures.table c.pivot.ensures.lines c.pivot.ensures.basis
+    (AreTableau c.pivot.new.self.width (lines g.F.Field.value c.pivot.new.self.rows.items) c.pivot.new.self.basis)
+    (c.pivot.new.self.basis ≡ slice_set c.args.tableau.now.basis c.args.i c.in-Some.col) P more c.pivot.ensures.table c.pivot.ensures.lines c.pivot.ensures.basis
 
 pub index-requires : goal.index-requires
 index-requires g c = omega (arith, basis_inside g.F.Field.value c.args.system.now c.requires.lengths c.args.tableau.now c.requires.feasible c.args.i c.requires.inside c.requires.idle)
@@ -81,7 +81,7 @@ pub returns-in-Some-clause-feasible : goal.returns-in-Some-clause-feasible
 returns-in-Some-clause-feasible g c =
     let at = goal.at.returns-in-Some-clause-feasible g c in
     let d = at.After-support in
-    turned g at.After-pivot (IsFeasible g.F.Field.value (system_of g.F.Field.value c.args.system.now) c.pivot.new.self)
+    turned g at.After-pivot (IsFeasible (system_of g.F.Field.value c.args.system.now) c.pivot.new.self)
     (turn_feasible g.F.Field.value c.args.system.now c.requires.lengths c.args.tableau.now c.requires.feasible c.args.i c.requires.inside c.requires.idle c.deref.result.now (row_is g d) c.in-Some.col (found g d c.in-Some.col c.in-Some.is)
     c.index.result.now c.index.ensures (omega (arith, c.if-index-system.false)) c.pivot.new.self c.pivot.ensures.width)
 
@@ -89,7 +89,7 @@ pub returns-in-Some-clause-idle : goal.returns-in-Some-clause-idle
 returns-in-Some-clause-idle g c =
     let at = goal.at.returns-in-Some-clause-idle g c in
     let d = at.After-support in
-    turned g at.After-pivot (IsIdleTo g.F.Field.value (system_of g.F.Field.value c.args.system.now) (c.args.i + 1) c.pivot.new.self)
+    turned g at.After-pivot (IsIdleTo (system_of g.F.Field.value c.args.system.now) (c.args.i + 1) c.pivot.new.self)
     (turn_idle g.F.Field.value c.args.system.now c.requires.lengths c.args.tableau.now c.requires.feasible c.args.i c.requires.inside c.requires.idle c.deref.result.now (row_is g d) c.in-Some.col (found g d c.in-Some.col c.in-Some.is)
     c.index.result.now c.index.ensures (omega (arith, c.if-index-system.false)) c.pivot.new.self c.pivot.ensures.width)
 
@@ -98,6 +98,6 @@ returns-in-Some-clause-left g c =
     let value = g.F.Field.value in
     let t = c.args.tableau.now in
     let d = (goal.at.returns-in-Some-clause-left g c).After-support in
-    IfErr-weaker c.pivot.result (IsPivotFault value g.F.Field.holds t.width (table_of t.width (lines value t.rows.items)) t.basis.items (c.args.i + 1) c.in-Some.col)
+    IfErr-weaker c.pivot.result (IsPivotFault value g.F.Field.holds t.width (table_of t.width (lines value t.rows.items)) t.basis (c.args.i + 1) c.in-Some.col)
     (IsSystemFault value g.F.Field.holds (system_of value c.args.system.now))
     (turn_fault g.F.Field.value c.args.system.now c.requires.lengths c.args.tableau.now c.requires.feasible c.args.i c.requires.inside c.requires.idle c.deref.result.now (row_is g d) c.in-Some.col (found g d c.in-Some.col c.in-Some.is) g.F.Field.holds) c.pivot.ensures.left

@@ -60,8 +60,8 @@ returns-clause-primal g c =
     let columns = c.deref.result.now in
     let w : ℕ = before.width in
     let start : Table = table_of w (lines value before.rows.items) in
-    on_ok2 c.run_phase.result (IsTurn w p.rows columns start before.basis.items (lines value after.rows.items) after.basis.items)
-    (IsMoved p.rows p.cols start before.basis.items (table_of w (lines value after.rows.items)) after.basis.items) (IsPrimal value s after)
+    on_ok2 c.run_phase.result (IsTurn w p.rows columns start before.basis (lines value after.rows.items) after.basis)
+    (IsMoved p.rows p.cols start before.basis (table_of w (lines value after.rows.items)) after.basis) (IsPrimal s after)
     (λ turn moved. phase_primal value s ok before c.requires.primal after w p.rows p.cols columns c.requires.primal.held.width (sym (equation_count_is value p c.requires.lengths))
     (sym (unknown_count_is value p c.requires.lengths)) (c.deref.ensures.value ∙ c.in_ok-columns.ensures) c.run_phase.ensures.width turn moved)
     c.run_phase.ensures.turn c.run_phase.ensures.moved
@@ -78,8 +78,8 @@ returns-clause-idle g c =
     let w : ℕ = before.width in
     let start : Table = table_of w (lines value before.rows.items) in
     λ idle.
-    on_ok2 c.run_phase.result (IsTurn w p.rows columns start before.basis.items (lines value after.rows.items) after.basis.items)
-    (IsMoved p.rows p.cols start before.basis.items (table_of w (lines value after.rows.items)) after.basis.items) (IsIdle value s after)
+    on_ok2 c.run_phase.result (IsTurn w p.rows columns start before.basis (lines value after.rows.items) after.basis)
+    (IsMoved p.rows p.cols start before.basis (table_of w (lines value after.rows.items)) after.basis) (IsIdle s after)
     (λ turn moved. phase_idle value s ok before c.requires.primal after w p.rows p.cols columns c.requires.primal.held.width (sym (equation_count_is value p c.requires.lengths))
     (sym (unknown_count_is value p c.requires.lengths)) (c.deref.ensures.value ∙ c.in_ok-columns.ensures) c.run_phase.ensures.width turn moved idle)
     c.run_phase.ensures.turn c.run_phase.ensures.moved
@@ -93,7 +93,7 @@ returns-clause-end g c =
     let after = c.run_phase.new.tableau in
     let w : ℕ = before.width in
     let ls = lines value after.rows.items in
-    IfOk-weaker c.run_phase.result (IsPhaseEnd p.rows c.args.cost p.cols (table_of w ls)) (IsPhaseEnd (equation_count s) c.args.cost (unknown_count s) (table_in value s after))
+    IfOk-weaker c.run_phase.result (IsPhaseEnd p.rows c.args.cost p.cols (table_of w ls)) (IsPhaseEnd (equation_count s) c.args.cost (unknown_count s) after.table)
     (λ o end. subst (λ (v : ℕ). IsPhaseEnd (equation_count s) c.args.cost (unknown_count s) (table_of v ls) o) c.requires.primal.held.width
     (subst (λ (k : ℕ). IsPhaseEnd (equation_count s) c.args.cost k (table_of w ls) o) (sym (unknown_count_is value p c.requires.lengths))
     (subst (λ (k : ℕ). IsPhaseEnd k c.args.cost p.cols (table_of w ls) o) (sym (equation_count_is value p c.requires.lengths)) end)))
@@ -108,7 +108,7 @@ returns-clause-left g c =
     let ok = system_ok value p c.requires.lengths in
     let before = c.args.tableau.now in
     let w : ℕ = before.width in
-    IfErr-weaker c.run_phase.result (IsPhaseFault value holds w p.rows p.cols (table_of w (lines value before.rows.items)) before.basis.items) (IsSystemFault value holds s)
+    IfErr-weaker c.run_phase.result (IsPhaseFault value holds w p.rows p.cols (table_of w (lines value before.rows.items)) before.basis) (IsSystemFault value holds s)
     (λ fault stuck. phase_fault value s ok before c.requires.primal holds w p.rows p.cols c.requires.primal.held.width (sym (equation_count_is value p c.requires.lengths))
     (sym (unknown_count_is value p c.requires.lengths)) fault stuck)
     c.run_phase.ensures.left

@@ -2,7 +2,7 @@ use Rattle.std.proofs.Common.{◌≡◌, ◌≢◌, ◌∙◌, ◌+◌, ◌<◌,
 use Rattle.std.proofs.lemmas.List.{length-set}
 use Rattle.exact_field.specs.Rational.{zero_ℚ, ◌<ℚ◌}
 use Rattle.exact_field.proofs.Inequalities.{lt-not-le}
-use Rattle.lin_rows.specs.declared.tableau.Tableau.{Tableau}
+use Rattle.lin_rows.specs.Tableau.{Dictionary}
 use Rattle.tableaux.specs.Table.{Table, at, pivoted}
 use Rattle.lin_rows.specs.Lines.{lines, entries}
 use Rattle.lin_rows.specs.Pivot.{AreTableau, IsPivotFault, table_of}
@@ -40,7 +40,7 @@ returns-in-Err-clause-left g c =
     let test = c.in-Err.test in
     let stuck = subst (λ (l : List _). IsTestLeft value holds l c.in-Some.col c.args.columns.now test.row test.left) (ap (lines value) c.deref-in-Some.ensures.value) c.in-Err.ensures.left in
     let step = test_step n ls h value holds c.in-Some.col test.row c.args.columns.now test.left betters.0 col_high c.requires.start.placed stuck in
-    given_up_fault value holds n c.args.equations c.args.unknowns (table_of n (lines value c.args.tableau.now.rows.items)) (table_of n ls) c.args.tableau.now.basis.items now.basis.items
+    given_up_fault value holds n c.args.equations c.args.unknowns (table_of n (lines value c.args.tableau.now.rows.items)) (table_of n ls) c.args.tableau.now.basis now.basis
     test.row c.in-Some.col kept.turn.dictionary kept.turn.full kept.moved.entered c.in-Err.ensures.row betters.0 col_high 1 test.left c.given_up.result step c.given_up.ensures.fault
 
 pub returns-in-Ok-None-clause-end : goal.returns-in-Ok-None-clause-end
@@ -77,7 +77,7 @@ returns-in-Ok-None-clause-still g c =
     let rise = rises value now.rows.items n c.in-Some.col c.args.columns.now h c.args.cost inside cells c.index.result.now c.deref.ensures.value c.index.ensures in
     let betters = entering_betters n ls h c.args.cost c.args.unknowns c.in-Some.col (entries value cells) (omega (arith, inside, many)) c.requires.unknowns es (c.in-Some.ensures n rise) in
     λ end. absurd (lt-not-le (at (table_of n (lines value c.args.tableau.now.rows.items)) (c.args.cost + 1) c.in-Some.col) zero_ℚ
-    (subst (λ (t : Tableau _). at (table_of n (lines value t.rows.items)) (c.args.cost + 1) c.in-Some.col <ℚ zero_ℚ) (kept.still end) betters.2) (end c.in-Some.col betters.0 betters.1))
+    (subst (λ (t : Dictionary). at (table_of n (lines value t.rows.items)) (c.args.cost + 1) c.in-Some.col <ℚ zero_ℚ) (kept.still end) betters.2) (end c.in-Some.col betters.0 betters.1))
 
 pub pivot-requires-clause-low : goal.pivot-requires-clause-low
 pivot-requires-clause-low g c =
@@ -115,7 +115,7 @@ pivot-requires-clause-pivot g c =
     let leaving = subst (λ (o : _). IsLeaving (lines value c.deref-in-Some.result.now) c.in-Some.col c.args.columns.now c.args.equations o) c.in-Ok-Some.field-0-is c.in-Ok-Some.ensures.ok in
     let found = subst (λ (l : List _). IsLeaving l c.in-Some.col c.args.columns.now c.args.equations (Some c.in-Ok-Some.row)) (ap (lines value) c.deref-in-Some.ensures.value) leaving in
     subst (λ (w : ℕ). at (table_of w ls) (c.in-Ok-Some.row + 1) c.in-Some.col ≢ zero_ℚ) (sym kept.width)
-    (pivot_not_zero n c.args.equations c.args.columns.now (table_of n (lines value first.rows.items)) first.basis.items c.requires.start ls now.basis.items kept.turn
+    (pivot_not_zero n c.args.equations c.args.columns.now (table_of n (lines value first.rows.items)) first.basis c.requires.start ls now.basis kept.turn
     c.in-Ok-Some.row c.in-Some.col betters.0 (omega (arith, within, c.requires.unknowns)) found)
 
 pub loop-col-smaller : goal.loop-col-smaller
@@ -143,9 +143,9 @@ loop-col-smaller g c =
     let width = ok.width ∙ kept.width in
     let table : table_of n (lines value after.rows.items) ≡ pivoted (table_of n ls) (row + 1) col =
     ap (λ w. table_of w (lines value after.rows.items)) (sym width) ∙ ok.table ∙ ap (λ w. pivoted (table_of w ls) (row + 1) col) kept.width in
-    let tableau = subst (λ (w : ℕ). AreTableau w (lines value after.rows.items) after.basis.items) width ok.lines in
-    turn_falls n c.args.equations c.args.columns.now start first.basis.items c.requires.start ls now.basis.items kept.turn row col betters.0 col_high found
-    (lines value after.rows.items) after.basis.items table tableau ok.basis c.args.cost (length first.rows.items) c.requires.cost
+    let tableau = subst (λ (w : ℕ). AreTableau w (lines value after.rows.items) after.basis) width ok.lines in
+    turn_falls n c.args.equations c.args.columns.now start first.basis c.requires.start ls now.basis kept.turn row col betters.0 col_high found
+    (lines value after.rows.items) after.basis table tableau ok.basis c.args.cost (length first.rows.items) c.requires.cost
     (omega (arith, c.requires.inside, length-table n (lines value first.rows.items) c.requires.turn.tableau.lines, length-lines value first.rows.items))
     (length-table n (lines value first.rows.items) c.requires.turn.tableau.lines ∙ length-lines value first.rows.items) betters.2
 
@@ -174,7 +174,7 @@ loop-col-preserved g c =
     let width = ok.width ∙ kept.width in
     let table : table_of n (lines value after.rows.items) ≡ pivoted (table_of n ls) (row + 1) col =
     ap (λ w. table_of w (lines value after.rows.items)) (sym width) ∙ ok.table ∙ ap (λ w. pivoted (table_of w ls) (row + 1) col) kept.width in
-    let tableau = subst (λ (w : ℕ). AreTableau w (lines value after.rows.items) after.basis.items) width ok.lines in
+    let tableau = subst (λ (w : ℕ). AreTableau w (lines value after.rows.items) after.basis) width ok.lines in
     record {
       width = width;
       many = omega (
@@ -183,26 +183,26 @@ loop-col-preserved g c =
         ok.lines.one_each,
         length-lines value after.rows.items,
         ap length ok.basis,
-        length-set now.basis.items row col,
+        length-set now.basis row col,
         kept.turn.tableau.one_each,
         length-lines value now.rows.items,
       );
       still = λ end. absurd (lt-not-le (at start (c.args.cost + 1) col) zero_ℚ
-          (subst (λ (t : Tableau _). at (table_of n (lines value t.rows.items)) (c.args.cost + 1) col <ℚ zero_ℚ) (kept.still end) betters.2) (end col betters.0 betters.1));
+          (subst (λ (t : Dictionary). at (table_of n (lines value t.rows.items)) (c.args.cost + 1) col <ℚ zero_ℚ) (kept.still end) betters.2) (end col betters.0 betters.1));
       moved =
           let own_dictionary = kept.turn.dictionary start c.requires.start.own.wide c.requires.start.own in
           let size : length first.rows.items ≡ length (table_of n ls) = sym (length-lines value first.rows.items) ∙ sym (length-table n (lines value first.rows.items) c.requires.turn.tableau.lines)
           ∙ sym own_dictionary.one_each in
-          let many : length now.basis.items ≡ length (table_of n ls) = kept.turn.tableau.one_each ∙ sym (length-table n ls h) in
+          let many : length now.basis ≡ length (table_of n ls) = kept.turn.tableau.one_each ∙ sym (length-table n ls h) in
           let room : c.args.equations ≤ length (table_of n ls) = omega (arith, c.requires.cost, c.requires.inside, size) in
-          subst (λ (b : List ℕ). IsMoved c.args.equations c.args.unknowns start first.basis.items (table_of n (lines value after.rows.items)) b) (sym ok.basis)
-          (subst (λ (e : Table). IsMoved c.args.equations c.args.unknowns start first.basis.items e (slice_set now.basis.items row col)) (sym table)
-          (moved_more n c.args.equations c.args.unknowns start (table_of n ls) first.basis.items now.basis.items (slice_set now.basis.items row col) row col
+          subst (λ (b : List ℕ). IsMoved c.args.equations c.args.unknowns start first.basis (table_of n (lines value after.rows.items)) b) (sym ok.basis)
+          (subst (λ (e : Table). IsMoved c.args.equations c.args.unknowns start first.basis e (slice_set now.basis row col)) (sym table)
+          (moved_more n c.args.equations c.args.unknowns start (table_of n ls) first.basis now.basis (slice_set now.basis row col) row col
           own_dictionary.wide room kept.moved found.0 betters.0 betters.1
-          (pivot_not_zero n c.args.equations c.args.columns.now start first.basis.items c.requires.start ls now.basis.items kept.turn row col betters.0 col_high found)
-          (exchanged now.basis.items row col (omega (arith, found.0, room, many)))));
-      turn = turn_more n c.args.equations c.args.columns.now start first.basis.items c.requires.start ls now.basis.items kept.turn row col betters.0 col_high found
-          (lines value after.rows.items) after.basis.items table tableau ok.basis;
+          (pivot_not_zero n c.args.equations c.args.columns.now start first.basis c.requires.start ls now.basis kept.turn row col betters.0 col_high found)
+          (exchanged now.basis row col (omega (arith, found.0, room, many)))));
+      turn = turn_more n c.args.equations c.args.columns.now start first.basis c.requires.start ls now.basis kept.turn row col betters.0 col_high found
+          (lines value after.rows.items) after.basis table tableau ok.basis;
     }
 
 pub returns-in_err-pivot-in-Ok-Some-clause-left : goal.returns-in_err-pivot-in-Ok-Some-clause-left
@@ -223,11 +223,11 @@ returns-in_err-pivot-in-Ok-Some-clause-left g c =
     let found = c.in-Some.ensures n rise in
     let within : col ≤ c.args.unknowns = found.1 in
     let leaving = subst (λ (o : _). IsLeaving (lines value c.deref-in-Some.result.now) col c.args.columns.now c.args.equations o) c.in-Ok-Some.field-0-is c.in-Ok-Some.ensures.ok in
-    let stuck = subst (λ (w : ℕ). IsPivotFault value holds w (table_of w ls) now.basis.items (row + 1) col fault) kept.width c.in_err-pivot-in-Ok-Some.ensures.left in
+    let stuck = subst (λ (w : ℕ). IsPivotFault value holds w (table_of w ls) now.basis (row + 1) col fault) kept.width c.in_err-pivot-in-Ok-Some.ensures.left in
     let start : Table = table_of n (lines value c.args.tableau.now.rows.items) in
-    let first = c.args.tableau.now.basis.items in
+    let first = c.args.tableau.now.basis in
     err_holds c.from_residual-in_err-pivot-in-Ok-Some.result fault (IsPhaseFault value holds n c.args.equations c.args.unknowns start first) c.from_residual-in_err-pivot-in-Ok-Some.ensures.1
-    (pivot_given_up value holds n c.args.equations c.args.unknowns start (table_of n ls) first now.basis.items row col kept.turn.dictionary kept.turn.full kept.moved.entered leaving.0 found.0
+    (pivot_given_up value holds n c.args.equations c.args.unknowns start (table_of n ls) first now.basis row col kept.turn.dictionary kept.turn.full kept.moved.entered leaving.0 found.0
     (omega (arith, within, c.requires.unknowns)) fault stuck)
 
 pub returns-clause-end : goal.returns-clause-end

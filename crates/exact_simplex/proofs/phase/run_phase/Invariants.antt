@@ -15,9 +15,9 @@ invariant-loop-col g l =
     record {
       width : l.tableau.width ≡ before.width;
       many : length l.tableau.rows.items ≡ length before.rows.items;
-      turn : IsTurn before.width l.equations l.columns start before.basis.items (lines value l.tableau.rows.items) l.tableau.basis.items;
+      turn : IsTurn before.width l.equations l.columns start before.basis (lines value l.tableau.rows.items) l.tableau.basis;
       still : IsPhaseEnd l.equations l.cost l.unknowns start None → l.tableau ≡ before;
-      moved : IsMoved l.equations l.unknowns start before.basis.items (table_of before.width (lines value l.tableau.rows.items)) l.tableau.basis.items;
+      moved : IsMoved l.equations l.unknowns start before.basis (table_of before.width (lines value l.tableau.rows.items)) l.tableau.basis;
     }
 
 abbrev pub decreases-loop-col : goal.decreases-loop-col

@@ -24,12 +24,12 @@ loop-i-preserved g c =
     let b = c.index-as_slice-i.result in
     let row_is : p.rows + 1 + 1 ≡ second_cost s = omega (arith, equation_count_is value p c.requires.lengths) in
     mapped_more value c.loop-i.out c.push.new.self c.signed.result i
-    (λ k. at (table_of s) k (artificial_column s k) *ℚ at (table_in value s t) (second_cost s) (artificial_column s k)) c.in_ok-push.ensures.ok c.loop-i.invariant
+    (λ k. at (table_of s) k (artificial_column s k) *ℚ at t.table (second_cost s) (artificial_column s k)) c.in_ok-push.ensures.ok c.loop-i.invariant
     (c.signed.ensures
     ∙ ap₂ (λ x y. x *ℚ y) (sign_is value p c.requires.lengths i b (omega arith) (c.index-as_slice-i.is ∙ ap (λ v. slice_index_or v i b) c.as_slice.ensures.items))
     (cost_read value p c.requires.lengths t c.requires.held i (omega arith) c.artificial_column-col.result c.artificial_column-col.ensures (p.rows + 1) c.deref.result.now c.index.result.now
     (value c.entry_at-entry.result) (omega arith) c.deref.ensures.value c.index.ensures c.entry_at-entry.ensures
-    ∙ ap (λ r. at (table_in value s t) r (artificial_column s (i + 1))) row_is))
+    ∙ ap (λ r. at t.table r (artificial_column s (i + 1))) row_is))
 
 pub returns : goal.returns
 returns g c =
@@ -37,4 +37,4 @@ returns g c =
     let p = c.args.system.now in
     let s = system_of value p in
     let end : c.loop-i.i ≡ equation_count s = omega (arith, equation_count_is value p c.requires.lengths) in
-    c.loop-i.invariant ∙ ap (λ n. listed n (λ k. at (table_of s) k (artificial_column s k) *ℚ at (table_in value s c.args.tableau.now) (second_cost s) (artificial_column s k))) end
+    c.loop-i.invariant ∙ ap (λ n. listed n (λ k. at (table_of s) k (artificial_column s k) *ℚ at c.args.tableau.now.table (second_cost s) (artificial_column s k))) end

@@ -19,20 +19,20 @@ pub index-requires : goal.index-requires
 index-requires g c =
     let value = g.F.Field.value in
     let p = c.args.system.now in
-    let held = subst (IsTableauOf value (system_of value p)) (sym c.loop-i.invariant.same) c.requires.held in
+    let held = subst (IsTableauOf (system_of value p)) (sym c.loop-i.invariant.same) c.requires.held in
     omega (arith, row_there value p c.requires.lengths c.loop-i.tableau held p.rows (omega arith))
 
 pub given_up-requires-clause-basis : goal.given_up-requires-clause-basis
 given_up-requires-clause-basis g c =
     let value = g.F.Field.value in
-    let held = subst (IsTableauOf value (system_of value c.args.system.now)) (sym c.loop-i.invariant.same) c.requires.held in
+    let held = subst (IsTableauOf (system_of value c.args.system.now)) (sym c.loop-i.invariant.same) c.requires.held in
     omega (arith, held.tableau.numbered, held.tableau.one_each)
 
 pub given_up-requires-clause-inside : goal.given_up-requires-clause-inside
 given_up-requires-clause-inside g c =
     let value = g.F.Field.value in
     let p = c.args.system.now in
-    let held = subst (IsTableauOf value (system_of value p)) (sym c.loop-i.invariant.same) c.requires.held in
+    let held = subst (IsTableauOf (system_of value p)) (sym c.loop-i.invariant.same) c.requires.held in
     omega (arith, row_there value p c.requires.lengths c.loop-i.tableau held p.rows (omega arith), held.tableau.numbered, length-lines value c.loop-i.tableau.rows.items)
 
 pub returns-in-Err-clause-left : goal.returns-in-Err-clause-left
@@ -40,7 +40,7 @@ returns-in-Err-clause-left g c =
     let value = g.F.Field.value in
     let p = c.args.system.now in
     let t = c.loop-i.tableau in
-    let held = subst (IsTableauOf value (system_of value p)) (sym c.loop-i.invariant.same) c.requires.held in
+    let held = subst (IsTableauOf (system_of value p)) (sym c.loop-i.invariant.same) c.requires.held in
     let entry = cost_read value p c.requires.lengths t held c.loop-i.i (omega arith) c.artificial_column-col.result c.artificial_column-col.ensures p.rows c.deref.result.now c.index.result.now
     (value c.entry_at-entry.result) (omega arith) c.deref.ensures.value c.index.ensures c.entry_at-entry.ensures in
     less_one_fault value p c.requires.lengths t held c.loop-i.i (omega arith) c.artificial_column-col.result c.artificial_column-col.ensures g.F.Field.holds c.in-Err.left c.given_up.result
@@ -55,15 +55,15 @@ loop-i-preserved g c =
     let t = c.loop-i.tableau in
     let i : ℕ = c.loop-i.i in
     let b = c.index-as_slice-i.result in
-    let held = subst (IsTableauOf value s) (sym c.loop-i.invariant.same) c.requires.held in
+    let held = subst (IsTableauOf s) (sym c.loop-i.invariant.same) c.requires.held in
     let row_is : p.rows + 1 ≡ first_cost s = omega (arith, equation_count_is value p c.requires.lengths) in
     let entry = cost_read value p c.requires.lengths t held i (omega arith) c.artificial_column-col.result c.artificial_column-col.ensures p.rows c.deref.result.now c.index.result.now
     (value c.entry_at-entry.result) (omega arith) c.deref.ensures.value c.index.ensures c.entry_at-entry.ensures
-    ∙ ap (λ r. at (table_in value s t) r (artificial_column s (i + 1))) row_is in
+    ∙ ap (λ r. at t.table r (artificial_column s (i + 1))) row_is in
     record {
       same = c.loop-i.invariant.same;
       read = mapped_more value c.loop-i.out c.push.new.self c.signed.result i
-          (λ k. at (table_of s) k (artificial_column s k) *ℚ (at (table_in value s t) (first_cost s) (artificial_column s k) -ℚ one_ℚ)) c.in_ok-push-in-Ok.ensures.ok c.loop-i.invariant.read
+          (λ k. at (table_of s) k (artificial_column s k) *ℚ (at t.table (first_cost s) (artificial_column s k) -ℚ one_ℚ)) c.in_ok-push-in-Ok.ensures.ok c.loop-i.invariant.read
           (c.signed.ensures
           ∙ ap₂ (λ x y. x *ℚ y) (sign_is value p c.requires.lengths i b (omega arith) (c.index-as_slice-i.is ∙ ap (λ v. slice_index_or v i b) c.as_slice.ensures.items))
           (c.in-Ok.ensures.0 ∙ ap₂ (λ x y. x -ℚ y) entry c.one.ensures));
@@ -76,5 +76,5 @@ returns-clause-ok g c =
     let s = system_of value p in
     let end : c.loop-i.i ≡ equation_count s = omega (arith, equation_count_is value p c.requires.lengths) in
     c.loop-i.invariant.read
-    ∙ ap (λ n. listed n (λ k. at (table_of s) k (artificial_column s k) *ℚ (at (table_in value s c.loop-i.tableau) (first_cost s) (artificial_column s k) -ℚ one_ℚ))) end
-    ∙ ap (λ t. listed (equation_count s) (λ k. at (table_of s) k (artificial_column s k) *ℚ (at (table_in value s t) (first_cost s) (artificial_column s k) -ℚ one_ℚ))) c.loop-i.invariant.same
+    ∙ ap (λ n. listed n (λ k. at (table_of s) k (artificial_column s k) *ℚ (at c.loop-i.tableau.table (first_cost s) (artificial_column s k) -ℚ one_ℚ))) end
+    ∙ ap (λ t. listed (equation_count s) (λ k. at (table_of s) k (artificial_column s k) *ℚ (at t.table (first_cost s) (artificial_column s k) -ℚ one_ℚ))) c.loop-i.invariant.same

@@ -11,5 +11,5 @@ invariant-loop-i g l =
     let s = system_of value l.system in
     record {
       same : l.tableau ≡ l.initial.tableau;
-      read : map value l.out ≡ listed l.i (λ k. at (table_of s) k (artificial_column s k) *ℚ (at (table_in value s l.tableau) (first_cost s) (artificial_column s k) -ℚ one_ℚ));
+      read : map value l.out ≡ listed l.i (λ k. at (table_of s) k (artificial_column s k) *ℚ (at l.tableau.table (first_cost s) (artificial_column s k) -ℚ one_ℚ));
     }

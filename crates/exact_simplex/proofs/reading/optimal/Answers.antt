@@ -12,8 +12,8 @@ returns-clause-read_off g c =
     let p = c.args.system.now in
     let s = system_of value p in
     let t = c.args.tableau.now in
-    let columns = c.in_ok-basis.ensures ∙ ap (λ k. take k t.basis.items) (sym (equation_count_is value p c.requires.lengths)) in
-    (table_in value s t, optimal_read value s t c.in_ok-basis.basis columns (map value c.in_ok-x.x) (map value c.in_ok-dual.dual) c.requires.feasible c.requires.best c.in_ok-x.ensures c.in_ok-dual.ensures)
+    let columns = c.in_ok-basis.ensures ∙ ap (λ k. take k t.basis) (sym (equation_count_is value p c.requires.lengths)) in
+    (t.table, optimal_read value s t c.in_ok-basis.basis columns (map value c.in_ok-x.x) (map value c.in_ok-dual.dual) c.requires.feasible c.requires.best c.in_ok-x.ensures c.in_ok-dual.ensures)
 
 pub returns-clause-certified : goal.returns-clause-certified
 returns-clause-certified g c =

@@ -19,14 +19,14 @@ returns-clause-read_off g c =
     let t = c.args.tableau.now in
     let n : ℕ = right_column s in
     let col : ℕ = c.args.col in
-    let columns = c.in_ok-basis.ensures ∙ ap (λ k. take k t.basis.items) (sym (equation_count_is value p c.requires.lengths)) in
+    let columns = c.in_ok-basis.ensures ∙ ap (λ k. take k t.basis) (sym (equation_count_is value p c.requires.lengths)) in
     let rows = ap (lines value) c.deref.ensures.value in
     let high : col ≤ n = omega (arith, c.requires.high) in
-    let along : map value c.in_ok-ray.ray ≡ ray s t.basis.items (table_in value s t) col =
+    let along : map value c.in_ok-ray.ray ≡ ray s t.basis t.table col =
     c.in_ok-ray.ensures n (subst (AreLines n) (sym rows) c.requires.feasible.held.tableau.lines) c.requires.low high
     ∙ ap₂ (λ b l. ray_of p.cols b (table_of_lines n l) col) c.deref-2.ensures.value rows
-    ∙ ap (λ k. ray_of k t.basis.items (table_in value s t) col) (sym (unknown_count_is value p c.requires.lengths)) in (
-      table_in value s t,
+    ∙ ap (λ k. ray_of k t.basis t.table col) (sym (unknown_count_is value p c.requires.lengths)) in (
+      t.table,
       col,
       unbounded_read value s t c.in_ok-basis.basis columns (map value c.in_ok-x.x) (map value c.in_ok-ray.ray) col c.requires.feasible c.requires.idle c.requires.low
           c.requires.high c.requires.betters c.requires.unlimited c.in_ok-x.ensures along,

@@ -13,4 +13,4 @@ drive_out-requires-clause-feasible g c =
     let s = system_of value p in
     let t = c.first_phase.new.tableau in
     primal_feasible value s (system_ok value p c.requires) t c.in_ok-first_phase.ensures.primal
-    (not_negative c.in_ok-first_phase.field-0 (at (table_in value s t) (first_cost s) (right_column s)) c.in_ok-first_phase.ensures.below c.if-branch.false)
+    (not_negative c.in_ok-first_phase.field-0 (at t.table (first_cost s) (right_column s)) c.in_ok-first_phase.ensures.below c.if-branch.false)

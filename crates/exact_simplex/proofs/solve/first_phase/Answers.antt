@@ -23,7 +23,7 @@ unreachable-requires g c =
     let s = system_of value p in
     let t = c.optimize.new.tableau in
     phase_one_limited value s (system_ok value p c.requires.lengths) t c.in_ok-optimize.ensures.primal p.rows c.in-Some.field-0 (sym (equation_count_is value p c.requires.lengths))
-    (subst (λ (o : Option ℕ). IsPhaseEnd (equation_count s) p.rows (unknown_count s) (table_in value s t) o) c.in-Some.is c.in_ok-optimize.ensures.end)
+    (subst (λ (o : Option ℕ). IsPhaseEnd (equation_count s) p.rows (unknown_count s) t.table o) c.in-Some.is c.in_ok-optimize.ensures.end)
 
 pub returns-clause-best : goal.returns-clause-best
 returns-clause-best g c =
@@ -33,7 +33,7 @@ returns-clause-best g c =
     let t = c.optimize.new.tableau in
     let row : p.rows + 1 ≡ first_cost s = omega (arith, equation_count_is value p c.requires.lengths) in
     phase_best value s (system_ok value p c.requires.lengths) t p.rows (first_cost s) row
-    (subst (λ (o : Option ℕ). IsPhaseEnd (equation_count s) p.rows (unknown_count s) (table_in value s t) o) c.in-None.is c.in_ok-optimize.ensures.end)
+    (subst (λ (o : Option ℕ). IsPhaseEnd (equation_count s) p.rows (unknown_count s) t.table o) c.in-None.is c.in_ok-optimize.ensures.end)
 
 pub returns-clause-below : goal.returns-clause-below
 returns-clause-below g c =
@@ -46,5 +46,5 @@ returns-clause-below g c =
     let low : 1 ≤ t.width = omega (arith, held.width) in
     let high : t.width ≤ right_column s = omega (arith, held.width) in
     let entry = read_at value p c.requires.lengths t held p.rows c.deref.result.now c.index.result.now t.width (value c.entry_at.result) (omega arith) c.deref.ensures.value c.index.ensures low high c.entry_at.ensures
-    ∙ ap (at (table_in value s t) (p.rows + 1)) held.width ∙ ap (λ r. at (table_in value s t) r (right_column s)) row in
+    ∙ ap (at t.table (p.rows + 1)) held.width ∙ ap (λ r. at t.table r (right_column s)) row in
     subst (λ (q : ℚ). IsTrue c.is_negative.result ↔ (q <ℚ zero_ℚ)) entry c.is_negative.ensures
