@@ -5,7 +5,7 @@ use Rattle.tableaux.specs.Table.{Table, System, at, equation_count, unknown_coun
 use Rattle.tableaux.specs.Dictionary.{solution, ray, multipliers, first_multipliers}
 use Rattle.tableaux.specs.Simplex.{IsBest, OptimalAt, InfeasibleAt, UnboundedAt}
 use Rattle.lin_rows.specs.Tableau.{Dictionary}
-use Rattle.exact_simplex.specs.Program.{IsFeasible, IsPrimal, IsIdle, table_in}
+use Rattle.exact_simplex.specs.Program.{IsFeasible, IsPrimal, IsIdle}
 use Rattle.exact_simplex.proofs.Shortened.{short_full, short_feasible, short_solution, short_ray, short_artificial}
 
 module _ {F : Type 0} (value : F → ℚ) (s : System) (t : Dictionary) (b : List ℕ) (columns : b ≡ take (equation_count s) t.basis) where

@@ -7,7 +7,7 @@ use Rattle.tableaux.specs.Simplex.{IsBest}
 use Rattle.tableaux.proofs.Phases.{phase_limited, phase_feasible}
 use Rattle.lin_rows.specs.Tableau.{Dictionary}
 use Rattle.exact_simplex.specs.Phase.{IsPhaseEnd}
-use Rattle.exact_simplex.specs.Program.{IsFeasible, IsIdle, IsPrimal, table_in}
+use Rattle.exact_simplex.specs.Program.{IsFeasible, IsIdle, IsPrimal}
 
 module _ {F : Type 0} (value : F → ℚ) (s : System) (ok : IsSystem s) (t : Dictionary) where
   full_dictionary : IsPrimal s t → IsFullDictionaryOf s t.basis t.table

@@ -1,4 +1,4 @@
-use Rattle.exact_simplex.specs.Program.{IsTableauOf, table_in}
+use Rattle.exact_simplex.specs.Program.{IsTableauOf}
 use Rattle.lin_rows.specs.System.{system_of}
 use Rattle.exact_simplex.proofs.Opened.{IsOpened}
 use Rattle.exact_simplex.proofs.opening.open.Given as goal

@@ -1,7 +1,6 @@
 use Rattle.std.proofs.Common.{◌≡◌, map}
 use Rattle.exact_field.specs.Rational.{◌*ℚ◌}
 use Rattle.tableaux.specs.Table.{artificial_column, at, listed, second_cost, table_of}
-use Rattle.exact_simplex.specs.Program.{table_in}
 use Rattle.lin_rows.specs.System.{system_of}
 use Rattle.exact_simplex.proofs.reading.dual.Given as goal
 

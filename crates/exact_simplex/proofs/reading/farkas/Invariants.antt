@@ -1,7 +1,6 @@
 use Rattle.std.proofs.Common.{◌≡◌, map}
 use Rattle.exact_field.specs.Rational.{one_ℚ, ◌*ℚ◌, ◌-ℚ◌}
 use Rattle.tableaux.specs.Table.{artificial_column, at, first_cost, listed, table_of}
-use Rattle.exact_simplex.specs.Program.{table_in}
 use Rattle.lin_rows.specs.System.{system_of}
 use Rattle.exact_simplex.proofs.reading.farkas.Given as goal
 

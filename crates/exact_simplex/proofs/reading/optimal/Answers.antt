@@ -1,6 +1,5 @@
 use Rattle.std.proofs.Common.{◌∙◌, ap, sym, take, map}
 use Rattle.tableaux.proofs.Ends.{ends_are_right}
-use Rattle.exact_simplex.specs.Program.{table_in}
 use Rattle.lin_rows.specs.System.{system_of}
 use Rattle.exact_simplex.proofs.Programs.{system_ok, equation_count_is}
 use Rattle.exact_simplex.proofs.EndsRead.{optimal_read}
