@@ -62,7 +62,7 @@ module _ {F : Type 0} (value : F → ℚ) (holds : ℚ → Bool) (n : ℕ) (rows
         (record { numbers = nums; generators = m.generators; next = first + length m.pairs; change = change })
     next_is nums e change = record { is = list_is; numbers_are = e ∙ numbers_are value m.generators; tight = h.tight }
 
-  -- what is given up among the pairs comes behind all values
+  -- what is given up among the pairs comes after all values
   pub behind_values : (fault : DdFault F) → All (AreHeld holds) (map (value_block row) (live_of value gens)) → IsAddFault value holds (pair_blocks rows (live_of value gens) row) fault →
       IsAddFault value holds (add_blocks rows (live_of value gens) row) fault
   behind_values (Elim fault) v k = absurd k

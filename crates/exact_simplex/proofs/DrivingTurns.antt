@@ -1,10 +1,10 @@
 -- One turn of driving artificial columns out, at a tableau.
-use Rattle.std.proofs.Common.{◌≡◌, ◌≢◌, ℕ, List, [], length, sym, ap, ◌∙◌, subst, arith, ◌<◌, ◌≤◌, ◌+◌, ◌-◌, Bool, inl, inr, None, Some, slice_set, slice_index_or}
+use Rattle.std.proofs.Common.{◌≡◌, ◌≢◌, ℕ, List, [], length, sym, ap, ◌∙◌, subst, arith, ◌<◌, ◌≤◌, ◌+◌, ◌-◌, Bool, inl, inr, None, Some, slice_index_or}
 use Rattle.std.specs.declared.alloc.Global.{Global}
 use Rattle.std.specs.declared.vec.Vec.{Vec}
 use Rattle.std.proofs.lemmas.Bool.{cases_eq}
 use Rattle.exact_field.specs.Rational.{ℚ, zero_ℚ}
-use Rattle.tableaux.specs.Table.{Table, System, IsSystem, at, pivoted, equation_count, unknown_count, right_column}
+use Rattle.tableaux.specs.Table.{Table, System, IsSystem, at, equation_count, unknown_count, right_column}
 use Rattle.tableaux.specs.Dictionary.{basic_column}
 use Rattle.tableaux.specs.Simplex.{IsFeasibleAt}
 use Rattle.tableaux.proofs.Definition.{same_default}

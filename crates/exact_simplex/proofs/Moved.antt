@@ -5,7 +5,7 @@ use Rattle.exact_field.specs.Rational.{ℚ, zero_ℚ}
 use Rattle.exact_field.specs.Vector.{entry}
 use Rattle.exact_field.specs.declared.op.Left.{Left as Operation}
 use Rattle.polyhedra.specs.Vectors.{AreWide}
-use Rattle.tableaux.specs.Table.{Table, at, pivoted}
+use Rattle.tableaux.specs.Table.{Table, at}
 use Rattle.tableaux.specs.Dictionary.{basic_column, IsExchanged}
 use Rattle.lin_rows.specs.declared.fault.RowFault.{RowFault}
 use Rattle.lin_rows.specs.declared.fault.RowFault.TheVariants.{Left, NoMemory}

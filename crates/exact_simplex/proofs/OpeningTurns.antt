@@ -1,7 +1,7 @@
 -- One turn of the opening, at a tableau.
-use Rattle.std.proofs.Common.{◌≡◌, ◌≢◌, ℕ, List, length, sym, ap, ◌∙◌, subst, arith, ◌<◌, ◌≤◌, ◌+◌, Bool, slice_set}
+use Rattle.std.proofs.Common.{◌≡◌, ◌≢◌, ℕ, length, sym, ap, ◌∙◌, subst, arith, ◌<◌, ◌≤◌, ◌+◌, Bool}
 use Rattle.exact_field.specs.Rational.{ℚ, zero_ℚ}
-use Rattle.tableaux.specs.Table.{Table, System, IsSystem, at, pivoted, artificial_column, equation_count, right_column}
+use Rattle.tableaux.specs.Table.{System, IsSystem, at, artificial_column, equation_count, right_column}
 use Rattle.lin_rows.specs.declared.fault.RowFault.{RowFault}
 use Rattle.lin_rows.specs.declared.system.System.{System as Program}
 use Rattle.lin_rows.specs.Tableau.{Dictionary, exchange}

@@ -1,10 +1,9 @@
 -- One turn of a phase, as the rows of its tableau are read.
-use Rattle.std.proofs.Common.{◌≡◌, ◌≢◌, ℕ, List, [], length, refl, sym, ap, ◌∙◌, subst, arith, ◌<◌, ◌≤◌, ◌+◌, Bool, None, Some, slice_index_or, slice_set}
+use Rattle.std.proofs.Common.{◌≡◌, ◌≢◌, ℕ, List, [], length, refl, sym, ap, ◌∙◌, subst, arith, ◌<◌, ◌≤◌, ◌+◌, Bool, None, Some, slice_index_or}
 use Rattle.std.specs.declared.alloc.Global.{Global}
 use Rattle.std.specs.declared.vec.Vec.{Vec}
 use Rattle.exact_field.specs.Rational.{ℚ, zero_ℚ, ◌≤ℚ◌, ◌<ℚ◌}
 use Rattle.exact_field.specs.declared.op.Left.{Left}
-use Rattle.polyhedra.specs.Sparse.{Entry}
 use Rattle.tableaux.specs.Table.{Table, row_of, at}
 use Rattle.tableaux.specs.Dictionary.{IsDictionary}
 use Rattle.tableaux.specs.Lex.{entries_at}
@@ -69,10 +68,14 @@ module _ {F : Type 0} (value : F → ℚ) (equations cost unknowns : ℕ) (colum
       col_high = omega (arith, betters.1, fits)
 
       pub no_row : IsLeaving (lines value rows) col columns equations None → IsPhaseEnd equations cost unknowns now.table (Some col)
-      no_row none =
-          (betters.0, betters.1, betters.2, subst (λ (t : Table). (i : ℕ) → i < equations → at t (i + 1) col ≤ℚ zero_ℚ) table_here
-          (without_limit from.width (lines value rows) lines_rise col equations columns betters.0 col_high
-          (omega (arith, after_equations, cost_in, count_kept, rows_count value now rows are table, length-lines value rows)) none))
+      no_row none = (
+        betters.0,
+        betters.1,
+        betters.2,
+        subst (λ (t : Table). (i : ℕ) → i < equations → at t (i + 1) col ≤ℚ zero_ℚ) table_here
+            (without_limit from.width (lines value rows) lines_rise col equations columns betters.0 col_high
+            (omega (arith, after_equations, cost_in, count_kept, rows_count value now rows are table, length-lines value rows)) none),
+      )
 
       pub test_inside : (row : ℕ) → row < equations → row < length now.table
       test_inside row l = omega (arith, l, after_equations, cost_in, count_kept)

@@ -1,5 +1,5 @@
 -- What is read off a tableau of a program.
-use Rattle.std.proofs.Common.{◌≡◌, ℕ, List, [], length, map, sym, refl, ap, ◌∙◌, subst, arith, ◌<◌, ◌≤◌, ◌+◌, ◌-◌, Bool, inr, slice_index_or}
+use Rattle.std.proofs.Common.{◌≡◌, ℕ, length, map, sym, refl, ap, ◌∙◌, subst, arith, ◌<◌, ◌≤◌, ◌+◌, ◌-◌, Bool, inr, slice_index_or}
 use Rattle.std.specs.Prelude.{IsFalse}
 use Rattle.std.proofs.lemmas.List.{get_or-map}
 use Rattle.exact_field.specs.Rational.{ℚ, zero_ℚ, one_ℚ, ◌*ℚ◌, ◌-ℚ◌}
@@ -7,7 +7,7 @@ use Rattle.exact_field.specs.Vector.{entry}
 use Rattle.exact_field.specs.declared.op.Op.TheVariants.{Sub}
 use Rattle.exact_field.specs.declared.op.Left.{Left as Operation}
 use Rattle.polyhedra.proofs.Laws.{mul_one}
-use Rattle.tableaux.specs.Table.{System, IsSystem, at, table_of, artificial_sign, artificial_column, equation_count, right_column, first_cost}
+use Rattle.tableaux.specs.Table.{System, IsSystem, at, table_of, artificial_sign, artificial_column, equation_count, first_cost}
 use Rattle.tableaux.proofs.Places.{delta-same}
 use Rattle.tableaux.proofs.Entries.{sign_of, equation-artificial}
 use Rattle.lin_rows.specs.declared.fault.RowFault.{RowFault}

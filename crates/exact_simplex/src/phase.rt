@@ -14,9 +14,10 @@ use lin_rows::tableau::Tableau;
 use lin_rows::{RowFault, System};
 use src_sink::NoMemory;
 
-/// Pivots at columns that better the row `cost`, counted from 0, until there is none, or one without limit, which it answers.
-/// The first `equations` rows are the equations, the first `unknowns` columns may enter, and `columns` are those that are
-/// compared when a row is chosen. A turn costs a pivot, and a quotient for each row and compared column at the worst.
+/// Pivots at columns that better the row `cost`, counted from 0, until there is none, or one
+/// without limit, which it answers. The first `equations` rows are the equations, the first
+/// `unknowns` columns may enter, and `columns` are those that are compared when a row is chosen. A
+/// turn costs a pivot, and a quotient for each row and compared column at the worst.
 pub fn run_phase<F: Field>(
     mut tableau: Tableau<F>,
     equations: usize,
@@ -53,7 +54,8 @@ pub fn run_phase<F: Field>(
     Ok((tableau, None))
 }
 
-/// The columns by which a phase compares rows: that of the right sides, and those with which it begins.
+/// The columns by which a phase compares rows: that of the right sides, and those with which it
+/// begins.
 fn compared<F: Field>(tableau: &Tableau<F>, equations: u32) -> Result<Vec<u32>, NoMemory>
     requires { equations ≤ length tableau.now.basis }
     ensures { IfOk result
@@ -65,8 +67,8 @@ fn compared<F: Field>(tableau: &Tableau<F>, equations: u32) -> Result<Vec<u32>, 
     Ok(columns)
 }
 
-/// Runs a phase whose cost stands in the row `cost`, counted from 0: the unknown that betters it without limit, if there is
-/// one, and none if no unknown betters it any more.
+/// Runs a phase whose cost stands in the row `cost`, counted from 0: the unknown that betters it
+/// without limit, if there is one, and none if no unknown betters it any more.
 pub fn optimize<F: Field>(
     tableau: Tableau<F>,
     system: &System<F>,

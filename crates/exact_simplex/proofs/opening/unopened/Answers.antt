@@ -1,4 +1,4 @@
-use Rattle.std.proofs.Common.{◌≡◌, ◌∙◌, ◌+◌, ap, sym, refl, subst, ℕ, List, length, arith, slice_index_or}
+use Rattle.std.proofs.Common.{◌≡◌, ◌∙◌, ◌+◌, ap, sym, subst, ℕ, List, length, arith, slice_index_or}
 use Rattle.std.proofs.lemmas.List.{length_push}
 use Rattle.tableaux.specs.Table.{first_cost, right_column, row_of, second_cost, table_of}
 use Rattle.polyhedra.specs.Sparse.{Entry}

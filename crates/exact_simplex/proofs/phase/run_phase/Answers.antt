@@ -1,4 +1,4 @@
-use Rattle.std.proofs.Common.{◌≡◌, ◌∙◌, ◌+◌, ◌≤◌, sym, ap, subst, arith, ℕ, Option, None, Some}
+use Rattle.std.proofs.Common.{◌+◌, subst, arith, ℕ, Option}
 use Rattle.exact_field.specs.Rational.{zero_ℚ, ◌<ℚ◌}
 use Rattle.exact_field.proofs.Inequalities.{lt-not-le}
 use Rattle.tableaux.specs.Table.{at}

@@ -49,10 +49,10 @@ loop-i-preserved g c =
     record {
       same = c.loop-i.invariant.same;
       read = mapped_more value c.loop-i.out c.push.new.self c.signed.result i
-    (λ k. at (table_of s) k (artificial_column s k) *ℚ (at t.table (first_cost s) (artificial_column s k) -ℚ one_ℚ)) c.in_ok-push-in-Ok.ensures.ok c.loop-i.invariant.read
-    (c.signed.ensures
-    ∙ ap₂ (λ x y. x *ℚ y) (sign_is value p c.requires.lengths i b (omega arith) (c.index-as_slice-i.is ∙ ap (λ v. slice_index_or v i b) c.as_slice.ensures.items))
-    (c.in-Ok.ensures.0 ∙ ap₂ (λ x y. x -ℚ y) entry c.one.ensures));
+          (λ k. at (table_of s) k (artificial_column s k) *ℚ (at t.table (first_cost s) (artificial_column s k) -ℚ one_ℚ)) c.in_ok-push-in-Ok.ensures.ok c.loop-i.invariant.read
+          (c.signed.ensures
+          ∙ ap₂ (λ x y. x *ℚ y) (sign_is value p c.requires.lengths i b (omega arith) (c.index-as_slice-i.is ∙ ap (λ v. slice_index_or v i b) c.as_slice.ensures.items))
+          (c.in-Ok.ensures.0 ∙ ap₂ (λ x y. x -ℚ y) entry c.one.ensures));
     }
 
 pub returns-clause-ok : goal.returns-clause-ok

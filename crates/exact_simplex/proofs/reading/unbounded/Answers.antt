@@ -1,4 +1,4 @@
-use Rattle.std.proofs.Common.{◌≡◌, ◌∙◌, ◌≤◌, ap, ap₂, ℕ, sym, subst, take, map, arith}
+use Rattle.std.proofs.Common.{◌≡◌, ◌∙◌, ap, ℕ, sym, take, map, arith}
 use Rattle.tableaux.specs.Dictionary.{ray}
 use Rattle.tableaux.specs.Elimination.{ray_of}
 use Rattle.tableaux.proofs.Ends.{ends_are_right}

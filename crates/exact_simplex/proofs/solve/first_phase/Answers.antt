@@ -1,7 +1,7 @@
-use Rattle.std.proofs.Common.{◌≡◌, ◌∙◌, ◌+◌, ◌≤◌, ℕ, IsTrue, ap, ap₂, sym, subst, arith, Option}
+use Rattle.std.proofs.Common.{◌≡◌, ◌∙◌, ◌+◌, ℕ, IsTrue, ap₂, sym, subst, arith, Option}
 use Rattle.std.specs.Prelude.{◌↔◌}
 use Rattle.exact_field.specs.Rational.{ℚ, zero_ℚ, ◌<ℚ◌}
-use Rattle.tableaux.specs.Table.{at, equation_count, first_cost, right_column, unknown_count}
+use Rattle.tableaux.specs.Table.{at, equation_count, first_cost, unknown_count}
 use Rattle.exact_simplex.specs.Phase.{IsPhaseEnd}
 use Rattle.lin_rows.specs.System.{system_of}
 use Rattle.exact_simplex.proofs.Programs.{system_ok, equation_count_is}

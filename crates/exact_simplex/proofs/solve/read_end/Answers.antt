@@ -1,4 +1,4 @@
-use Rattle.std.proofs.Common.{◌∙◌, ◌≡◌, ◌+◌, ℕ, ap, sym, subst, arith, Option, None, Some}
+use Rattle.std.proofs.Common.{◌∙◌, ◌≡◌, ◌+◌, ℕ, ap, sym, subst, arith, Option, Some}
 use Rattle.exact_field.specs.Rational.{zero_ℚ, ◌<ℚ◌}
 use Rattle.tableaux.specs.Table.{at, equation_count, second_cost, unknown_count}
 use Rattle.exact_simplex.proofs.Results.{none_some}

@@ -1,5 +1,5 @@
-use Rattle.std.proofs.Common.{◌≡◌, ◌∙◌, ◌+◌, ℕ, List, ap, sym, subst, arith, take}
-use Rattle.tableaux.specs.Table.{equation_count, second_cost}
+use Rattle.std.proofs.Common.{◌≡◌, ◌+◌, ℕ, sym, subst, arith, take}
+use Rattle.tableaux.specs.Table.{second_cost}
 use Rattle.tableaux.specs.Simplex.{IsBest}
 use Rattle.lin_rows.specs.Tableau.{Dictionary}
 use Rattle.exact_simplex.specs.Hint.{IsOptimalEnd}
