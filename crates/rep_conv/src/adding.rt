@@ -20,8 +20,8 @@ use entry_checks::{Steps, magnitude, pass};
 use exact_field::Field;
 use frac128::{Frac, Vector};
 use log_live::{
-    Generator, append, append_generator, common_and_next, divided, has_pairs, meeting, no_rows,
-    number_after, place_of,
+    Generator, append, append_generator, common_and_next, divide, has_pairs, no_rows, number_after,
+    place_of, point_between,
 };
 use log_rules::{Rule, Stop};
 use src_sink::{Items, NoMemory};
@@ -121,10 +121,10 @@ fn new_vector(
         (λ v. v ≡ quotients (meeting_point (at_plus /ℚ neg_ℚ at_minus) plus.now minus.now)) result }
 {
     let k = counter.div(at_plus, at_minus.neg())?;
-    let sum = meeting(alloc, counter, k, plus, minus)?;
+    let sum = point_between(alloc, counter, k, plus, minus)?;
     let z = sum.as_slice();
     let by = magnitude(norming_entry(z));
-    divided(alloc, counter, by, z)
+    divide(alloc, counter, by, z)
 }
 
 /// The new generator of a required pair.

@@ -30,8 +30,8 @@ returns-in_err-k c =
     let stopped = (stopped-in (meeting_steps k c.args.plus.now c.args.minus.now ++ quotient_steps z) here).at in
     search (stopped, rules)
 
-pub meeting-requires-clause-room : goal.meeting-requires-clause-room
-meeting-requires-clause-room c =
+pub point_between-requires-clause-room : goal.point_between-requires-clause-room
+point_between-requires-clause-room c =
     let k = c.args.at_plus /ℚ neg_ℚ c.args.at_minus in
     let z = meeting_point k c.args.plus.now c.args.minus.now in
     let k_is = c.in_ok-k.ensures.2 ∙ ap (λ (d : ℚ). c.args.at_plus /ℚ d) c.neg.ensures in
@@ -53,16 +53,16 @@ returns-in_err-sum c =
     let stopped = (stopped-later came (stopped-in (quotient_steps z) here)).at in
     search (stopped, rules)
 
-pub divided-requires-clause-divisor : goal.divided-requires-clause-divisor
-divided-requires-clause-divisor c e =
+pub divide-requires-clause-divisor : goal.divide-requires-clause-divisor
+divide-requires-clause-divisor c e =
     let k_is = c.in_ok-k.ensures.2 ∙ ap (λ (d : ℚ). c.args.at_plus /ℚ d) c.neg.ensures in
     let z_is = c.as_slice-z.ensures.items ∙ c.in_ok-sum.ensures.2 ∙ ap (λ (q : ℚ). meeting_point q c.args.plus.now c.args.minus.now) k_is in
     not_zero_of_positive (magnitude (norming c.as_slice-z.result.now))
     (magnitude-positive (norming c.as_slice-z.result.now) (λ none. c.requires.not_zero (sym (ap norming z_is) ∙ none)))
     (ap magnitude (sym c.norming_entry.ensures) ∙ sym c.magnitude-by.ensures ∙ e)
 
-pub divided-requires-clause-room : goal.divided-requires-clause-room
-divided-requires-clause-room c =
+pub divide-requires-clause-room : goal.divide-requires-clause-room
+divide-requires-clause-room c =
     let k = c.args.at_plus /ℚ neg_ℚ c.args.at_minus in
     let z = meeting_point k c.args.plus.now c.args.minus.now in
     let k_is = c.in_ok-k.ensures.2 ∙ ap (λ (d : ℚ). c.args.at_plus /ℚ d) c.neg.ensures in
@@ -70,9 +70,9 @@ divided-requires-clause-room c =
     let by_is = c.magnitude-by.ensures ∙ ap magnitude c.norming_entry.ensures in
     let came : Passed (step op.Div c.args.at_plus (neg_ℚ c.args.at_minus) ∷ []) c.args.counter.now.taken c.div.new.self.taken =
     came_as _ _ _ _ (ap (λ (d : ℚ). step op.Div c.args.at_plus d ∷ []) c.neg.ensures) c.in_ok-k.ensures.0 c.in_ok-k.ensures.1 in
-    let met : Passed (meeting_steps k c.args.plus.now c.args.minus.now) c.div.new.self.taken c.meeting.new.counter.taken =
+    let met : Passed (meeting_steps k c.args.plus.now c.args.minus.now) c.div.new.self.taken c.point_between.new.counter.taken =
     came_as _ _ _ _ (ap (λ (q : ℚ). meeting_steps q c.args.plus.now c.args.minus.now) k_is) c.in_ok-sum.ensures.0 c.in_ok-sum.ensures.1 in
-    subst (λ (es : List Event). c.meeting.new.counter.taken + steps es < 9223372036854775808)
+    subst (λ (es : List Event). c.point_between.new.counter.taken + steps es < 9223372036854775808)
     (sym (quotients_as _ _ _ z_is by_is))
     (room-after (quotient_steps z) _ met (room-after (meeting_steps k c.args.plus.now c.args.minus.now ++ quotient_steps z) _ came c.requires.room))
 
@@ -85,13 +85,13 @@ returns c =
     let by_is = c.magnitude-by.ensures ∙ ap magnitude c.norming_entry.ensures in
     let came : Passed (step op.Div c.args.at_plus (neg_ℚ c.args.at_minus) ∷ []) c.args.counter.now.taken c.div.new.self.taken =
     came_as _ _ _ _ (ap (λ (d : ℚ). step op.Div c.args.at_plus d ∷ []) c.neg.ensures) c.in_ok-k.ensures.0 c.in_ok-k.ensures.1 in
-    let met : Passed (meeting_steps k c.args.plus.now c.args.minus.now) c.div.new.self.taken c.meeting.new.counter.taken =
+    let met : Passed (meeting_steps k c.args.plus.now c.args.minus.now) c.div.new.self.taken c.point_between.new.counter.taken =
     came_as _ _ _ _ (ap (λ (q : ℚ). meeting_steps q c.args.plus.now c.args.minus.now) k_is) c.in_ok-sum.ensures.0 c.in_ok-sum.ensures.1 in
-    let last : Ran {X = List ℚ} (quotient_steps z) c.meeting.new.counter.taken c.divided.new.counter.taken (λ v. v ≡ quotients z) c.divided.result =
+    let last : Ran {X = List ℚ} (quotient_steps z) c.point_between.new.counter.taken c.divide.new.counter.taken (λ v. v ≡ quotients z) c.divide.result =
     record {
-      runs = subst (λ (es : List Event). Runs {X = List ℚ} is_held es c.meeting.new.counter.taken c.divided.new.counter.taken (λ v. v ≡ quotients z) c.divided.result)
+      runs = subst (λ (es : List Event). Runs {X = List ℚ} is_held es c.point_between.new.counter.taken c.divide.new.counter.taken (λ v. v ≡ quotients z) c.divide.result)
           (quotients_as _ _ _ z_is by_is)
-          (subst (λ (w : List ℚ). Runs {X = List ℚ} is_held (quotients_events c.magnitude-by.result c.as_slice-z.result.now) c.meeting.new.counter.taken c.divided.new.counter.taken (λ v. v ≡ w) c.divided.result)
-          (quotients_made _ _ _ z_is by_is) c.divided.ensures);
+          (subst (λ (w : List ℚ). Runs {X = List ℚ} is_held (quotients_events c.magnitude-by.result c.as_slice-z.result.now) c.point_between.new.counter.taken c.divide.new.counter.taken (λ v. v ≡ w) c.divide.result)
+          (quotients_made _ _ _ z_is by_is) c.divide.ensures);
     } in
     (ran-after came (ran-after met last)).runs
