@@ -12,6 +12,7 @@ use Rattle.tableaux.specs.Dictionary.{basic_column}
 use Rattle.tableaux.specs.Lex.{lex_less, IsLexPositive, entries_at}
 use Rattle.tableaux.proofs.Lexicographic.{not_le_of_lt}
 use Rattle.tableaux.proofs.Places.{delta, delta-same, delta-other, same_or_other}
+use Rattle.lin_rows.specs.Tableau.{Dictionary}
 use Rattle.exact_simplex.specs.Phase.{ArePositive, IsStart}
 
 -- a vector without a negative entry and with a positive one
@@ -35,9 +36,11 @@ abbrev pub AreCompared : ℕ → ℕ → List ℕ → List ℕ → Type 0
 AreCompared right equations first columns =
     (j : ℕ) → j < length columns → (slice_index_or columns j 0 ≡ right) ⊎ ((k : ℕ) × (1 ≤ k) × (k ≤ equations) × (slice_index_or columns j 0 ≡ basic_column first k))
 
-pub start_positive : (n equations right : ℕ) (columns : List ℕ) (start : Table) (first : List ℕ) → IsStart n equations columns start first → AreCompared right equations first columns →
-    ((i : ℕ) → i < equations → zero_ℚ ≤ℚ at start (i + 1) right) → ArePositive equations columns start
-start_positive n equations right columns start first s compared sides i l =
+pub start_positive : (equations right : ℕ) (columns : List ℕ) (from : Dictionary) → IsStart equations columns from → AreCompared right equations from.basis columns →
+    ((i : ℕ) → i < equations → zero_ℚ ≤ℚ at from.table (i + 1) right) → ArePositive equations columns from.table
+start_positive equations right columns from s compared sides i l =
+    let start : Table = from.table in
+    let first : List ℕ = from.basis in
     let row : List ℚ = row_of start (i + 1) in
     let own = s.compared (i + 1) (omega arith) (omega arith) in
     let some : (k : ℕ) → 1 ≤ k → k ≤ equations → basic_column first k ≢ 0 =

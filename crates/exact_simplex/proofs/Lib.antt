@@ -18,6 +18,7 @@ pub mod Opened
 pub mod OpeningTurns
 pub mod Order
 pub mod PhaseReads
+pub mod PhaseTurns
 pub mod Phased
 pub mod Pivots
 pub mod ProgramLines

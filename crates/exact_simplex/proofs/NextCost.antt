@@ -1,10 +1,7 @@
 -- The last table of a program with the cost row of the next one.
-use Rattle.std.proofs.Common.{◌≡◌, ◌≢◌, ℕ, List, [], length, map, sym, ap, ◌∙◌, subst, arith, ◌<◌, ◌≤◌, ◌+◌, ◌-◌, ◌*◌, inl, inr, slice_range, slice_index_or, slice_set, get_or-set_same, get_or-set_other, Option, Some, None}
+use Rattle.std.proofs.Common.{◌≡◌, ◌≢◌, ℕ, List, [], length, map, sym, ap, ◌∙◌, subst, arith, ◌<◌, ◌≤◌, ◌+◌, ◌-◌, ◌*◌, slice_range, slice_index_or, slice_set, get_or-set_same, get_or-set_other, Option, Some, None}
 use Rattle.std.specs.Prelude.{⊤, MatchOption}
-use Rattle.std.specs.declared.alloc.Global.{Global}
-use Rattle.std.specs.declared.vec.Vec.{Vec}
-use Rattle.std.proofs.lemmas.Bool.{cases_eq}
-use Rattle.std.proofs.lemmas.List.{length-map, length-set, map-set}
+use Rattle.std.proofs.lemmas.List.{length-map, length-set}
 use Rattle.exact_field.specs.Rational.{ℚ, zero_ℚ}
 use Rattle.exact_field.specs.Vector.{entry}
 use Rattle.polyhedra.specs.Sparse.{Entry, dense}
@@ -15,15 +12,10 @@ use Rattle.tableaux.specs.Phases.{AreIdle}
 use Rattle.tableaux.specs.Simplex.{IsFeasibleAt}
 use Rattle.tableaux.proofs.Entries.{table-long}
 use Rattle.tableaux.proofs.Places.{row-wide}
-use Rattle.lin_rows.specs.Lines.{AreLines, Rises, entries, lines, sum_at}
-use Rattle.lin_rows.specs.Pivot.{AreTableau, table_of as table_of_lines}
-use Rattle.lin_rows.specs.declared.cells.Cell.{Cell}
 use Rattle.lin_rows.specs.declared.system.System.{System as Program}
-use Rattle.lin_rows.specs.declared.tableau.Tableau.{Tableau}
-use Rattle.lin_rows.proofs.ManyLines.{length-lines}
-use Rattle.lin_rows.proofs.Pivoted.{dense_is, row_is}
+use Rattle.lin_rows.specs.Tableau.{Dictionary, replace}
 use Rattle.exact_simplex.specs.GoingOn.{CanGoOn, HasSameEquations, IsCostLine, IsTableFor, second_row}
-use Rattle.exact_simplex.specs.Program.{IsFeasible, IsIdle, IsTableauOf, table_in}
+use Rattle.exact_simplex.specs.Program.{IsFeasible, IsIdle, IsTableauOf}
 use Rattle.lin_rows.specs.System.{HasLengths, system_of}
 use Rattle.exact_simplex.proofs.AnotherCost.{other, other_width, other_wide, other_feasible, other_idle}
 use Rattle.exact_simplex.proofs.ClearingCost.{entry_dense}
@@ -71,55 +63,28 @@ module _ {F : Type 0} (value : F → ℚ) (before p : Program F) (lengths : HasL
   pub width_is : right_column (system_of value p) ≡ n
   width_is = ap right_column next_system ∙ other_width s ok cost many
 
-  module _ (t : Tableau F) (h : CanGoOn value before t) (t' : Tableau F) (line : Vec (Cell F) Global) (width : t'.width ≡ t.width) (basis : t'.basis.items ≡ t.basis.items)
-      (rows : t'.rows.items ≡ slice_set t.rows.items (before.rows + 1) line)
-      (cleared : IsCostLine s (second_row value p) t.basis.items (entries value line.items)) where
-    abbrev ls : List (List Entry)
-    ls = lines value t.rows.items
-
-    abbrev now : List (List Entry)
-    now = lines value t'.rows.items
-
-    abbrev es : List Entry
-    es = entries value line.items
-
+  module _ (t : Dictionary) (h : CanGoOn value before t) (t' : Dictionary) (es : List Entry) (is : t' ≡ replace t (before.rows + 1) (dense t.width es))
+      (cleared : IsCostLine s (second_row value p) t.basis es) where
     abbrev place : ℕ
     place = before.rows + 1
 
     place_is : place + 1 ≡ second_cost s
     place_is = omega (arith, equation_count_is value before lengths)
 
-    inside : place < length ls
-    inside = omega (arith, rows_many value s ok t h.feasible.held, length-lines value t.rows.items, equation_count_is value before lengths)
-
-    now_is : now ≡ slice_set ls place es
-    now_is = ap (lines value) rows ∙ map-set (λ r. entries value r.items) t.rows.items place line
-
-    here : slice_index_or now place [] ≡ es
-    here = ap (λ l. slice_index_or l place []) now_is ∙ get_or-set_same ls place es [] inside
-
-    elsewhere : (i : ℕ) → i ≢ place → slice_index_or now i [] ≡ slice_index_or ls i []
-    elsewhere i o = ap (λ l. slice_index_or l i []) now_is ∙ get_or-set_other ls place i es [] o
-
-    long : length now ≡ length ls
-    long = ap length now_is ∙ length-set ls place es
-
-    now_lines : AreLines n now
-    now_lines = record {
-      rise = λ i l. elim (cases_eq i place) [
-        | inl e ↦ subst (λ (x : List Entry). Rises n 0 x) (sym (ap (λ k. slice_index_or now k []) e ∙ here)) cleared.rises
-        | inr o ↦ subst (λ (x : List Entry). Rises n 0 x) (sym (elsewhere i o)) (h.feasible.held.tableau.lines.rise i (omega (arith, l, long)))
-      ];
-    }
-
     abbrev d : Table
-    d = table_in value s t
+    d = t.table
 
     abbrev e : Table
-    e = table_of_lines n now
+    e = t'.table
+
+    inside : place < length d
+    inside = omega (arith, rows_many value s ok t h.feasible.held, equation_count_is value before lengths)
+
+    basis : t'.basis ≡ t.basis
+    basis = ap (λ (x : Dictionary). x.basis) is
 
     e_is : e ≡ slice_set d place (dense n es)
-    e_is = ap (map (dense n)) now_is ∙ map-set (dense n) ls place es
+    e_is = ap (λ (x : Dictionary). x.table) is ∙ ap (λ w. slice_set d place (dense w es)) h.feasible.held.width
 
     after : IsSameBut (second_cost s) d e
     after = record {
@@ -129,62 +94,51 @@ module _ {F : Type 0} (value : F → ℚ) (before p : Program F) (lengths : HasL
 
     row_is_line : row_of e (second_cost s) ≡ dense n es
     row_is_line =
-        ap (row_of e) (sym place_is) ∙ row_is n now now_lines place (omega (arith, inside, long)) ∙ ap (λ x. listed n (sum_at x)) here ∙ sym (dense_is n es cleared.rises)
+        let back : second_cost s - 1 ≡ place = omega (arith, place_is) in
+        ap (λ (x : Table). row_of x (second_cost s)) e_is ∙ ap (λ k. slice_index_or (slice_set d place (dense n es)) k []) back ∙ get_or-set_same d place (dense n es) [] inside
 
-    changed : IsChanged n (table_of s) t.basis.items original (row_of e (second_cost s))
+    changed : IsChanged n (table_of s) t.basis original (row_of e (second_cost s))
     changed =
-        subst (λ (x : List ℚ). IsChanged n (table_of s) t.basis.items x (row_of e (second_cost s))) second_row_is
-        (subst (λ (x : List ℚ). IsChanged n (table_of s) t.basis.items (second_row value p) x) (sym row_is_line) cleared.changed)
+        subst (λ (x : List ℚ). IsChanged n (table_of s) t.basis x (row_of e (second_cost s))) second_row_is
+        (subst (λ (x : List ℚ). IsChanged n (table_of s) t.basis (second_row value p) x) (sym row_is_line) cleared.changed)
 
-    clear : (k : ℕ) → 1 ≤ k → k ≤ equation_count s → at e (second_cost s) (basic_column t.basis.items k) ≡ zero_ℚ
+    clear : (k : ℕ) → 1 ≤ k → k ≤ equation_count s → at e (second_cost s) (basic_column t.basis k) ≡ zero_ℚ
     clear k l u =
-        let some : basic_column t.basis.items k ≢ 0 = h.feasible.feasible.full.full k l u in
-        let within : basic_column t.basis.items k < n = h.feasible.held.dictionary.columns.within k l in
-        ap (λ v. entry v (basic_column t.basis.items k)) row_is_line
-        ∙ entry_dense n es (basic_column t.basis.items k) cleared.rises (omega (arith, some)) (omega (arith, within)) ∙ cleared.clear k l u
+        let some : basic_column t.basis k ≢ 0 = h.feasible.feasible.full.full k l u in
+        let within : basic_column t.basis k < n = h.feasible.held.dictionary.columns.within k l in
+        ap (λ v. entry v (basic_column t.basis k)) row_is_line
+        ∙ entry_dense n es (basic_column t.basis k) cleared.rises (omega (arith, some)) (omega (arith, within)) ∙ cleared.clear k l u
 
     abbrev next : System
     next = other s ok cost many
 
-    next_table : table_in value next t' ≡ e
-    next_table = ap (λ w. table_of_lines w now) (other_width s ok cost many)
+    feasible_next : IsFeasibleAt next t.basis e
+    feasible_next = other_feasible s ok cost many t.basis d e h.feasible.held.dictionary after changed clear h.feasible.feasible
 
-    feasible_next : IsFeasibleAt next t.basis.items e
-    feasible_next = other_feasible s ok cost many t.basis.items d e h.feasible.held.dictionary after changed clear h.feasible.feasible
+    feasible_now : IsFeasibleAt next t'.basis e
+    feasible_now = subst (λ (b : List ℕ). IsFeasibleAt next b e) (sym basis) feasible_next
 
-    feasible_now : IsFeasibleAt next t'.basis.items (table_in value next t')
-    feasible_now =
-        subst (λ (b : List ℕ). IsFeasibleAt next b (table_in value next t')) (sym basis)
-        (subst (λ (x : Table). IsFeasibleAt next t.basis.items x) (sym next_table) feasible_next)
-
-    idle_now : IsIdle value next t'
+    idle_now : IsIdle next t'
     idle_now =
-        subst (λ (b : List ℕ). AreIdle next b (table_in value next t')) (sym basis)
-        (subst (λ (x : Table). AreIdle next t.basis.items x) (sym next_table)
-        (other_idle s ok cost many t.basis.items d e h.feasible.held.dictionary after changed clear h.idle))
+        subst (λ (b : List ℕ). AreIdle next b e) (sym basis)
+        (other_idle s ok cost many t.basis d e h.feasible.held.dictionary after changed clear h.idle)
 
-    tableau_now : AreTableau (right_column next) now t'.basis.items
-    tableau_now =
-        let old = h.feasible.held.tableau in
-        subst (λ (w : ℕ). AreTableau w now t'.basis.items) (sym (other_width s ok cost many))
-        (record { lines = now_lines; one_each = ap length basis ∙ old.one_each ∙ sym long; numbered = omega (arith, old.numbered, long) })
-
-    held_now : IsTableauOf value next t'
+    held_now : IsTableauOf next t'
     held_now = record {
-      width = width ∙ h.feasible.held.width ∙ sym (other_width s ok cost many);
-      tableau = tableau_now;
+      width = ap (λ (x : Dictionary). x.width) is ∙ h.feasible.held.width ∙ sym (other_width s ok cost many);
+      one_each = ap length basis ∙ h.feasible.held.one_each ∙ sym after.one_each;
       dictionary = feasible_now.full.dictionary;
     }
 
     pub goes_on : CanGoOn value p t'
     goes_on = record {
       lengths = own;
-      feasible = subst (λ (x : System). IsFeasible value x t') (sym next_system) (record { held = held_now; feasible = feasible_now });
-      idle = subst (λ (x : System). IsIdle value x t') (sym next_system) idle_now;
+      feasible = subst (λ (x : System). IsFeasible x t') (sym next_system) (record { held = held_now; feasible = feasible_now });
+      idle = subst (λ (x : System). IsIdle x t') (sym next_system) idle_now;
     }
 
 -- a table of a program with the same equations
-pub table_for : {F : Type 0} (value : F → ℚ) (before p : Program F) (t : Option (Tableau F)) → HasSameEquations before p →
+pub table_for : {F : Type 0} (value : F → ℚ) (before p : Program F) (t : Option Dictionary) → HasSameEquations before p →
     MatchOption t ⊤ (CanGoOn value before) → MatchOption t ⊤ (IsTableFor value p)
 table_for value before p None same on = tt
 table_for value before p (Some t) same on = record { before = before; from = record { on = on; same = same } }

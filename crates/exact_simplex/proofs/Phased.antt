@@ -15,12 +15,10 @@ use Rattle.tableaux.proofs.Definition.{same_default}
 use Rattle.tableaux.proofs.Own.{own_dictionary}
 use Rattle.lin_rows.specs.declared.fault.RowFault.{RowFault}
 use Rattle.lin_rows.specs.declared.fault.RowFault.TheVariants.{Left, NoMemory}
-use Rattle.lin_rows.specs.declared.tableau.Tableau.{Tableau}
-use Rattle.lin_rows.specs.Lines.{lines}
-use Rattle.lin_rows.specs.Pivot.{table_of}
+use Rattle.lin_rows.specs.Tableau.{Dictionary}
 use Rattle.exact_simplex.specs.Ends.{IsSystemFault}
 use Rattle.exact_simplex.specs.Phase.{AreColumns, AreEntered, IsEquationBasis, IsMoved, IsPhaseFault, IsStart, IsTurn}
-use Rattle.exact_simplex.specs.Program.{IsIdle, IsPrimal, table_in}
+use Rattle.exact_simplex.specs.Program.{IsIdle, IsPrimal}
 use Rattle.exact_simplex.proofs.Beginning.{AreCompared, start_positive}
 use Rattle.exact_simplex.proofs.Pivots.{basis_many}
 
@@ -46,7 +44,7 @@ first_nonnegative x v h =
           ∙ ap (λ a. not a || (not (not false) && false)) (le_of_lt x zero_ℚ down) ∙ refl))
     ]
 
-module _ {F : Type 0} (value : F → ℚ) (s : System) (ok : IsSystem s) (t : Tableau F) (h : IsPrimal value s t) where
+module _ {F : Type 0} (value : F → ℚ) (s : System) (ok : IsSystem s) (t : Dictionary) (h : IsPrimal s t) where
   abbrev n : ℕ
   n = right_column s
 
@@ -54,10 +52,10 @@ module _ {F : Type 0} (value : F → ℚ) (s : System) (ok : IsSystem s) (t : Ta
   m = equation_count s
 
   abbrev d : Table
-  d = table_in value s t
+  d = t.table
 
   abbrev basis : List ℕ
-  basis = t.basis.items
+  basis = t.basis
 
   dictionary : IsDictionaryOf s basis d
   dictionary = h.held.dictionary
@@ -71,6 +69,9 @@ module _ {F : Type 0} (value : F → ℚ) (s : System) (ok : IsSystem s) (t : Ta
   abbrev columns : List ℕ
   columns = n ∷ take m basis
 
+  w_is : t.width ≡ n
+  w_is = h.held.width
+
   low_column : (i : ℕ) → slice_index_or basis i 0 < n
   low_column i = let next : 1 ≤ i + 1 = omega arith in subst (λ (c : ℕ). c < n) (place basis i) (dictionary.columns.within (i + 1) next)
 
@@ -81,7 +82,14 @@ module _ {F : Type 0} (value : F → ℚ) (s : System) (ok : IsSystem s) (t : Ta
     high = all_by_place n basis (λ i l. let low = low_column i in omega arith);
   }
 
-  phase_start : IsStart n m columns d basis
+  -- it as it stands, with the width that the system says
+  abbrev here : Dictionary
+  here = record { width = n; table = d; basis = basis }
+
+  here_is : here ≡ t
+  here_is = ap (λ w. record { width = w; table = d; basis = basis }) (sym w_is)
+
+  phase_start : IsStart m columns here
   phase_start = record {
     own = own_dictionary n _ basis d dictionary.dictionary;
     inside = omega (arith, d_many);
@@ -101,27 +109,27 @@ module _ {F : Type 0} (value : F → ℚ) (s : System) (ok : IsSystem s) (t : Ta
       let inside : j < m = omega (arith, l, length-take-le m basis (omega (arith, many))) in
       inr (j + 1, omega arith, omega arith, get_or-take m basis j 0 inside ∙ sym (place basis j))
 
-  phase_turn : IsTurn n m columns d basis (lines value t.rows.items) basis
+  phase_turn : IsTurn m columns here here
   phase_turn = record {
-    tableau = h.held.tableau;
+    width = refl;
+    one_each = h.held.one_each;
     dictionary = λ x w y. y;
     full = full_basis;
-    positive = start_positive n m n columns d basis phase_start phase_compared (λ i l. h.right (i + 1) (omega arith) (omega arith));
+    positive = start_positive m n columns here phase_start phase_compared (λ i l. h.right (i + 1) (omega arith) (omega arith));
   }
 
-  -- what run_phase asks, at the tableau's own width
-  pub start_at : (w k : ℕ) (cs : List ℕ) → w ≡ n → k ≡ m → cs ≡ w ∷ take k basis → IsStart w k cs (table_of w (lines value t.rows.items)) basis
-  start_at w k cs e f is =
-      subst (λ (l : List ℕ). IsStart w k l (table_of w (lines value t.rows.items)) basis) (sym is)
-      (subst (λ (j : ℕ). IsStart w j (w ∷ take j basis) (table_of w (lines value t.rows.items)) basis) (sym f)
-      (subst (λ (v : ℕ). IsStart v m (v ∷ take m basis) (table_of v (lines value t.rows.items)) basis) (sym e) phase_start))
+  -- what run_phase asks
+  pub start_at : (k : ℕ) (cs : List ℕ) → k ≡ m → cs ≡ t.width ∷ take k basis → IsStart k cs t
+  start_at k cs e is =
+      subst (λ (l : List ℕ). IsStart k l t) (sym is)
+      (subst (λ (j : ℕ). IsStart j (t.width ∷ take j basis) t) (sym e)
+      (subst (λ (x : Dictionary). IsStart m (x.width ∷ take m basis) x) here_is phase_start))
 
-  pub turn_at : (w k : ℕ) (cs : List ℕ) → w ≡ n → k ≡ m → cs ≡ w ∷ take k basis →
-      IsTurn w k cs (table_of w (lines value t.rows.items)) basis (lines value t.rows.items) basis
-  turn_at w k cs e f is =
-      subst (λ (l : List ℕ). IsTurn w k l (table_of w (lines value t.rows.items)) basis (lines value t.rows.items) basis) (sym is)
-      (subst (λ (j : ℕ). IsTurn w j (w ∷ take j basis) (table_of w (lines value t.rows.items)) basis (lines value t.rows.items) basis) (sym f)
-      (subst (λ (v : ℕ). IsTurn v m (v ∷ take m basis) (table_of v (lines value t.rows.items)) basis (lines value t.rows.items) basis) (sym e) phase_turn))
+  pub turn_at : (k : ℕ) (cs : List ℕ) → k ≡ m → cs ≡ t.width ∷ take k basis → IsTurn k cs t t
+  turn_at k cs e is =
+      subst (λ (l : List ℕ). IsTurn k l t t) (sym is)
+      (subst (λ (j : ℕ). IsTurn j (t.width ∷ take j basis) t t) (sym e)
+      (subst (λ (x : Dictionary). IsTurn m (x.width ∷ take m basis) x x) here_is phase_turn))
 
   within_after : (b : List ℕ) → AreEntered (unknown_count s) basis b → (i : ℕ) → 1 ≤ i → basic_column b i < n
   within_after b entered i l = elim (entered i l) [ inl same ↦ subst (λ (c : ℕ). c < n) (sym same) (dictionary.columns.within i l) | inr unknown ↦ omega (arith, unknown) ]
@@ -130,10 +138,9 @@ module _ {F : Type 0} (value : F → ℚ) (s : System) (ok : IsSystem s) (t : Ta
   basis_after b entered full = record { within = within_after b entered; equations_only = full.only }
 
   -- ---- what it gives
-  module _ (t' : Tableau F) (width : t'.width ≡ n) (turn : IsTurn n m columns d basis (lines value t'.rows.items) t'.basis.items)
-      (moved : IsMoved m (unknown_count s) d basis (table_in value s t') t'.basis.items) where
+  module _ (t' : Dictionary) (turn : IsTurn m columns here t') (moved : IsMoved m (unknown_count s) here t') where
     abbrev e : Table
-    e = table_in value s t'
+    e = t'.table
 
     right_after : (i : ℕ) → 1 ≤ i → i ≤ m → zero_ℚ ≤ℚ at e i n
     right_after i l u =
@@ -141,26 +148,26 @@ module _ {F : Type 0} (value : F → ℚ) (s : System) (ok : IsSystem s) (t : Ta
         subst (λ (k : ℕ). zero_ℚ ≤ℚ at e k n) back
         (first_nonnegative (entry (row_of e (i - 1 + 1)) n) (entries_at (take m basis) (row_of e (i - 1 + 1))) (turn.positive (i - 1) (omega arith)))
 
-    primal_after : IsPrimal value s t'
+    primal_after : IsPrimal s t'
     primal_after = record {
       held = record {
-        width = width;
-        tableau = turn.tableau;
+        width = turn.width;
+        one_each = turn.one_each;
         dictionary = record {
-          columns = basis_after t'.basis.items moved.entered turn.full;
+          columns = basis_after t'.basis moved.entered turn.full;
           dictionary = turn.dictionary _ (table-wide s ok) dictionary.dictionary;
         };
       };
       full = λ i l u. let back : i - 1 + 1 ≡ i = omega arith in
-          subst (λ (k : ℕ). basic_column t'.basis.items k ≢ 0) back (turn.full.full (i - 1) (omega arith));
+          subst (λ (k : ℕ). basic_column t'.basis k ≢ 0) back (turn.full.full (i - 1) (omega arith));
       right = right_after;
     }
 
-    idle_after : IsIdle value s t → IsIdle value s t'
+    idle_after : IsIdle s t → IsIdle s t'
     idle_after idle =
-        let was : (i : ℕ) → 1 ≤ i → unknown_count s < basic_column t'.basis.items i → unknown_count s < basic_column basis i =
+        let was : (i : ℕ) → 1 ≤ i → unknown_count s < basic_column t'.basis i → unknown_count s < basic_column basis i =
         λ i l over. elim (moved.entered i l) [ inl same ↦ subst (λ (c : ℕ). unknown_count s < c) same over | inr unknown ↦ absurd (omega (arith, over, unknown)) ] in
-        let stays : (i : ℕ) → 1 ≤ i → i ≤ m → unknown_count s < basic_column t'.basis.items i → row_of e i ≡ row_of d i =
+        let stays : (i : ℕ) → 1 ≤ i → i ≤ m → unknown_count s < basic_column t'.basis i → row_of e i ≡ row_of d i =
         λ i l u over.
         let back : i - 1 + 1 ≡ i = omega arith in
         let same : row_of e (i - 1 + 1) ≡ row_of d (i - 1 + 1) =
@@ -171,37 +178,35 @@ module _ {F : Type 0} (value : F → ℚ) (s : System) (ok : IsSystem s) (t : Ta
           right = λ i l u over. ap (λ r. entry r n) (stays i l u over) ∙ idle.right i l u (was i l over);
         }
 
-  -- the same of what run_phase says, at the tableau's own width
-  module _ (t' : Tableau F) (w k u : ℕ) (cs : List ℕ) (w_is : w ≡ n) (k_is : k ≡ m) (u_is : u ≡ unknown_count s) (is : cs ≡ w ∷ take k basis) (width : t'.width ≡ w)
-      (turn : IsTurn w k cs (table_of w (lines value t.rows.items)) basis (lines value t'.rows.items) t'.basis.items)
-      (moved : IsMoved k u (table_of w (lines value t.rows.items)) basis (table_of w (lines value t'.rows.items)) t'.basis.items) where
-    turn_is : IsTurn n m columns d basis (lines value t'.rows.items) t'.basis.items
+  -- the same of what run_phase says
+  module _ (t' : Dictionary) (k u : ℕ) (cs : List ℕ) (k_is : k ≡ m) (u_is : u ≡ unknown_count s) (is : cs ≡ t.width ∷ take k basis)
+      (turn : IsTurn k cs t t') (moved : IsMoved k u t t') where
+    turn_is : IsTurn m columns here t'
     turn_is =
-        subst (λ (v : ℕ). IsTurn v m (v ∷ take m basis) (table_of v (lines value t.rows.items)) basis (lines value t'.rows.items) t'.basis.items) w_is
-        (subst (λ (j : ℕ). IsTurn w j (w ∷ take j basis) (table_of w (lines value t.rows.items)) basis (lines value t'.rows.items) t'.basis.items) k_is
-        (subst (λ (l : List ℕ). IsTurn w k l (table_of w (lines value t.rows.items)) basis (lines value t'.rows.items) t'.basis.items) is turn))
+        subst (λ (x : Dictionary). IsTurn m (x.width ∷ take m basis) x t') (sym here_is)
+        (subst (λ (j : ℕ). IsTurn j (t.width ∷ take j basis) t t') k_is
+        (subst (λ (l : List ℕ). IsTurn k l t t') is turn))
 
-    moved_is : IsMoved m (unknown_count s) d basis (table_in value s t') t'.basis.items
+    moved_is : IsMoved m (unknown_count s) here t'
     moved_is =
-        subst (λ (v : ℕ). IsMoved m (unknown_count s) (table_of v (lines value t.rows.items)) basis (table_of v (lines value t'.rows.items)) t'.basis.items) w_is
-        (subst (λ (j : ℕ). IsMoved m j (table_of w (lines value t.rows.items)) basis (table_of w (lines value t'.rows.items)) t'.basis.items) u_is
-        (subst (λ (j : ℕ). IsMoved j u (table_of w (lines value t.rows.items)) basis (table_of w (lines value t'.rows.items)) t'.basis.items) k_is moved))
+        subst (λ (x : Dictionary). IsMoved m (unknown_count s) x t') (sym here_is)
+        (subst (λ (j : ℕ). IsMoved m j t t') u_is
+        (subst (λ (j : ℕ). IsMoved j u t t') k_is moved))
 
-    pub phase_primal : IsPrimal value s t'
-    phase_primal = primal_after t' (width ∙ w_is) turn_is moved_is
+    pub phase_primal : IsPrimal s t'
+    phase_primal = primal_after t' turn_is moved_is
 
-    pub phase_idle : IsIdle value s t → IsIdle value s t'
-    phase_idle = idle_after t' (width ∙ w_is) turn_is moved_is
+    pub phase_idle : IsIdle s t → IsIdle s t'
+    phase_idle = idle_after t' turn_is moved_is
 
-  pub phase_fault : (holds : ℚ → Bool) (w k u : ℕ) → w ≡ n → k ≡ m → u ≡ unknown_count s → (fault : RowFault F) →
-      IsPhaseFault value holds w k u (table_of w (lines value t.rows.items)) basis fault → IsSystemFault value holds s fault
-  phase_fault holds w k u w_is k_is u_is fault stuck =
+  pub phase_fault : (holds : ℚ → Bool) (k u : ℕ) → k ≡ m → u ≡ unknown_count s → (fault : RowFault F) → IsPhaseFault value holds k u t fault → IsSystemFault value holds s fault
+  phase_fault holds k u k_is u_is fault stuck =
       in_system fault
-      (subst (λ (v : ℕ). IsPhaseFault value holds v m (unknown_count s) (table_of v (lines value t.rows.items)) basis fault) w_is
-      (subst (λ (j : ℕ). IsPhaseFault value holds w m j (table_of w (lines value t.rows.items)) basis fault) u_is
-      (subst (λ (j : ℕ). IsPhaseFault value holds w j u (table_of w (lines value t.rows.items)) basis fault) k_is stuck)))
+      (subst (λ (x : Dictionary). IsPhaseFault value holds m (unknown_count s) x fault) (sym here_is)
+      (subst (λ (j : ℕ). IsPhaseFault value holds m j t fault) u_is
+      (subst (λ (j : ℕ). IsPhaseFault value holds j u t fault) k_is stuck)))
     where
-      in_system : (fault : RowFault F) → IsPhaseFault value holds n m (unknown_count s) d basis fault → IsSystemFault value holds s fault
+      in_system : (fault : RowFault F) → IsPhaseFault value holds m (unknown_count s) here fault → IsSystemFault value holds s fault
       in_system (Left b row col step left) h = (
         h.0,
         record { columns = basis_after b h.3 h.2; dictionary = h.1 _ (table-wide s ok) dictionary.dictionary },

@@ -1,31 +1,24 @@
 -- What is read off a tableau of a program.
-use Rattle.std.proofs.Common.{◌≡◌, ℕ, List, [], length, map, sym, refl, ap, ◌∙◌, subst, arith, ◌<◌, ◌≤◌, ◌+◌, ◌-◌, Bool, inr, slice_index_or}
+use Rattle.std.proofs.Common.{◌≡◌, ℕ, length, map, sym, refl, ap, ◌∙◌, subst, arith, ◌<◌, ◌≤◌, ◌+◌, ◌-◌, Bool, inr, slice_index_or}
 use Rattle.std.specs.Prelude.{IsFalse}
-use Rattle.std.specs.declared.alloc.Global.{Global}
-use Rattle.std.specs.declared.vec.Vec.{Vec}
 use Rattle.std.proofs.lemmas.List.{get_or-map}
 use Rattle.exact_field.specs.Rational.{ℚ, zero_ℚ, one_ℚ, ◌*ℚ◌, ◌-ℚ◌}
 use Rattle.exact_field.specs.Vector.{entry}
 use Rattle.exact_field.specs.declared.op.Op.TheVariants.{Sub}
 use Rattle.exact_field.specs.declared.op.Left.{Left as Operation}
 use Rattle.polyhedra.proofs.Laws.{mul_one}
-use Rattle.tableaux.specs.Table.{System, IsSystem, at, table_of, artificial_sign, artificial_column, equation_count, right_column, first_cost}
+use Rattle.tableaux.specs.Table.{System, IsSystem, at, table_of, artificial_sign, artificial_column, equation_count, first_cost}
 use Rattle.tableaux.proofs.Places.{delta-same}
 use Rattle.tableaux.proofs.Entries.{sign_of, equation-artificial}
-use Rattle.lin_rows.specs.declared.cells.Cell.{Cell}
 use Rattle.lin_rows.specs.declared.fault.RowFault.{RowFault}
 use Rattle.lin_rows.specs.declared.system.System.{System as Program}
-use Rattle.lin_rows.specs.declared.tableau.Tableau.{Tableau}
-use Rattle.lin_rows.specs.Lines.{Rises, entries, lines, sum_at}
-use Rattle.lin_rows.proofs.ManyLines.{length-lines}
-use Rattle.lin_rows.proofs.Pivoted.{at_is}
+use Rattle.lin_rows.specs.Tableau.{Dictionary}
 use Rattle.exact_simplex.specs.Ends.{IsSystemFault}
-use Rattle.exact_simplex.specs.Phase.{IsGivenUp}
-use Rattle.exact_simplex.specs.Program.{IsTableauOf, table_in}
+use Rattle.lin_rows.specs.Pivot.{IsGivenUp}
+use Rattle.exact_simplex.specs.Program.{IsTableauOf}
 use Rattle.lin_rows.specs.System.{HasLengths, system_of}
 use Rattle.exact_simplex.proofs.Pivots.{rows_many}
 use Rattle.exact_simplex.proofs.Programs.{system_ok, equation_count_is, unknown_count_is, right_column_is}
-use Rattle.exact_simplex.proofs.Testing.{own, rises}
 
 module _ {F : Type 0} (value : F → ℚ) (p : Program F) (lengths : HasLengths p) where
   abbrev s : System
@@ -44,39 +37,25 @@ module _ {F : Type 0} (value : F → ℚ) (p : Program F) (lengths : HasLengths 
       ap artificial_sign right ∙ sym (mul_one (sign_of s ok (i + 1))) ∙ ap (λ q. sign_of s ok (i + 1) *ℚ q) (sym (delta-same (i + 1) (i + 1) refl))
       ∙ sym (equation-artificial s ok (i + 1) (i + 1) (omega arith) (omega arith) (omega arith) (omega arith))
 
-  module _ (t : Tableau F) (held : IsTableauOf value s t) where
+  module _ (t : Dictionary) (held : IsTableauOf s t) where
     -- the row r, counted from 0
-    pub row_there : (r : ℕ) → r ≤ p.rows + 1 → r < length t.rows.items
+    pub row_there : (r : ℕ) → r ≤ p.rows + 1 → r < length t.table
     row_there r l = omega (arith, l, rows_many value s ok t held, equation_count_is value p lengths)
-
-    pub read_at : (r : ℕ) (cells : List (Cell F)) (d : Vec (Cell F) Global) (col : ℕ) (x : ℚ) → r ≤ p.rows + 1 → cells ≡ d.items → d ≡ slice_index_or t.rows.items r d → 1 ≤ col → col ≤ right_column s →
-        ((n : ℕ) → Rises n 0 (entries value cells) → x ≡ sum_at (entries value cells) col) → x ≡ at (table_in value s t) (r + 1) col
-    read_at r cells d col x l is read low high reads =
-        let n : ℕ = right_column s in
-        let h = held.tableau.lines in
-        let inside = row_there r l in
-        reads n (rises value t.rows.items n 0 [] h r inside cells d is read)
-        ∙ ap (λ es. sum_at es col) (own value t.rows.items n 0 [] h r inside cells d is read)
-        ∙ sym (at_is n (lines value t.rows.items) h r col (omega (arith, inside, length-lines value t.rows.items)) low high)
 
     module _ (i : ℕ) (inside : i < p.rows) (col : ℕ) (col_is : col ≡ p.cols + i + 1) where
       pub artificial_is : col ≡ artificial_column s (i + 1)
       artificial_is = omega (arith, col_is, unknown_count_is value p lengths)
 
-      -- an entry of a cost row in an artificial column
-      pub cost_read : (r : ℕ) (cells : List (Cell F)) (d : Vec (Cell F) Global) (x : ℚ) → r ≤ p.rows + 1 → cells ≡ d.items → d ≡ slice_index_or t.rows.items r d →
-          ((n : ℕ) → Rises n 0 (entries value cells) → x ≡ sum_at (entries value cells) col) → x ≡ at (table_in value s t) (r + 1) (artificial_column s (i + 1))
-      cost_read r cells d x l is read reads =
-          read_at r cells d col x l is read (omega (arith, col_is)) (omega (arith, col_is, inside, right_column_is value p lengths)) reads
-          ∙ ap (at (table_in value s t) (r + 1)) artificial_is
+      pub artificial_high : col ≤ t.width
+      artificial_high = omega (arith, col_is, inside, right_column_is value p lengths, held.width)
 
-      pub less_one_fault : (holds : ℚ → Bool) (left : Operation F) (fault : RowFault F) → left.op ≡ Sub → value left.a ≡ at (table_in value s t) (p.rows + 1) (artificial_column s (i + 1)) →
-          value left.b ≡ one_ℚ → IsFalse (holds (at (table_in value s t) (p.rows + 1) (artificial_column s (i + 1)) -ℚ one_ℚ)) → IsGivenUp t.basis.items (p.rows + 1) col 3 left fault →
+      pub less_one_fault : (holds : ℚ → Bool) (left : Operation F) (fault : RowFault F) → left.op ≡ Sub → value left.a ≡ at t.table (p.rows + 1) (artificial_column s (i + 1)) →
+          value left.b ≡ one_ℚ → IsFalse (holds (at t.table (p.rows + 1) (artificial_column s (i + 1)) -ℚ one_ℚ)) → IsGivenUp t.basis (p.rows + 1) col 3 left fault →
           IsSystemFault value holds s fault
       less_one_fault holds left fault op a b wide e =
           let first : p.rows + 1 ≡ first_cost s = omega (arith, equation_count_is value p lengths) in
           subst (IsSystemFault value holds s) (sym e) (
-            table_in value s t,
+            t.table,
             held.dictionary,
             inr (
               i + 1,
@@ -86,8 +65,8 @@ module _ {F : Type 0} (value : F → ℚ) (p : Program F) (lengths : HasLengths 
               artificial_is,
               refl,
               op,
-              a ∙ ap (at (table_in value s t) (p.rows + 1)) (sym artificial_is),
+              a ∙ ap (at t.table (p.rows + 1)) (sym artificial_is),
               b,
-              subst (λ (c : ℕ). IsFalse (holds (at (table_in value s t) (p.rows + 1) c -ℚ one_ℚ))) (sym artificial_is) wide,
+              subst (λ (c : ℕ). IsFalse (holds (at t.table (p.rows + 1) c -ℚ one_ℚ))) (sym artificial_is) wide,
             ),
           )

@@ -16,6 +16,6 @@ IsBegun value p (At t) = CanGoOn value p t
 IsBegun value p (Ended end) = IsCertified value (system_of value p) end × IsReadOff value (system_of value p) end
 
 -- it begins at exactly these columns, at which no unknown betters the second cost
-abbrev pub IsBegunBest : {F : Type 0} → (F → ℚ) → System → List ℕ → Begun F → Type 0
-IsBegunBest value s columns (At t) = IsBestAt value s columns t
-IsBegunBest value s columns (Ended end) = ⊥
+abbrev pub IsBegunBest : {F : Type 0} → System → List ℕ → Begun F → Type 0
+IsBegunBest s columns (At t) = IsBestAt s columns t
+IsBegunBest s columns (Ended end) = ⊥

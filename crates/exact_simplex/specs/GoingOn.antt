@@ -6,7 +6,7 @@ use Rattle.tableaux.specs.Table.{System, row_of, table_of, equation_count, right
 use Rattle.tableaux.specs.Dictionary.{IsChanged, basic_column}
 use Rattle.lin_rows.specs.Lines.{Rises, sum_at}
 use Rattle.lin_rows.specs.declared.system.System.{System as Program}
-use Rattle.lin_rows.specs.declared.tableau.Tableau.{Tableau}
+use Rattle.lin_rows.specs.Tableau.{Dictionary}
 use Rattle.exact_simplex.specs.Program.{IsFeasible, IsIdle}
 use Rattle.lin_rows.specs.System.{HasLengths, system_of}
 
@@ -18,23 +18,23 @@ pub record HasSameEquations {F : Type 0} (one other : Program F) : Type 0 where
   pub right : one.b ≡ other.b
 
 -- phase two can go on from the dictionary in the table
-pub record CanGoOn {F : Type 0} (value : F → ℚ) (p : Program F) (t : Tableau F) : Type 0 where
+pub record CanGoOn {F : Type 0} (value : F → ℚ) (p : Program F) (t : Dictionary) : Type 0 where
   pub lengths : HasLengths p
-  pub feasible : IsFeasible value (system_of value p) t
-  pub idle : IsIdle value (system_of value p) t
+  pub feasible : IsFeasible (system_of value p) t
+  pub idle : IsIdle (system_of value p) t
 
 -- .. of a program, which has the equations of that one
-pub record GoesOnFor {F : Type 0} (value : F → ℚ) (before p : Program F) (t : Tableau F) : Type 0 where
+pub record GoesOnFor {F : Type 0} (value : F → ℚ) (before p : Program F) (t : Dictionary) : Type 0 where
   pub on : CanGoOn value before t
   pub same : HasSameEquations before p
 
 -- .. of some program with these equations
-pub record IsTableFor {F : Type 0} (value : F → ℚ) (p : Program F) (t : Tableau F) : Type 0 where
+pub record IsTableFor {F : Type 0} (value : F → ℚ) (p : Program F) (t : Dictionary) : Type 0 where
   pub before : Program F
   pub from : GoesOnFor value before p t
 
 -- a program with the table of its last dictionary, where it has one
-pub record IsLast {F : Type 0} (value : F → ℚ) (p : Program F) (last : Option (Tableau F)) : Type 0 where
+pub record IsLast {F : Type 0} (value : F → ℚ) (p : Program F) (last : Option Dictionary) : Type 0 where
   pub lengths : HasLengths p
   pub table : MatchOption last ⊤ (CanGoOn value p)
 

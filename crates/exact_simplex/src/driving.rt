@@ -1,6 +1,6 @@
 //! Artificial columns with the value 0 go out of the basis.
 
-ghost use Rattle.std.specs.Prelude.{◌≡◌, ◌≢◌, ◌+◌, ◌<◌, ◌≤◌, ℕ, OnOk, IfErr};
+ghost use Rattle.std.specs.Prelude.{◌≡◌, ◌≢◌, ◌+◌, ◌<◌, ◌≤◌, ℕ, IfOk, IfErr};
 ghost use Rattle.lin_rows.specs.Lines.{Rises, entries};
 ghost use Rattle.exact_simplex.specs.Driving.{IsIdleTo, IsSupport};
 ghost use Rattle.exact_simplex.specs.Ends.{IsSystemFault};
@@ -29,38 +29,40 @@ fn support<F: Field>(row: &[Cell<F>], count: u32) -> Option<u32>
 /// Drives the artificial column of equation `i`, counted from 0, out at the lowest unknown at which
 /// its row is not 0, if it has an artificial column and there is such an unknown.
 fn drive_row<F: Field>(
-    tableau: &mut Tableau<F>,
+    tableau: Tableau<F>,
     system: &System<F>,
     i: u32,
-) -> Result<(), RowFault<F>>
+) -> Result<Tableau<F>, RowFault<F>>
     requires lengths { HasLengths system.now }
     requires inside { i < system.now.rows }
-    requires feasible { IsFeasible F.value (system_of F.value system.now) tableau.old }
-    requires idle { IsIdleTo F.value (system_of F.value system.now) i tableau.old }
-    ensures feasible { OnOk result (IsFeasible F.value (system_of F.value system.now) tableau.new) }
-    ensures idle { OnOk result
-        (IsIdleTo F.value (system_of F.value system.now) (i + 1) tableau.new) }
+    requires feasible { IsFeasible (system_of F.value system.now) tableau }
+    requires idle { IsIdleTo (system_of F.value system.now) i tableau }
+    ensures feasible { IfOk result (IsFeasible (system_of F.value system.now)) }
+    ensures idle { IfOk result (IsIdleTo (system_of F.value system.now) (i + 1)) }
     ensures left { IfErr result (IsSystemFault F.value F.holds (system_of F.value system.now)) }
 {
-    if tableau.basis[i as usize] <= system.cols {
-        return Ok(());
+    if tableau.basis()[i as usize] <= system.cols {
+        return Ok(tableau);
     }
-    match support(&tableau.rows[i as usize], system.cols) {
-        None => Ok(()),
+    match support(&tableau.rows()[i as usize], system.cols) {
+        None => Ok(tableau),
         Some(col) => tableau.pivot(i as usize, col),
     }
 }
 
 /// Drives all artificial columns out, but for those of equations that are 0 at all unknowns.
-pub fn drive_out<F: Field>(tableau: &mut Tableau<F>, system: &System<F>) -> Result<(), RowFault<F>>
+pub fn drive_out<F: Field>(
+    mut tableau: Tableau<F>,
+    system: &System<F>,
+) -> Result<Tableau<F>, RowFault<F>>
     requires lengths { HasLengths system.now }
-    requires feasible { IsFeasible F.value (system_of F.value system.now) tableau.old }
-    ensures feasible { OnOk result (IsFeasible F.value (system_of F.value system.now) tableau.new) }
-    ensures idle { OnOk result (IsIdle F.value (system_of F.value system.now) tableau.new) }
+    requires feasible { IsFeasible (system_of F.value system.now) tableau }
+    ensures feasible { IfOk result (IsFeasible (system_of F.value system.now)) }
+    ensures idle { IfOk result (IsIdle (system_of F.value system.now)) }
     ensures left { IfErr result (IsSystemFault F.value F.holds (system_of F.value system.now)) }
 {
     for i in 0..system.rows {
-        drive_row(tableau, system, i)?;
+        tableau = drive_row(tableau, system, i)?;
     }
-    Ok(())
+    Ok(tableau)
 }

@@ -96,7 +96,7 @@ pub fn second_cost_line<F: Field>(
 /// phase.
 pub fn unopened<F: Field>(alloc: Global, system: &System<F>) -> Result<Tableau<F>, NoMemory>
     requires { HasLengths system.now }
-    ensures { IfOk result (IsUnopened F.value (system_of F.value system.now)) }
+    ensures { IfOk result (IsUnopened (system_of F.value system.now)) }
 {
     if system.cols as usize + system.rows as usize >= MOST_ITEMS - 1 {
         return Err(NoMemory);
@@ -111,14 +111,7 @@ pub fn unopened<F: Field>(alloc: Global, system: &System<F>) -> Result<Tableau<F
     basis.push(0)?;
     rows.push(second_cost_line(alloc, system)?)?;
     basis.push(0)?;
-    Ok(Tableau {
-        width: system.cols + system.rows + 1,
-        rows,
-        basis,
-        quotients: Vec::new(alloc),
-        spare: Vec::new(alloc),
-        alloc,
-    })
+    Ok(Tableau::new(alloc, system.cols + system.rows + 1, rows, basis))
 }
 
 /// The artificial column of equation `i`, counted from 0.
@@ -127,19 +120,23 @@ pub fn artificial_column<F: Field>(tableau: &Tableau<F>, system: &System<F>, i: 
     requires width { tableau.now.width ≡ system.now.cols + system.now.rows + 1 }
     ensures { result ≡ system.now.cols + i + 1 }
 {
-    tableau.width - system.rows + i
+    tableau.width() - system.rows + i
 }
 
 /// Gives each equation its artificial column, by a pivot each. No right side is negative
 /// afterwards.
-pub fn open<F: Field>(tableau: &mut Tableau<F>, system: &System<F>) -> Result<(), RowFault<F>>
+pub fn open<F: Field>(
+    mut tableau: Tableau<F>,
+    system: &System<F>,
+) -> Result<Tableau<F>, RowFault<F>>
     requires lengths { HasLengths system.now }
-    requires unopened { IsUnopened F.value (system_of F.value system.now) tableau.old }
-    ensures ok { OnOk result (IsPrimal F.value (system_of F.value system.now) tableau.new) }
+    requires unopened { IsUnopened (system_of F.value system.now) tableau }
+    ensures ok { IfOk result (IsPrimal (system_of F.value system.now)) }
     ensures left { IfErr result (IsSystemFault F.value F.holds (system_of F.value system.now)) }
 {
     for i in 0..system.rows {
-        tableau.pivot(i as usize, artificial_column(tableau, system, i))?;
+        let col = artificial_column(&tableau, system, i);
+        tableau = tableau.pivot(i as usize, col)?;
     }
-    Ok(())
+    Ok(tableau)
 }

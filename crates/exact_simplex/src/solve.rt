@@ -1,15 +1,16 @@
 //! Linear programs by two phases.
 
-ghost use Rattle.std.specs.Prelude.{◌≡◌, ◌↔◌, ℕ, ⊤, List, IsTrue, MatchOption, take, OnOk, IfOk, IfErr};
+ghost use Rattle.std.specs.Prelude.{◌≡◌, ◌+◌, ◌↔◌, ℕ, ⊤, List, IsTrue, MatchOption, take, IfOk, IfErr};
 ghost use Rattle.exact_field.specs.Rational.{zero_ℚ, ◌<ℚ◌};
 ghost use Rattle.tableaux.specs.Simplex.{IsBest};
-ghost use Rattle.tableaux.specs.Table.{System as Equations, at, first_cost, right_column, second_cost};
+ghost use Rattle.tableaux.specs.Table.{System as Equations, at, equation_count, first_cost, right_column, second_cost, unknown_count};
 ghost use Rattle.exact_simplex.specs.Ends.{IsCertified, IsLpFault, IsReadOff, IsSystemFault};
 ghost use Rattle.exact_simplex.specs.Beginnings.{IsBegun, IsBegunBest};
 ghost use Rattle.exact_simplex.specs.GoingOn.{CanGoOn, IsTableFor};
 ghost use Rattle.exact_simplex.specs.Keeping.{IsCosted, IsKeptFor};
 ghost use Rattle.exact_simplex.specs.Hint.{IsBestBasis, IsOptimalEnd, NameSame};
-ghost use Rattle.exact_simplex.specs.Program.{IsFeasible, IsIdle, IsPrimal, table_in};
+ghost use Rattle.exact_simplex.specs.Program.{IsFeasible, IsIdle, IsPrimal};
+ghost use Rattle.exact_simplex.specs.Phase.{IsPhaseEnd};
 ghost use Rattle.lin_rows.specs.System.{HasLengths, system_of};
 
 use crate::answer::{LpEnd, LpFault, lp_fault};
@@ -20,56 +21,83 @@ use crate::opening::{open, unopened};
 use crate::phase::optimize;
 use crate::reading::{infeasible, optimal, unbounded};
 use exact_field::Field;
-use lin_rows::cells::{entry_at, is_negative};
+use lin_rows::cells::is_negative;
 use lin_rows::tableau::Tableau;
 use lin_rows::{RowFault, System};
-use src_sink::Items;
+use src_sink::{Items, NoMemory};
 use std::alloc::Global;
 
 /// Phase one. Answers whether its cost stays below 0.
-fn first_phase<F: Field>(tableau: &mut Tableau<F>, system: &System<F>) -> Result<bool, RowFault<F>>
+fn first_phase<F: Field>(
+    tableau: Tableau<F>,
+    system: &System<F>,
+) -> Result<(Tableau<F>, bool), RowFault<F>>
     requires lengths { HasLengths system.now }
-    requires primal { IsPrimal F.value (system_of F.value system.now) tableau.old }
-    ensures primal { OnOk result (IsPrimal F.value (system_of F.value system.now) tableau.new) }
-    ensures best { OnOk result (IsBest (system_of F.value system.now)
-        (first_cost (system_of F.value system.now))
-        (table_in F.value (system_of F.value system.now) tableau.new)) }
-    ensures below { IfOk result (λ below. IsTrue below
-        ↔ (at (table_in F.value (system_of F.value system.now) tableau.new)
-        (first_cost (system_of F.value system.now))
+    requires primal { IsPrimal (system_of F.value system.now) tableau }
+    ensures primal { IfOk result (λ done. IsPrimal (system_of F.value system.now) done.0) }
+    ensures best { IfOk result (λ done. IsBest (system_of F.value system.now)
+        (first_cost (system_of F.value system.now)) done.0.table) }
+    ensures below { IfOk result (λ done. IsTrue done.1
+        ↔ (at done.0.table (first_cost (system_of F.value system.now))
         (right_column (system_of F.value system.now))
         <ℚ zero_ℚ)) }
     ensures left { IfErr result (IsSystemFault F.value F.holds (system_of F.value system.now)) }
 {
     let cost = system.rows as usize;
-    match optimize(tableau, system, cost)? {
-        None => Ok(is_negative(entry_at(&tableau.rows[cost], tableau.width))),
+    let (tableau, end) = optimize(tableau, system, cost)?;
+    match end {
+        None => {
+            let below = is_negative(tableau.entry(cost, tableau.width()));
+            Ok((tableau, below))
+        }
         Some(_) => unreachable!(),
+    }
+}
+
+/// The end that is read off where phase two ends.
+fn read_end<F: Field>(
+    tableau: &Tableau<F>,
+    system: &System<F>,
+    end: Option<u32>,
+) -> Result<LpEnd<F>, NoMemory>
+    requires lengths { HasLengths system.now }
+    requires feasible { IsFeasible (system_of F.value system.now) tableau.now }
+    requires idle { IsIdle (system_of F.value system.now) tableau.now }
+    requires end { IsPhaseEnd (equation_count (system_of F.value system.now)) (system.now.rows + 1)
+        (unknown_count (system_of F.value system.now)) tableau.now.table end }
+    ensures certified { IfOk result (IsCertified F.value (system_of F.value system.now)) }
+    ensures read_off { IfOk result (IsReadOff F.value (system_of F.value system.now)) }
+    ensures basis { end ≡ None → IfOk result
+        (IsOptimalEnd (λ basis. basis ≡ take system.now.rows tableau.now.basis)) }
+{
+    match end {
+        None => optimal(tableau, system),
+        Some(col) => unbounded(tableau, system, col),
     }
 }
 
 /// Phase two, from a dictionary in which no artificial column counts.
 fn second_phase<F: Field>(
-    tableau: &mut Tableau<F>,
+    tableau: Tableau<F>,
     system: &System<F>,
-) -> Result<LpEnd<F>, RowFault<F>>
+) -> Result<(Tableau<F>, LpEnd<F>), RowFault<F>>
     requires lengths { HasLengths system.now }
-    requires feasible { IsFeasible F.value (system_of F.value system.now) tableau.old }
-    requires idle { IsIdle F.value (system_of F.value system.now) tableau.old }
-    ensures certified { IfOk result (IsCertified F.value (system_of F.value system.now)) }
-    ensures read_off { IfOk result (IsReadOff F.value (system_of F.value system.now)) }
+    requires feasible { IsFeasible (system_of F.value system.now) tableau }
+    requires idle { IsIdle (system_of F.value system.now) tableau }
+    ensures certified { IfOk result
+        (λ done. IsCertified F.value (system_of F.value system.now) done.1) }
+    ensures read_off { IfOk result
+        (λ done. IsReadOff F.value (system_of F.value system.now) done.1) }
     ensures left { IfErr result (IsSystemFault F.value F.holds (system_of F.value system.now)) }
-    ensures last { OnOk result (CanGoOn F.value system.now tableau.new) }
+    ensures last { IfOk result (λ done. CanGoOn F.value system.now done.0) }
     ensures still { IsBest (system_of F.value system.now)
-        (second_cost (system_of F.value system.now))
-        (table_in F.value (system_of F.value system.now) tableau.old)
-        → IfOk result
-        (IsOptimalEnd (λ basis. basis ≡ take system.now.rows tableau.old.basis.items)) }
+        (second_cost (system_of F.value system.now)) tableau.table
+        → IfOk result (λ done. IsOptimalEnd
+        (λ basis. basis ≡ take system.now.rows tableau.basis) done.1) }
 {
-    match optimize(tableau, system, system.rows as usize + 1)? {
-        None => Ok(optimal(tableau, system)?),
-        Some(col) => Ok(unbounded(tableau, system, col)?),
-    }
+    let (tableau, end) = optimize(tableau, system, system.rows as usize + 1)?;
+    let end = read_end(&tableau, system, end)?;
+    Ok((tableau, end))
 }
 
 /// How a program begins: in the dictionary from which phase two can go on, or with its end.
@@ -85,14 +113,13 @@ fn begun_anew<F: Field>(alloc: Global, system: &System<F>) -> Result<Begun<F>, R
     ensures begun { IfOk result (IsBegun F.value system.now) }
     ensures left { IfErr result (IsSystemFault F.value F.holds (system_of F.value system.now)) }
 {
-    let mut tableau = unopened(alloc, system)?;
-    open(&mut tableau, system)?;
-    if first_phase(&mut tableau, system)? {
-        let end = infeasible(&mut tableau, system)?;
-        return Ok(Begun::Ended(end));
+    let tableau = unopened(alloc, system)?;
+    let tableau = open(tableau, system)?;
+    let (tableau, below) = first_phase(tableau, system)?;
+    if below {
+        return Ok(Begun::Ended(infeasible(tableau, system)?));
     }
-    drive_out(&mut tableau, system)?;
-    Ok(Begun::At(tableau))
+    Ok(Begun::At(drive_out(tableau, system)?))
 }
 
 /// A program begins at the columns of a hint, or anew where these give no first basis.
@@ -105,7 +132,7 @@ fn begun_at<F: Field>(
     ensures begun { IfOk result (IsBegun F.value system.now) }
     ensures left { IfErr result (IsSystemFault F.value F.holds (system_of F.value system.now)) }
     ensures hint { IsBestBasis (system_of F.value system.now) columns.now
-        → IfOk result (IsBegunBest F.value (system_of F.value system.now) columns.now) }
+        → IfOk result (IsBegunBest (system_of F.value system.now) columns.now) }
 {
     match hinted(alloc, system, columns)? {
         Some(tableau) => Ok(Begun::At(tableau)),
@@ -127,7 +154,7 @@ fn begun_from<F: Field>(
     if exchange_cost(&mut tableau, system)? {
         return Ok(Begun::At(tableau));
     }
-    begun_at(alloc, system, &tableau.basis)
+    begun_at(alloc, system, tableau.basis())
 }
 
 /// The end of a program, and its last table where it has a solution.
@@ -146,13 +173,13 @@ fn finish<F: Field>(begun: Begun<F>, system: &System<F>) -> Result<Finished<F>, 
     ensures last { IfOk result (λ f. MatchOption f.last ⊤ (CanGoOn F.value system.now)) }
     ensures left { IfErr result (IsSystemFault F.value F.holds (system_of F.value system.now)) }
     ensures best { (columns : List ℕ)
-        → IsBegunBest F.value (system_of F.value system.now) columns begun
+        → IsBegunBest (system_of F.value system.now) columns begun
         → IfOk result (λ f. IsOptimalEnd (NameSame columns) f.end) }
 {
     match begun {
         Begun::Ended(end) => Ok(Finished { end, last: None }),
-        Begun::At(mut tableau) => {
-            let end = second_phase(&mut tableau, system)?;
+        Begun::At(tableau) => {
+            let (tableau, end) = second_phase(tableau, system)?;
             Ok(Finished {
                 end,
                 last: Some(tableau),

@@ -14,4 +14,5 @@ pub mod Places
 pub mod Signs
 pub mod Summing
 pub mod Sweeping
+pub mod Views
 pub mod Wide

@@ -11,4 +11,5 @@ pub mod Pivot
 pub mod Read
 pub mod Sums
 pub mod System
+pub mod Tableau
 pub mod Widths

@@ -6,4 +6,4 @@ use Rattle.exact_simplex.proofs.driving.drive_out.Given as goal
 abbrev pub invariant-loop-i : goal.invariant-loop-i
 invariant-loop-i g l =
     let value = g.F.Field.value in
-    record { feasible : IsFeasible value (system_of value l.system) l.tableau; idle : IsIdleTo value (system_of value l.system) l.i l.tableau }
+    record { feasible : IsFeasible (system_of value l.system) l.tableau; idle : IsIdleTo (system_of value l.system) l.i l.tableau }

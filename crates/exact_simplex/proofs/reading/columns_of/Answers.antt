@@ -9,5 +9,9 @@ pub slice_bounds-append-end : goal.slice_bounds-append-end
 slice_bounds-append-end g c =
     let value = g.F.Field.value in
     let p = c.args.system.now in
-    sym (length-take-le p.rows c.deref.result.now
-    (omega (arith, ap length c.deref.ensures.value, basis_many value (system_of value p) (system_ok value p c.requires.lengths) c.args.tableau.now c.requires.held, equation_count_is value p c.requires.lengths)))
+    sym (length-take-le p.rows c.basis.result.now (omega (
+      arith,
+      ap length c.basis.ensures.basis,
+      basis_many value (system_of value p) (system_ok value p c.requires.lengths) c.args.tableau.now c.requires.held,
+      equation_count_is value p c.requires.lengths,
+    )))

@@ -3,49 +3,37 @@ use Rattle.std.specs.Prelude.{IsFalse}
 use Rattle.exact_field.specs.Rational.{ℚ, one_ℚ, ◌*ℚ◌, ◌-ℚ◌}
 use Rattle.tableaux.specs.Table.{artificial_column, at, listed, first_cost, equation_count, table_of}
 use Rattle.lin_rows.proofs.Lists.{mapped_more}
-use Rattle.lin_rows.proofs.ManyLines.{length-lines}
-use Rattle.exact_simplex.specs.Program.{IsTableauOf, table_in}
 use Rattle.lin_rows.specs.System.{system_of}
+use Rattle.lin_rows.specs.Tableau.{Dictionary}
+use Rattle.exact_simplex.specs.Program.{IsTableauOf}
 use Rattle.exact_simplex.proofs.Programs.{equation_count_is, right_column_is}
-use Rattle.exact_simplex.proofs.Readings.{sign_is, row_there, cost_read, less_one_fault}
+use Rattle.exact_simplex.proofs.Readings.{sign_is, row_there, artificial_is, artificial_high, less_one_fault}
 use Rattle.exact_simplex.proofs.reading.farkas.Goals as goal
 
 pub artificial_column-col-requires-clause-width : goal.artificial_column-col-requires-clause-width
-artificial_column-col-requires-clause-width g c =
-    let value = g.F.Field.value in
-    ap (λ t. t.width) c.loop-i.invariant.same ∙ c.requires.held.width ∙ right_column_is value c.args.system.now c.requires.lengths
+artificial_column-col-requires-clause-width g c = (subst (IsTableauOf (system_of g.F.Field.value c.args.system.now)) (sym c.loop-i.invariant.same) c.requires.held).width ∙ right_column_is g.F.Field.value c.args.system.now c.requires.lengths
 
-pub index-requires : goal.index-requires
-index-requires g c =
-    let value = g.F.Field.value in
-    let p = c.args.system.now in
-    let held = subst (IsTableauOf value (system_of value p)) (sym c.loop-i.invariant.same) c.requires.held in
-    omega (arith, row_there value p c.requires.lengths c.loop-i.tableau held p.rows (omega arith))
+pub entry-entry-requires-clause-inside : goal.entry-entry-requires-clause-inside
+entry-entry-requires-clause-inside g c = omega (arith, row_there g.F.Field.value c.args.system.now c.requires.lengths c.loop-i.tableau (subst (IsTableauOf (system_of g.F.Field.value c.args.system.now)) (sym c.loop-i.invariant.same) c.requires.held) c.args.system.now.rows (omega arith))
 
-pub given_up-requires-clause-basis : goal.given_up-requires-clause-basis
-given_up-requires-clause-basis g c =
-    let value = g.F.Field.value in
-    let held = subst (IsTableauOf value (system_of value c.args.system.now)) (sym c.loop-i.invariant.same) c.requires.held in
-    omega (arith, held.tableau.numbered, held.tableau.one_each)
+pub entry-entry-requires-clause-high : goal.entry-entry-requires-clause-high
+entry-entry-requires-clause-high g c =
+    artificial_high g.F.Field.value c.args.system.now c.requires.lengths c.loop-i.tableau (subst (IsTableauOf (system_of g.F.Field.value c.args.system.now)) (sym c.loop-i.invariant.same) c.requires.held) c.loop-i.i (omega arith) c.artificial_column-col.result c.artificial_column-col.ensures
 
-pub given_up-requires-clause-inside : goal.given_up-requires-clause-inside
-given_up-requires-clause-inside g c =
-    let value = g.F.Field.value in
-    let p = c.args.system.now in
-    let held = subst (IsTableauOf value (system_of value p)) (sym c.loop-i.invariant.same) c.requires.held in
-    omega (arith, row_there value p c.requires.lengths c.loop-i.tableau held p.rows (omega arith), held.tableau.numbered, length-lines value c.loop-i.tableau.rows.items)
+pub give_up-requires : goal.give_up-requires
+give_up-requires g c = omega (arith, row_there g.F.Field.value c.args.system.now c.requires.lengths c.loop-i.tableau (subst (IsTableauOf (system_of g.F.Field.value c.args.system.now)) (sym c.loop-i.invariant.same) c.requires.held) c.args.system.now.rows (omega arith))
 
 pub returns-in-Err-clause-left : goal.returns-in-Err-clause-left
 returns-in-Err-clause-left g c =
     let value = g.F.Field.value in
     let p = c.args.system.now in
     let t = c.loop-i.tableau in
-    let held = subst (IsTableauOf value (system_of value p)) (sym c.loop-i.invariant.same) c.requires.held in
-    let entry = cost_read value p c.requires.lengths t held c.loop-i.i (omega arith) c.artificial_column-col.result c.artificial_column-col.ensures p.rows c.deref.result.now c.index.result.now
-    (value c.entry_at-entry.result) (omega arith) c.deref.ensures.value c.index.ensures c.entry_at-entry.ensures in
-    less_one_fault value p c.requires.lengths t held c.loop-i.i (omega arith) c.artificial_column-col.result c.artificial_column-col.ensures g.F.Field.holds c.in-Err.left c.given_up.result
+    let i : ℕ = c.loop-i.i in
+    let entry = c.entry-entry.ensures
+    ∙ ap (at t.table (p.rows + 1)) (artificial_is value p c.requires.lengths t (subst (IsTableauOf (system_of g.F.Field.value c.args.system.now)) (sym c.loop-i.invariant.same) c.requires.held) i (omega arith) c.artificial_column-col.result c.artificial_column-col.ensures) in
+    less_one_fault value p c.requires.lengths t (subst (IsTableauOf (system_of g.F.Field.value c.args.system.now)) (sym c.loop-i.invariant.same) c.requires.held) i (omega arith) c.artificial_column-col.result c.artificial_column-col.ensures g.F.Field.holds c.in-Err.left c.give_up.result
     (ap (λ x. x.op) c.in-Err.ensures.0) (ap (λ x. value x.a) c.in-Err.ensures.0 ∙ entry) (ap (λ x. value x.b) c.in-Err.ensures.0 ∙ c.one.ensures)
-    (subst (λ (q : ℚ). IsFalse (g.F.Field.holds q)) (ap₂ (λ x y. x -ℚ y) entry c.one.ensures) c.in-Err.ensures.1) c.given_up.ensures.fault
+    (subst (λ (q : ℚ). IsFalse (g.F.Field.holds q)) (ap₂ (λ x y. x -ℚ y) entry c.one.ensures) c.in-Err.ensures.1) c.give_up.ensures
 
 pub loop-i-preserved : goal.loop-i-preserved
 loop-i-preserved g c =
@@ -55,15 +43,13 @@ loop-i-preserved g c =
     let t = c.loop-i.tableau in
     let i : ℕ = c.loop-i.i in
     let b = c.index-as_slice-i.result in
-    let held = subst (IsTableauOf value s) (sym c.loop-i.invariant.same) c.requires.held in
     let row_is : p.rows + 1 ≡ first_cost s = omega (arith, equation_count_is value p c.requires.lengths) in
-    let entry = cost_read value p c.requires.lengths t held i (omega arith) c.artificial_column-col.result c.artificial_column-col.ensures p.rows c.deref.result.now c.index.result.now
-    (value c.entry_at-entry.result) (omega arith) c.deref.ensures.value c.index.ensures c.entry_at-entry.ensures
-    ∙ ap (λ r. at (table_in value s t) r (artificial_column s (i + 1))) row_is in
+    let entry = c.entry-entry.ensures ∙ ap₂ (λ r k. at t.table r k) row_is
+    (artificial_is value p c.requires.lengths t (subst (IsTableauOf (system_of g.F.Field.value c.args.system.now)) (sym c.loop-i.invariant.same) c.requires.held) i (omega arith) c.artificial_column-col.result c.artificial_column-col.ensures) in
     record {
       same = c.loop-i.invariant.same;
       read = mapped_more value c.loop-i.out c.push.new.self c.signed.result i
-          (λ k. at (table_of s) k (artificial_column s k) *ℚ (at (table_in value s t) (first_cost s) (artificial_column s k) -ℚ one_ℚ)) c.in_ok-push-in-Ok.ensures.ok c.loop-i.invariant.read
+          (λ k. at (table_of s) k (artificial_column s k) *ℚ (at t.table (first_cost s) (artificial_column s k) -ℚ one_ℚ)) c.in_ok-push-in-Ok.ensures.ok c.loop-i.invariant.read
           (c.signed.ensures
           ∙ ap₂ (λ x y. x *ℚ y) (sign_is value p c.requires.lengths i b (omega arith) (c.index-as_slice-i.is ∙ ap (λ v. slice_index_or v i b) c.as_slice.ensures.items))
           (c.in-Ok.ensures.0 ∙ ap₂ (λ x y. x -ℚ y) entry c.one.ensures));
@@ -76,5 +62,5 @@ returns-clause-ok g c =
     let s = system_of value p in
     let end : c.loop-i.i ≡ equation_count s = omega (arith, equation_count_is value p c.requires.lengths) in
     c.loop-i.invariant.read
-    ∙ ap (λ n. listed n (λ k. at (table_of s) k (artificial_column s k) *ℚ (at (table_in value s c.loop-i.tableau) (first_cost s) (artificial_column s k) -ℚ one_ℚ))) end
-    ∙ ap (λ t. listed (equation_count s) (λ k. at (table_of s) k (artificial_column s k) *ℚ (at (table_in value s t) (first_cost s) (artificial_column s k) -ℚ one_ℚ))) c.loop-i.invariant.same
+    ∙ ap (λ n. listed n (λ k. at (table_of s) k (artificial_column s k) *ℚ (at c.loop-i.tableau.table (first_cost s) (artificial_column s k) -ℚ one_ℚ))) end
+    ∙ ap (λ (t : Dictionary). listed (equation_count s) (λ k. at (table_of s) k (artificial_column s k) *ℚ (at t.table (first_cost s) (artificial_column s k) -ℚ one_ℚ))) c.loop-i.invariant.same

@@ -1,7 +1,6 @@
 use Rattle.std.proofs.Common.{◌≡◌, map}
 use Rattle.exact_field.specs.Rational.{one_ℚ, ◌*ℚ◌, ◌-ℚ◌}
 use Rattle.tableaux.specs.Table.{artificial_column, at, first_cost, listed, table_of}
-use Rattle.exact_simplex.specs.Program.{table_in}
 use Rattle.lin_rows.specs.System.{system_of}
 use Rattle.exact_simplex.proofs.reading.farkas.Given as goal
 
@@ -11,5 +10,5 @@ invariant-loop-i g l =
     let s = system_of value l.system in
     record {
       same : l.tableau ≡ l.initial.tableau;
-      read : map value l.out ≡ listed l.i (λ k. at (table_of s) k (artificial_column s k) *ℚ (at (table_in value s l.tableau) (first_cost s) (artificial_column s k) -ℚ one_ℚ));
+      read : map value l.out ≡ listed l.i (λ k. at (table_of s) k (artificial_column s k) *ℚ (at l.tableau.table (first_cost s) (artificial_column s k) -ℚ one_ℚ));
     }

@@ -1,25 +1,18 @@
-use Rattle.std.proofs.Common.{◌∙◌, ap, sym, subst, take, map}
+use Rattle.std.proofs.Common.{◌∙◌, ap, sym, take, map}
 use Rattle.tableaux.proofs.Ends.{ends_are_right}
-use Rattle.exact_simplex.specs.Program.{IsTableauOf, table_in}
 use Rattle.lin_rows.specs.System.{system_of}
 use Rattle.exact_simplex.proofs.Programs.{system_ok, equation_count_is}
 use Rattle.exact_simplex.proofs.EndsRead.{infeasible_read}
 use Rattle.exact_simplex.proofs.reading.infeasible.Goals as goal
-
-pub columns_of-requires-clause-held : goal.columns_of-requires-clause-held
-columns_of-requires-clause-held g c =
-    let value = g.F.Field.value in
-    subst (IsTableauOf value (system_of value c.args.system.now)) (sym c.in_ok-farkas.ensures.same) c.requires.primal.held
 
 pub returns-clause-read_off : goal.returns-clause-read_off
 returns-clause-read_off g c =
     let value = g.F.Field.value in
     let p = c.args.system.now in
     let s = system_of value p in
-    let t = c.args.tableau.now in
-    let columns = c.in_ok-basis.ensures ∙ ap (λ x. take p.rows x.basis.items) c.in_ok-farkas.ensures.same
-    ∙ ap (λ k. take k t.basis.items) (sym (equation_count_is value p c.requires.lengths)) in
-    (table_in value s t, infeasible_read value s t c.in_ok-basis.basis columns (map value c.in_ok-farkas.farkas) c.requires.primal c.requires.best c.requires.below c.in_ok-farkas.ensures.ok)
+    let t = c.args.tableau in
+    let columns = c.in_ok-basis.ensures ∙ ap (λ k. take k t.basis) (sym (equation_count_is value p c.requires.lengths)) in
+    (t.table, infeasible_read value s t c.in_ok-basis.basis columns (map value c.in_ok-farkas.farkas) c.requires.primal c.requires.best c.requires.below c.in_ok-farkas.ensures.ok)
 
 pub returns-clause-certified : goal.returns-clause-certified
 returns-clause-certified g c =

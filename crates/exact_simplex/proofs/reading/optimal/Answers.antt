@@ -1,6 +1,5 @@
 use Rattle.std.proofs.Common.{◌∙◌, ap, sym, take, map}
 use Rattle.tableaux.proofs.Ends.{ends_are_right}
-use Rattle.exact_simplex.specs.Program.{table_in}
 use Rattle.lin_rows.specs.System.{system_of}
 use Rattle.exact_simplex.proofs.Programs.{system_ok, equation_count_is}
 use Rattle.exact_simplex.proofs.EndsRead.{optimal_read}
@@ -12,8 +11,8 @@ returns-clause-read_off g c =
     let p = c.args.system.now in
     let s = system_of value p in
     let t = c.args.tableau.now in
-    let columns = c.in_ok-basis.ensures ∙ ap (λ k. take k t.basis.items) (sym (equation_count_is value p c.requires.lengths)) in
-    (table_in value s t, optimal_read value s t c.in_ok-basis.basis columns (map value c.in_ok-x.x) (map value c.in_ok-dual.dual) c.requires.feasible c.requires.best c.in_ok-x.ensures c.in_ok-dual.ensures)
+    let columns = c.in_ok-basis.ensures ∙ ap (λ k. take k t.basis) (sym (equation_count_is value p c.requires.lengths)) in
+    (t.table, optimal_read value s t c.in_ok-basis.basis columns (map value c.in_ok-x.x) (map value c.in_ok-dual.dual) c.requires.feasible c.requires.best c.in_ok-x.ensures c.in_ok-dual.ensures)
 
 pub returns-clause-certified : goal.returns-clause-certified
 returns-clause-certified g c =

@@ -1,15 +1,14 @@
-use Rattle.std.proofs.Common.{◌≡◌, ◌∙◌, ◌≤◌, ap, ap₂, ℕ, sym, subst, take, map, arith}
-use Rattle.tableaux.specs.Table.{right_column}
+use Rattle.std.proofs.Common.{◌≡◌, ◌∙◌, ap, ℕ, sym, take, map, arith}
 use Rattle.tableaux.specs.Dictionary.{ray}
 use Rattle.tableaux.specs.Elimination.{ray_of}
 use Rattle.tableaux.proofs.Ends.{ends_are_right}
-use Rattle.lin_rows.specs.Lines.{AreLines, lines}
-use Rattle.lin_rows.specs.Pivot.{table_of as table_of_lines}
-use Rattle.exact_simplex.specs.Program.{table_in}
 use Rattle.lin_rows.specs.System.{system_of}
 use Rattle.exact_simplex.proofs.Programs.{system_ok, equation_count_is, unknown_count_is}
 use Rattle.exact_simplex.proofs.EndsRead.{unbounded_read}
 use Rattle.exact_simplex.proofs.reading.unbounded.Goals as goal
+
+pub ray-requires-clause-high : goal.ray-requires-clause-high
+ray-requires-clause-high g c = omega (arith, c.requires.high, c.requires.feasible.held.width)
 
 pub returns-clause-read_off : goal.returns-clause-read_off
 returns-clause-read_off g c =
@@ -17,16 +16,11 @@ returns-clause-read_off g c =
     let p = c.args.system.now in
     let s = system_of value p in
     let t = c.args.tableau.now in
-    let n : ℕ = right_column s in
     let col : ℕ = c.args.col in
-    let columns = c.in_ok-basis.ensures ∙ ap (λ k. take k t.basis.items) (sym (equation_count_is value p c.requires.lengths)) in
-    let rows = ap (lines value) c.deref.ensures.value in
-    let high : col ≤ n = omega (arith, c.requires.high) in
-    let along : map value c.in_ok-ray.ray ≡ ray s t.basis.items (table_in value s t) col =
-    c.in_ok-ray.ensures n (subst (AreLines n) (sym rows) c.requires.feasible.held.tableau.lines) c.requires.low high
-    ∙ ap₂ (λ b l. ray_of p.cols b (table_of_lines n l) col) c.deref-2.ensures.value rows
-    ∙ ap (λ k. ray_of k t.basis.items (table_in value s t) col) (sym (unknown_count_is value p c.requires.lengths)) in (
-      table_in value s t,
+    let columns = c.in_ok-basis.ensures ∙ ap (λ k. take k t.basis) (sym (equation_count_is value p c.requires.lengths)) in
+    let along : map value c.in_ok-ray.ray ≡ ray s t.basis t.table col =
+    c.in_ok-ray.ensures ∙ ap (λ k. ray_of k t.basis t.table col) (sym (unknown_count_is value p c.requires.lengths)) in (
+      t.table,
       col,
       unbounded_read value s t c.in_ok-basis.basis columns (map value c.in_ok-x.x) (map value c.in_ok-ray.ray) col c.requires.feasible c.requires.idle c.requires.low
           c.requires.high c.requires.betters c.requires.unlimited c.in_ok-x.ensures along,

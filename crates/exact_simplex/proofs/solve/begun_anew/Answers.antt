@@ -1,5 +1,4 @@
 use Rattle.tableaux.specs.Table.{at, first_cost, right_column}
-use Rattle.exact_simplex.specs.Program.{table_in}
 use Rattle.lin_rows.specs.System.{system_of}
 use Rattle.exact_simplex.proofs.Programs.{system_ok}
 use Rattle.exact_simplex.proofs.Testing.{not_negative}
@@ -11,6 +10,6 @@ drive_out-requires-clause-feasible g c =
     let value = g.F.Field.value in
     let p = c.args.system.now in
     let s = system_of value p in
-    let t = c.first_phase.new.tableau in
-    primal_feasible value s (system_ok value p c.requires) t c.in_ok-first_phase.ensures.primal
-    (not_negative c.in_ok-first_phase.field-0 (at (table_in value s t) (first_cost s) (right_column s)) c.in_ok-first_phase.ensures.below c.if-branch.false)
+    let t = c.in_ok-tableau-3.tableau in
+    primal_feasible value s (system_ok value p c.requires) t c.in_ok-tableau-3.ensures.primal
+    (not_negative c.in_ok-tableau-3.below (at t.table (first_cost s) (right_column s)) c.in_ok-tableau-3.ensures.below c.if-below.false)
