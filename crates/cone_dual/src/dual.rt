@@ -29,8 +29,8 @@ fn generators_of<F: Field>(alloc: Global, dd: &Dd<F>, width: u32) -> Result<Rows
 {
     let live = dd.live();
     let mut out = Rows::new(alloc, width);
-    for i in 0..live.len() {
-        out.push_row(dd.generator(live[i]))?;
+    for number in live {
+        out.push_row(dd.generator(*number))?;
     }
     Ok(out)
 }

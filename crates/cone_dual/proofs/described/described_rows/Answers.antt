@@ -41,8 +41,8 @@ rows_at-requires-2-clause-high g c =
     subst (All (λ (k : ℕ). k ≤ n)) (sym (c.as_slice-3.ensures.items ∙ c.in_ok-others.ensures))
     (All-weaker (IsPlace c.count.result) (λ (k : ℕ). k ≤ n) (λ k p. subst (λ (m : ℕ). k ≤ m) c.count.ensures p.1) (others c.count.result c.as_slice.result.now) places)
 
-pub started-requires-clause-square : goal.started-requires-clause-square
-started-requires-clause-square g c =
+pub start_rows-requires-clause-square : goal.start_rows-requires-clause-square
+start_rows-requires-clause-square g c =
     let value = g.F.Field.value in
     let t = numbers value c.args.rows.now.list in
     sym (numbers_long value c.in_ok-first.first.list) ∙ ap length c.in_ok-first.ensures.rows ∙ length-map c.as_slice-2.result.now (row_of t)
