@@ -11,6 +11,7 @@ ghost use Rattle.lp_form.specs.Data.{IsDataOf};
 ghost use Rattle.outer_approx.specs.Task.{IsFitting, Task, behind};
 ghost use Rattle.overflows.specs.Faults.{OnLicence, Overflows};
 
+use crate::kept::KeptWeights;
 use crate::search::Search;
 use crate::spanning::spanning_rows;
 use crate::starting::lower_description;
@@ -64,7 +65,7 @@ fn facets_over<F: Field>(
         cuts: Items::new(alloc),
         certified: Items::new(alloc),
         marks,
-        basis: Items::new(alloc),
+        kept: KeptWeights::new(alloc),
     };
     search.approximate()?;
     let touching = touching(alloc, &search.dd, search.certified.as_slice(), least)?;
@@ -82,7 +83,7 @@ fn facets_over<F: Field>(
 /// directions that span the ordering cone first. Each of its generators that stands for an
 /// inequality is asked by the linear program of its weight: it is a facet, or a row follows at which
 /// it is negative. So the cost is that of a linear program for each facet and for each further row,
-/// each beginning at the basis at which the last one ended, and of an addition to the double
+/// each beginning where the last one ended, and of an addition to the double
 /// description for each row. Where the addition of a row overflows, those of the next generators
 /// are tried, up to six, and then the overflow of the first is told; the licence has no trail.
 pub fn all_facets<F: Field>(
