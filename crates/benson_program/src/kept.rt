@@ -54,7 +54,8 @@ impl<F: Field> Kept<F> {
         match name {
             LpName::Feasible => self.engine.guess_feasible(form),
             LpName::Benson { v, t } => self.engine.guess(form, c, v.as_slice(), *t),
-            LpName::Weight { .. } | LpName::Interior | LpName::Pointed => Ok(None),
+            LpName::Weight { w } => self.engine.guess_weight(form, w.as_slice()),
+            LpName::Interior | LpName::Pointed => Ok(None),
         }
     }
 
@@ -69,7 +70,7 @@ impl<F: Field> Kept<F> {
     }
 
     /// The optimum of a named program that a guess shows, if one does.
-    pub(crate) fn guessed_optimum(
+    pub fn guessed_optimum(
         &mut self,
         alloc: Global,
         form: &Data<F>,

@@ -1,4 +1,4 @@
-//! The dual of Benson's program, and its part on the sides alone.
+//! The duals of Benson's program and of that of a weight, and their part on the sides alone.
 use crate::meaning::{Bound, Dual, Kind, Meaning};
 use exact_field::Field;
 use lp_form::{At, ConeOf, Data};
@@ -110,6 +110,17 @@ pub(crate) fn dual_of_benson<F: Field>(
     let mut dual = draft.dual(multipliers, objectives)?;
     dual.solver.minimise(share)?;
     Ok(dual)
+}
+
+/// The dual of the program of a weight, which minimises a sum of the objectives. The sum is not set
+/// yet.
+pub(crate) fn dual_of_weight<F: Field>(alloc: Global, form: &Data<F>) -> Result<Dual, Stop> {
+    let mut draft = Draft::new(alloc);
+    draft.push_variables(Kind::Column, form.cols as usize)?;
+    draft.push_sides(form)?;
+    let objectives = draft.meanings.len();
+    draft.push_values(form)?;
+    draft.dual(0, objectives)
 }
 
 impl Draft {
@@ -261,6 +272,16 @@ impl Draft {
             push_term(&mut terms, form.cols as usize, at(c, i)?.neg())?;
             push_generators(&mut terms, &form.cone, multipliers, i)?;
             let _variable = self.push_row(Kind::Objective, i, &terms)?;
+        }
+        Ok(())
+    }
+
+    /// The rows of the values of the objectives.
+    fn push_values<F: Field>(&mut self, form: &Data<F>) -> Result<(), Stop> {
+        for i in 0..form.p.len() {
+            let mut terms = Vec::new(self.alloc);
+            push_vector(&mut terms, item(form.p.as_slice(), i)?.as_slice())?;
+            let _variable = self.push_row(Kind::Value, i, &terms)?;
         }
         Ok(())
     }

@@ -1,21 +1,23 @@
 //! The engine, which keeps its state from question to question.
-use crate::building::{dual_of_benson, dual_of_sides};
+use crate::building::{dual_of_benson, dual_of_sides, dual_of_weight};
 use crate::limits::limits_at;
 use crate::meaning::Dual;
 use exact_field::Field;
-use lp_form::Data;
+use lp_form::{ConeOf, Data};
 use shown_program::Guess;
 use src_sink::NoMemory;
 use std::alloc::Global;
-use whole_simplex::Stop;
+use whole_simplex::{Stop, Term};
 
 /// An engine for guesses over one problem and one duality vector. With another problem it makes
 /// guesses that fail their test, if any.
 #[derive(Debug, Drop)]
 pub struct Engine {
     alloc: Global,
-    /// The last basis, if the last question had a guess.
+    /// The last basis, if the last question of Benson's program had a guess.
     dual: Option<Dual>,
+    /// The last basis of the program of a weight, whose values keep the bounds of the sides.
+    weighed: Option<Dual>,
 }
 
 /// What came of a question.
@@ -69,15 +71,47 @@ fn asked_feasible<F: Field>(alloc: Global, form: &Data<F>) -> Result<Guess<F>, S
     dual.guess_feasible(form)
 }
 
+/// The dual of the program of a weight at a basis whose values keep the bounds.
+fn weighable<F: Field>(alloc: Global, form: &Data<F>) -> Result<Dual, Stop> {
+    let mut dual = dual_of_weight(alloc, form)?;
+    let limits = limits_at(&dual, form, &[], true)?;
+    dual.solver.solve(&limits)?;
+    Ok(dual)
+}
+
+/// The guess at a weight, from a basis whose values keep the bounds: none where the program has no
+/// solution.
+fn asked_weight<F: Field>(
+    dual: &mut Dual,
+    form: &Data<F>,
+    w: &[F],
+) -> Result<Option<Guess<F>>, Stop> {
+    let mut terms = Vec::new(dual.solver.alloc);
+    for i in 0..w.len() {
+        let at = dual.objectives.saturating_add(i);
+        terms.push(Term { at, value: w[i] })?;
+    }
+    dual.solver.minimise_sum(&terms)?;
+    if !dual.solver.improve()? {
+        return Ok(None);
+    }
+    Ok(Some(dual.guess_weight(form, w)?))
+}
+
 impl Engine {
     /// An engine without a basis. No memory is taken yet.
     pub fn new(alloc: Global) -> Engine {
-        Engine { alloc, dual: None }
+        Engine {
+            alloc,
+            dual: None,
+            weighed: None,
+        }
     }
 
-    /// Gives up the basis, so that the next question begins anew: where a guess failed its test.
+    /// Gives up the bases, so that the next question begins anew: where a guess failed its test.
     pub fn forget(&mut self) {
         self.dual = None;
+        self.weighed = None;
     }
 
     /// A guess at the optimum of Benson's program at `v`, a point where `t` is true and a direction
@@ -119,6 +153,38 @@ impl Engine {
             Err(Stop::Declined) => Ok(None),
             Err(Stop::NoMemory) => Err(NoMemory),
         }
+    }
+
+    /// A guess at the optimum of the program of the weight `w`. There is none where a number is too
+    /// long, the steps are too many, or there is no solution; and none where the cone is in dual form.
+    pub fn guess_weight<F: Field>(
+        &mut self,
+        form: &Data<F>,
+        w: &[F],
+    ) -> Result<Option<Guess<F>>, NoMemory> {
+        if let ConeOf::Dual(_) = &form.cone {
+            return Ok(None);
+        }
+        match self.weighed_guess(form, w) {
+            Ok(guess) => Ok(guess),
+            Err(Stop::Declined) => Ok(None),
+            Err(Stop::NoMemory) => Err(NoMemory),
+        }
+    }
+
+    /// The same, where the basis is given up if it declines.
+    fn weighed_guess<F: Field>(
+        &mut self,
+        form: &Data<F>,
+        w: &[F],
+    ) -> Result<Option<Guess<F>>, Stop> {
+        let mut dual = match self.weighed.take() {
+            Some(dual) => dual,
+            None => weighable(self.alloc, form)?,
+        };
+        let guess = asked_weight(&mut dual, form, w)?;
+        self.weighed = Some(dual);
+        Ok(guess)
     }
 
     /// A guess at a point of the sides, as one at the optimum of the program `Feasible`, or none.

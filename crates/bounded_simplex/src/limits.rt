@@ -67,7 +67,7 @@ fn limits_of<F: Field>(
             low: side_limit(meaning.low, t),
             high: side_limit(meaning.high, t),
         }),
-        Kind::Share => Ok(Limits {
+        Kind::Share | Kind::Value => Ok(Limits {
             low: None,
             high: None,
         }),

@@ -1,4 +1,4 @@
-//! What the variables of the dual of Benson's program stand for.
+//! What the variables of the duals stand for.
 use whole_simplex::{Ratio, Solver};
 
 /// What a variable stands for.
@@ -14,6 +14,8 @@ pub(crate) enum Kind {
     Side,
     /// An entry of the objectives' vector, or its product with a vector of the cone's dual form.
     Objective,
+    /// The value of an objective, which has no bound.
+    Value,
 }
 
 /// A side that bounds a variable.
@@ -49,7 +51,7 @@ impl Meaning {
     }
 }
 
-/// The dual of Benson's program, or its part on the sides alone, at a basis.
+/// The dual of Benson's program or of that of a weight, or its part on the sides alone, at a basis.
 #[derive(Debug, Drop)]
 pub(crate) struct Dual {
     pub(crate) solver: Solver,

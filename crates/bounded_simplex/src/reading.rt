@@ -56,13 +56,36 @@ impl Dual {
     ) -> Result<Basis<'a, F>, Stop> {
         let mut basis = Basis::new(self.solver.alloc, form, layout);
         let mut weights = vec![in self.solver.alloc; F::zero(); form.p.len()]?;
-        for k in 0..self.meanings.len() {
-            self.push_column(&mut basis, c, &mut weights, k)?;
-        }
+        self.push_columns(&mut basis, c, &mut weights)?;
         if layout.equations > layout.cone {
             push_all_weights(&mut basis, c, &weights)?;
         }
         Ok(basis)
+    }
+
+    /// The columns of the program of a weight that the variables outside the basis name, and those of
+    /// the weight.
+    fn basis_at<'a, F: Field>(&self, form: &'a Data<F>, w: &[F]) -> Result<Basis<'a, F>, Stop> {
+        let mut basis = Basis::new(self.solver.alloc, form, Layout::of_weight(form));
+        let mut no_weights = Vec::new(self.solver.alloc);
+        self.push_columns(&mut basis, &[], &mut no_weights)?;
+        for i in 0..w.len() {
+            basis.push_given(i, w[i])?;
+        }
+        Ok(basis)
+    }
+
+    /// The columns that the variables name that are not basic.
+    fn push_columns<F: Field>(
+        &self,
+        basis: &mut Basis<'_, F>,
+        c: &[F],
+        weights: &mut [F],
+    ) -> Result<(), Stop> {
+        for k in 0..self.meanings.len() {
+            self.push_column(basis, c, weights, k)?;
+        }
+        Ok(())
     }
 
     /// The column that a variable names, if it is not basic.
@@ -93,6 +116,7 @@ impl Dual {
             }
             Kind::Multiplier => basis.push_behind(number, cost),
             Kind::Objective => push_objective(basis, c, weights, number, cost.neg()),
+            Kind::Value => Err(Stop::Declined),
         }
     }
 
@@ -140,6 +164,23 @@ impl Dual {
             y.push(value.sub(v[i])?)?;
         }
         Ok(())
+    }
+
+    /// The multipliers of the equations of the program of a weight: those of the entries of w are the
+    /// values of the objectives.
+    fn multipliers_of_weight<F: Field>(&self, form: &Data<F>) -> Result<Items<F>, Stop> {
+        let values = self.values()?;
+        let mut y = self.choice(form, &values)?;
+        for i in 0..form.p.len() {
+            y.push(at(&values, self.objectives.saturating_add(i))?)?;
+        }
+        Ok(y)
+    }
+
+    /// The guess at the optimum of the program of a weight.
+    pub(crate) fn guess_weight<F: Field>(&self, form: &Data<F>, w: &[F]) -> Result<Guess<F>, Stop> {
+        let y = self.multipliers_of_weight(form)?;
+        self.basis_at(form, w)?.guess(self.solver.alloc, y)
     }
 
     /// The guess at the optimum of Benson's program.

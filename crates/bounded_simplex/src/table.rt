@@ -1,4 +1,4 @@
-//! The columns of Benson's program, as a guess lists them.
+//! The columns of a program, as a guess lists them.
 use crate::building::is_zero;
 use crate::lists::{Lists, numbered};
 use crate::ordering::order_of;
@@ -34,6 +34,21 @@ impl Layout {
             artificial: sides,
             cone: cols,
             equations: cols,
+        }
+    }
+
+    /// That of the program of a weight, where the cone is not in dual form.
+    pub(crate) fn of_weight<F: Field>(form: &Data<F>) -> Layout {
+        let sides = form.sides.len();
+        let q = form.p.len();
+        let cols = form.cols as usize;
+        Layout {
+            weights: sides,
+            negatives: sides + q,
+            behind: sides + q + q,
+            artificial: sides + q + q,
+            cone: cols,
+            equations: cols.saturating_add(q),
         }
     }
 
@@ -132,10 +147,23 @@ impl<'a, F: Field> Basis<'a, F> {
         let form = self.form;
         push_places(&mut self.lists, item(form.p.as_slice(), i)?.as_slice())?;
         self.push_members(i)?;
-        let layout = self.layout;
         if !is_zero(at(c, i)?) {
-            self.lists.push(layout.equations.saturating_sub(1))?;
+            self.lists.push(self.layout.equations.saturating_sub(1))?;
         }
+        self.push_signed(i, value)
+    }
+
+    /// The same where the entry is given: it is in the equation that says so, and in none of the cone.
+    pub(crate) fn push_given(&mut self, i: usize, value: F) -> Result<(), Stop> {
+        let form = self.form;
+        push_places(&mut self.lists, item(form.p.as_slice(), i)?.as_slice())?;
+        self.lists.push(self.layout.cone.saturating_add(i))?;
+        self.push_signed(i, value)
+    }
+
+    /// Ends the list of equations of an entry of the weight vector, and appends its column.
+    fn push_signed(&mut self, i: usize, value: F) -> Result<(), Stop> {
+        let layout = self.layout;
         let base = if value.sign() < 0 {
             layout.negatives
         } else {

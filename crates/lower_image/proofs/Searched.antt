@@ -22,6 +22,7 @@ use Rattle.outer_approx.specs.Task.{Task, IsFitting, behind}
 use Rattle.lower_image.specs.Rows.{IsWeighable}
 use Rattle.lower_image.specs.Search.{AreAllCertified, AreCertified, HasRowMore, IsDone, IsNextCut, IsNextRow, IsSearching, IsWeighing, StandsForOne}
 use Rattle.lower_image.specs.Starting.{IsLowerDescription}
+use Rattle.lower_image.specs.declared.kept.KeptWeights.{KeptWeights}
 use Rattle.lower_image.specs.declared.search.Search.{Search}
 use Rattle.lower_image.proofs.Certified.{certified_more, none_certified, stays}
 use Rattle.lower_image.proofs.Generators.{in_cone}
@@ -44,9 +45,9 @@ module _ {F : Type 0} (value : F → ℚ) (holds : ℚ → Bool) (task : Task) w
         (subst (λ (bs : List Bool). AreCertified value task s.dd.list.live [] [] bs) (sym no_marks) (none_certified value task s.dd.list.live)));
   }
 
-  -- the basis alone is another one
-  pub with_basis : (s : Search F) (basis : List ℕ) → IsSearching value holds task s → IsSearching value holds task (record s { basis = basis })
-  with_basis s basis h = record { known = h.known; described = h.described; certified = h.certified }
+  -- what is kept alone is something else
+  pub with_kept : (s : Search F) (kept : KeptWeights F) → IsSearching value holds task s → IsSearching value holds task (record s { kept = kept })
+  with_kept s kept h = record { known = h.known; described = h.described; certified = h.certified }
 
   -- one more generator is certified
   pub with_cut : (s : Search F) (marks : List Bool) (nums : List ℕ) (cuts : List (Cut F)) (g : ℕ) (cut : Cut F) → IsSearching value holds task s →

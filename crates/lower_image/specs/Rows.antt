@@ -27,5 +27,5 @@ pub record Certifies {F : Type 0} (value : F → ℚ) (task : Task) (g : List �
 
 -- the cut that it is, or a base row that is negative there: so no row says it yet
 abbrev pub IsWeighed : {F : Type 0} → (F → ℚ) → Task → List (List ℚ) → List ℚ → Weighed F → Type 0
-IsWeighed value task rows g (Certified cut basis) = Certifies value task g cut
-IsWeighed value task rows g (Row row basis) = IsBaseRow task.file task.c (map value row) × IsRowTurn task.file task.c rows (map value row)
+IsWeighed value task rows g (Certified cut) = Certifies value task g cut
+IsWeighed value task rows g (Row row) = IsBaseRow task.file task.c (map value row) × IsRowTurn task.file task.c rows (map value row)

@@ -11,6 +11,7 @@ ghost use Rattle.lp_form.specs.Data.{IsDataOf};
 ghost use Rattle.outer_approx.specs.Task.{IsFitting, Task, behind};
 ghost use Rattle.overflows.specs.Faults.{OnLicence, Overflows};
 
+use crate::kept::KeptWeights;
 use crate::search::Search;
 use crate::spanning::spanning_rows;
 use crate::starting::lower_description;
@@ -64,7 +65,7 @@ fn facets_over<F: Field>(
         cuts: Items::new(alloc),
         certified: Items::new(alloc),
         marks,
-        basis: Items::new(alloc),
+        kept: KeptWeights::new(alloc),
     };
     search.approximate()?;
     let touching = touching(alloc, &search.dd, search.certified.as_slice(), least)?;

@@ -5,6 +5,7 @@
 mod certificate;
 mod ends;
 mod facets;
+mod kept;
 mod laws;
 mod rows;
 mod search;
@@ -17,6 +18,7 @@ mod weighing;
 pub use certificate::weight_cut_of;
 pub use ends::WeightEnd;
 pub use facets::{AllFacets, all_facets};
+pub use kept::KeptWeights;
 pub use laws::{
     certified_are_facets, from_all_facets, lower_examples, lower_generators, lower_rows,
     lower_start, lower_turns, weight_bounded, weight_choice, weight_cut, weight_ray,

@@ -10,6 +10,7 @@ ghost use Rattle.outer_approx.specs.Task.{Task, behind};
 ghost use Rattle.overflows.specs.Faults.{Overflows};
 ghost use Rattle.polyhedra.specs.LiveList.{numbers};
 
+use crate::kept::KeptWeights;
 use crate::weighing::{Weighed, weigh_generator};
 use cone_dual::add_row;
 use deriv_log::Family;
@@ -74,8 +75,8 @@ pub(crate) struct Search<'a, F: Field> {
     pub(crate) certified: Items<u32>,
     /// The set of these numbers.
     pub(crate) marks: Marks,
-    /// The basis at which the last program ended, from which the next one begins.
-    pub(crate) basis: Items<u32>,
+    /// What is kept of the last program.
+    pub(crate) kept: KeptWeights<F>,
 }
 
 impl<'a, F: Field> Search<'a, F> {
@@ -122,14 +123,9 @@ impl<'a, F: Field> Search<'a, F> {
             IfErr result (Overflows F.holds (behind task trail) []) }
     {
         let generator = self.dd.generator(g);
-        let columns = self.basis.as_slice();
-        match weigh_generator(self.alloc, self.form, self.c, generator, columns)? {
-            Weighed::Row { row, basis } => {
-                self.basis = basis;
-                Ok(Some(row))
-            }
-            Weighed::Certified { cut, basis } => {
-                self.basis = basis;
+        match weigh_generator(self.alloc, self.form, self.c, generator, &mut self.kept)? {
+            Weighed::Row(row) => Ok(Some(row)),
+            Weighed::Certified(cut) => {
                 self.certify(g, cut)?;
                 Ok(None)
             }

@@ -13,15 +13,17 @@ ghost use Rattle.vlp_reader.specs.declared.problem.Problem.{Problem as File};
 ghost use Rattle.lower_image.specs.Ends.{CanWeigh, IsWeightEnd};
 
 use crate::ends::WeightEnd;
+use crate::kept::KeptWeights;
 use exact_field::Field;
 use exact_simplex::{LpEnd, solve_lp_from};
 use lp_form::{Data, LpName, program};
 use overflows::{SolveFault, program_fault};
+use shown_program::Optimum;
 use src_sink::{Items, NoMemory};
 use std::alloc::Global;
 
-/// How a named program ends, from the columns of a hint.
-fn named_end<F: Field>(
+/// How a named program ends by pivots of its table, from the columns of a hint.
+fn pivoted_end<F: Field>(
     alloc: Global,
     form: &Data<F>,
     c: &[F],
@@ -49,6 +51,35 @@ fn named_end<F: Field>(
     }
 }
 
+/// How a named program ends: with the optimum that a guess shows, or else by pivots, from the last
+/// basis.
+fn named_end<F: Field>(
+    alloc: Global,
+    form: &Data<F>,
+    c: &[F],
+    name: &LpName<F>,
+    kept: &mut KeptWeights<F>,
+) -> Result<LpEnd<F>, SolveFault>
+    requires stands { StandForSome F.value form.now }
+    requires widths { HasWidths (length form.now.p) c.now name.now }
+    ensures certified { (file : File) → IsDataOf F.value file form.now
+        → IfOk result (IsCertified F.value (named_system file (map F.value c.now)
+        (named F.value name.now))) }
+    ensures read_off { (file : File) → IsDataOf F.value file form.now
+        → IfOk result (IsReadOff F.value (named_system file (map F.value c.now)
+        (named F.value name.now))) }
+    ensures left { (s : Setting) → IsDataOf F.value s.file form.now
+        → IsAllowed s (named F.value name.now)
+        → named_system s.file (map F.value c.now) (named F.value name.now) ≡ system_in s
+        (named F.value name.now)
+        → IfErr result (Overflows F.holds s []) }
+{
+    match kept.guesses.guessed_optimum(alloc, form, c, name)? {
+        Some(Optimum { x, dual, basis }) => Ok(LpEnd::Optimal { x, dual, basis }),
+        None => pivoted_end(alloc, form, c, name, kept.basis.as_slice()),
+    }
+}
+
 /// The name of the program of a weight.
 pub(crate) fn weight_name<F: Field>(alloc: Global, w: &[F]) -> Result<LpName<F>, NoMemory>
     ensures { IfOk result (λ name. name ≡ name_of.Weight w.now) }
@@ -58,15 +89,15 @@ pub(crate) fn weight_name<F: Field>(alloc: Global, w: &[F]) -> Result<LpName<F>,
     Ok(LpName::Weight { w: weight })
 }
 
-/// How the program of the weight `w` ends. `c` is the duality vector. `columns` are a hint of any
-/// length: the basis at which the program of another weight ended, of which this one begins, since
-/// w stands on the right side alone.
+/// How the program of the weight `w` ends. `c` is the duality vector. From what is kept of the program
+/// of another weight an optimum is guessed; where the guess is not shown to be one, the table is
+/// pivoted from the last basis on, since w stands on the right side alone.
 pub fn weight_end<F: Field>(
     alloc: Global,
     form: &Data<F>,
     c: &[F],
     w: &[F],
-    columns: &[u32],
+    kept: &mut KeptWeights<F>,
 ) -> Result<WeightEnd<F>, SolveFault>
     requires c { length c.now ≡ length form.now.p }
     requires w { length w.now ≡ length form.now.p }
@@ -78,7 +109,7 @@ pub fn weight_end<F: Field>(
         → IfErr result (Overflows F.holds s []) }
 {
     let name = weight_name(alloc, w)?;
-    match named_end(alloc, form, c, &name, columns)? {
+    match named_end(alloc, form, c, &name, kept)? {
         LpEnd::Optimal { x, dual, basis } => Ok(WeightEnd::Optimal { z: x, dual, basis }),
         LpEnd::Infeasible { farkas, basis } => Ok(WeightEnd::Empty {
             dual: farkas,

@@ -17,6 +17,7 @@ ghost use Rattle.lower_image.specs.Rows.{IsWeighable, IsWeighed};
 
 use crate::certificate::weight_cut_of;
 use crate::ends::WeightEnd;
+use crate::kept::KeptWeights;
 use crate::rows::{exchanged_row, image_at};
 use crate::solving::weight_end;
 use exact_field::Field;
@@ -29,19 +30,10 @@ use std::alloc::Global;
 #[derive(Debug, Drop)]
 pub enum Weighed<F: Drop> {
     /// The generator stands for a cut.
-    Certified {
-        /// The cut for which it stands.
-        cut: Cut<F>,
-        /// The basis at which the program ended.
-        basis: Items<u32>,
-    },
-    /// It stands for none.
-    Row {
-        /// The row of a point or of a direction of the image, which is negative at the generator.
-        row: Items<F>,
-        /// The basis at which the program ended.
-        basis: Items<u32>,
-    },
+    Certified(Cut<F>),
+    /// It stands for none: the row of a point or of a direction of the image, which is negative at the
+    /// generator.
+    Row(Items<F>),
 }
 
 /// The first `count` numbers of a list after another number.
@@ -120,14 +112,13 @@ fn row_of<F: Field>(
 }
 
 /// What the program of the weight of a live generator of the cone of dual vectors says: the cut for
-/// which the generator stands, or a row that is negative there. `columns` are a hint: the basis
-/// that the last generator's answer has, or none.
+/// which the generator stands, or a row that is negative there.
 pub fn weigh_generator<F: Field>(
     alloc: Global,
     form: &Data<F>,
     c: &[F],
     generator: &[F],
-    columns: &[u32],
+    kept: &mut KeptWeights<F>,
 ) -> Result<Weighed<F>, SolveFault>
     ghost task: { Task }
     requires stands { IsDataOf F.value task.file form.now }
@@ -141,18 +132,20 @@ pub fn weigh_generator<F: Field>(
     ensures left { (trail : List Entry) → IfErr result (Overflows F.holds (behind task trail) []) }
 {
     let w = weight_at(alloc, c, generator)?;
-    match weight_end(alloc, form, c, w.as_slice(), columns)? {
+    match weight_end(alloc, form, c, w.as_slice(), kept)? {
         WeightEnd::Empty { dual, basis } => {
+            kept.basis = basis;
             let row = row_of(alloc, form, c, dual.as_slice(), false)?;
-            Ok(Weighed::Row { row, basis })
+            Ok(Weighed::Row(row))
         }
         WeightEnd::Optimal { z, dual, basis } => {
+            kept.basis = basis;
             let cut = weight_cut_of(alloc, form, w.as_slice(), z.as_slice())?;
             if cut.gamma == generator[generator.len() - 2] {
-                return Ok(Weighed::Certified { cut, basis });
+                return Ok(Weighed::Certified(cut));
             }
             let row = row_of(alloc, form, c, dual.as_slice(), true)?;
-            Ok(Weighed::Row { row, basis })
+            Ok(Weighed::Row(row))
         }
     }
 }

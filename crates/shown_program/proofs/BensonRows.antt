@@ -45,7 +45,7 @@ listed-zero k (suc n) f h =
 all_zero : (n : ℕ) (f : ℕ → ℚ) → ((j : ℕ) → 1 ≤ j → j ≤ n → f j ≡ zero_ℚ) → listed n f ≡ zeros n
 all_zero n f h = listed-zero 1 n f (λ j low high. h j low (omega arith))
 
-same_listed : (n : ℕ) (f g : ℕ → ℚ) → ((j : ℕ) → 1 ≤ j → j ≤ n → f j ≡ g j) →
+pub same_listed : (n : ℕ) (f g : ℕ → ℚ) → ((j : ℕ) → 1 ≤ j → j ≤ n → f j ≡ g j) →
     listed n f ≡ listed n g
 same_listed n f g h = list_from-same 1 n f g (λ j low high. h j low (omega arith))
 
@@ -56,15 +56,11 @@ map_zero f (x ∷ xs) h =
     ap₂ (λ a b. a ∷ b) (h 0 x (omega arith)) (map_zero f xs (λ k d l. h (suc k) d (omega arith)))
 
 -- a map as a list of its places
-mapped : {X : Type 0} (f : X → ℚ) (d : X) (xs : List X) →
+pub mapped : {X : Type 0} (f : X → ℚ) (d : X) (xs : List X) →
     listed (length xs) (λ i. f (slice_index_or xs (i - 1) d)) ≡ map f xs
 mapped f d xs =
     listed-is (length xs) (λ i. f (slice_index_or xs (i - 1) d)) (map f xs) (length-map xs f)
     (λ j low high. sym (get_or-map f xs (j - 1) d zero_ℚ (omega arith)))
-
-negated-zeros : (n : ℕ) → negated (zeros n) ≡ zeros n
-negated-zeros zero = refl
-negated-zeros (suc n) = ap₂ (λ a b. a ∷ b) neg-zero_ℚ (negated-zeros n)
 
 map-list_from : (g : ℚ → ℚ) (k n : ℕ) (f : ℕ → ℚ) →
     map g (list_from k n f) ≡ list_from k n (λ j. g (f j))
@@ -123,7 +119,7 @@ module _ (cols q : ℕ) where
             ∙ sym (ap (λ b. shown b x) o.1)
       ]
 
-  units : (n i : ℕ) → listed n (λ j. single (cols + j) one_ℚ (cols + i)) ≡ unit n i
+  pub units : (n i : ℕ) → listed n (λ j. single (cols + j) one_ℚ (cols + i)) ≡ unit n i
   units n i =
       same_listed n (λ j. single (cols + j) one_ℚ (cols + i)) (λ j. if j == i then one_ℚ else zero_ℚ)
       (λ j low high. unit_number one_ℚ j i)
@@ -201,7 +197,7 @@ module _ {F : Type 0} (value : F → ℚ) (file : Problem) (form : Data F) (c : 
   more = dual_unknowns q cone
 
   -- what the sides have in equation k
-  abbrev side_row : ℕ → List ℚ
+  abbrev pub side_row : ℕ → List ℚ
   side_row k = map (λ s. sum_at (entries value s.g) k) form.sides
 
   abbrev row : ℕ → List ℚ
@@ -213,14 +209,14 @@ module _ {F : Type 0} (value : F → ℚ) (file : Problem) (form : Data F) (c : 
       (subst (IsWideCone file.objs) (sym stands.cone)
       (cone_wide file.objs file.cone file.cone_vectors))
 
-  side-zero : (k : ℕ) → form.cols < k → side_row k ≡ zeros m
+  pub side-zero : (k : ℕ) → form.cols < k → side_row k ≡ zeros m
   side-zero k over =
       map_zero (λ s. sum_at (entries value s.g) k) form.sides
       (λ i d l. sum_at-above form.cols 0 (entries value (slice_index_or form.sides i d).g) k
       (places_rise value form.cols 0 (slice_index_or form.sides i d).g
       (passes_at (λ s. are_places form.cols 0 s.g) form.sides i d form.side_places l)) over)
 
-  objective-zero : (j k : ℕ) → 1 ≤ j → j ≤ q → form.cols < k →
+  pub objective-zero : (j k : ℕ) → 1 ≤ j → j ≤ q → form.cols < k →
       neg_ℚ (sum_at (entries value (slice_index_or form.p (j - 1) [])) k) ≡ zero_ℚ
   objective-zero j k low high over =
       ap neg_ℚ (sum_at-above form.cols 0 (entries value (slice_index_or form.p (j - 1) [])) k

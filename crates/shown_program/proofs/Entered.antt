@@ -9,6 +9,7 @@ use Rattle.exact_field.specs.Vector.{entry}
 use Rattle.exact_field.proofs.Rationals.{add-zero_ℚ, add_assoc_ℚ, neg-add_ℚ, neg-zero_ℚ, zero-add_ℚ}
 use Rattle.polyhedra.specs.Negatives.{negated}
 use Rattle.polyhedra.specs.Sparse.{Entry}
+use Rattle.polyhedra.specs.Vectors.{zeros}
 use Rattle.polyhedra.proofs.Negatives.{negated_twice}
 use Rattle.polyhedra.proofs.Tests.{both_true}
 use Rattle.tableaux.specs.Table.{artificial_sign}
@@ -263,6 +264,28 @@ single_longer n cols q i x y old new low high w same rises last fits =
       sums = λ k. step.sums k ∙ ap (λ z. sum_at old k +ℚ single (cols + i) z k) same;
     }
 
+-- the negative of an objective, and one number in an equation behind
+pub given_line : (cols q i : ℕ) (x y : ℚ) (own first last : List Entry) → first ≡ negatives own →
+    1 ≤ i → i ≤ q → x ≡ y → Rises cols 0 own → Writes (cols + i) x first last →
+    IsLineWith (cols + q) (λ k. neg_ℚ (sum_at own k) +ℚ single (cols + i) y k) last
+given_line cols q i x y own first last is low high same rises w =
+    let first_rises : Rises (cols + q) 0 first =
+    subst (λ (es : List Entry). Rises (cols + q) 0 es) (sym is)
+    (rises-negatives (cols + q) 0 own (rises_wider cols (cols + q) 0 own (omega arith) rises)) in
+    let first_ends : last_place 0 first ≤ cols =
+    subst (λ (es : List Entry). last_place 0 es ≤ cols) (sym is)
+    (last_within cols 0 (negatives own) (omega arith) (rises-negatives cols 0 own rises)) in
+    let step : IsLonger (cols + q) (cols + q) (single (cols + i) y) first last =
+    single_longer (cols + q) cols q i x y first last low high w same first_rises first_ends
+    (omega arith) in
+    record {
+      rises = step.rises;
+      sums = λ k.
+          step.sums k
+          ∙ ap (λ z. z +ℚ single (cols + i) y k)
+          (ap (λ es. sum_at es k) is ∙ sum_at-negatives own k);
+    }
+
 -- a column of one entry
 pub single_line : (n place : ℕ) (x : ℚ) (first last : List Entry) → first ≡ [] → 1 ≤ place →
     place ≤ n → Writes place x first last → IsLineWith n (single place x) last
@@ -306,16 +329,21 @@ module _ {F : Type 0} (value : F → ℚ) where
       ∙ sym (units-push 0 front (value r)) ∙ ap (unit_entries 0) (sym next)
 
 -- ---- appended one after the other
+pub appended_two : {F : Type 0} (value : F → ℚ) (n : ℕ) (w : ℕ → List ℚ)
+    (l0 l1 l2 : List (List (Cell F))) → l0 ≡ [] → AreAppended value n w l0 l1 →
+    AreAppended value n (λ k. negated (across value k l1)) l1 l2 →
+    (k : ℕ) → across value k l2 ≡ w k ++ negated (w k)
+appended_two value n w l0 l1 l2 none h1 h2 k =
+    let first : across value k l1 ≡ w k =
+    h1.numbers k ∙ ap (λ l. across value k l ++ w k) none in
+    h2.numbers k ∙ ap₂ (λ x y. x ++ negated y) first first
+
 pub appended_three : {F : Type 0} (value : F → ℚ) (n : ℕ) (w b : ℕ → List ℚ)
     (l0 l1 l2 l3 : List (List (Cell F))) → l0 ≡ [] → AreAppended value n w l0 l1 →
     AreAppended value n (λ k. negated (across value k l1)) l1 l2 → AreAppended value n b l2 l3 →
     (k : ℕ) → across value k l3 ≡ (w k ++ negated (w k)) ++ b k
 appended_three value n w b l0 l1 l2 l3 none h1 h2 h3 k =
-    let first : across value k l1 ≡ w k =
-    h1.numbers k ∙ ap (λ l. across value k l ++ w k) none in
-    h3.numbers k
-    ∙ ap (λ l. l ++ b k)
-    (h2.numbers k ∙ ap₂ (λ x y. x ++ negated y) first first)
+    h3.numbers k ∙ ap (λ l. l ++ b k) (appended_two value n w l0 l1 l2 none h1 h2 k)
 
 pub appended_same : {F : Type 0} (value : F → ℚ) (n : ℕ) (more after : ℕ → List ℚ)
     (old new : List (List (Cell F))) → ((k : ℕ) → after k ≡ more k) →
@@ -331,3 +359,15 @@ pub costs_appended : (l0 l1 l2 l3 a b d u w z : List ℚ) → l1 ≡ l0 ++ a →
 costs_appended l0 l1 l2 l3 a b d u w z e1 e2 e3 h0 ha hb hd =
     e3 ∙ ap₂ (λ x y. x ++ y)
     (e2 ∙ ap₂ (λ x y. x ++ y) (e1 ∙ ap₂ (λ x y. x ++ y) h0 ha) (hb ∙ sym (negated_twice w))) hd
+
+negated-zeros : (n : ℕ) → negated (zeros n) ≡ zeros n
+negated-zeros zero = refl
+negated-zeros (suc n) = ap₂ (λ a b. a ∷ b) neg-zero_ℚ (negated-zeros n)
+
+-- .. where those behind the first cost nothing, and none are behind w
+pub costs_given : (l0 l1 l2 a b u : List ℚ) (q : ℕ) → l1 ≡ l0 ++ a → l2 ≡ l1 ++ b → l0 ≡ u →
+    a ≡ zeros q → b ≡ zeros q → l2 ≡ on_parts u (zeros q) []
+costs_given l0 l1 l2 a b u q e1 e2 h0 ha hb =
+    e2 ∙ ap₂ (λ x y. x ++ y)
+    (e1 ∙ ap₂ (λ x y. x ++ y) h0 ha) (hb ∙ sym (negated-zeros q))
+    ∙ sym (append-nil ((u ++ zeros q) ++ negated (zeros q)))

@@ -1,6 +1,7 @@
 pub mod Assembled
 pub mod BensonRows
 pub mod Entered
+pub mod GivenRows
 pub mod Listed
 pub mod Multiples
 pub mod Orders

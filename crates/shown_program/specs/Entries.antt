@@ -70,6 +70,17 @@ weight_entry value form c i k =
     +ℚ member form.cols (cone_of value form.cone) i k)
     +ℚ single (benson_equations value form) (entry (map value c) i) k
 
+-- how many equations the program of a weight has, where the cone is not in dual form: the last ones
+-- are those of the weight's entries
+abbrev pub given_equations : {F : Type 0} → Data F → ℕ
+given_equations form = form.cols + length form.p
+
+-- what unknown i of w has in its equation k
+abbrev pub given_entry : {F : Type 0} → (F → ℚ) → Data F → ℕ → ℕ → ℚ
+given_entry value form i k =
+    neg_ℚ (sum_at (entries value (slice_index_or form.p (i - 1) [])) k)
+    +ℚ single (form.cols + i) one_ℚ k
+
 -- the numbers of columns in equation k
 abbrev pub across : {F : Type 0} → (F → ℚ) → ℕ → List (List (Cell F)) → List ℚ
 across value k columns = map (λ cells. sum_at (entries value cells) k) columns
@@ -82,6 +93,10 @@ abbrev pub behind_row : {F : Type 0} → (F → ℚ) → Data F → ℕ → List
 behind_row value form k =
     listed (dual_unknowns (length form.p) (cone_of value form.cone))
     (λ d. behind form.cols (cone_of value form.cone) d k)
+
+-- what the unknowns of w have in equation k of the program of a weight
+abbrev pub given_row : {F : Type 0} → (F → ℚ) → Data F → ℕ → List ℚ
+given_row value form k = listed (length form.p) (λ i. given_entry value form i k)
 
 -- more columns of n places, which have these numbers in equation k
 pub record AreAppended {F : Type 0} (value : F → ℚ) (n : ℕ) (more : ℕ → List ℚ)

@@ -1,13 +1,15 @@
 -- Programs by their columns, as they are written.
-use Rattle.std.specs.Prelude.{ℕ, ◌≡◌, List, [], ◌++◌, IsTrue, map, length}
+use Rattle.std.specs.Prelude.{ℕ, ◌≡◌, ⊤, List, [], ◌++◌, IsTrue, map, length}
 use Rattle.std.specs.List.{list_all}
 use Rattle.exact_field.specs.Rational.{ℚ}
 use Rattle.polyhedra.specs.Negatives.{negated}
 use Rattle.lin_rows.specs.Lines.{entries}
 use Rattle.lin_rows.specs.declared.cells.Cell.{Cell}
+use Rattle.vlp_reader.specs.declared.problem.Cone.{Cone}
+use Rattle.vlp_reader.specs.declared.problem.Cone.TheVariants.{Orthant, Gens, Dual}
 use Rattle.lp_form.specs.Shapes.{are_places}
 use Rattle.lp_form.specs.declared.data.Data.{Data}
-use Rattle.shown_program.specs.Entries.{across, behind_row, benson_equations, unit_entries, weight_row}
+use Rattle.shown_program.specs.Entries.{across, behind_row, benson_equations, given_equations, given_row, unit_entries, weight_row}
 use Rattle.shown_program.specs.declared.columns.Columns.{Columns}
 
 -- the columns of the two lists of w, and those after them
@@ -17,6 +19,19 @@ pub record AreOthers {F : Type 0} (value : F → ℚ) (form : Data F) (c : List 
       ≡ (weight_row value form c k ++ negated (weight_row value form c k))
       ++ behind_row value form k
   pub places : IsTrue (list_all (are_places (benson_equations value form) 0) others)
+
+-- the cone is not in dual form, so that the program of a weight says no more of it than its entries
+abbrev pub IsDirect : Cone → Type 0
+IsDirect Orthant = ⊤
+IsDirect (Gens vectors) = ⊤
+IsDirect (Dual vectors) = ⊥
+
+-- the columns of the two lists of w in the program of a weight
+pub record AreGiven {F : Type 0} (value : F → ℚ) (form : Data F)
+    (others : List (List (Cell F))) : Type 0 where
+  pub numbers : (k : ℕ) → across value k others
+      ≡ given_row value form k ++ negated (given_row value form k)
+  pub places : IsTrue (list_all (are_places (given_equations form) 0) others)
 
 -- the program of these parts, with artificial columns
 pub record IsAssembled {F : Type 0} (value : F → ℚ) (form : Data F)

@@ -121,10 +121,10 @@ fn optimum_at<F: Field>(
     Ok(Some(Optimum { x, dual, basis }))
 }
 
-/// The optimum that a guess shows for a named program, whose columns are not written into one
-/// table. There is none where a test fails, or a number is not held that a test calculates; and
-/// none for the programs of a weight and of the cone, which are not tested. `c` is the duality
-/// vector, which only `Benson` uses.
+/// The optimum that a guess shows for a named program, whose columns are not written into one table.
+/// There is none where a test fails, or a number is not held that a test calculates; and none for the
+/// programs of the cone, and for that of a weight where the cone is in dual form, which are not tested.
+/// `c` is the duality vector, which only `Benson` uses.
 ///
 /// The cost is linear in the entries of the columns that are not 0, but for the columns that leave
 /// equations together: these are eliminated.

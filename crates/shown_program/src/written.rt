@@ -1,7 +1,7 @@
 //! The programs of the sides by their columns.
-ghost use Rattle.std.specs.Prelude.{◌≡◌, ◌+◌, ◌-◌, ◌<◌, ◌≤◌, ◌++◌, ◌∷◌, ℕ, [], length, map, IsTrue, IfOk, IfSome, OnOk, if◌then◌else◌};
+ghost use Rattle.std.specs.Prelude.{◌≡◌, ◌+◌, ◌-◌, ◌<◌, ◌≤◌, ◌++◌, ◌∷◌, ℕ, List, [], length, map, IsTrue, IfOk, IfSome, OnOk, if◌then◌else◌};
 ghost use Rattle.std.specs.List.{list_all};
-ghost use Rattle.exact_field.specs.Rational.{one_ℚ};
+ghost use Rattle.exact_field.specs.Rational.{ℚ, one_ℚ};
 ghost use Rattle.polyhedra.specs.Negatives.{negated};
 ghost use Rattle.polyhedra.specs.Vectors.{zeros as zero_vector};
 ghost use Rattle.tableaux.specs.Table.{artificial_sign};
@@ -11,11 +11,11 @@ ghost use Rattle.vlp_reader.specs.Sides.{side_bounds};
 ghost use Rattle.vlp_reader.specs.declared.problem.Problem.{Problem as File};
 ghost use Rattle.lp_form.specs.Data.{IsDataOf, cone_of};
 ghost use Rattle.lp_form.specs.Names.{HasWidths, named};
-ghost use Rattle.lp_form.specs.Programs.{benson_system, dual_equations, dual_unknowns, feasible_system, named_system, side_total};
+ghost use Rattle.lp_form.specs.Programs.{benson_system, dual_equations, dual_unknowns, feasible_system, named_system, side_total, weight_system};
 ghost use Rattle.lp_form.specs.Shapes.{are_places};
-ghost use Rattle.shown_program.specs.Entries.{AreAppended, IsLineWith, IsLonger, across, behind, behind_row, benson_equations, member, negatives, placed, single, unit_entries, weight_entry, weight_row};
+ghost use Rattle.shown_program.specs.Entries.{AreAppended, IsLineWith, IsLonger, across, behind, behind_row, benson_equations, given_entry, given_equations, given_row, member, negatives, placed, single, unit_entries, weight_entry, weight_row};
 ghost use Rattle.shown_program.specs.Program.{IsProgramOf};
-ghost use Rattle.shown_program.specs.Written.{AreOthers, IsAssembled};
+ghost use Rattle.shown_program.specs.Written.{AreGiven, AreOthers, IsAssembled, IsDirect};
 
 use crate::columns::Columns;
 use exact_field::Field;
@@ -376,7 +376,106 @@ fn benson_columns<'a, F: Field>(
     assembled(alloc, form, others, right, cost)
 }
 
-/// A named program by its columns: none for the programs of the cone, and for that of a weight.
+/// The column of unknown `i` of w in the program of a weight: the negative of its objective, and 1 in
+/// the equation that gives its entry.
+fn given_column<F: Field>(alloc: Global, form: &Data<F>, i: u32) -> Result<Items<Cell<F>>, NoMemory>
+    requires low { 1 ≤ i }
+    requires high { i ≤ length form.now.p }
+    ensures { IfOk result (λ list. IsLineWith (given_equations form.now)
+        (given_entry F.value form.now i) (entries F.value list)) }
+{
+    let mut list = negative_of(alloc, form.p.as_slice()[i as usize - 1].as_slice())?;
+    push_kept(&mut list, form.cols + i, F::one())?;
+    Ok(list)
+}
+
+/// Appends the columns of the unknowns of w in the program of a weight.
+fn push_given<F: Field>(
+    alloc: Global,
+    list: &mut Items<Items<Cell<F>>>,
+    form: &Data<F>,
+) -> Result<(), NoMemory>
+    ensures { OnOk result (AreAppended F.value (given_equations form.now)
+        (given_row F.value form.now) list.old list.new) }
+{
+    for i in 0..form.p.len() as u32 {
+        let cells = given_column(alloc, form, i + 1)?;
+        list.push(cells)?;
+    }
+    Ok(())
+}
+
+/// The columns of the program of a weight that are not those of the sides.
+fn given<F: Field>(alloc: Global, form: &Data<F>) -> Result<Items<Items<Cell<F>>>, NoMemory>
+    ensures { IfOk result (AreGiven F.value form.now) }
+{
+    let mut list = Items::new(alloc);
+    push_given(alloc, &mut list, form)?;
+    push_negatives(alloc, &mut list)?;
+    Ok(list)
+}
+
+/// The costs of the program of a weight, where the cone is not in dual form.
+fn weight_cost<F: Field>(alloc: Global, form: &Data<F>) -> Result<Items<F>, NoMemory>
+    requires { IsDirect (cone_of F.value form.now.cone) }
+    ensures long { IfOk result (λ cost. length cost
+        ≡ length form.now.sides + length form.now.p + length form.now.p) }
+    ensures costs { (file : File) (w : List ℚ) → IsDataOf F.value file form.now
+        → IfOk result (λ cost. map F.value cost ≡ (weight_system file w).cost) }
+{
+    let mut cost = side_costs(alloc, form, true)?;
+    let no_cost = zeros(alloc, form.p.len() as u32)?;
+    cost.append(no_cost.as_slice())?;
+    cost.append(no_cost.as_slice())?;
+    Ok(cost)
+}
+
+/// The right sides of the program of a weight.
+fn weight_right<F: Field>(alloc: Global, form: &Data<F>, w: &[F]) -> Result<Items<F>, NoMemory>
+    ensures { IfOk result
+        (λ right. map F.value right ≡ zero_vector form.now.cols ++ map F.value w.now) }
+{
+    let mut right = zeros(alloc, form.cols)?;
+    right.append(w)?;
+    Ok(right)
+}
+
+/// The program of the weight `w`, where the cone is not in dual form.
+fn given_columns<'a, F: Field>(
+    alloc: Global,
+    form: &'a Data<F>,
+    w: &[F],
+) -> Result<Columns<'a, F>, NoMemory>
+    requires direct { IsDirect (cone_of F.value form.now.cone) }
+    requires w { length w.now ≡ length form.now.p }
+    ensures { (file : File) → IsDataOf F.value file form.now
+        → IfOk result (IsProgramOf F.value (weight_system file (map F.value w.now))) }
+{
+    let cost = weight_cost(alloc, form)?;
+    let right = weight_right(alloc, form, w)?;
+    let others = given(alloc, form)?;
+    assembled(alloc, form, others, right, cost)
+}
+
+/// The program of the weight `w`: none where the cone is in dual form.
+fn weight_columns<'a, F: Field>(
+    alloc: Global,
+    form: &'a Data<F>,
+    w: &[F],
+) -> Result<Option<Columns<'a, F>>, NoMemory>
+    requires { length w.now ≡ length form.now.p }
+    ensures { (file : File) → IsDataOf F.value file form.now
+        → IfOk result (λ o. IfSome o
+        (IsProgramOf F.value (weight_system file (map F.value w.now)))) }
+{
+    match &form.cone {
+        ConeOf::Orthant | ConeOf::Gens(_) => Ok(Some(given_columns(alloc, form, w)?)),
+        ConeOf::Dual(_) => Ok(None),
+    }
+}
+
+/// A named program by its columns: none for the programs of the cone, and for that of a weight where
+/// the cone is in dual form.
 pub(crate) fn columns_of<'a, F: Field>(
     alloc: Global,
     form: &'a Data<F>,
@@ -391,6 +490,7 @@ pub(crate) fn columns_of<'a, F: Field>(
     match name {
         LpName::Feasible => Ok(Some(feasible_columns(alloc, form)?)),
         LpName::Benson { v, t } => Ok(Some(benson_columns(alloc, form, c, v.as_slice(), *t)?)),
-        LpName::Weight { .. } | LpName::Interior | LpName::Pointed => Ok(None),
+        LpName::Weight { w } => weight_columns(alloc, form, w.as_slice()),
+        LpName::Interior | LpName::Pointed => Ok(None),
     }
 }

@@ -149,7 +149,7 @@ impl Solver {
     }
 
     /// Adds a multiple of row `k` of the program.
-    fn add_to_row(&mut self, k: usize, factor: i128) -> Result<(), Stop> {
+    pub(crate) fn add_to_row(&mut self, k: usize, factor: i128) -> Result<(), Stop> {
         let line = item(&self.program.rows, k)?;
         if item(&self.variables, line.variable)?.place != Place::Basic {
             self.row.take_product(line.variable, factor, -1)?;

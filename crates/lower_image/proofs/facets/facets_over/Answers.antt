@@ -1,5 +1,8 @@
-use Rattle.std.proofs.Common.{rules, ◌≡◌, List, All, Contains, map, sym, subst}
+use Rattle.std.proofs.Common.{[], rules, ◌≡◌, List, All, Contains, map, sym, subst}
+use Rattle.lin_rows.proofs.Errors.{err_holds}
 use Rattle.lp_form.specs.declared.shown.Cut.{Cut}
+use Rattle.outer_approx.specs.Task.{behind}
+use Rattle.overflows.specs.Faults.{Overflows}
 use Rattle.polyhedra.specs.LiveList.{numbers}
 use Rattle.lower_image.specs.Facets.{AreFacetCuts}
 use Rattle.lower_image.proofs.Certified.{facets_are}
@@ -17,7 +20,14 @@ approximate-requires g c κs within =
     )
 
 pub returns-in_err-approximate-clause-left : goal.returns-in_err-approximate-clause-left
-returns-in_err-approximate-clause-left g c = λ trail. let h = c.in_err-approximate.ensures.left trail in search (rules, h)
+returns-in_err-approximate-clause-left g c = λ trail.
+    err_holds c.from_residual-in_err-approximate.result c.in_err-approximate.field-0.0
+    (Overflows g.F.Field.holds (behind g.task trail) [])
+    c.from_residual-in_err-approximate.ensures.1 (c.in_err-approximate.ensures.left trail)
+
+pub returns-in_err-touching-clause-left : goal.returns-in_err-touching-clause-left
+returns-in_err-touching-clause-left g c = λ trail.
+    search (rules, c.from_residual-in_err-touching.ensures)
 
 pub touching-requires-clause-listed : goal.touching-requires-clause-listed
 touching-requires-clause-listed g c =

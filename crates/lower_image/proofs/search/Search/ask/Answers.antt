@@ -1,6 +1,6 @@
 use Rattle.std.proofs.Common.{rules, map, subst}
 use Rattle.lower_image.specs.Rows.{IsWeighed}
-use Rattle.lower_image.proofs.Searched.{weighable, with_basis}
+use Rattle.lower_image.proofs.Searched.{weighable, with_kept}
 use Rattle.lower_image.proofs.search.Search.ask.Goals as goal
 
 pub weigh_generator-requires : goal.weigh_generator-requires
@@ -26,7 +26,7 @@ certify-requires g c κs within =
     let said = subst (IsWeighed value g.task s.dd.rows v) c.in-Certified.is (c.in_ok-row.ensures.ok s.dd.rows lives) in (
       search rules,
       (
-        with_basis value g.F.Field.holds g.task s c.in-Certified.basis h,
+        with_kept value g.F.Field.holds g.task s c.weigh_generator.new.kept h,
         record { vector = v; listed = listed; stands = stands; certifies = said; fresh = c.requires.1.1.1.1 },
       ),
     )
