@@ -15,8 +15,8 @@ use Rattle.polyhedra.proofs.Order.{lt_irrefl, lt_trans}
 use Rattle.polyhedra.proofs.Members.{member_of, Contains-map}
 use Rattle.double_descr.specs.Steps.{values, between}
 use Rattle.double_descr.specs.State.{numbered_of, live_of, pair_of, HasTightSet, AreTwoLive}
-use Rattle.double_descr.specs.Adding.{Block, AreHeld, IsFault, IsAddFault, value_block, block_of, pair_block, pair_blocks}
-use Rattle.double_descr.specs.Making.{IsAddition, with_negatives, candidates_of, candidates, AddsPair, IsTried, IsPairFault, pair_numbers, live_numbers, IsMadeSoFar}
+use Rattle.double_descr.specs.Adding.{Block, AreHeld, IsFault, IsAddFault, value_block, block_of, pair_block}
+use Rattle.double_descr.specs.Making.{Addition, IsAddition, blocks_of_pairs, with_negatives, candidates_of, candidates, AddsPair, IsTried, IsPairFault, pair_numbers, live_numbers, IsMadeSoFar}
 use Rattle.double_descr.specs.declared.generator.Generator.{Generator}
 use Rattle.double_descr.specs.declared.made.Made.{Made}
 use Rattle.double_descr.specs.declared.fault.DdFault.{DdFault}
@@ -38,8 +38,7 @@ pub numbers_are : {F : Type 0} (value : F → ℚ) (gens : List (Generator F)) �
 numbers_are value [] = refl
 numbers_are value (g ∷ gens) = ap (λ r. g.number ∷ r) (numbers_are value gens)
 
-module _ {F : Type 0} (value : F → ℚ) (holds : ℚ → Bool) (n : ℕ) (rows : List (List ℚ)) (row : List ℚ) (gens : List (Generator F)) (vals : List F) (kept : List Numbered) (next : ℕ)
-    (ctx : IsAddition value n rows row gens vals) where
+module _ {F : Type 0} (value : F → ℚ) (holds : ℚ → Bool) (d : Addition) (gens : List (Generator F)) (ctx : IsAddition value d gens) where
   live : List Numbered
   live = live_of value gens
 
@@ -52,95 +51,95 @@ module _ {F : Type 0} (value : F → ℚ) (holds : ℚ → Bool) (n : ℕ) (rows
 
   -- a generator of the new pair has the tight set that it should have
   new_tight : (p m g : Generator F) (common : List Bool) → Contains gens p → Contains gens m →
-      zero_ℚ <ℚ dot row (values value p.vector.items) → dot row (values value m.vector.items) <ℚ zero_ℚ →
-      values value g.vector.items ≡ normed (meeting row (values value p.vector.items) (values value m.vector.items)) →
-      IsMeet common p.tight m.tight → g.tight ≡ common ++ true ∷ [] → HasTightSet value (rows ++ row ∷ []) g
+      zero_ℚ <ℚ dot d.row (values value p.vector.items) → dot d.row (values value m.vector.items) <ℚ zero_ℚ →
+      values value g.vector.items ≡ normed (meeting d.row (values value p.vector.items) (values value m.vector.items)) →
+      IsMeet common p.tight m.tight → g.tight ≡ common ++ true ∷ [] → HasTightSet value (d.rows ++ d.row ∷ []) g
   new_tight p m g common pc mc up down is meet tight =
-      let z : List ℚ = normed (meeting row (values value p.vector.items) (values value m.vector.items)) in
-      let law : IsTightAtBoth rows row (values value p.vector.items) (values value m.vector.items) = tight_at_meeting n rows (vectors (live_of value gens)) row
+      let z : List ℚ = normed (meeting d.row (values value p.vector.items) (values value m.vector.items)) in
+      let law : IsTightAtBoth d.rows d.row (values value p.vector.items) (values value m.vector.items) = tight_at_meeting (length d.row) d.rows (vectors (live_of value gens)) d.row
       (values value p.vector.items) (values value m.vector.items) ctx.live.described (vector_listed p pc) (vector_listed m mc) up down in
-      let meet' : IsMeet common (tight_set rows (values value p.vector.items)) (tight_set rows (values value m.vector.items)) =
+      let meet' : IsMeet common (tight_set d.rows (values value p.vector.items)) (tight_set d.rows (values value m.vector.items)) =
       subst (λ (s : List Bool × List Bool). IsMeet common s.0 s.1)
-      (λ i. (member_of (HasTightSet value rows) gens p ctx.tight pc i, member_of (HasTightSet value rows) gens m ctx.tight mc i)) meet in
-      tight ∙ ap (λ c. c ++ true ∷ []) (meet_is_tight rows (values value p.vector.items) (values value m.vector.items) z common meet'.bound meet'.common law.in_use)
-      ∙ ap (λ b. tight_set rows z ++ b ∷ []) (sym (test_of_zero (dot row z) law.new_row)) ∙ sym (tight_with rows row z) ∙ ap (tight_set (rows ++ row ∷ [])) (sym is)
+      (λ i. (member_of (HasTightSet value d.rows) gens p ctx.tight pc i, member_of (HasTightSet value d.rows) gens m ctx.tight mc i)) meet in
+      tight ∙ ap (λ c. c ++ true ∷ []) (meet_is_tight d.rows (values value p.vector.items) (values value m.vector.items) z common meet'.bound meet'.common law.in_use)
+      ∙ ap (λ b. tight_set d.rows z ++ b ∷ []) (sym (test_of_zero (dot d.row z) law.new_row)) ∙ sym (tight_with d.rows d.row z) ∙ ap (tight_set (d.rows ++ d.row ∷ [])) (sym is)
 
-  module _ (p m : Generator F) (pc : Contains gens p) (mc : Contains gens m) (a b : ℚ) (ae : a ≡ dot row (values value p.vector.items))
-      (be : b ≡ dot row (values value m.vector.items)) (up : zero_ℚ <ℚ a) (down : b <ℚ zero_ℚ) (todo : List LivePair) (old new : Made F) where
+  module _ (p m : Generator F) (pc : Contains gens p) (mc : Contains gens m) (a b : ℚ) (ae : a ≡ dot d.row (values value p.vector.items))
+      (be : b ≡ dot d.row (values value m.vector.items)) (up : zero_ℚ <ℚ a) (down : b <ℚ zero_ℚ) (todo : List LivePair) (old new : Made F) where
     pair : LivePair
     pair = pair_of value p m
 
-    same_point : normed (between a b (values value p.vector.items) (values value m.vector.items)) ≡ normed (meeting row (values value p.vector.items) (values value m.vector.items))
+    same_point : normed (between a b (values value p.vector.items) (values value m.vector.items)) ≡ normed (meeting d.row (values value p.vector.items) (values value m.vector.items))
     same_point = ap₂ (λ x y. normed (between x y (values value p.vector.items) (values value m.vector.items))) ae be
 
-    taken : IsMadeSoFar value holds rows row (live_of value gens) kept next (pair_of value p m ∷ todo) old → is_uncovered_live rows (live_of value gens) (pair_of value p m) ≡ true →
+    taken : IsMadeSoFar value holds d gens (pair_of value p m ∷ todo) old → is_uncovered_live d.rows (live_of value gens) (pair_of value p m) ≡ true →
         AddsPair value holds p m a b old new → new.first_new ≡ old.first_new → length new.common ≡ length old.common →
-        IsMadeSoFar value holds rows row (live_of value gens) kept next todo new
+        IsMadeSoFar value holds d gens todo new
     taken h e t from bound = record {
       done = h.done ++ pair_of value p m ∷ [];
-      split = h.split ∙ ap (λ c. h.done ++ cond c (pair_of value p m ∷ filter (is_uncovered_live rows (live_of value gens)) todo) (filter (is_uncovered_live rows (live_of value gens)) todo)) e
-          ∙ sym (append_assoc h.done (pair_of value p m ∷ []) (filter (is_uncovered_live rows (live_of value gens)) todo));
+      split = h.split ∙ ap (λ c. h.done ++ cond c (pair_of value p m ∷ filter (is_uncovered_live d.rows (live_of value gens)) todo) (filter (is_uncovered_live d.rows (live_of value gens)) todo)) e
+          ∙ sym (append_assoc h.done (pair_of value p m ∷ []) (filter (is_uncovered_live d.rows (live_of value gens)) todo));
       pairs_are = ap (map pair_numbers) t.pair ∙ map-append pair_numbers old.pairs (record { plus = p.number; minus = m.number } ∷ [])
           ∙ ap (λ l. l ++ live_numbers (pair_of value p m) ∷ []) h.pairs_are ∙ sym (map-append live_numbers h.done (pair_of value p m ∷ []));
       new_are = ap (live_of value) t.added ∙ map-append (numbered_of value) old.generators (t.generator ∷ [])
           ∙ ap₂ (λ l g. l ++ g ∷ []) h.new_are (t.is ∙ ap₂ (λ k v. record { number = k; vector = v }) number same_point)
-          ∙ append_assoc kept (numbered next (made row (map without_numbers h.done))) (record { number = next + length (made row (map without_numbers h.done)); vector = normed (meeting row (values value p.vector.items) (values value m.vector.items)) } ∷ [])
-          ∙ ap (λ l. kept ++ l) (sym (numbered_push next (made row (map without_numbers h.done)) (normed (meeting row (values value p.vector.items) (values value m.vector.items))))
-          ∙ ap (numbered next) (sym (ap (made row) (map-append without_numbers h.done (pair_of value p m ∷ []))
-          ∙ map-append (λ q. normed (meeting row q.plus_side q.minus_side)) (map without_numbers h.done) (without_numbers (pair_of value p m) ∷ []))));
-      tight = subst (λ (gs : List (Generator F)). All (HasTightSet value (rows ++ row ∷ [])) gs) (sym t.added)
-          (All-append (HasTightSet value (rows ++ row ∷ [])) old.generators (t.generator ∷ []) h.tight
-          (All-cons (HasTightSet value (rows ++ row ∷ [])) t.generator []
+          ∙ append_assoc (staying d.row (live_of value gens)) (numbered d.first (made d.row (map without_numbers h.done))) (record { number = d.first + length (made d.row (map without_numbers h.done)); vector = normed (meeting d.row (values value p.vector.items) (values value m.vector.items)) } ∷ [])
+          ∙ ap (λ l. (staying d.row (live_of value gens)) ++ l) (sym (numbered_push d.first (made d.row (map without_numbers h.done)) (normed (meeting d.row (values value p.vector.items) (values value m.vector.items))))
+          ∙ ap (numbered d.first) (sym (ap (made d.row) (map-append without_numbers h.done (pair_of value p m ∷ []))
+          ∙ map-append (λ q. normed (meeting d.row q.plus_side q.minus_side)) (map without_numbers h.done) (without_numbers (pair_of value p m) ∷ []))));
+      tight = subst (λ (gs : List (Generator F)). All (HasTightSet value (d.rows ++ d.row ∷ [])) gs) (sym t.added)
+          (All-append (HasTightSet value (d.rows ++ d.row ∷ [])) old.generators (t.generator ∷ []) h.tight
+          (All-cons (HasTightSet value (d.rows ++ d.row ∷ [])) t.generator []
           (new_tight p m t.generator t.common pc mc (subst (λ (x : ℚ). zero_ℚ <ℚ x) ae up) (subst (λ (x : ℚ). x <ℚ zero_ℚ) be down)
-          (ap (λ (g : Numbered). g.vector) t.is ∙ same_point) t.meet t.tight) (All-nil (HasTightSet value (rows ++ row ∷ [])))));
-      held = subst (λ (bs : List Block). All (AreHeld holds) bs) (sym (map-append (pair_block row) h.done (pair_of value p m ∷ [])))
-          (All-append (AreHeld holds) (map (pair_block row) h.done) (pair_block row (pair_of value p m) ∷ []) h.held
-          (All-cons (AreHeld holds) (pair_block row (pair_of value p m)) []
+          (ap (λ (g : Numbered). g.vector) t.is ∙ same_point) t.meet t.tight) (All-nil (HasTightSet value (d.rows ++ d.row ∷ [])))));
+      held = subst (λ (bs : List Block). All (AreHeld holds) bs) (sym (map-append (pair_block d.row) h.done (pair_of value p m ∷ [])))
+          (All-append (AreHeld holds) (map (pair_block d.row) h.done) (pair_block d.row (pair_of value p m) ∷ []) h.held
+          (All-cons (AreHeld holds) (pair_block d.row (pair_of value p m)) []
           (subst (λ (x : ℚ × ℚ). AreHeld holds (block_of value p m x.0 x.1)) (λ i. (ae i, be i)) t.held) (All-nil (AreHeld holds))));
       from = from ∙ h.from;
       bound = bound ∙ h.bound;
     }
       where
-        number : old.first_new + length old.pairs ≡ next + length (made row (map without_numbers h.done))
+        number : old.first_new + length old.pairs ≡ d.first + length (made d.row (map without_numbers h.done))
         number = ap₂ (λ x y. x + y) h.from (sym (length-map old.pairs pair_numbers) ∙ ap length h.pairs_are ∙ length-map h.done live_numbers
-            ∙ sym (length-map (map without_numbers h.done) (λ q. normed (meeting row q.plus_side q.minus_side)) ∙ length-map h.done without_numbers))
+            ∙ sym (length-map (map without_numbers h.done) (λ q. normed (meeting d.row q.plus_side q.minus_side)) ∙ length-map h.done without_numbers))
 
-    passed : IsMadeSoFar value holds rows row (live_of value gens) kept next (pair_of value p m ∷ todo) old → is_uncovered_live rows (live_of value gens) (pair_of value p m) ≡ false →
+    passed : IsMadeSoFar value holds d gens (pair_of value p m ∷ todo) old → is_uncovered_live d.rows (live_of value gens) (pair_of value p m) ≡ false →
         (new.pairs ≡ old.pairs) × (new.generators ≡ old.generators) → new.first_new ≡ old.first_new → length new.common ≡ length old.common →
-        IsMadeSoFar value holds rows row (live_of value gens) kept next todo new
+        IsMadeSoFar value holds d gens todo new
     passed h e t from bound = record {
       done = h.done;
-      split = h.split ∙ ap (λ c. h.done ++ cond c (pair_of value p m ∷ filter (is_uncovered_live rows (live_of value gens)) todo) (filter (is_uncovered_live rows (live_of value gens)) todo)) e;
+      split = h.split ∙ ap (λ c. h.done ++ cond c (pair_of value p m ∷ filter (is_uncovered_live d.rows (live_of value gens)) todo) (filter (is_uncovered_live d.rows (live_of value gens)) todo)) e;
       pairs_are = ap (map pair_numbers) t.0 ∙ h.pairs_are;
       new_are = ap (live_of value) t.1 ∙ h.new_are;
-      tight = subst (λ (gs : List (Generator F)). All (HasTightSet value (rows ++ row ∷ [])) gs) (sym t.1) h.tight;
+      tight = subst (λ (gs : List (Generator F)). All (HasTightSet value (d.rows ++ d.row ∷ [])) gs) (sym t.1) h.tight;
       held = h.held;
       from = from ∙ h.from;
       bound = bound ∙ h.bound;
     }
 
-    pub tried : IsMadeSoFar value holds rows row (live_of value gens) kept next (pair_of value p m ∷ todo) old →
-        IsTried value holds (is_uncovered_live rows (live_of value gens) (pair_of value p m)) p m a b old new → new.first_new ≡ old.first_new →
-        length new.common ≡ length old.common → IsMadeSoFar value holds rows row (live_of value gens) kept next todo new
-    tried h t from bound = go (is_uncovered_live rows (live_of value gens) (pair_of value p m)) refl t
+    pub tried : IsMadeSoFar value holds d gens (pair_of value p m ∷ todo) old →
+        IsTried value holds (is_uncovered_live d.rows (live_of value gens) (pair_of value p m)) p m a b old new → new.first_new ≡ old.first_new →
+        length new.common ≡ length old.common → IsMadeSoFar value holds d gens todo new
+    tried h t from bound = go (is_uncovered_live d.rows (live_of value gens) (pair_of value p m)) refl t
       where
-        go : (u : Bool) → is_uncovered_live rows (live_of value gens) (pair_of value p m) ≡ u → IsTried value holds u p m a b old new →
-            IsMadeSoFar value holds rows row (live_of value gens) kept next todo new
+        go : (u : Bool) → is_uncovered_live d.rows (live_of value gens) (pair_of value p m) ≡ u → IsTried value holds u p m a b old new →
+            IsMadeSoFar value holds d gens todo new
         go true e k = taken h e k from bound
         go false e k = passed h e k from bound
 
     -- where the pair was given up, it is the first block with a step that is not held
-    pub tried_fault : IsMadeSoFar value holds rows row (live_of value gens) kept next (pair_of value p m ∷ todo) old → (fault : DdFault F) →
-        IsPairFault value holds (is_uncovered_live rows (live_of value gens) (pair_of value p m)) (block_of value p m a b) fault →
-        IsAddFault value holds (pair_blocks rows (live_of value gens) row) fault
+    pub tried_fault : IsMadeSoFar value holds d gens (pair_of value p m ∷ todo) old → (fault : DdFault F) →
+        IsPairFault value holds (is_uncovered_live d.rows (live_of value gens) (pair_of value p m)) (block_of value p m a b) fault →
+        IsAddFault value holds (blocks_of_pairs value d gens) fault
     tried_fault h (Elim fault) k = absurd k
     tried_fault h NoMemory k = tt
     tried_fault h (Stuck first second step left) k = record {
-      before = map (pair_block row) h.done;
-      block = pair_block row (pair_of value p m);
-      after = map (pair_block row) (filter (is_uncovered_live rows (live_of value gens)) todo);
-      split = ap (map (pair_block row)) (h.split ∙ ap (λ c. h.done ++ cond c (pair_of value p m ∷ filter (is_uncovered_live rows (live_of value gens)) todo) (filter (is_uncovered_live rows (live_of value gens)) todo)) k.0)
-          ∙ map-append (pair_block row) h.done (pair_of value p m ∷ filter (is_uncovered_live rows (live_of value gens)) todo);
+      before = map (pair_block d.row) h.done;
+      block = pair_block d.row (pair_of value p m);
+      after = map (pair_block d.row) (filter (is_uncovered_live d.rows (live_of value gens)) todo);
+      split = ap (map (pair_block d.row)) (h.split ∙ ap (λ c. h.done ++ cond c (pair_of value p m ∷ filter (is_uncovered_live d.rows (live_of value gens)) todo) (filter (is_uncovered_live d.rows (live_of value gens)) todo)) k.0)
+          ∙ map-append (pair_block d.row) h.done (pair_of value p m ∷ filter (is_uncovered_live d.rows (live_of value gens)) todo);
       held = h.held;
       here = subst (λ (x : ℚ × ℚ). IsFault value holds (block_of value p m x.0 x.1) (Stuck first second step left)) (λ i. (ae i, be i)) k.1;
     }
@@ -165,31 +164,30 @@ candidates_are row (p ∷ ps) all = ap (λ l. candidates_of row p all ++ l) (can
     go false = refl
 
 -- ---- what an addition says of one generator and its value
-module _ {F : Type 0} (value : F → ℚ) (n : ℕ) (rows : List (List ℚ)) (row : List ℚ) (gens : List (Generator F)) (vals : List F)
-    (ctx : IsAddition value n rows row gens vals) where
-  pub wide_of : (p : Generator F) → Contains gens p → length p.vector.items ≡ n
-  wide_of p c = sym (length-map p.vector.items value) ∙ member_of (λ v. length v ≡ n) (vectors (live_of value gens)) (values value p.vector.items)
+module _ {F : Type 0} (value : F → ℚ) (d : Addition) (gens : List (Generator F)) (ctx : IsAddition value d gens) where
+  pub wide_of : (p : Generator F) → Contains gens p → length p.vector.items ≡ (length d.row)
+  wide_of p c = sym (length-map p.vector.items value) ∙ member_of (λ v. length v ≡ (length d.row)) (vectors (live_of value gens)) (values value p.vector.items)
       ctx.live.described.generators_wide.wide (Contains-map (λ (g : Numbered). g.vector) (live_of value gens) (numbered_of value p) (Contains-map (numbered_of value) gens p c))
 
-  pub bound_of : (p : Generator F) → Contains gens p → length p.tight ≡ length rows
-  bound_of p c = ap length (member_of (HasTightSet value rows) gens p ctx.tight c) ∙ length-map rows (λ r. is_zero (dot r (values value p.vector.items)))
+  pub bound_of : (p : Generator F) → Contains gens p → length p.tight ≡ length d.rows
+  bound_of p c = ap length (member_of (HasTightSet value d.rows) gens p ctx.tight c) ∙ length-map d.rows (λ r. is_zero (dot r (values value p.vector.items)))
 
-  -- two generators at which the row has opposite signs differ
-  pub two_of : (p m : Generator F) (a b : ℚ) → Contains gens p → Contains gens m → a ≡ dot row (values value p.vector.items) → b ≡ dot row (values value m.vector.items) →
-      zero_ℚ <ℚ a → b <ℚ zero_ℚ → AreTwoLive value n rows gens p m
+  -- two generators at which the d.row has opposite signs differ
+  pub two_of : (p m : Generator F) (a b : ℚ) → Contains gens p → Contains gens m → a ≡ dot d.row (values value p.vector.items) → b ≡ dot d.row (values value m.vector.items) →
+      zero_ℚ <ℚ a → b <ℚ zero_ℚ → AreTwoLive value (length d.row) d.rows gens p m
   two_of p m a b pc mc ae be up down = record {
-    next = ctx.next;
+    next = d.first;
     live = ctx.live;
     tight = ctx.tight;
     plus_listed = pc;
     minus_listed = mc;
-    differ = λ e. lt_irrefl zero_ℚ (lt_trans zero_ℚ a zero_ℚ up (subst (λ (x : ℚ). x <ℚ zero_ℚ) (be ∙ ap (dot row) (sym e) ∙ sym ae) down));
+    differ = λ e. lt_irrefl zero_ℚ (lt_trans zero_ℚ a zero_ℚ up (subst (λ (x : ℚ). x <ℚ zero_ℚ) (be ∙ ap (dot d.row) (sym e) ∙ sym ae) down));
   }
 
   -- a meeting point is not 0
-  pub norming_of : (p m : Generator F) (a b : ℚ) → Contains gens p → Contains gens m → a ≡ dot row (values value p.vector.items) → b ≡ dot row (values value m.vector.items) →
+  pub norming_of : (p m : Generator F) (a b : ℚ) → Contains gens p → Contains gens m → a ≡ dot d.row (values value p.vector.items) → b ≡ dot d.row (values value m.vector.items) →
       zero_ℚ <ℚ a → b <ℚ zero_ℚ → norming (between a b (values value p.vector.items) (values value m.vector.items)) ≡ zero_ℚ → ⊥
-  norming_of p m a b pc mc ae be up down e = meeting_not_zero n rows (vectors (live_of value gens)) row (values value p.vector.items) (values value m.vector.items) ctx.live.described
+  norming_of p m a b pc mc ae be up down e = meeting_not_zero (length d.row) d.rows (vectors (live_of value gens)) d.row (values value p.vector.items) (values value m.vector.items) ctx.live.described
       (listed p pc) (listed m mc) (subst (λ (x : ℚ). zero_ℚ <ℚ x) ae up) (subst (λ (x : ℚ). x <ℚ zero_ℚ) be down)
       (ap₂ (λ x y. norming (between x y (values value p.vector.items) (values value m.vector.items))) (sym ae) (sym be) ∙ e)
     where

@@ -1,13 +1,13 @@
 -- The new generators of an addition, made one opposite pair at a time.
-use Rattle.std.specs.Prelude.{ℕ, suc, ◌+◌, ◌<◌, ◌≡◌, List, [], ◌∷◌, ◌++◌, map, length, get_or, filter, All, Contains, Bool, true, false, if◌then◌else◌}
+use Rattle.std.specs.Prelude.{ℕ, suc, ◌+◌, ◌<◌, ◌≡◌, List, [], ◌∷◌, ◌++◌, map, length, get_or, drop, filter, All, Contains, Bool, true, false, if◌then◌else◌}
 use Rattle.exact_field.specs.Rational.{ℚ, zero_ℚ, lt_ℚ, ◌<ℚ◌}
 use Rattle.exact_field.specs.Vector.{dot}
 use Rattle.polyhedra.specs.DoubleDescription.{normed, made}
-use Rattle.polyhedra.specs.LiveList.{Numbered, LivePair, numbered, without_numbers, is_uncovered_live, live_pairs}
+use Rattle.polyhedra.specs.LiveList.{Numbered, LivePair, numbered, staying, without_numbers, is_uncovered_live, live_pairs}
 use Rattle.polyhedra.specs.LiveSteps.{IsLive}
 use Rattle.double_descr.specs.Steps.{values, between}
 use Rattle.double_descr.specs.State.{numbered_of, live_of, list_of, HasTightSet}
-use Rattle.double_descr.specs.Adding.{Block, AreHeld, IsFault, block_of, pair_block}
+use Rattle.double_descr.specs.Adding.{Block, AreHeld, IsFault, add_blocks, block_of, pair_block, pair_blocks}
 use Rattle.double_descr.specs.declared.generator.Generator.{Generator}
 use Rattle.double_descr.specs.declared.fault.Pair.{Pair}
 use Rattle.double_descr.specs.declared.fault.DdFault.{DdFault}
@@ -15,15 +15,25 @@ use Rattle.double_descr.specs.declared.fault.DdFault.TheVariants.{Elim, Left as 
 use Rattle.double_descr.specs.declared.made.Made.{Made}
 use Rattle.incid_sets.specs.Marks.{IsMeet}
 
--- a live list with its tight sets, and its generators' values at a new row
-pub record IsAddition {F : Type 0} (value : F → ℚ) (n : ℕ) (rows : List (List ℚ)) (row : List ℚ) (gens : List (Generator F)) (vals : List F) : Type 0 where
-  pub next : ℕ
-  pub live : IsLive n rows (list_of value gens next)
-  pub wide : length row ≡ n
-  pub narrow : n < 4294967296
-  pub room : length rows + 1 < 4294967296
-  pub tight : All (HasTightSet value rows) gens
-  pub at_row : map value vals ≡ map (λ g. dot row g.vector) (live_of value gens)
+-- the addition of a row to some rows: these, the row, and the number that the first new generator gets
+pub record Addition : Type 0 where
+  pub rows : List (List ℚ)
+  pub row : List ℚ
+  pub first : ℕ
+
+-- the addition of a row of a field's numbers
+abbrev pub addition_of : {F : Type 0} → (F → ℚ) → List (List F) → List F → ℕ → Addition
+addition_of value rows row first = record { rows = map (values value) rows; row = values value row; first = first }
+
+-- the generators are the live list of the rows, with their tight sets
+pub record IsAddition {F : Type 0} (value : F → ℚ) (a : Addition) (gens : List (Generator F)) : Type 0 where
+  pub live : IsLive (length a.row) a.rows (list_of value gens a.first)
+  pub tight : All (HasTightSet value a.rows) gens
+  pub narrow : length a.row < 4294967296
+
+-- the values of a row at generators, in their order
+abbrev pub AreValuesAt : {F : Type 0} → (F → ℚ) → List ℚ → List (Generator F) → List F → Type 0
+AreValuesAt value row gens vals = map value vals ≡ map (λ g. dot row g.vector) (live_of value gens)
 
 -- the candidates of one generator: where the row is positive at it, with each at which the row is negative
 abbrev pub with_negatives : List ℚ → Numbered → List Numbered → List LivePair
@@ -36,10 +46,21 @@ abbrev pub candidates : List ℚ → List Numbered → List Numbered → List Li
 candidates row [] live = []
 candidates row (p ∷ ps) live = candidates_of row p live ++ candidates row ps live
 
+-- the candidates of all generators but the first i
+abbrev pub candidates_from : {F : Type 0} → (F → ℚ) → Addition → List (Generator F) → ℕ → List LivePair
+candidates_from value a gens i = candidates a.row (drop i (live_of value gens)) (live_of value gens)
+
 -- the places of the numbers below 0, where the first number has this place
 abbrev pub negative_places : ℕ → List ℚ → List ℕ
 negative_places first [] = []
 negative_places first (x ∷ xs) = if lt_ℚ x zero_ℚ then first ∷ negative_places (suc first) xs else negative_places (suc first) xs
+
+-- an addition, with the values of its row at the generators and the places of those below 0
+pub record IsMaking {F : Type 0} (value : F → ℚ) (a : Addition) (gens : List (Generator F)) (vals : List F) (below : List ℕ) : Type 0 where
+  pub addition : IsAddition value a gens
+  pub at_row : AreValuesAt value a.row gens vals
+  pub places : below ≡ negative_places 0 (map value vals)
+  pub room : length a.rows + 1 < 4294967296
 
 -- the pair of a generator with the one at this place
 abbrev pub pair_at : {F : Type 0} → (F → ℚ) → List (Generator F) → Generator F → ℕ → LivePair
@@ -76,22 +97,30 @@ pair_numbers p = (p.plus, p.minus)
 abbrev pub live_numbers : LivePair → ℕ × ℕ
 live_numbers pair = (pair.plus_side.number, pair.minus_side.number)
 
--- of all pairs some are made, behind the generators that stay, and the candidates that are left give the others
-pub record IsMadeSoFar {F : Type 0} (value : F → ℚ) (holds : ℚ → Bool) (rows : List (List ℚ)) (row : List ℚ) (live kept : List Numbered) (next : ℕ)
-    (left : List LivePair) (m : Made F) : Type 0 where
+-- of all pairs some are made, after the generators that stay, and the candidates that are left give the others
+pub record IsMadeSoFar {F : Type 0} (value : F → ℚ) (holds : ℚ → Bool) (a : Addition) (gens : List (Generator F)) (left : List LivePair) (m : Made F) : Type 0 where
   pub done : List LivePair
-  pub split : live_pairs rows live row ≡ done ++ filter (is_uncovered_live rows live) left
+  pub split : live_pairs a.rows (live_of value gens) a.row ≡ done ++ filter (is_uncovered_live a.rows (live_of value gens)) left
   pub pairs_are : map pair_numbers m.pairs ≡ map live_numbers done
-  pub new_are : live_of value m.generators ≡ kept ++ numbered next (made row (map without_numbers done))
-  pub tight : All (HasTightSet value (rows ++ row ∷ [])) m.generators
-  pub held : All (AreHeld holds) (map (pair_block row) done)
-  pub from : m.first_new ≡ next
-  pub bound : length m.common ≡ length rows
+  pub new_are : live_of value m.generators ≡ staying a.row (live_of value gens) ++ numbered a.first (made a.row (map without_numbers done))
+  pub tight : All (HasTightSet value (a.rows ++ a.row ∷ [])) m.generators
+  pub held : All (AreHeld holds) (map (pair_block a.row) done)
+  pub from : m.first_new ≡ a.first
+  pub bound : length m.common ≡ length a.rows
+
+-- the steps of all pairs
+abbrev pub blocks_of_pairs : {F : Type 0} → (F → ℚ) → Addition → List (Generator F) → List Block
+blocks_of_pairs value a gens = pair_blocks a.rows (live_of value gens) a.row
+
+-- the steps of all values, and then of all pairs
+abbrev pub blocks_of_all : {F : Type 0} → (F → ℚ) → Addition → List (Generator F) → List Block
+blocks_of_all value a gens = add_blocks a.rows (live_of value gens) a.row
 
 -- a generator of an addition at which the row is positive, with its value
-pub record IsPlus {F : Type 0} (value : F → ℚ) (n : ℕ) (rows : List (List ℚ)) (row : List ℚ) (gens : List (Generator F)) (vals : List F)
-    (plus : Generator F) (at : F) : Type 0 where
-  pub addition : IsAddition value n rows row gens vals
+pub record IsPlus {F : Type 0} (value : F → ℚ) (a : Addition) (gens : List (Generator F)) (vals : List F) (plus : Generator F) (at : F) : Type 0 where
+  pub addition : IsAddition value a gens
+  pub at_row : AreValuesAt value a.row gens vals
+  pub room : length a.rows + 1 < 4294967296
   pub listed : Contains gens plus
-  pub valued : value at ≡ dot row (values value plus.vector.items)
+  pub valued : value at ≡ dot a.row (values value plus.vector.items)
   pub positive : zero_ℚ <ℚ value at

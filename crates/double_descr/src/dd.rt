@@ -13,7 +13,7 @@ use crate::fault::{Change, DdFault};
 use crate::generator::{Generator, place_of};
 use crate::next::{Next, next_list};
 use crate::parts::numbers_of;
-use crate::starting::{copied, normed_all};
+use crate::starting::{copy_rows, normed_all};
 use exact_field::Field;
 use incid_sets::Marks;
 use lin_rows::{Rows, corners};
@@ -67,7 +67,7 @@ impl<F: Field> Dd<F> {
         let vectors = corners(alloc, rows)?;
         let generators = normed_all(alloc, &vectors)?;
         let numbers = numbers_of(alloc, generators.as_slice())?;
-        let lines = copied(alloc, rows)?;
+        let lines = copy_rows(alloc, rows)?;
         let next = generators.len() as u32 + 1;
         Ok(Dd {
             width: rows.width(),
@@ -148,7 +148,7 @@ impl<F: Field> Dd<F> {
     {
         let made = next_list(
             self.alloc,
-            self.rows.len() as u32,
+            &self.rows,
             row,
             self.generators.as_slice(),
             self.next,

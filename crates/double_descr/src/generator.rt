@@ -56,7 +56,7 @@ fn with_row(alloc: Global, a: &Marks, b: &Marks, tight: bool) -> Result<Marks, N
 }
 
 /// A generator that stays, with a next row.
-pub fn kept<F: Copy>(
+pub fn keep<F: Copy>(
     alloc: Global,
     generator: &Generator<F>,
     tight: bool,

@@ -1,11 +1,10 @@
 //! The new generators of an addition.
-ghost use Rattle.std.specs.Prelude.{◌≡◌, ◌≢◌, ◌+◌, ◌<◌, ◌++◌, ℕ, List, All, Contains, [], ◌∷◌, IfErr, OnOk, drop, get_or, length, map};
+ghost use Rattle.std.specs.Prelude.{◌≡◌, ◌≢◌, ◌+◌, ◌<◌, ◌++◌, ℕ, List, [], ◌∷◌, IfErr, OnOk, get_or, length, map};
 ghost use Rattle.exact_field.specs.Rational.{ℚ, zero_ℚ, ◌<ℚ◌};
-ghost use Rattle.exact_field.specs.Vector.{dot};
 ghost use Rattle.polyhedra.specs.DoubleDescription.{norming};
-ghost use Rattle.polyhedra.specs.LiveList.{LivePair, Numbered, is_uncovered_live, live_pairs};
-ghost use Rattle.double_descr.specs.Adding.{IsAddFault, block_of, pair_blocks};
-ghost use Rattle.double_descr.specs.Making.{IsAddition, IsMadeSoFar, IsPairFault, IsPlus, IsTried, candidates, negative_places, pair_at, with_negatives};
+ghost use Rattle.polyhedra.specs.LiveList.{LivePair, is_uncovered_live};
+ghost use Rattle.double_descr.specs.Adding.{IsAddFault, block_of};
+ghost use Rattle.double_descr.specs.Making.{Addition, IsMadeSoFar, IsMaking, IsPairFault, IsPlus, IsTried, blocks_of_pairs, candidates_from, negative_places, pair_at, with_negatives};
 ghost use Rattle.double_descr.specs.State.{AreTwoLive, live_of, numbered_of, pair_of};
 ghost use Rattle.double_descr.specs.Steps.{between, values};
 
@@ -43,27 +42,24 @@ fn try_pair<F: Field>(
     at_minus: F,
     so_far: &mut Made<F>,
 ) -> Result<(), DdFault<F>>
-    requires same { length plus.now.vector.items ≡ length minus.now.vector.items }
-    requires narrow { length plus.now.vector.items < 4294967296 }
-    requires bounds { length plus.now.tight ≡ length minus.now.tight }
-    requires common { length so_far.old.common ≡ length plus.now.tight }
-    requires room { length plus.now.tight + 1 < 4294967296 }
+    ghost addition: { Addition }
+    requires two { AreTwoLive F.value (length addition.row) addition.rows generators.now
+        plus.now minus.now }
+    requires narrow { length addition.row < 4294967296 }
+    requires room { length addition.rows + 1 < 4294967296 }
+    requires common { length so_far.old.common ≡ length addition.rows }
     requires below { F.value at_minus <ℚ zero_ℚ }
     requires not_zero { norming (between (F.value at_plus) (F.value at_minus)
         (values F.value plus.now.vector.items) (values F.value minus.now.vector.items))
         ≢ zero_ℚ }
     ensures from { so_far.new.first_new ≡ so_far.old.first_new }
     ensures bound { length so_far.new.common ≡ length so_far.old.common }
-    ensures ok { (n : ℕ) (rows : List (List ℚ))
-        → AreTwoLive F.value n rows generators.now plus.now minus.now
-        → OnOk result (IsTried F.value F.holds (is_uncovered_live rows
+    ensures ok { OnOk result (IsTried F.value F.holds (is_uncovered_live addition.rows
         (live_of F.value generators.now) (pair_of F.value plus.now minus.now)) plus.now
         minus.now (F.value at_plus) (F.value at_minus) so_far.old so_far.new) }
-    ensures left { (n : ℕ) (rows : List (List ℚ))
-        → AreTwoLive F.value n rows generators.now plus.now minus.now
-        → IfErr result (λ fault. IsPairFault F.value F.holds (is_uncovered_live rows
+    ensures left { IfErr result (IsPairFault F.value F.holds (is_uncovered_live addition.rows
         (live_of F.value generators.now) (pair_of F.value plus.now minus.now))
-        (block_of F.value plus.now minus.now (F.value at_plus) (F.value at_minus)) fault) }
+        (block_of F.value plus.now minus.now (F.value at_plus) (F.value at_minus))) }
 {
     so_far.common.set_meet(&plus.tight, &minus.tight);
     if !are_adjacent(generators, plus, minus, &so_far.common, &mut so_far.last) {
@@ -92,27 +88,22 @@ fn meet_at<F: Field>(
     j: usize,
     so_far: &mut Made<F>,
 ) -> Result<(), DdFault<F>>
-    requires plus { (n : ℕ) × (rows : List (List ℚ)) × (row : List ℚ)
-        × IsPlus F.value n rows row generators.now values.now plus.now at_plus
-        × (length so_far.old.common ≡ length rows) }
+    ghost addition: { Addition }
+    requires plus { IsPlus F.value addition generators.now values.now plus.now at_plus }
     requires same { length values.now ≡ length generators.now }
+    requires common { length so_far.old.common ≡ length addition.rows }
     requires inside { j < length generators.now }
     requires below { get_or (map F.value values.now) j zero_ℚ <ℚ zero_ℚ }
     ensures bound { length so_far.new.common ≡ length so_far.old.common }
-    ensures ok { (kept : List Numbered) (n next : ℕ) (rows : List (List ℚ)) (row : List ℚ)
-        (left : List LivePair)
-        → IsPlus F.value n rows row generators.now values.now plus.now at_plus
-        → IsMadeSoFar F.value F.holds rows row (live_of F.value generators.now) kept next
+    ensures ok { (left : List LivePair)
+        → IsMadeSoFar F.value F.holds addition generators.now
         (pair_at F.value generators.now plus.now j ∷ left) so_far.old
-        → OnOk result (IsMadeSoFar F.value F.holds rows row (live_of F.value generators.now) kept
-        next left so_far.new) }
-    ensures left { (kept : List Numbered) (n next : ℕ) (rows : List (List ℚ)) (row : List ℚ)
-        (left : List LivePair)
-        → IsPlus F.value n rows row generators.now values.now plus.now at_plus
-        → IsMadeSoFar F.value F.holds rows row (live_of F.value generators.now) kept next
+        → OnOk result (IsMadeSoFar F.value F.holds addition generators.now left so_far.new) }
+    ensures left { (left : List LivePair)
+        → IsMadeSoFar F.value F.holds addition generators.now
         (pair_at F.value generators.now plus.now j ∷ left) so_far.old
-        → IfErr result (λ fault. IsAddFault F.value F.holds
-        (pair_blocks rows (live_of F.value generators.now) row) fault) }
+        → IfErr result (IsAddFault F.value F.holds
+        (blocks_of_pairs F.value addition generators.now)) }
 {
     let minus = &generators[j];
     let at_minus = values[j];
@@ -129,31 +120,23 @@ fn meet_with<F: Field>(
     below: &[usize],
     so_far: &mut Made<F>,
 ) -> Result<(), DdFault<F>>
-    requires plus { (n : ℕ) × (rows : List (List ℚ)) × (row : List ℚ)
-        × IsPlus F.value n rows row generators.now values.now plus.now at_plus
-        × (length so_far.old.common ≡ length rows) }
+    ghost addition: { Addition }
+    requires plus { IsPlus F.value addition generators.now values.now plus.now at_plus }
     requires same { length values.now ≡ length generators.now }
     requires places { below.now ≡ negative_places 0 (map F.value values.now) }
-    ensures bound { length so_far.new.common ≡ length so_far.old.common }
-    ensures ok { (kept : List Numbered) (n next : ℕ) (rows : List (List ℚ)) (row : List ℚ)
-        (left : List LivePair)
-        → IsPlus F.value n rows row generators.now values.now plus.now at_plus
-        → IsMadeSoFar F.value F.holds rows row (live_of F.value generators.now) kept next
-        (with_negatives row (numbered_of F.value plus.now) (live_of F.value generators.now)
-        ++ left) so_far.old
-        → OnOk result (IsMadeSoFar F.value F.holds rows row (live_of F.value generators.now) kept
-        next left so_far.new) }
-    ensures left { (kept : List Numbered) (n next : ℕ) (rows : List (List ℚ)) (row : List ℚ)
-        (left : List LivePair)
-        → IsPlus F.value n rows row generators.now values.now plus.now at_plus
-        → IsMadeSoFar F.value F.holds rows row (live_of F.value generators.now) kept next
-        (with_negatives row (numbered_of F.value plus.now) (live_of F.value generators.now)
-        ++ left) so_far.old
-        → IfErr result (λ fault. IsAddFault F.value F.holds
-        (pair_blocks rows (live_of F.value generators.now) row) fault) }
+    requires common { length so_far.old.common ≡ length addition.rows }
+    ensures ok { (left : List LivePair)
+        → IsMadeSoFar F.value F.holds addition generators.now (with_negatives addition.row
+        (numbered_of F.value plus.now) (live_of F.value generators.now) ++ left) so_far.old
+        → OnOk result (IsMadeSoFar F.value F.holds addition generators.now left so_far.new) }
+    ensures left { (left : List LivePair)
+        → IsMadeSoFar F.value F.holds addition generators.now (with_negatives addition.row
+        (numbered_of F.value plus.now) (live_of F.value generators.now) ++ left) so_far.old
+        → IfErr result (IsAddFault F.value F.holds
+        (blocks_of_pairs F.value addition generators.now)) }
 {
-    for k in 0..below.len() {
-        meet_at(alloc, generators, values, plus, at_plus, below[k], so_far)?;
+    for j in below {
+        meet_at(alloc, generators, values, plus, at_plus, *j, so_far)?;
     }
     Ok(())
 }
@@ -167,28 +150,16 @@ fn try_plus<F: Field>(
     i: usize,
     so_far: &mut Made<F>,
 ) -> Result<(), DdFault<F>>
-    requires addition { (n : ℕ) × (rows : List (List ℚ)) × (row : List ℚ)
-        × IsAddition F.value n rows row generators.now values.now
-        × (length so_far.old.common ≡ length rows) }
+    ghost addition: { Addition }
+    requires making { IsMaking F.value addition generators.now values.now below.now }
     requires same { length values.now ≡ length generators.now }
-    requires places { below.now ≡ negative_places 0 (map F.value values.now) }
     requires inside { i < length generators.now }
-    ensures bound { length so_far.new.common ≡ length so_far.old.common }
-    ensures ok { (kept : List Numbered) (n next : ℕ) (rows : List (List ℚ)) (row : List ℚ)
-        → IsAddition F.value n rows row generators.now values.now
-        → IsMadeSoFar F.value F.holds rows row (live_of F.value generators.now) kept next
-        (candidates row (drop i (live_of F.value generators.now))
-        (live_of F.value generators.now)) so_far.old
-        → OnOk result (IsMadeSoFar F.value F.holds rows row (live_of F.value generators.now) kept
-        next (candidates row (drop (i + 1) (live_of F.value generators.now))
-        (live_of F.value generators.now)) so_far.new) }
-    ensures left { (kept : List Numbered) (n next : ℕ) (rows : List (List ℚ)) (row : List ℚ)
-        → IsAddition F.value n rows row generators.now values.now
-        → IsMadeSoFar F.value F.holds rows row (live_of F.value generators.now) kept next
-        (candidates row (drop i (live_of F.value generators.now))
-        (live_of F.value generators.now)) so_far.old
-        → IfErr result (λ fault. IsAddFault F.value F.holds
-        (pair_blocks rows (live_of F.value generators.now) row) fault) }
+    requires so_far { IsMadeSoFar F.value F.holds addition generators.now
+        (candidates_from F.value addition generators.now i) so_far.old }
+    ensures ok { OnOk result (IsMadeSoFar F.value F.holds addition generators.now
+        (candidates_from F.value addition generators.now (i + 1)) so_far.new) }
+    ensures left { IfErr result (IsAddFault F.value F.holds
+        (blocks_of_pairs F.value addition generators.now)) }
 {
     let plus = &generators[i];
     let at_plus = values[i];
@@ -208,25 +179,15 @@ pub fn meet_all<F: Field>(
     below: &[usize],
     so_far: &mut Made<F>,
 ) -> Result<(), DdFault<F>>
-    requires addition { (n : ℕ) × (rows : List (List ℚ)) × (row : List ℚ)
-        × IsAddition F.value n rows row generators.now values.now
-        × (length so_far.old.common ≡ length rows) }
+    ghost addition: { Addition }
+    requires making { IsMaking F.value addition generators.now values.now below.now }
     requires same { length values.now ≡ length generators.now }
-    requires places { below.now ≡ negative_places 0 (map F.value values.now) }
-    ensures ok { (kept : List Numbered) (n next : ℕ) (rows : List (List ℚ)) (row : List ℚ)
-        → IsAddition F.value n rows row generators.now values.now
-        → IsMadeSoFar F.value F.holds rows row (live_of F.value generators.now) kept next
-        (candidates row (live_of F.value generators.now) (live_of F.value generators.now))
-        so_far.old
-        → OnOk result (IsMadeSoFar F.value F.holds rows row (live_of F.value generators.now) kept
-        next [] so_far.new) }
-    ensures left { (kept : List Numbered) (n next : ℕ) (rows : List (List ℚ)) (row : List ℚ)
-        → IsAddition F.value n rows row generators.now values.now
-        → IsMadeSoFar F.value F.holds rows row (live_of F.value generators.now) kept next
-        (candidates row (live_of F.value generators.now) (live_of F.value generators.now))
-        so_far.old
-        → IfErr result (λ fault. IsAddFault F.value F.holds
-        (pair_blocks rows (live_of F.value generators.now) row) fault) }
+    requires so_far { IsMadeSoFar F.value F.holds addition generators.now
+        (candidates_from F.value addition generators.now 0) so_far.old }
+    ensures ok { OnOk result
+        (IsMadeSoFar F.value F.holds addition generators.now [] so_far.new) }
+    ensures left { IfErr result (IsAddFault F.value F.holds
+        (blocks_of_pairs F.value addition generators.now)) }
 {
     for i in 0..generators.len() {
         try_plus(alloc, generators, values, below, i, so_far)?;

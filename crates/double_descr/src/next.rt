@@ -1,12 +1,9 @@
 //! The live list after a new row, made aside.
-ghost use Rattle.std.specs.Prelude.{◌≡◌, ◌+◌, ◌<◌, ◌++◌, [], ◌∷◌, ℕ, List, All, IfErr, IfOk, OnOk, length, map};
-ghost use Rattle.exact_field.specs.Rational.{ℚ};
-ghost use Rattle.exact_field.specs.Vector.{dot};
-ghost use Rattle.polyhedra.specs.LiveList.{dropped, staying, step};
-ghost use Rattle.polyhedra.specs.LiveSteps.{IsLive};
-ghost use Rattle.double_descr.specs.Adding.{AreHeld, IsAddFault, IsChange, add_blocks};
-ghost use Rattle.double_descr.specs.State.{HasTightSet, IsNext, live_of, list_of};
-ghost use Rattle.double_descr.specs.Steps.{values};
+ghost use Rattle.std.specs.Prelude.{◌≡◌, ◌+◌, ◌<◌, ◌++◌, [], ◌∷◌, All, IfErr, IfOk, OnOk, length};
+ghost use Rattle.polyhedra.specs.LiveList.{dropped, step};
+ghost use Rattle.double_descr.specs.Adding.{AreHeld, IsAddFault, IsChange};
+ghost use Rattle.double_descr.specs.Making.{Addition, AreValuesAt, IsAddition, IsMadeSoFar, addition_of, blocks_of_all, candidates_from};
+ghost use Rattle.double_descr.specs.State.{IsNext, list_of, live_of};
 
 use crate::fault::{Change, DdFault};
 use crate::generator::Generator;
@@ -38,22 +35,17 @@ fn begin<F: Field>(
     vals: &[F],
     first_new: u32,
 ) -> Result<(Made<F>, Items<u32>), NoMemory>
+    ghost addition: { Addition }
+    requires addition { IsAddition F.value addition generators.now }
+    requires values { AreValuesAt F.value addition.row generators.now vals.now }
     requires same { length vals.now ≡ length generators.now }
-    requires room { All (λ g. length g.tight + 1 < 4294967296) generators.now }
-    ensures pairs { IfOk result (λ b. b.0.pairs ≡ []) }
-    ensures stays { (row : List ℚ)
-        → map F.value vals.now ≡ map (λ g. dot row g.vector) (live_of F.value generators.now)
-        → IfOk result
-        (λ b. live_of F.value b.0.generators ≡ staying row (live_of F.value generators.now)) }
-    ensures gone { (row : List ℚ)
-        → map F.value vals.now ≡ map (λ g. dot row g.vector) (live_of F.value generators.now)
-        → IfOk result (λ b. b.1 ≡ dropped row (live_of F.value generators.now)) }
-    ensures tight { (rows : List (List ℚ)) (row : List ℚ)
-        → map F.value vals.now ≡ map (λ g. dot row g.vector) (live_of F.value generators.now)
-        → All (HasTightSet F.value rows) generators.now
-        → IfOk result (λ b. All (HasTightSet F.value (rows ++ row ∷ [])) b.0.generators) }
-    ensures from { IfOk result (λ b. b.0.first_new ≡ first_new) }
-    ensures bound { IfOk result (λ b. length b.0.common ≡ count) }
+    requires count { count ≡ length addition.rows }
+    requires room { count + 1 < 4294967296 }
+    requires first { first_new ≡ addition.first }
+    ensures made { IfOk result (λ b. IsMadeSoFar F.value F.holds addition generators.now
+        (candidates_from F.value addition generators.now 0) b.0) }
+    ensures gone { IfOk result
+        (λ b. b.1 ≡ dropped addition.row (live_of F.value generators.now)) }
 {
     let mut stays = Items::new(alloc);
     let mut gone = Items::new(alloc);
@@ -74,38 +66,25 @@ fn begin<F: Field>(
 /// The live list of some rows after one more row.
 pub fn next_list<F: Field>(
     alloc: Global,
-    count: u32,
+    rows: &Items<Items<F>>,
     row: &[F],
     generators: &[Generator<F>],
     first_new: u32,
 ) -> Result<Next<F>, DdFault<F>>
-    requires live { (rows : List (List ℚ))
-        × IsLive (length row.now) rows (list_of F.value generators.now first_new)
-        × All (HasTightSet F.value rows) generators.now × (length rows ≡ count) }
-    requires narrow { length row.now < 4294967296 }
-    requires room { count + 1 < 4294967296 }
-    ensures next { (rows : List (List ℚ))
-        → IsLive (length row.now) rows (list_of F.value generators.now first_new)
-        → All (HasTightSet F.value rows) generators.now → length rows ≡ count
-        → IfOk result (λ made. IsNext F.value (rows ++ values F.value row.now ∷ [])
-        (step rows (list_of F.value generators.now first_new) (values F.value row.now)) made) }
-    ensures change { (rows : List (List ℚ))
-        → IsLive (length row.now) rows (list_of F.value generators.now first_new)
-        → All (HasTightSet F.value rows) generators.now → length rows ≡ count
-        → IfOk result (λ made. IsChange rows (list_of F.value generators.now first_new)
-        (values F.value row.now) made.change) }
-    ensures held { (rows : List (List ℚ))
-        → IsLive (length row.now) rows (list_of F.value generators.now first_new)
-        → All (HasTightSet F.value rows) generators.now → length rows ≡ count
-        → OnOk result (All (AreHeld F.holds)
-        (add_blocks rows (live_of F.value generators.now) (values F.value row.now))) }
-    ensures left { (rows : List (List ℚ))
-        → IsLive (length row.now) rows (list_of F.value generators.now first_new)
-        → All (HasTightSet F.value rows) generators.now → length rows ≡ count
-        → IfErr result (λ fault. IsAddFault F.value F.holds
-        (add_blocks rows (live_of F.value generators.now) (values F.value row.now)) fault) }
+    ghost addition: { Addition }
+    requires is { addition ≡ addition_of F.value rows.now row.now first_new }
+    requires addition { IsAddition F.value addition generators.now }
+    ensures next { IfOk result (IsNext F.value (addition.rows ++ addition.row ∷ [])
+        (step addition.rows (list_of F.value generators.now addition.first) addition.row)) }
+    ensures change { IfOk result (λ made. IsChange addition.rows
+        (list_of F.value generators.now addition.first) addition.row made.change) }
+    ensures held { OnOk result
+        (All (AreHeld F.holds) (blocks_of_all F.value addition generators.now)) }
+    ensures left { IfErr result
+        (IsAddFault F.value F.holds (blocks_of_all F.value addition generators.now)) }
 {
     let vals = values_at(alloc, row, generators)?;
+    let count = rows.len() as u32;
     let (mut so_far, dropped) = begin(alloc, count, generators, vals.as_slice(), first_new)?;
     let below = places_below(alloc, vals.as_slice())?;
     meet_all(

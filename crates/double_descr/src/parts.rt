@@ -4,12 +4,12 @@ ghost use Rattle.exact_field.specs.Rational.{ℚ};
 ghost use Rattle.exact_field.specs.Vector.{dot};
 ghost use Rattle.polyhedra.specs.LiveList.{dropped, staying};
 ghost use Rattle.double_descr.specs.Adding.{AreHeld, IsAddFault, IsFault, value_block};
-ghost use Rattle.double_descr.specs.Making.{negative_places};
+ghost use Rattle.double_descr.specs.Making.{Addition, AreValuesAt, negative_places};
 ghost use Rattle.double_descr.specs.State.{HasTightSet, live_of, numbered_of};
 ghost use Rattle.double_descr.specs.Steps.{values};
 
 use crate::fault::DdFault;
-use crate::generator::{Generator, kept};
+use crate::generator::{Generator, keep};
 use crate::signs::{is_below, is_none};
 use crate::steps::{Stop, product};
 use exact_field::Field;
@@ -46,16 +46,16 @@ pub fn values_at<F: Field>(
 ) -> Result<Items<F>, DdFault<F>>
     requires same { All (λ g. length row.now ≡ length g.vector.items) generators.now }
     requires narrow { length row.now < 4294967296 }
-    ensures value { IfOk result (λ vs. map F.value vs
-        ≡ map (λ g. dot (values F.value row.now) g.vector) (live_of F.value generators.now)) }
+    ensures values { IfOk result
+        (AreValuesAt F.value (values F.value row.now) generators.now) }
     ensures held { OnOk result (All (AreHeld F.holds)
         (map (value_block (values F.value row.now)) (live_of F.value generators.now))) }
     ensures left { IfErr result (λ fault. IsAddFault F.value F.holds
         (map (value_block (values F.value row.now)) (live_of F.value generators.now)) fault) }
 {
     let mut out = Items::new(alloc);
-    for i in 0..generators.len() {
-        out.push(value_at(row, &generators[i])?)?;
+    for generator in generators {
+        out.push(value_at(row, generator)?)?;
     }
     Ok(out)
 }
@@ -81,25 +81,23 @@ fn keep_one<F: Field>(
     stays: &mut Items<Generator<F>>,
     gone: &mut Items<u32>,
 ) -> Result<(), NoMemory>
-    requires { length generator.now.tight + 1 < 4294967296 }
-    ensures stays { (row : List ℚ)
-        → F.value at ≡ dot row (values F.value generator.now.vector.items)
-        → OnOk result (live_of F.value stays.new
-        ≡ live_of F.value stays.old ++ staying row (numbered_of F.value generator.now ∷ [])) }
-    ensures gone { (row : List ℚ) → F.value at ≡ dot row (values F.value generator.now.vector.items)
+    ghost addition: { Addition }
+    requires at { F.value at ≡ dot addition.row (values F.value generator.now.vector.items) }
+    requires tight { HasTightSet F.value addition.rows generator.now }
+    requires room { length generator.now.tight + 1 < 4294967296 }
+    ensures stays { OnOk result (live_of F.value stays.new ≡ live_of F.value stays.old
+        ++ staying addition.row (numbered_of F.value generator.now ∷ [])) }
+    ensures gone { OnOk result (gone.new
+        ≡ gone.old ++ dropped addition.row (numbered_of F.value generator.now ∷ [])) }
+    ensures tight { All (HasTightSet F.value (addition.rows ++ addition.row ∷ [])) stays.old
         → OnOk result
-        (gone.new ≡ gone.old ++ dropped row (numbered_of F.value generator.now ∷ [])) }
-    ensures tight { (rows : List (List ℚ)) (row : List ℚ)
-        → F.value at ≡ dot row (values F.value generator.now.vector.items)
-        → HasTightSet F.value rows generator.now
-        → All (HasTightSet F.value (rows ++ row ∷ [])) stays.old
-        → OnOk result (All (HasTightSet F.value (rows ++ row ∷ [])) stays.new) }
+        (All (HasTightSet F.value (addition.rows ++ addition.row ∷ [])) stays.new) }
 {
     if is_below(at) {
         gone.push(generator.number)?;
         return Ok(());
     }
-    let copy = kept(alloc, generator, is_none(at))?;
+    let copy = keep(alloc, generator, is_none(at))?;
     stays.push(copy)?;
     Ok(())
 }
@@ -112,20 +110,19 @@ pub fn keep_all<F: Field>(
     stays: &mut Items<Generator<F>>,
     gone: &mut Items<u32>,
 ) -> Result<(), NoMemory>
+    ghost addition: { Addition }
+    requires values { AreValuesAt F.value addition.row generators.now vals.now }
+    requires tight { All (HasTightSet F.value addition.rows) generators.now }
     requires same { length vals.now ≡ length generators.now }
     requires room { All (λ g. length g.tight + 1 < 4294967296) generators.now }
     requires none { stays.old ≡ [] }
     requires none_gone { gone.old ≡ [] }
-    ensures stays { (row : List ℚ)
-        → map F.value vals.now ≡ map (λ g. dot row g.vector) (live_of F.value generators.now)
-        → OnOk result (live_of F.value stays.new ≡ staying row (live_of F.value generators.now)) }
-    ensures gone { (row : List ℚ)
-        → map F.value vals.now ≡ map (λ g. dot row g.vector) (live_of F.value generators.now)
-        → OnOk result (gone.new ≡ dropped row (live_of F.value generators.now)) }
-    ensures tight { (rows : List (List ℚ)) (row : List ℚ)
-        → map F.value vals.now ≡ map (λ g. dot row g.vector) (live_of F.value generators.now)
-        → All (HasTightSet F.value rows) generators.now
-        → OnOk result (All (HasTightSet F.value (rows ++ row ∷ [])) stays.new) }
+    ensures stays { OnOk result
+        (live_of F.value stays.new ≡ staying addition.row (live_of F.value generators.now)) }
+    ensures gone { OnOk result
+        (gone.new ≡ dropped addition.row (live_of F.value generators.now)) }
+    ensures tight { OnOk result
+        (All (HasTightSet F.value (addition.rows ++ addition.row ∷ [])) stays.new) }
 {
     for i in 0..generators.len() {
         keep_one(alloc, &generators[i], vals[i], stays, gone)?;
@@ -141,8 +138,8 @@ pub fn numbers_of<F: Drop>(
     ensures { IfOk result (λ ns. ns ≡ map (λ g. g.number) generators.now) }
 {
     let mut out = Items::new(alloc);
-    for i in 0..generators.len() {
-        out.push(generators[i].number)?;
+    for generator in generators {
+        out.push(generator.number)?;
     }
     Ok(out)
 }

@@ -95,7 +95,7 @@ pub fn normed_all<F: Field>(
 }
 
 /// A copy of the rows.
-pub fn copied<F: Copy>(alloc: Global, rows: &Rows<F>) -> Result<Items<Items<F>>, NoMemory>
+pub fn copy_rows<F: Copy>(alloc: Global, rows: &Rows<F>) -> Result<Items<Items<F>>, NoMemory>
     ensures { IfOk result (λ list. list ≡ rows.now.list) }
 {
     let mut out = Items::new(alloc);

@@ -33,8 +33,8 @@ fn may_be_named(sets: &[Marks], k: usize) -> bool
     if lies_in(&sets[k], &sets[0]) {
         return false;
     }
-    for r in 0..sets.len() {
-        if !is_no_part(&sets[k], &sets[r]) {
+    for set in sets {
+        if !is_no_part(&sets[k], set) {
             return false;
         }
     }
@@ -48,8 +48,8 @@ fn is_listed(sets: &[Marks], listed: &[u32], k: usize) -> bool
     ensures { (generators rows : List (List ℚ)) → sets.now ≡ map (tight_places generators) rows
         → result ≡ list_any (λ j. same_at generators rows j k) listed.now }
 {
-    for i in 0..listed.len() {
-        let set = &sets[listed[i] as usize];
+    for row in listed {
+        let set = &sets[*row as usize];
         if lies_in(set, &sets[k]) && lies_in(&sets[k], set) {
             return true;
         }

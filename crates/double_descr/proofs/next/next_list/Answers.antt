@@ -1,121 +1,135 @@
-use Rattle.std.proofs.Common.{◌≡◌, ℕ, ◌+◌, [], ◌∷◌, ◌++◌, length, map, All, sym, ap, ◌∙◌, subst, arith}
+use Rattle.std.proofs.Common.{◌≡◌, ℕ, ◌+◌, ◌<◌, List, [], ◌∷◌, ◌++◌, length, map, All, sym, ap, ◌∙◌, subst, arith}
 use Rattle.std.proofs.lemmas.List.{length-map}
-use Rattle.polyhedra.specs.LiveList.{Numbered, staying, vectors, step}
-use Rattle.polyhedra.specs.LiveSteps.{IsLive}
-use Rattle.double_descr.specs.State.{HasTightSet, live_of, list_of, numbered_of, IsNext}
-use Rattle.double_descr.specs.Making.{IsAddition, IsMadeSoFar, candidates}
+use Rattle.exact_field.specs.Rational.{ℚ}
+use Rattle.exact_field.specs.Vector.{dot}
+use Rattle.polyhedra.specs.LiveList.{Numbered, step}
+use Rattle.double_descr.specs.Adding.{AreHeld, IsAddFault, IsChange, value_block}
+use Rattle.double_descr.specs.State.{live_of, list_of, numbered_of, IsNext}
+use Rattle.double_descr.specs.Making.{Addition, AreValuesAt, negative_places}
 use Rattle.double_descr.specs.declared.generator.Generator.{Generator}
 use Rattle.double_descr.proofs.next.next_list.Goals as goal
-use Rattle.polyhedra.proofs.Members.{all_of_members, member_of, Contains-map}
+use Rattle.polyhedra.proofs.Members.{all_of_members}
 use Rattle.lin_rows.proofs.Errors.{err_holds}
-use Rattle.double_descr.proofs.NextLists.{addition, begun, behind_values, next_is, changed, all_held}
+use Rattle.double_descr.proofs.MadePairs.{wide_of}
+use Rattle.double_descr.proofs.NextLists.{after_values, among_values, next_is, changed, all_held}
+
+-- the values of a row, read from any list of them
+values_read : {F : Type 0} (value : F → ℚ) (row row' : List ℚ) (gens : List (Generator F)) (vals read : List F) → row ≡ row' → AreValuesAt value row' gens vals → read ≡ vals →
+    AreValuesAt value row gens read
+values_read value row row' gens vals read e at r = ap (map value) r ∙ at ∙ ap (λ (q : List ℚ). map (λ (h : Numbered). dot q h.vector) (live_of value gens)) (sym e)
+
+one_each : {F : Type 0} (value : F → ℚ) (row : List ℚ) (gens : List (Generator F)) (vals : List F) → AreValuesAt value row gens vals → length vals ≡ length gens
+one_each value row gens vals at = sym (length-map vals value) ∙ ap length at ∙ length-map (live_of value gens) (λ (h : Numbered). dot row h.vector)
+    ∙ length-map gens (numbered_of value)
 
 pub values_at-requires-clause-same : goal.values_at-requires-clause-same
 values_at-requires-clause-same g c =
     let value = g.F.Field.value in
-    all_of_members (λ (h : Generator _). length c.args.row.now ≡ length h.vector.items) c.args.generators.now (λ h k.
-    sym (member_of (λ v. length v ≡ length c.args.row.now) (vectors (live_of value c.args.generators.now)) (map value h.vector.items) c.requires.live.1.described.generators_wide.wide
-    (Contains-map (λ (u : Numbered). u.vector) (live_of value c.args.generators.now) (numbered_of value h) (Contains-map (numbered_of value) c.args.generators.now h k)))
-    ∙ length-map h.vector.items value)
+    let holds = g.F.Field.holds in
+    let d = g.addition in
+    let gens = c.args.generators.now in
+    let row = c.args.row.now in
+    all_of_members (λ (h : Generator _). length row ≡ length h.vector.items) gens
+    (λ h k. sym (wide_of value d gens c.requires.1.1 h k ∙ ap (λ (a : Addition). length a.row) c.requires.1.0 ∙ length-map row value))
 
-pub meet_all-requires-clause-addition : goal.meet_all-requires-clause-addition
-meet_all-requires-clause-addition g c =
+pub values_at-requires-clause-narrow : goal.values_at-requires-clause-narrow
+values_at-requires-clause-narrow g c = subst (λ (n : ℕ). n < 4294967296)
+    (ap (λ (a : Addition). length a.row) c.requires.1.0 ∙ length-map c.args.row.now g.F.Field.value) c.requires.1.1.narrow
+
+pub begin-requires : goal.begin-requires
+begin-requires g c κs within =
     let value = g.F.Field.value in
     let holds = g.F.Field.holds in
+    let d = g.addition in
     let gens = c.args.generators.now in
-    let n = length c.args.row.now in
-    let row = map value c.args.row.now in
-    let first = c.args.first_new in
-    let rows = c.requires.live.0 in
-    let l : IsLive n rows (list_of value gens first) = c.requires.live.1 in
-    let tight : All (HasTightSet value rows) gens = c.requires.live.2 in
-    let many : length rows ≡ c.args.count = c.requires.live.3 in (
-      n,
-      rows,
-      row,
-      addition value holds n rows row gens first l tight c.as_slice-3.result.now (length-map c.args.row.now value)
-          c.requires.narrow (omega (arith, many, c.requires.room)) (ap (map value) c.as_slice-3.ensures.items ∙ c.in_ok-vals.ensures.value),
-      c.in_ok-so_far.ensures.bound ∙ sym many,
+    let is = c.requires.1.0 in
+    let at = values_read value d.row (map value c.args.row.now) gens _ c.as_slice.result.now (ap (λ (a : Addition). a.row) is) c.in_ok-vals.ensures.values c.as_slice.ensures.items in
+    let count : c.len-count.result ≡ length d.rows = c.len-count.ensures.value ∙ sym (ap (λ (a : Addition). length a.rows) is ∙ length-map c.args.rows.now (map value)) in (
+      within,
+      (
+        c.requires.1.1,
+        (at, (one_each value d.row gens c.as_slice.result.now at, (count, (omega arith, sym (ap (λ (a : Addition). a.first) is))))),
+      ),
     )
 
-pub returns-in_err-meet_all-clause-left : goal.returns-in_err-meet_all-clause-left
-returns-in_err-meet_all-clause-left g c = λ rows l tight many.
+pub meet_all-requires : goal.meet_all-requires
+meet_all-requires g c κs within =
     let value = g.F.Field.value in
     let holds = g.F.Field.holds in
+    let d = g.addition in
     let gens = c.args.generators.now in
-    let n = length c.args.row.now in
-    let row = map value c.args.row.now in
-    let first = c.args.first_new in
-    let so_far = c.in_ok-so_far.so_far in
-    let ctx : IsAddition value n rows row gens c.as_slice-3.result.now = addition value holds n rows row gens first l tight c.as_slice-3.result.now (length-map c.args.row.now value)
-    c.requires.narrow (omega (arith, many, c.requires.room)) (ap (map value) c.as_slice-3.ensures.items ∙ c.in_ok-vals.ensures.value) in
-    let at = ap (map value) c.as_slice.ensures.items ∙ c.in_ok-vals.ensures.value in
-    let start : IsMadeSoFar value holds rows row (live_of value gens) (staying row (live_of value gens)) first (candidates row (live_of value gens) (live_of value gens)) so_far =
-    begun value holds n rows row gens first l tight so_far c.in_ok-so_far.ensures.pairs (c.in_ok-so_far.ensures.stays row at)
-    (c.in_ok-so_far.ensures.tight rows row at tight) c.in_ok-so_far.ensures.from (c.in_ok-so_far.ensures.bound ∙ sym many) in
+    let is = c.requires.1.0 in
+    let vals = c.as_slice-3.result.now in
+    let at = values_read value d.row (map value c.args.row.now) gens _ vals (ap (λ (a : Addition). a.row) is) c.in_ok-vals.ensures.values c.as_slice-3.ensures.items in
+    let count : c.len-count.result ≡ length d.rows = c.len-count.ensures.value ∙ sym (ap (λ (a : Addition). length a.rows) is ∙ length-map c.args.rows.now (map value)) in (
+      within,
+      (
+        record {
+          addition = c.requires.1.1;
+          at_row = at;
+          places = c.as_slice-4.ensures.items ∙ c.in_ok-below.ensures ∙ ap (λ l. negative_places 0 (map value l)) (c.as_slice-2.ensures.items ∙ sym c.as_slice-3.ensures.items);
+          room = omega (arith, count);
+        },
+        (one_each value d.row gens vals at, c.in_ok-so_far.ensures.made),
+      ),
+    )
+
+pub returns-in_err-vals-clause-left : goal.returns-in_err-vals-clause-left
+returns-in_err-vals-clause-left g c =
+    let value = g.F.Field.value in
+    let holds = g.F.Field.holds in
+    let d = g.addition in
+    let gens = c.args.generators.now in
+    let fault = c.in_err-vals.field-0.0 in
+    err_holds c.from_residual.result fault _ c.from_residual.ensures.1
+    (among_values value holds d gens fault (subst (λ (q : List ℚ). IsAddFault value holds (map (value_block q) (live_of value gens)) fault)
+    (sym (ap (λ (a : Addition). a.row) c.requires.1.0)) c.in_err-vals.ensures.left))
+
+pub returns-in_err-meet_all-clause-left : goal.returns-in_err-meet_all-clause-left
+returns-in_err-meet_all-clause-left g c =
+    let value = g.F.Field.value in
+    let holds = g.F.Field.holds in
+    let d = g.addition in
+    let gens = c.args.generators.now in
+    let held = subst (λ (q : List ℚ). All (AreHeld holds) (map (value_block q) (live_of value gens))) (sym (ap (λ (a : Addition). a.row) c.requires.1.0)) c.in_ok-vals.ensures.held in
     err_holds c.from_residual-in_err-meet_all.result c.in_err-meet_all.field-0.0 _ c.from_residual-in_err-meet_all.ensures.1
-    (behind_values value holds n rows row gens first l tight c.in_err-meet_all.field-0.0 c.in_ok-vals.ensures.held
-    (c.in_err-meet_all.ensures.left (staying row (live_of value gens)) n first rows row ctx start))
+    (after_values value holds d gens c.in_err-meet_all.field-0.0 held c.in_err-meet_all.ensures.left)
 
 pub returns-clause-next : goal.returns-clause-next
-returns-clause-next g c = λ rows l tight many.
+returns-clause-next g c =
     let value = g.F.Field.value in
     let holds = g.F.Field.holds in
+    let d = g.addition in
     let gens = c.args.generators.now in
-    let n = length c.args.row.now in
-    let row = map value c.args.row.now in
-    let first = c.args.first_new in
-    let so_far = c.in_ok-so_far.so_far in
-    let ctx : IsAddition value n rows row gens c.as_slice-3.result.now = addition value holds n rows row gens first l tight c.as_slice-3.result.now (length-map c.args.row.now value)
-    c.requires.narrow (omega (arith, many, c.requires.room)) (ap (map value) c.as_slice-3.ensures.items ∙ c.in_ok-vals.ensures.value) in
-    let at = ap (map value) c.as_slice.ensures.items ∙ c.in_ok-vals.ensures.value in
-    let start : IsMadeSoFar value holds rows row (live_of value gens) (staying row (live_of value gens)) first (candidates row (live_of value gens) (live_of value gens)) so_far =
-    begun value holds n rows row gens first l tight so_far c.in_ok-so_far.ensures.pairs (c.in_ok-so_far.ensures.stays row at)
-    (c.in_ok-so_far.ensures.tight rows row at tight) c.in_ok-so_far.ensures.from (c.in_ok-so_far.ensures.bound ∙ sym many) in
-    let h = c.in_ok-meet_all.ensures.ok (staying row (live_of value gens)) n first rows row ctx start in
-    subst (λ (k : ℕ). IsNext value (rows ++ row ∷ []) (step rows (list_of value gens first) row) (record {
-      numbers = c.in_ok-numbers.numbers;
-      generators = c.meet_all.new.so_far.generators;
-      next = first + k;
-      change = record { dropped = c.in_ok-so_far.dropped; pairs = c.meet_all.new.so_far.pairs; first_new = first };
-    })) (sym c.len.ensures.value)
-    (next_is value holds n rows row gens first l tight c.meet_all.new.so_far h c.in_ok-numbers.numbers
+    let made = c.meet_all.new.so_far in
+    let numbers = c.in_ok-numbers.numbers in
+    let gone = c.in_ok-so_far.dropped in
+    subst (λ (p : ℕ × ℕ). IsNext value (d.rows ++ d.row ∷ []) (step d.rows (list_of value gens d.first) d.row) (record {
+      numbers = numbers;
+      generators = made.generators;
+      next = p.0 + p.1;
+      change = record { dropped = gone; pairs = made.pairs; first_new = p.0 };
+    })) (λ i. ((c.requires.1.0 i).first, sym c.len.ensures.value i))
+    (next_is value holds d gens made c.in_ok-meet_all.ensures.ok numbers
     (c.in_ok-numbers.ensures ∙ ap (map (λ (u : Generator _). u.number)) c.as_slice-5.ensures.items)
-    (record { dropped = c.in_ok-so_far.dropped; pairs = c.meet_all.new.so_far.pairs; first_new = first }))
+    (record { dropped = gone; pairs = made.pairs; first_new = d.first }))
 
 pub returns-clause-change : goal.returns-clause-change
-returns-clause-change g c = λ rows l tight many.
+returns-clause-change g c =
     let value = g.F.Field.value in
     let holds = g.F.Field.holds in
+    let d = g.addition in
     let gens = c.args.generators.now in
-    let n = length c.args.row.now in
-    let row = map value c.args.row.now in
-    let first = c.args.first_new in
-    let so_far = c.in_ok-so_far.so_far in
-    let ctx : IsAddition value n rows row gens c.as_slice-3.result.now = addition value holds n rows row gens first l tight c.as_slice-3.result.now (length-map c.args.row.now value)
-    c.requires.narrow (omega (arith, many, c.requires.room)) (ap (map value) c.as_slice-3.ensures.items ∙ c.in_ok-vals.ensures.value) in
-    let at = ap (map value) c.as_slice.ensures.items ∙ c.in_ok-vals.ensures.value in
-    let start : IsMadeSoFar value holds rows row (live_of value gens) (staying row (live_of value gens)) first (candidates row (live_of value gens) (live_of value gens)) so_far =
-    begun value holds n rows row gens first l tight so_far c.in_ok-so_far.ensures.pairs (c.in_ok-so_far.ensures.stays row at)
-    (c.in_ok-so_far.ensures.tight rows row at tight) c.in_ok-so_far.ensures.from (c.in_ok-so_far.ensures.bound ∙ sym many) in
-    let h = c.in_ok-meet_all.ensures.ok (staying row (live_of value gens)) n first rows row ctx start in
-    changed value holds n rows row gens first l tight c.meet_all.new.so_far h c.in_ok-so_far.dropped
-    (c.in_ok-so_far.ensures.gone row at)
+    let made = c.meet_all.new.so_far in
+    let gone = c.in_ok-so_far.dropped in
+    subst (λ (n : ℕ). IsChange d.rows (list_of value gens d.first) d.row (record { dropped = gone; pairs = made.pairs; first_new = n })) (ap (λ (a : Addition). a.first) c.requires.1.0)
+    (changed value holds d gens made c.in_ok-meet_all.ensures.ok gone c.in_ok-so_far.ensures.gone)
 
 pub returns-clause-held : goal.returns-clause-held
-returns-clause-held g c = λ rows l tight many.
+returns-clause-held g c =
     let value = g.F.Field.value in
     let holds = g.F.Field.holds in
+    let d = g.addition in
     let gens = c.args.generators.now in
-    let n = length c.args.row.now in
-    let row = map value c.args.row.now in
-    let first = c.args.first_new in
-    let so_far = c.in_ok-so_far.so_far in
-    let ctx : IsAddition value n rows row gens c.as_slice-3.result.now = addition value holds n rows row gens first l tight c.as_slice-3.result.now (length-map c.args.row.now value)
-    c.requires.narrow (omega (arith, many, c.requires.room)) (ap (map value) c.as_slice-3.ensures.items ∙ c.in_ok-vals.ensures.value) in
-    let at = ap (map value) c.as_slice.ensures.items ∙ c.in_ok-vals.ensures.value in
-    let start : IsMadeSoFar value holds rows row (live_of value gens) (staying row (live_of value gens)) first (candidates row (live_of value gens) (live_of value gens)) so_far =
-    begun value holds n rows row gens first l tight so_far c.in_ok-so_far.ensures.pairs (c.in_ok-so_far.ensures.stays row at)
-    (c.in_ok-so_far.ensures.tight rows row at tight) c.in_ok-so_far.ensures.from (c.in_ok-so_far.ensures.bound ∙ sym many) in
-    let h = c.in_ok-meet_all.ensures.ok (staying row (live_of value gens)) n first rows row ctx start in
-    all_held value holds n rows row gens first l tight c.meet_all.new.so_far h c.in_ok-vals.ensures.held
+    let held = subst (λ (q : List ℚ). All (AreHeld holds) (map (value_block q) (live_of value gens))) (sym (ap (λ (a : Addition). a.row) c.requires.1.0)) c.in_ok-vals.ensures.held in
+    all_held value holds d gens c.meet_all.new.so_far c.in_ok-meet_all.ensures.ok held

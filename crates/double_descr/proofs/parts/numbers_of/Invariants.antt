@@ -1,5 +1,5 @@
-use Rattle.std.proofs.Common.{◌≡◌, map, drop, ◌++◌}
+use Rattle.std.proofs.Common.{◌≡◌, map, take}
 use Rattle.double_descr.proofs.parts.numbers_of.Given as goal
 
-abbrev pub invariant-loop-i : goal.invariant-loop-i
-invariant-loop-i g l = l.out ++ map (λ h. h.number) (drop l.i l.generators) ≡ map (λ h. h.number) l.generators
+abbrev pub invariant-loop-generator : goal.invariant-loop-generator
+invariant-loop-generator g l = l.out ≡ map (λ h. h.number) (take l.generator-index l.generators)

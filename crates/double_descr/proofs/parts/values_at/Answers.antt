@@ -12,26 +12,26 @@ use Rattle.double_descr.proofs.MadePairs.{fault_at, block_on}
 pub returns-in_err-value_at-clause-left : goal.returns-in_err-value_at-clause-left
 returns-in_err-value_at-clause-left g c =
     let value = g.F.Field.value in
-    let i = c.loop-i.i in
-    let m = c.index-generators-i.result in
-    let e = drop_value (numbered_of value) c.args.generators.now i m c.loop-i-test.true c.index-generators-i.is in
+    let i = c.loop-generator.generator-index in
+    let m = c.generator-item.result in
+    let e = drop_value (numbered_of value) c.args.generators.now i m c.loop-generator-test.true c.generator-item.is in
     let row = map value c.args.row.now in
     err_holds c.from_residual.result c.in_err-value_at.field-0.0 _ c.from_residual.ensures.1
-    (fault_at value g.F.Field.holds _ c.loop-i.invariant.done (map (value_block row) (drop (i + 1) (live_of value c.args.generators.now))) (value_block row (numbered_of value m)) c.in_err-value_at.field-0.0
-    (c.loop-i.invariant.split ∙ ap (λ l. c.loop-i.invariant.done ++ map (value_block row) l) e) c.loop-i.invariant.held c.in_err-value_at.ensures)
+    (fault_at value g.F.Field.holds _ c.loop-generator.invariant.done (map (value_block row) (drop (i + 1) (live_of value c.args.generators.now))) (value_block row (numbered_of value m)) c.in_err-value_at.field-0.0
+    (c.loop-generator.invariant.split ∙ ap (λ l. c.loop-generator.invariant.done ++ map (value_block row) l) e) c.loop-generator.invariant.held c.in_err-value_at.ensures)
 
-pub loop-i-preserved : goal.loop-i-preserved
-loop-i-preserved g c =
+pub loop-generator-preserved : goal.loop-generator-preserved
+loop-generator-preserved g c =
     let value = g.F.Field.value in
-    let i = c.loop-i.i in
-    let m = c.index-generators-i.result in
-    let e = drop_value (numbered_of value) c.args.generators.now i m c.loop-i-test.true c.index-generators-i.is in
+    let i = c.loop-generator.generator-index in
+    let m = c.generator-item.result in
+    let e = drop_value (numbered_of value) c.args.generators.now i m c.loop-generator-test.true c.generator-item.is in
     let row = map value c.args.row.now in
     record {
-      written = write_on value c.loop-i.out _ _ _ _ c.push.new.self c.in_ok-push.ensures.ok c.in_ok-value_at.ensures.1
-          (ap (λ l. map value c.loop-i.out ++ map (λ (h : Numbered). dot row h.vector) l) (sym e) ∙ c.loop-i.invariant.written);
-      done = c.loop-i.invariant.done ++ value_block row (numbered_of value m) ∷ [];
-      split = block_on row (numbered_of value m) (drop i (live_of value c.args.generators.now)) (drop (i + 1) (live_of value c.args.generators.now)) _ c.loop-i.invariant.done e c.loop-i.invariant.split;
-      held = All-append (AreHeld g.F.Field.holds) c.loop-i.invariant.done (value_block row (numbered_of value m) ∷ []) c.loop-i.invariant.held
+      written = write_on value c.loop-generator.out _ _ _ _ c.push.new.self c.in_ok-push.ensures.ok c.in_ok-value_at.ensures.1
+          (ap (λ l. map value c.loop-generator.out ++ map (λ (h : Numbered). dot row h.vector) l) (sym e) ∙ c.loop-generator.invariant.written);
+      done = c.loop-generator.invariant.done ++ value_block row (numbered_of value m) ∷ [];
+      split = block_on row (numbered_of value m) (drop i (live_of value c.args.generators.now)) (drop (i + 1) (live_of value c.args.generators.now)) _ c.loop-generator.invariant.done e c.loop-generator.invariant.split;
+      held = All-append (AreHeld g.F.Field.holds) c.loop-generator.invariant.done (value_block row (numbered_of value m) ∷ []) c.loop-generator.invariant.held
           (All-cons (AreHeld g.F.Field.holds) (value_block row (numbered_of value m)) [] c.in_ok-value_at.ensures.0 (All-nil (AreHeld g.F.Field.holds)));
     }

@@ -5,14 +5,14 @@ use Rattle.double_descr.specs.State.{live_of}
 use Rattle.double_descr.specs.Adding.{AreHeld, Block, value_block}
 use Rattle.double_descr.proofs.parts.values_at.Given as goal
 
-abbrev pub invariant-loop-i : goal.invariant-loop-i
-invariant-loop-i g l =
+abbrev pub invariant-loop-generator : goal.invariant-loop-generator
+invariant-loop-generator g l =
     let value = g.F.Field.value in
     let row = map value l.row in
     let live = live_of value l.generators in
     record {
-      written : map value l.out ++ map (λ (h : Numbered). dot row h.vector) (drop l.i live) ≡ map (λ (h : Numbered). dot row h.vector) live;
+      written : map value l.out ++ map (λ (h : Numbered). dot row h.vector) (drop l.generator-index live) ≡ map (λ (h : Numbered). dot row h.vector) live;
       done : List Block;
-      split : map (value_block row) live ≡ done ++ map (value_block row) (drop l.i live);
+      split : map (value_block row) live ≡ done ++ map (value_block row) (drop l.generator-index live);
       held : All (AreHeld g.F.Field.holds) done;
     }

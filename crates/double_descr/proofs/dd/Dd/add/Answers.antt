@@ -1,14 +1,18 @@
 use Rattle.lin_rows.proofs.Errors.{err_holds}
-use Rattle.std.proofs.Common.{◌≡◌, List, [], ◌∷◌, ◌++◌, length, map, All, sym, ap, ◌∙◌, subst}
-use Rattle.std.proofs.lemmas.List.{length-map}
+use Rattle.std.proofs.Common.{◌≡◌, List, [], ◌∷◌, ◌++◌, length, map, All, refl, sym, ap, ◌∙◌, subst}
 use Rattle.double_descr.specs.Steps.{values}
-use Rattle.double_descr.specs.State.{State, list_of, live_of, HasTightSet, IsNext}
-use Rattle.polyhedra.specs.LiveSteps.{IsLive}
+use Rattle.double_descr.specs.State.{State, list_of, live_of, IsNext}
 use Rattle.polyhedra.specs.LiveList.{step}
 use Rattle.double_descr.specs.declared.generator.Generator.{Generator}
 use Rattle.double_descr.specs.Adding.{AreHeld, IsAddFault, IsChange, add_blocks}
-use Rattle.double_descr.proofs.KeptNext.{live_at, kept_next, view_next}
+use Rattle.double_descr.proofs.KeptNext.{is_addition, kept_next, view_next}
 use Rattle.double_descr.proofs.dd.Dd.add.Goals as goal
+
+pub next_list-requires : goal.next_list-requires
+next_list-requires g c κs within =
+    let s = c.self.inside in
+    let w : length c.args.row.now ≡ s.width = c.requires ∙ sym (ap (λ (x : State). x.width) c.self.view_is) in
+    (within, (refl, is_addition g.F.Field.value s.width s.rows s.numbers s.generators s.next c.self.invariant c.args.row.now w c.as_slice.result.now c.as_slice.ensures.items))
 
 pub invariant_of-self-2 : goal.invariant_of-self-2
 invariant_of-self-2 g c =
@@ -16,16 +20,12 @@ invariant_of-self-2 g c =
     let s = c.self.inside in
     let row = c.args.row.now in
     let rows = map (values value) s.rows in
-    let w : length row ≡ s.width = c.requires ∙ sym (ap (λ (x : State). x.width) c.self.view_is) in
     let gens_is : c.as_slice.result.now ≡ s.generators = c.as_slice.ensures.items in
-    let l : IsLive (length row) rows (list_of value c.as_slice.result.now s.next) = subst (λ (gs : List (Generator _)). IsLive (length row) rows (list_of value gs s.next)) (sym gens_is)
-    (live_at value s.width s.rows s.numbers s.generators s.next c.self.invariant row w) in
-    let tight : All (HasTightSet value rows) c.as_slice.result.now = subst (λ (gs : List (Generator _)). All (HasTightSet value rows) gs) (sym gens_is) c.self.invariant.tight in
-    let many : length rows ≡ c.len.result = length-map s.rows (values value) ∙ sym c.len.ensures.value in
+    let w : length row ≡ s.width = c.requires ∙ sym (ap (λ (x : State). x.width) c.self.view_is) in
     let after : c.push.new.self ≡ s.rows ++ row ∷ [] = c.in_ok-push.ensures.ok ∙ ap (λ r. s.rows ++ r ∷ []) (c.in_ok-append.ensures.ok ∙ ap (λ r. r ++ row) c.new-line.ensures) in
     let made : IsNext value (rows ++ values value row ∷ []) (step rows (list_of value s.generators s.next) (values value row)) c.in_ok-made.made =
     subst (λ (gs : List (Generator _)). IsNext value (rows ++ values value row ∷ []) (step rows (list_of value gs s.next) (values value row)) c.in_ok-made.made) gens_is
-    (c.in_ok-made.ensures.next rows l tight many) in
+    c.in_ok-made.ensures.next in
     kept_next value s.width s.rows s.numbers s.generators s.next c.self.invariant row w c.push.new.self after c.in_ok-made.made made
 
 pub returns-clause-ok : goal.returns-clause-ok
@@ -34,16 +34,12 @@ returns-clause-ok g c =
     let s = c.self.inside in
     let row = c.args.row.now in
     let rows = map (values value) s.rows in
-    let w : length row ≡ s.width = c.requires ∙ sym (ap (λ (x : State). x.width) c.self.view_is) in
     let gens_is : c.as_slice.result.now ≡ s.generators = c.as_slice.ensures.items in
-    let l : IsLive (length row) rows (list_of value c.as_slice.result.now s.next) = subst (λ (gs : List (Generator _)). IsLive (length row) rows (list_of value gs s.next)) (sym gens_is)
-    (live_at value s.width s.rows s.numbers s.generators s.next c.self.invariant row w) in
-    let tight : All (HasTightSet value rows) c.as_slice.result.now = subst (λ (gs : List (Generator _)). All (HasTightSet value rows) gs) (sym gens_is) c.self.invariant.tight in
-    let many : length rows ≡ c.len.result = length-map s.rows (values value) ∙ sym c.len.ensures.value in
+    let w : length row ≡ s.width = c.requires ∙ sym (ap (λ (x : State). x.width) c.self.view_is) in
     let after : c.push.new.self ≡ s.rows ++ row ∷ [] = c.in_ok-push.ensures.ok ∙ ap (λ r. s.rows ++ r ∷ []) (c.in_ok-append.ensures.ok ∙ ap (λ r. r ++ row) c.new-line.ensures) in
     let made : IsNext value (rows ++ values value row ∷ []) (step rows (list_of value s.generators s.next) (values value row)) c.in_ok-made.made =
     subst (λ (gs : List (Generator _)). IsNext value (rows ++ values value row ∷ []) (step rows (list_of value gs s.next) (values value row)) c.in_ok-made.made) gens_is
-    (c.in_ok-made.ensures.next rows l tight many) in
+    c.in_ok-made.ensures.next in
     view_next value s.width s.rows s.numbers s.generators s.next c.self.invariant row w c.push.new.self after c.in_ok-made.made made c.args.self.now c.self.view_is
 
 pub returns-clause-change : goal.returns-clause-change
@@ -52,14 +48,9 @@ returns-clause-change g c =
     let s = c.self.inside in
     let row = c.args.row.now in
     let rows = map (values value) s.rows in
-    let w : length row ≡ s.width = c.requires ∙ sym (ap (λ (x : State). x.width) c.self.view_is) in
     let gens_is : c.as_slice.result.now ≡ s.generators = c.as_slice.ensures.items in
-    let l : IsLive (length row) rows (list_of value c.as_slice.result.now s.next) = subst (λ (gs : List (Generator _)). IsLive (length row) rows (list_of value gs s.next)) (sym gens_is)
-    (live_at value s.width s.rows s.numbers s.generators s.next c.self.invariant row w) in
-    let tight : All (HasTightSet value rows) c.as_slice.result.now = subst (λ (gs : List (Generator _)). All (HasTightSet value rows) gs) (sym gens_is) c.self.invariant.tight in
-    let many : length rows ≡ c.len.result = length-map s.rows (values value) ∙ sym c.len.ensures.value in
     subst (λ (x : State). IsChange x.rows x.list (values value row) c.in_ok-made.made.change) c.self.view_is
-    (subst (λ (gs : List (Generator _)). IsChange rows (list_of value gs s.next) (values value row) c.in_ok-made.made.change) gens_is (c.in_ok-made.ensures.change rows l tight many))
+    (subst (λ (gs : List (Generator _)). IsChange rows (list_of value gs s.next) (values value row) c.in_ok-made.made.change) gens_is c.in_ok-made.ensures.change)
 
 pub returns-clause-held : goal.returns-clause-held
 returns-clause-held g c =
@@ -67,28 +58,18 @@ returns-clause-held g c =
     let s = c.self.inside in
     let row = c.args.row.now in
     let rows = map (values value) s.rows in
-    let w : length row ≡ s.width = c.requires ∙ sym (ap (λ (x : State). x.width) c.self.view_is) in
     let gens_is : c.as_slice.result.now ≡ s.generators = c.as_slice.ensures.items in
-    let l : IsLive (length row) rows (list_of value c.as_slice.result.now s.next) = subst (λ (gs : List (Generator _)). IsLive (length row) rows (list_of value gs s.next)) (sym gens_is)
-    (live_at value s.width s.rows s.numbers s.generators s.next c.self.invariant row w) in
-    let tight : All (HasTightSet value rows) c.as_slice.result.now = subst (λ (gs : List (Generator _)). All (HasTightSet value rows) gs) (sym gens_is) c.self.invariant.tight in
-    let many : length rows ≡ c.len.result = length-map s.rows (values value) ∙ sym c.len.ensures.value in
     subst (λ (x : State). All (AreHeld g.F.Field.holds) (add_blocks x.rows x.list.live (values value row))) c.self.view_is
-    (subst (λ (gs : List (Generator _)). All (AreHeld g.F.Field.holds) (add_blocks rows (live_of value gs) (values value row))) gens_is (c.in_ok-made.ensures.held rows l tight many))
+    (subst (λ (gs : List (Generator _)). All (AreHeld g.F.Field.holds) (add_blocks rows (live_of value gs) (values value row))) gens_is c.in_ok-made.ensures.held)
 
 pub returns-in_err-made-clause-left : goal.returns-in_err-made-clause-left
 returns-in_err-made-clause-left g c =
     let value = g.F.Field.value in
-    let holds = g.F.Field.holds in
     let s = c.self.inside in
     let row = c.args.row.now in
     let rows = map (values value) s.rows in
-    let w : length row ≡ s.width = c.requires ∙ sym (ap (λ (x : State). x.width) c.self.view_is) in
     let gens_is : c.as_slice.result.now ≡ s.generators = c.as_slice.ensures.items in
-    let l : IsLive (length row) rows (list_of value c.as_slice.result.now s.next) = subst (λ (gs : List (Generator _)). IsLive (length row) rows (list_of value gs s.next)) (sym gens_is)
-    (live_at value s.width s.rows s.numbers s.generators s.next c.self.invariant row w) in
-    let tight : All (HasTightSet value rows) c.as_slice.result.now = subst (λ (gs : List (Generator _)). All (HasTightSet value rows) gs) (sym gens_is) c.self.invariant.tight in
-    let many : length rows ≡ c.len.result = length-map s.rows (values value) ∙ sym c.len.ensures.value in
+    let holds = g.F.Field.holds in
     err_holds c.from_residual.result c.in_err-made.field-0.0 _ c.from_residual.ensures.1
     (subst (λ (x : State). IsAddFault value holds (add_blocks x.rows x.list.live (values value row)) c.in_err-made.field-0.0) c.self.view_is
-    (subst (λ (gs : List (Generator _)). IsAddFault value holds (add_blocks rows (live_of value gs) (values value row)) c.in_err-made.field-0.0) gens_is (c.in_err-made.ensures.left rows l tight many)))
+    (subst (λ (gs : List (Generator _)). IsAddFault value holds (add_blocks rows (live_of value gs) (values value row)) c.in_err-made.field-0.0) gens_is c.in_err-made.ensures.left))

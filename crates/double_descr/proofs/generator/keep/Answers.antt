@@ -1,5 +1,5 @@
 use Rattle.std.proofs.Common.{[], ◌∷◌, ◌++◌, ap, ◌∙◌}
-use Rattle.double_descr.proofs.generator.kept.Goals as goal
+use Rattle.double_descr.proofs.generator.keep.Goals as goal
 use Rattle.double_descr.proofs.Covering.{meet_self}
 
 pub returns-clause-tight : goal.returns-clause-tight

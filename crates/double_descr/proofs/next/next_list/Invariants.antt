@@ -1,0 +1,7 @@
+use Rattle.double_descr.proofs.next.next_list.Given as goal
+
+abbrev pub ghost-begin : goal.ghost-begin
+ghost-begin g a = g.addition
+
+abbrev pub ghost-meet_all : goal.ghost-meet_all
+ghost-meet_all g a = g.addition
