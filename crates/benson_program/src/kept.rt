@@ -87,14 +87,14 @@ impl<F: Field> Kept<F> {
             d (map F.value e.x) (map F.value e.dual))) }
     {
         let guess = self.guess(form, c, name)?;
-        let optimum = tested(alloc, form, c, name, guess)?;
+        let optimum = test_guess(alloc, form, c, name, guess)?;
         self.note(optimum.is_some());
         Ok(optimum)
     }
 }
 
 /// The optimum that a guess shows, if there is a guess and it passes the test.
-fn tested<F: Field>(
+fn test_guess<F: Field>(
     alloc: Global,
     form: &Data<F>,
     c: &[F],

@@ -43,7 +43,7 @@ fn share<F: Field>(alloc: Global, form: &Data<F>, dual: &[F]) -> Result<Items<F>
 }
 
 /// A share, with the weights that combine the generators to the duality vector times the magnitude of the last multiplier.
-fn weighed<F: Field>(
+fn add_weights<F: Field>(
     alloc: Global,
     share: &[F],
     last: F,
@@ -87,7 +87,7 @@ fn full_share<F: Field>(
     let own = share(alloc, form, dual)?;
     let last = dual[dual.len() - 1];
     if is_negative(last) {
-        weighed(alloc, own.as_slice(), last, weights)
+        add_weights(alloc, own.as_slice(), last, weights)
     } else {
         Ok(own)
     }

@@ -13,7 +13,7 @@ ghost use Rattle.vlp_reader.specs.declared.problem.Problem.{Problem as File};
 
 use crate::ends::{BensonEnd, FeasibleEnd};
 use crate::kept::Kept;
-use crate::written::{Written, pivoted_benson};
+use crate::written::{Written, pivot_benson};
 use exact_field::Field;
 use exact_simplex::{LpEnd, LpFault, solve_lp};
 use lp_form::{Data, LpName, program};
@@ -23,7 +23,7 @@ use src_sink::{Items, NoMemory};
 use std::alloc::Global;
 
 /// How a named program ends by pivots of its table: Benson's from where the last one ended.
-fn pivoted<F: Field>(
+fn pivot_program<F: Field>(
     alloc: Global,
     form: &Data<F>,
     c: &[F],
@@ -43,14 +43,14 @@ fn pivoted<F: Field>(
         (named_system file (map F.value c.now) (named F.value name.now))) }
 {
     if let LpName::Benson { v, t } = name {
-        return pivoted_benson(alloc, form, c, v.as_slice(), *t, written);
+        return pivot_benson(alloc, form, c, v.as_slice(), *t, written);
     }
     let system = program(alloc, form, c, name)?;
     solve_lp(alloc, &system)
 }
 
 /// The same, with its fault as a licence.
-fn pivoted_end<F: Field>(
+fn pivot_end<F: Field>(
     alloc: Global,
     form: &Data<F>,
     c: &[F],
@@ -72,7 +72,7 @@ fn pivoted_end<F: Field>(
     ensures place { name.now ≡ name_of.Feasible →
         IfErr result (λ fault. OnLicence fault (λ l. IsPivotOfFeasible l.place)) }
 {
-    match pivoted(alloc, form, c, name, written) {
+    match pivot_program(alloc, form, c, name, written) {
         Ok(end) => Ok(end),
         Err(fault) => Err(program_fault(alloc, name, fault, Items::new(alloc))),
     }
@@ -103,7 +103,7 @@ fn named_end<F: Field>(
 {
     match kept.guessed_optimum(alloc, form, c, name)? {
         Some(Optimum { x, dual, basis }) => Ok(LpEnd::Optimal { x, dual, basis }),
-        None => pivoted_end(alloc, form, c, name, &mut kept.written),
+        None => pivot_end(alloc, form, c, name, &mut kept.written),
     }
 }
 

@@ -11,7 +11,7 @@ ghost use Rattle.vlp_reader.specs.declared.problem.Problem.{Problem as File};
 
 use exact_field::Field;
 use lp_form::{ConeOf, Data, negative};
-use overflows::{SolveFault, divided};
+use overflows::{SolveFault, quotients_of};
 use src_sink::{Items, NoMemory};
 use std::alloc::Global;
 
@@ -35,7 +35,7 @@ pub(crate) fn generator_count<F: Field>(cone: &ConeOf<F>) -> usize
 }
 
 /// The first entries, and the negatives of the others.
-fn parted<F: Field>(alloc: Global, list: &[F], cols: usize) -> Result<WholeParts<F>, NoMemory>
+fn whole_parts<F: Field>(alloc: Global, list: &[F], cols: usize) -> Result<WholeParts<F>, NoMemory>
     requires { cols ≤ length list.now }
     ensures ray { IfOk result (λ parts. parts.ray ≡ take cols list.now) }
     ensures m { IfOk result
@@ -64,6 +64,6 @@ pub fn whole_of<F: Field>(
     let cols = form.cols as usize;
     let count = cols + generator_count(&form.cone);
     let by = dual[dual.len() - 1].neg();
-    let quotients = divided(alloc, dual, count, by)?;
-    Ok(parted(alloc, quotients.as_slice(), cols)?)
+    let quotients = quotients_of(alloc, dual, count, by)?;
+    Ok(whole_parts(alloc, quotients.as_slice(), cols)?)
 }

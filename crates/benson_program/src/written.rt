@@ -108,7 +108,7 @@ fn written_end<F: Field>(
 }
 
 /// How Benson's program at `v` ends by pivots, from where the last one of these ended.
-pub(crate) fn pivoted_benson<F: Field>(
+pub(crate) fn pivot_benson<F: Field>(
     alloc: Global,
     form: &Data<F>,
     c: &[F],

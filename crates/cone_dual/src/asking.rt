@@ -18,7 +18,7 @@ use crate::lists::{picked_rows, rows_of};
 use exact_field::Field;
 use exact_simplex::{LpEnd, solve_lp};
 use lin_rows::{Indep, Rows, corners, independent};
-use lp_form::{Data, LpName, interior, pointed};
+use lp_form::{Data, LpName, interior_system, pointed_system};
 use overflows::{SolveFault, elimination_fault, program_fault};
 use src_sink::{Items, NoMemory};
 use std::alloc::Global;
@@ -30,7 +30,7 @@ pub fn pointed_end<F: Field>(alloc: Global, form: &Data<F>) -> Result<LpEnd<F>, 
     ensures left { (file : File) → IsDataOf F.value file form.now
         → IfErr result (λ fault. OnLicence fault (LicensedWithout F.holds file)) }
 {
-    let system = pointed(alloc, form.p.len() as u32, &form.cone)?;
+    let system = pointed_system(alloc, form.p.len() as u32, &form.cone)?;
     match solve_lp(alloc, &system) {
         Ok(end) => Ok(end),
         Err(fault) => {
@@ -49,7 +49,7 @@ pub fn interior_end<F: Field>(alloc: Global, form: &Data<F>) -> Result<LpEnd<F>,
     ensures left { (file : File) → IsDataOf F.value file form.now
         → IfErr result (λ fault. OnLicence fault (LicensedWithout F.holds file)) }
 {
-    let system = interior(alloc, form.p.len() as u32, &form.cone, &form.duality)?;
+    let system = interior_system(alloc, form.p.len() as u32, &form.cone, &form.duality)?;
     match solve_lp(alloc, &system) {
         Ok(end) => Ok(end),
         Err(fault) => {

@@ -37,7 +37,7 @@ fn basis_of<F: Field>(alloc: Global, rows: &Rows<F>) -> Result<Items<u32>, Solve
 }
 
 /// The double description of as many independent rows as they have entries.
-fn started<F: Field>(alloc: Global, rows: &Rows<F>) -> Result<Dd<F>, SolveFault>
+fn start_rows<F: Field>(alloc: Global, rows: &Rows<F>) -> Result<Dd<F>, SolveFault>
     requires square { length rows.now.list ≡ rows.now.width }
     requires rank { HasFullRank rows.now.width (numbers F.value rows.now.list) }
     ensures width { IfOk result (λ dd. dd.width ≡ rows.now.width) }
@@ -106,7 +106,7 @@ fn add_all<F: Field>(
 /// The double description of the pointed cone where all rows of a family are at least 0: it begins
 /// with as many independent rows as they have entries, the first that an elimination finds, and adds
 /// the others in their order. After an overflow the licence has no trail.
-pub fn described_rows<F: Field>(
+pub fn describe_rows<F: Field>(
     alloc: Global,
     family: Family,
     rows: &Rows<F>,
@@ -123,7 +123,7 @@ pub fn described_rows<F: Field>(
     let others = other_numbers(alloc, rows.count(), picks.as_slice())?;
     let first = rows_at(alloc, rows, picks.as_slice())?;
     let more = rows_at(alloc, rows, others.as_slice())?;
-    let mut dd = started(alloc, &first)?;
+    let mut dd = start_rows(alloc, &first)?;
     add_all(alloc, family, &mut dd, &more)?;
     Ok(dd)
 }

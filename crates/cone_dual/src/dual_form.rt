@@ -24,7 +24,7 @@ ghost use Rattle.vlp_reader.specs.declared.problem.Problem.{Problem as File};
 use crate::asking::{independent_vectors, interior_end};
 use crate::combining::{spread_over, zero_combination};
 use crate::duality::{ConeEnd, Duality};
-use crate::given::{made, not_interior, scaled_given};
+use crate::given::{duality_with, not_interior, scaled_given};
 use cone_rules::ConeFault;
 use exact_field::Field;
 use exact_simplex::LpEnd;
@@ -32,12 +32,12 @@ use frac128::{Frac, Sparse, Spot};
 use lin_rows::Indep;
 use lin_rows::cells::is_positive;
 use lp_form::{Data, difference, is_zero_vector, negative};
-use overflows::{SolveFault, divided, fractions, spots_of, sum_of_products, term_fault};
+use overflows::{SolveFault, quotients_of, fractions, spots_of, sum_of_products, term_fault};
 use src_sink::{Items, NoMemory};
 use std::alloc::Global;
 
 /// That the vectors do not combine to 0.
-fn solid<F: Field>(alloc: Global, form: &Data<F>, vectors: &[Items<F>]) -> Result<(), ConeEnd>
+fn require_solid<F: Field>(alloc: Global, form: &Data<F>, vectors: &[Items<F>]) -> Result<(), ConeEnd>
     requires { form.now.cone ≡ cone.Dual vectors.now }
     ensures ok { OnOk result (HasInterior (length form.now.p) (cone_of F.value form.now.cone)) }
     ensures end { (file : File) → IsDataOf F.value file form.now
@@ -53,7 +53,7 @@ fn solid<F: Field>(alloc: Global, form: &Data<F>, vectors: &[Items<F>]) -> Resul
 }
 
 /// That no vector is orthogonal to all vectors.
-fn without_line<F: Field>(
+fn require_no_line<F: Field>(
     alloc: Global,
     form: &Data<F>,
     vectors: &[Items<F>],
@@ -105,7 +105,7 @@ fn is_against<F: Field>(
 }
 
 /// That the product of each vector that is not 0 with the vector that is given is positive.
-fn inside_given<F: Field>(
+fn require_inside<F: Field>(
     alloc: Global,
     form: &Data<F>,
     vectors: &[Items<F>],
@@ -123,14 +123,14 @@ fn inside_given<F: Field>(
     for k in 0..vectors.len() {
         let vector = vectors[k].as_slice();
         if is_against(alloc, form, vector, f)? {
-            return Err(ConeEnd::Fault(outside(alloc, vector, k as u32 + 1)?));
+            return Err(ConeEnd::Fault(outside_fault(alloc, vector, k as u32 + 1)?));
         }
     }
     Ok(())
 }
 
 /// The fault of the vector with this number, at which the vector that is given is not positive.
-fn outside<F: Field>(alloc: Global, vector: &[F], number: u32) -> Result<ConeFault, NoMemory>
+fn outside_fault<F: Field>(alloc: Global, vector: &[F], number: u32) -> Result<ConeFault, NoMemory>
     ensures { IfOk result (λ fault. fault ≡ fault_of.NotInterior (map F.value vector.now)
         (record { at = number; value = one_ℚ } ∷ [])) }
 {
@@ -161,14 +161,14 @@ fn last_fault<F: Field>(
         → IfErr result (λ fault. OnLicence fault (LicensedWithout F.holds file)) }
 {
     let n = y.len() - 2;
-    let quotients = divided(alloc, y, n, y[n].neg())?;
+    let quotients = quotients_of(alloc, y, n, y[n].neg())?;
     let shares = negative(alloc, quotients.as_slice())?;
     let spread = spread_over(alloc, vectors, shares.as_slice())?;
     Ok(spots_of(alloc, spread.as_slice())?)
 }
 
 /// An interior vector with last entry 1.
-fn inside_found<F: Field>(
+fn interior_vector<F: Field>(
     alloc: Global,
     form: &Data<F>,
     vectors: &[Items<F>],
@@ -199,7 +199,7 @@ fn inside_found<F: Field>(
 }
 
 /// The vector that is given, divided by its last entry.
-fn given<F: Field>(
+fn given_duality<F: Field>(
     alloc: Global,
     form: &Data<F>,
     vectors: &[Items<F>],
@@ -214,13 +214,13 @@ fn given<F: Field>(
     ensures end { (file : File) → IsDataOf F.value file form.now
         → IfErr result (IsEnd F.holds file) }
 {
-    inside_given(alloc, form, vectors, f)?;
+    require_inside(alloc, form, vectors, f)?;
     let c = scaled_given(alloc, form, f)?;
-    Ok(made(alloc, c, Items::new(alloc), Items::new(alloc), &[])?)
+    Ok(duality_with(alloc, c, Items::new(alloc), Items::new(alloc), &[])?)
 }
 
 /// An interior vector that is found.
-fn found<F: Field>(
+fn found_duality<F: Field>(
     alloc: Global,
     form: &Data<F>,
     vectors: &[Items<F>],
@@ -234,8 +234,8 @@ fn found<F: Field>(
     ensures end { (file : File) → IsDataOf F.value file form.now
         → IfErr result (IsEnd F.holds file) }
 {
-    let c = inside_found(alloc, form, vectors)?;
-    Ok(made(alloc, c, Items::new(alloc), Items::new(alloc), &[])?)
+    let c = interior_vector(alloc, form, vectors)?;
+    Ok(duality_with(alloc, c, Items::new(alloc), Items::new(alloc), &[])?)
 }
 
 /// All of a cone in dual form.
@@ -250,10 +250,10 @@ pub fn dual_form_facts<F: Field>(
     ensures end { (file : File) → IsDataOf F.value file form.now
         → IfErr result (IsEnd F.holds file) }
 {
-    solid(alloc, form, vectors)?;
-    without_line(alloc, form, vectors)?;
+    require_solid(alloc, form, vectors)?;
+    require_no_line(alloc, form, vectors)?;
     match &form.duality {
-        Some(f) => given(alloc, form, vectors, f.as_slice()),
-        None => found(alloc, form, vectors),
+        Some(f) => given_duality(alloc, form, vectors, f.as_slice()),
+        None => found_duality(alloc, form, vectors),
     }
 }

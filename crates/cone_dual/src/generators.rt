@@ -20,19 +20,19 @@ ghost use Rattle.vlp_reader.specs.declared.problem.Problem.{Problem as File};
 use crate::asking::{independent_vectors, interior_end, inverse_columns};
 use crate::combining::zero_combination;
 use crate::duality::{ConeEnd, Duality};
-use crate::given::{made, not_interior, scaled_given};
+use crate::given::{duality_with, not_interior, scaled_given};
 use cone_rules::ConeFault;
 use exact_field::Field;
 use exact_simplex::LpEnd;
 use lin_rows::Indep;
 use lin_rows::cells::is_positive;
 use lp_form::{Data, column};
-use overflows::{SolveFault, divided, fractions, sum_of_products, term_fault};
+use overflows::{SolveFault, quotients_of, fractions, sum_of_products, term_fault};
 use src_sink::{Items, NoMemory};
 use std::alloc::Global;
 
 /// Independent generators, as many as there are dimensions.
-fn spanning<F: Field>(
+fn independent_generators<F: Field>(
     alloc: Global,
     form: &Data<F>,
     vectors: &[Items<F>],
@@ -55,7 +55,7 @@ fn spanning<F: Field>(
 }
 
 /// That the generators combine to no line.
-fn without_line<F: Field>(
+fn require_no_line<F: Field>(
     alloc: Global,
     form: &Data<F>,
     vectors: &[Items<F>],
@@ -76,7 +76,7 @@ fn without_line<F: Field>(
 }
 
 /// The entries of a list behind the first `n`.
-fn behind<F: Field>(list: &[F], n: usize) -> &[F]
+fn entries_after<F: Field>(list: &[F], n: usize) -> &[F]
     requires { n ≤ length list.now }
     ensures { map F.value result.now ≡ drop n (map F.value list.now) }
 {
@@ -85,7 +85,7 @@ fn behind<F: Field>(list: &[F], n: usize) -> &[F]
 
 /// The fault that multipliers of the program of an interior vector show: those of the last
 /// equations, behind one for each generator.
-fn outside<F: Field>(
+fn outside_fault<F: Field>(
     alloc: Global,
     form: &Data<F>,
     vectors: &[Items<F>],
@@ -99,12 +99,12 @@ fn outside<F: Field>(
         (duality_of F.value form.now.duality) (drop (length vectors.now) (map F.value y.now)) [] }
     ensures { (file : File) → IsDataOf F.value file form.now → IfOk result (HasFault file) }
 {
-    let w = behind(y, vectors.len());
+    let w = entries_after(y, vectors.len());
     not_interior(alloc, w, Items::new(alloc))
 }
 
 /// The solution that combines the generators to the vector that is given, by positive multipliers.
-fn inside_given<F: Field>(
+fn positive_solution<F: Field>(
     alloc: Global,
     form: &Data<F>,
     vectors: &[Items<F>],
@@ -128,11 +128,11 @@ fn inside_given<F: Field>(
             if is_positive(x.as_slice()[n + n]) {
                 return Ok(x);
             }
-            let fault = outside(alloc, form, vectors, dual.as_slice())?;
+            let fault = outside_fault(alloc, form, vectors, dual.as_slice())?;
             Err(ConeEnd::Fault(fault))
         }
         LpEnd::Infeasible { farkas, .. } => {
-            let fault = outside(alloc, form, vectors, farkas.as_slice())?;
+            let fault = outside_fault(alloc, form, vectors, farkas.as_slice())?;
             Err(ConeEnd::Fault(fault))
         }
         LpEnd::Unbounded { .. } => unreachable!(),
@@ -141,7 +141,7 @@ fn inside_given<F: Field>(
 
 /// The multipliers of a solution that combines the generators to an interior vector with last entry
 /// 1.
-fn inside_found<F: Field>(
+fn interior_multipliers<F: Field>(
     alloc: Global,
     form: &Data<F>,
     vectors: &[Items<F>],
@@ -172,7 +172,7 @@ fn inside_found<F: Field>(
 }
 
 /// The combination of the generators with these multipliers.
-fn combined<F: Field>(
+fn combine_generators<F: Field>(
     alloc: Global,
     q: u32,
     vectors: &[Items<F>],
@@ -199,7 +199,7 @@ fn combined<F: Field>(
 }
 
 /// The vector that is given, with the multipliers that combine the generators to it.
-fn given<F: Field>(
+fn given_duality<F: Field>(
     alloc: Global,
     form: &Data<F>,
     vectors: &[Items<F>],
@@ -215,15 +215,15 @@ fn given<F: Field>(
     ensures end { (file : File) → IsDataOf F.value file form.now
         → IfErr result (IsEnd F.holds file) }
 {
-    let z = inside_given(alloc, form, vectors, f)?;
+    let z = positive_solution(alloc, form, vectors, f)?;
     let c = scaled_given(alloc, form, f)?;
-    let weights = divided(alloc, z.as_slice(), vectors.len(), f[f.len() - 1])?;
+    let weights = quotients_of(alloc, z.as_slice(), vectors.len(), f[f.len() - 1])?;
     let inverse = inverse_columns(alloc, form, vectors, picks.as_slice())?;
-    Ok(made(alloc, c, weights, picks, inverse.as_slice())?)
+    Ok(duality_with(alloc, c, weights, picks, inverse.as_slice())?)
 }
 
 /// An interior vector, with the multipliers that combine the generators to it.
-fn found<F: Field>(
+fn found_duality<F: Field>(
     alloc: Global,
     form: &Data<F>,
     vectors: &[Items<F>],
@@ -238,10 +238,10 @@ fn found<F: Field>(
     ensures end { (file : File) → IsDataOf F.value file form.now
         → IfErr result (IsEnd F.holds file) }
 {
-    let mu = inside_found(alloc, form, vectors)?;
-    let c = combined(alloc, form.p.len() as u32, vectors, mu.as_slice())?;
+    let mu = interior_multipliers(alloc, form, vectors)?;
+    let c = combine_generators(alloc, form.p.len() as u32, vectors, mu.as_slice())?;
     let inverse = inverse_columns(alloc, form, vectors, picks.as_slice())?;
-    Ok(made(alloc, c, mu, picks, inverse.as_slice())?)
+    Ok(duality_with(alloc, c, mu, picks, inverse.as_slice())?)
 }
 
 /// All of a cone that is given by generators.
@@ -256,10 +256,10 @@ pub fn generator_facts<F: Field>(
     ensures end { (file : File) → IsDataOf F.value file form.now
         → IfErr result (IsEnd F.holds file) }
 {
-    let picks = spanning(alloc, form, vectors)?;
-    without_line(alloc, form, vectors)?;
+    let picks = independent_generators(alloc, form, vectors)?;
+    require_no_line(alloc, form, vectors)?;
     match &form.duality {
-        Some(f) => given(alloc, form, vectors, f.as_slice(), picks),
-        None => found(alloc, form, vectors, picks),
+        Some(f) => given_duality(alloc, form, vectors, f.as_slice(), picks),
+        None => found_duality(alloc, form, vectors, picks),
     }
 }

@@ -17,12 +17,12 @@ use exact_field::Field;
 use frac128::Sparse;
 use lin_rows::cells::is_positive;
 use lp_form::Data;
-use overflows::{divided, fractions};
+use overflows::{quotients_of, fractions};
 use src_sink::{Items, NoMemory};
 use std::alloc::Global;
 
 /// A duality vector with its entry.
-pub fn made<F: Field>(
+pub fn duality_with<F: Field>(
     alloc: Global,
     c: Items<F>,
     weights: Items<F>,
@@ -67,5 +67,5 @@ pub fn scaled_given<F: Field>(alloc: Global, form: &Data<F>, f: &[F]) -> Result<
             m: Items::new(alloc),
         }));
     }
-    Ok(divided(alloc, f, f.len(), last)?)
+    Ok(quotients_of(alloc, f, f.len(), last)?)
 }

@@ -8,7 +8,7 @@ ghost use Rattle.lp_form.specs.declared.data.ConeOf.TheVariants as cone;
 ghost use Rattle.vlp_reader.specs.declared.problem.Problem.{Problem as File};
 
 use crate::duality::{ConeEnd, Duality};
-use crate::given::{made, not_interior, scaled_given};
+use crate::given::{duality_with, not_interior, scaled_given};
 use crate::lists::first_not_positive;
 use exact_field::Field;
 use lp_form::{Data, push_ones, unit};
@@ -16,7 +16,7 @@ use src_sink::{Items, NoMemory};
 use std::alloc::Global;
 
 /// That all entries of the vector that is given are positive.
-fn all_positive<F: Field>(alloc: Global, form: &Data<F>, f: &[F]) -> Result<(), ConeEnd>
+fn require_positive<F: Field>(alloc: Global, form: &Data<F>, f: &[F]) -> Result<(), ConeEnd>
     requires cone { form.now.cone ≡ cone.Orthant }
     requires duality { form.now.duality ≡ Some f.now }
     ensures positive { OnOk result (All (λ x. zero_ℚ <ℚ x) (map F.value f.now)) }
@@ -34,7 +34,7 @@ fn all_positive<F: Field>(alloc: Global, form: &Data<F>, f: &[F]) -> Result<(), 
 }
 
 /// The vector that is given, divided by its last entry.
-fn given<F: Field>(alloc: Global, form: &Data<F>, f: &[F]) -> Result<Duality<F>, ConeEnd>
+fn given_duality<F: Field>(alloc: Global, form: &Data<F>, f: &[F]) -> Result<Duality<F>, ConeEnd>
     requires cone { form.now.cone ≡ cone.Orthant }
     requires duality { form.now.duality ≡ Some f.now }
     ensures ok { (file : File) → IsDataOf F.value file form.now
@@ -42,9 +42,9 @@ fn given<F: Field>(alloc: Global, form: &Data<F>, f: &[F]) -> Result<Duality<F>,
     ensures end { (file : File) → IsDataOf F.value file form.now
         → IfErr result (IsEnd F.holds file) }
 {
-    all_positive(alloc, form, f)?;
+    require_positive(alloc, form, f)?;
     let c = scaled_given(alloc, form, f)?;
-    Ok(made(alloc, c, Items::new(alloc), Items::new(alloc), &[])?)
+    Ok(duality_with(alloc, c, Items::new(alloc), Items::new(alloc), &[])?)
 }
 
 /// The vector of ones.
@@ -56,7 +56,7 @@ fn ones<F: Field>(alloc: Global, form: &Data<F>) -> Result<Duality<F>, NoMemory>
 {
     let mut c = Items::new(alloc);
     push_ones(&mut c, form.p.len() as u32)?;
-    made(alloc, c, Items::new(alloc), Items::new(alloc), &[])
+    duality_with(alloc, c, Items::new(alloc), Items::new(alloc), &[])
 }
 
 /// All of the orthant: ones, or the vector that is given.
@@ -68,7 +68,7 @@ pub fn orthant_facts<F: Field>(alloc: Global, form: &Data<F>) -> Result<Duality<
         → IfErr result (IsEnd F.holds file) }
 {
     match &form.duality {
-        Some(f) => given(alloc, form, f.as_slice()),
+        Some(f) => given_duality(alloc, form, f.as_slice()),
         None => Ok(ones(alloc, form)?),
     }
 }

@@ -42,8 +42,8 @@ pub fn rows_at<F: Field>(alloc: Global, rows: &Rows<F>, picks: &[u32]) -> Result
         (λ out. numbers F.value out.list ≡ map (row_of (numbers F.value rows.now.list)) picks.now) }
 {
     let mut out = Rows::new(alloc, rows.width());
-    for i in 0..picks.len() {
-        out.push_row(rows.row(picks[i]))?;
+    for number in picks {
+        out.push_row(rows.row(*number))?;
     }
     Ok(out)
 }

@@ -14,7 +14,7 @@ ghost use Rattle.overflows.specs.Faults.{OnLicence, Overflows};
 use crate::search::Search;
 use crate::spanning::spanning_rows;
 use crate::starting::lower_description;
-use crate::touching::touching;
+use crate::touching::touching_facets;
 use exact_field::Field;
 use incid_sets::Marks;
 use lin_rows::Rows;
@@ -67,7 +67,7 @@ fn facets_over<F: Field>(
         basis: Items::new(alloc),
     };
     search.approximate()?;
-    let touching = touching(alloc, &search.dd, search.certified.as_slice(), least)?;
+    let touching = touching_facets(alloc, &search.dd, search.certified.as_slice(), least)?;
     Ok(AllFacets {
         cuts: search.into_cuts(),
         touching,

@@ -240,14 +240,14 @@ fn combination<F: Field>(alloc: Global, q: u32, vectors: &[Items<F>]) -> Result<
 }
 
 /// No unknown and no equation.
-fn empty<F: Field>(alloc: Global) -> System<F>
+fn empty_system<F: Field>(alloc: Global) -> System<F>
     ensures { IsWritten F.value empty_system result }
 {
     system(Items::new(alloc), Items::new(alloc), Items::new(alloc))
 }
 
 /// The program of an interior vector.
-pub fn interior<F: Field>(
+pub fn interior_system<F: Field>(
     alloc: Global,
     q: u32,
     cone: &ConeOf<F>,
@@ -261,7 +261,7 @@ pub fn interior<F: Field>(
         (interior_system q (cone_of F.value cone.now) (duality_of F.value duality.now))) }
 {
     match cone {
-        ConeOf::Orthant => Ok(empty(alloc)),
+        ConeOf::Orthant => Ok(empty_system(alloc)),
         ConeOf::Gens(vectors) => match duality {
             Some(f) => interior_given(alloc, q, vectors.as_slice(), f.as_slice()),
             None => interior_found(alloc, q, vectors.as_slice()),
@@ -274,12 +274,12 @@ pub fn interior<F: Field>(
 }
 
 /// The program of a line in the cone or its dual.
-pub fn pointed<F: Field>(alloc: Global, q: u32, cone: &ConeOf<F>) -> Result<System<F>, NoMemory>
+pub fn pointed_system<F: Field>(alloc: Global, q: u32, cone: &ConeOf<F>) -> Result<System<F>, NoMemory>
     requires { IsTrue (vectors_fit q cone.now) }
     ensures { IfOk result (IsWritten F.value (pointed_system q (cone_of F.value cone.now))) }
 {
     match cone {
-        ConeOf::Orthant => Ok(empty(alloc)),
+        ConeOf::Orthant => Ok(empty_system(alloc)),
         ConeOf::Gens(vectors) | ConeOf::Dual(vectors) => {
             let kept = nonzero(alloc, vectors.as_slice())?;
             combination(alloc, q, kept.as_slice())

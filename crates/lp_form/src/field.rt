@@ -8,7 +8,7 @@ ghost use Rattle.vlp_reader.specs.Values.{cone_vectors, duality_entries};
 ghost use Rattle.lp_form.specs.Data.{cone_of, duality_of};
 
 use crate::data::{At, ConeOf, SideOf};
-use crate::numbers::held;
+use crate::numbers::to_field;
 use exact_field::Field;
 use frac128::{Frac, Sparse, Spot, Vector};
 use src_sink::{Items, NoMemory};
@@ -22,7 +22,7 @@ fn vector_in<F: Field>(alloc: Global, vector: &[Frac]) -> Result<Items<F>, NoMem
 {
     let mut list = Items::new(alloc);
     for number in vector {
-        list.push(held::<F>(*number))?;
+        list.push(to_field::<F>(*number))?;
     }
     Ok(list)
 }
@@ -72,7 +72,7 @@ fn line_in<F: Field>(alloc: Global, spots: &[Spot]) -> Result<Items<At<F>>, NoMe
 {
     let mut line = Items::new(alloc);
     for spot in spots {
-        let value = held::<F>(spot.value);
+        let value = to_field::<F>(spot.value);
         line.push(At { at: spot.at, value })?;
     }
     Ok(line)
@@ -106,7 +106,7 @@ pub fn sides_in<F: Field>(
     let mut sides = Items::new(alloc);
     for i in 0..bounds.len() {
         let g = line_in(alloc, rows[i].as_slice())?;
-        let beta = held::<F>(bounds[i]);
+        let beta = to_field::<F>(bounds[i]);
         sides.push(SideOf { g, beta })?;
     }
     Ok(sides)

@@ -13,7 +13,7 @@ mod programs;
 mod reading;
 mod shown;
 
-pub use cone::{interior, is_zero_vector, pointed, push_ones};
+pub use cone::{interior_system, is_zero_vector, pointed_system, push_ones};
 pub use data::{At, ConeOf, Data, DataFault, SideOf};
 pub use name::{LpName, Parts};
 pub use pieces::{column, negative, unit, zeros};

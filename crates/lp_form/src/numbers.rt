@@ -68,7 +68,7 @@ fn push_bounds(numbers: &mut Vector, bounds: &[Bound]) -> Result<(), NoMemory>
 }
 
 /// All numbers of a problem.
-fn printed(alloc: Global, problem: &Problem) -> Result<Vector, NoMemory>
+fn all_numbers(alloc: Global, problem: &Problem) -> Result<Vector, NoMemory>
     ensures { IfOk result (λ numbers. numbers ≡ printed_numbers problem.now) }
 {
     let mut numbers = Items::new(alloc);
@@ -91,7 +91,7 @@ fn in_field<F: Field>(number: Frac) -> Option<F>
 }
 
 /// A number in the field, which holds it.
-pub fn held<F: Field>(number: Frac) -> F
+pub fn to_field<F: Field>(number: Frac) -> F
     requires { IsTrue (F.holds number) }
     ensures { F.value result ≡ number }
 {
@@ -128,7 +128,7 @@ pub fn test_numbers<F: Field>(alloc: Global, problem: &Problem) -> Result<(), Da
     ensures held { OnOk result (All (λ q. IsTrue (F.holds q)) (printed_numbers problem.now)) }
     ensures refused { IfErr result (RefusesNumber F.holds problem.now) }
 {
-    let numbers = printed(alloc, problem)?;
+    let numbers = all_numbers(alloc, problem)?;
     match first_unheld::<F>(numbers.as_slice()) {
         Some(number) => Err(DataFault::NotHeld(number)),
         None => Ok(()),

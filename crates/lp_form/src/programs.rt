@@ -9,7 +9,7 @@ ghost use Rattle.lp_form.specs.Data.{IsDataOf};
 ghost use Rattle.lp_form.specs.Names.{HasWidths, named};
 ghost use Rattle.lp_form.specs.Programs.{benson_system, feasible_system, named_system, side_total, weight_system};
 
-use crate::cone::{interior, pointed};
+use crate::cone::{interior_system, pointed_system};
 use crate::data::Data;
 use crate::equations::{
     dual_equations, dual_unknowns, push_balances, push_entries_of_w, push_members,
@@ -23,7 +23,7 @@ use src_sink::{Items, NoMemory};
 use std::alloc::Global;
 
 /// Whether the sides contradict each other.
-fn feasible<F: Field>(alloc: Global, form: &Data<F>) -> Result<System<F>, NoMemory>
+fn feasible_system<F: Field>(alloc: Global, form: &Data<F>) -> Result<System<F>, NoMemory>
     ensures { (file : File) → IsDataOf F.value file form.now
         → IfOk result (IsWritten F.value (feasible_system file)) }
 {
@@ -73,7 +73,7 @@ pub fn benson_cost<F: Field>(
 }
 
 /// Benson's program at `v`.
-fn benson<F: Field>(
+fn benson_system<F: Field>(
     alloc: Global,
     form: &Data<F>,
     c: &[F],
@@ -103,7 +103,7 @@ fn benson<F: Field>(
 }
 
 /// The best bound of a weight vector.
-fn weight<F: Field>(alloc: Global, form: &Data<F>, w: &[F]) -> Result<System<F>, NoMemory>
+fn weight_system<F: Field>(alloc: Global, form: &Data<F>, w: &[F]) -> Result<System<F>, NoMemory>
     requires { length w.now ≡ length form.now.p }
     ensures { (file : File) → IsDataOf F.value file form.now
         → IfOk result (IsWritten F.value (weight_system file (map F.value w.now))) }
@@ -144,10 +144,10 @@ pub fn program<F: Field>(
 {
     let q = form.p.len() as u32;
     match name {
-        LpName::Feasible => feasible(alloc, form),
-        LpName::Benson { v, t } => benson(alloc, form, c, v.as_slice(), *t),
-        LpName::Weight { w } => weight(alloc, form, w.as_slice()),
-        LpName::Interior => interior(alloc, q, &form.cone, &form.duality),
-        LpName::Pointed => pointed(alloc, q, &form.cone),
+        LpName::Feasible => feasible_system(alloc, form),
+        LpName::Benson { v, t } => benson_system(alloc, form, c, v.as_slice(), *t),
+        LpName::Weight { w } => weight_system(alloc, form, w.as_slice()),
+        LpName::Interior => interior_system(alloc, q, &form.cone, &form.duality),
+        LpName::Pointed => pointed_system(alloc, q, &form.cone),
     }
 }

@@ -24,7 +24,7 @@ fn copy<F: Field>(alloc: Global, list: &[F]) -> Result<Items<F>, NoMemory>
 }
 
 /// The difference of two numbers, of which at most one is not 0.
-fn signed<F: Field>(plus: F, minus: F) -> F
+fn signed_number<F: Field>(plus: F, minus: F) -> F
     requires { (F.value plus ≡ zero_ℚ) ⊎ (F.value minus ≡ zero_ℚ) }
     ensures { F.value result ≡ F.value plus -ℚ F.value minus }
 {
@@ -40,7 +40,7 @@ pub fn difference<F: Field>(alloc: Global, plus: &[F], negative: &[F]) -> Result
 {
     let mut w = Items::new(alloc);
     for i in 0..plus.len() {
-        w.push(signed(plus[i], negative[i]))?;
+        w.push(signed_number(plus[i], negative[i]))?;
     }
     Ok(w)
 }

@@ -12,7 +12,7 @@ use src_sink::Items;
 use std::alloc::Global;
 
 /// The first `count` entries of a vector, each divided by a number that is not 0.
-pub fn divided<F: Field>(
+pub fn quotients_of<F: Field>(
     alloc: Global,
     vector: &[F],
     count: usize,

@@ -9,8 +9,8 @@ use Rattle.benson_program.proofs.Divided.{length-share}
 use Rattle.benson_program.proofs.Shared.{full_below, full_other, low_long, within_y}
 use Rattle.benson_program.proofs.preimage.full_share.Goals as goal
 
-pub weighed-requires-clause-same : goal.weighed-requires-clause-same
-weighed-requires-clause-same g c =
+pub add_weights-requires-clause-same : goal.add_weights-requires-clause-same
+add_weights-requires-clause-same g c =
     let value = g.F.Field.value in
     let e = c.requires.dual in
     let y = map value c.args.dual.now in
@@ -29,8 +29,8 @@ returns-then-is_negative-clause-ok g c = λ file stands.
     c.index-dual-dual.is refl in
     let below = subst (λ (q : ℚ). q <ℚ zero_ℚ) last (c.is_negative.ensures.0 c.if-is_negative.true) in
     let own = ap (map value) c.as_slice.ensures.items ∙ c.in_ok-own.ensures file stands in
-    IfOk-weaker c.weighed.result _ (λ (m : List F). map value m ≡ full_share_of file file.cone weights y)
-    (λ m is. is ∙ ap₂ (λ (a : List ℚ) (q : ℚ). plus a (scaled (neg_ℚ q) weights)) own last ∙ full_below file file.cone weights y below) c.weighed.ensures.ok
+    IfOk-weaker c.add_weights.result _ (λ (m : List F). map value m ≡ full_share_of file file.cone weights y)
+    (λ m is. is ∙ ap₂ (λ (a : List ℚ) (q : ℚ). plus a (scaled (neg_ℚ q) weights)) own last ∙ full_below file file.cone weights y below) c.add_weights.ensures.ok
 
 pub returns-then-is_negative-clause-left : goal.returns-then-is_negative-clause-left
 returns-then-is_negative-clause-left g c = λ s stands read weights_are.
@@ -40,7 +40,7 @@ returns-then-is_negative-clause-left g c = λ s stands read weights_are.
     let y = map value dual in
     let last = last_is value dual (length dual - 1) c.index-dual-dual.result (some_last value c.args.form.now e.0 e.4 dual (low_long e.0 e.1 e.2 e.3 y e.5))
     c.index-dual-dual.is refl in
-    c.weighed.ensures.left s y read last (ap (map value) c.as_slice.ensures.items ∙ c.in_ok-own.ensures s.file stands) weights_are
+    c.add_weights.ensures.left s y read last (ap (map value) c.as_slice.ensures.items ∙ c.in_ok-own.ensures s.file stands) weights_are
 
 pub returns-else-is_negative-clause-ok : goal.returns-else-is_negative-clause-ok
 returns-else-is_negative-clause-ok g c = λ file stands.

@@ -8,20 +8,20 @@ use Rattle.cone_dual.proofs.dual.generators_of.Goals as goal
 pub push_row-requires : goal.push_row-requires
 push_row-requires g c =
     let dd = c.args.dd.now in
-    wide_at g.F.Field.value dd.list c.live-live.result.now c.live-live.ensures.live c.loop-i.i c.loop-i-test.true c.generator.result.now dd.width dd.rows
+    wide_at g.F.Field.value dd.list c.live-live.result.now c.live-live.ensures.live c.loop-number.number-index c.loop-number-test.true c.generator.result.now dd.width dd.rows
     c.live-live.ensures.described c.generator.ensures.listed
-    ∙ sym c.requires ∙ sym c.loop-i.invariant.width
+    ∙ sym c.requires ∙ sym c.loop-number.invariant.width
 
-pub loop-i-preserved : goal.loop-i-preserved
-loop-i-preserved g c =
+pub loop-number-preserved : goal.loop-number-preserved
+loop-number-preserved g c =
     let value = g.F.Field.value in
     let list = c.args.dd.now.list in
     let long : length c.live-live.result.now ≡ length (vectors list.live) =
     ap length c.live-live.ensures.live ∙ length-map list.live (λ (h : Numbered). h.number) ∙ sym (length-map list.live (λ (h : Numbered). h.vector)) in
     record {
-      width = c.in_ok-push_row.ensures.width ∙ c.loop-i.invariant.width;
-      rows = one_more (vectors list.live) (numbers value c.loop-i.out.list) (numbers value c.push_row.new.self.list) (map value c.generator.result.now) [] c.loop-i.i
-          (ap (numbers value) c.in_ok-push_row.ensures.ok ∙ map_push (map value) c.loop-i.out.list c.generator.result.now) c.loop-i.invariant.rows
-          (omega (arith, c.loop-i-test.true, long))
-          (vector_at value list c.live-live.result.now c.live-live.ensures.live c.loop-i.i c.loop-i-test.true c.generator.result.now c.generator.ensures.only);
+      width = c.in_ok-push_row.ensures.width ∙ c.loop-number.invariant.width;
+      rows = one_more (vectors list.live) (numbers value c.loop-number.out.list) (numbers value c.push_row.new.self.list) (map value c.generator.result.now) [] c.loop-number.number-index
+          (ap (numbers value) c.in_ok-push_row.ensures.ok ∙ map_push (map value) c.loop-number.out.list c.generator.result.now) c.loop-number.invariant.rows
+          (omega (arith, c.loop-number-test.true, long))
+          (vector_at value list c.live-live.result.now c.live-live.ensures.live c.loop-number.number-index c.loop-number-test.true c.generator.result.now c.generator.ensures.only);
     }

@@ -9,8 +9,8 @@ use Rattle.cone_dual.proofs.ByRows.{combined, may_divide, multipliers, not_zero}
 use Rattle.cone_dual.proofs.Standing.{before, without}
 use Rattle.cone_dual.proofs.dual_form.last_fault.Goals as goal
 
-pub divided-requires-clause-by : goal.divided-requires-clause-by
-divided-requires-clause-by g c =
+pub quotients_of-requires-clause-by : goal.quotients_of-requires-clause-by
+quotients_of-requires-clause-by g c =
     let value = g.F.Field.value in
     let y = c.args.y.now in
     let n : ℕ = length y - 2 in

@@ -9,8 +9,8 @@ use Rattle.cone_dual.proofs.Picks.{full_rank}
 use Rattle.cone_dual.proofs.Standing.{as_cone}
 use Rattle.cone_dual.proofs.generators.generator_facts.Goals as goal
 
-pub without_line-requires-clause-solid : goal.without_line-requires-clause-solid
-without_line-requires-clause-solid g c =
+pub require_no_line-requires-clause-solid : goal.require_no_line-requires-clause-solid
+require_no_line-requires-clause-solid g c =
     let value = g.F.Field.value in
     let form = c.args.form.now in
     let vectors = c.args.vectors.now in

@@ -32,13 +32,13 @@ returns-then-not-is_positive-clause-end g c = λ file stands.
       as_duality value form (Some f) c.requires.duality (λ d. ShowsLast (length form.p) (cone_of value form.cone) d c.new.result) (c.new.ensures, low),
     )
 
-pub returns-in_err-divided-clause-end : goal.returns-in_err-divided-clause-end
-returns-in_err-divided-clause-end g c = λ file stands.
+pub returns-in_err-quotients_of-clause-end : goal.returns-in_err-quotients_of-clause-end
+returns-in_err-quotients_of-clause-end g c = λ file stands.
     let value = g.F.Field.value in
     let holds = g.F.Field.holds in
     let form = c.args.form.now in
     let f = c.args.f.now in
-    let fault = c.in_err-divided.field-0.0 in
+    let fault = c.in_err-quotients_of.field-0.0 in
     let long : length f ≡ length form.p = given_long value form f c.requires.duality in
     let some = form.some_objective in
     let last : length f - 1 + 1 ≡ length (map value f) = omega (arith, long, some, length-map f value) in
@@ -46,4 +46,4 @@ returns-in_err-divided-clause-end g c = λ file stands.
     sym (ap (entry (map value f)) (sym last) ∙ entry_read value holds f (length f - 1) c.index-f-f.result (omega (arith, long, some)) c.index-f-f.is) in
     let given = given_to value form file stands f c.requires.duality in
     licensed_end holds file c.from_residual.result fault c.from_residual.ensures.1
-    (without holds file fault (c.in_err-divided.ensures.left (before file) (IsScaled.given given) (IsDivisor.given (map value f) given here)))
+    (without holds file fault (c.in_err-quotients_of.ensures.left (before file) (IsScaled.given given) (IsDivisor.given (map value f) given here)))

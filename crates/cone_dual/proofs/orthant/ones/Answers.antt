@@ -24,9 +24,9 @@ returns g c = λ file stands.
     let none_at : file.duality ≡ None = sym stands.duality ∙ ap (duality_of value) c.requires.duality in
     let made_is : map value made_of ≡ ones =
     c.in_ok-push_ones.ensures ∙ ap (λ l. map value l ++ replicate c.len.result one_ℚ) c.new-c.ensures ∙ ap (λ (n : ℕ). replicate n one_ℚ) (c.len.ensures.value ∙ objs) in
-    IfOk-weaker c.made.result (IsMade value holds made_of c.new.result c.new-2.result []) (IsDualityOf value holds file)
+    IfOk-weaker c.duality_with.result (IsMade value holds made_of c.new.result c.new-2.result []) (IsDualityOf value holds file)
     (λ d made. bare_fits value holds file made_of c.new.result c.new-2.result d ones made_is c.new.ensures c.new-2.ensures (fitting_laws.orthant file cone_at none_at)
     (base_as file form_of.Orthant None ones [] cone_at none_at (refl, refl))
     (subst (λ (k : Cone). HasInterior file.objs k) (sym cone_at) (orthant_laws.solid file.objs))
     (subst (λ (k : Cone). HasNoLine file.objs k) (sym cone_at) (orthant_laws.pointed file.objs)) made)
-    c.made.ensures
+    c.duality_with.ensures

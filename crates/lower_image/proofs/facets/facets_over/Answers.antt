@@ -19,8 +19,8 @@ approximate-requires g c κs within =
 pub returns-in_err-approximate-clause-left : goal.returns-in_err-approximate-clause-left
 returns-in_err-approximate-clause-left g c = λ trail. let h = c.in_err-approximate.ensures.left trail in search (rules, h)
 
-pub touching-requires-clause-listed : goal.touching-requires-clause-listed
-touching-requires-clause-listed g c =
+pub touching_facets-requires-clause-listed : goal.touching_facets-requires-clause-listed
+touching_facets-requires-clause-listed g c =
     let s = c.approximate.new.self in
     subst (All (Contains (numbers s.dd.list.live))) (sym c.as_slice.ensures.items)
     (certified_live g.F.Field.value g.F.Field.holds g.task s c.in_ok-approximate.ensures.searching)

@@ -12,14 +12,14 @@ returns-in-Interior g c = λ file stands.
     let value = g.F.Field.value in
     let form = c.args.form.now in
     let q_is : c.len-q.result ≡ file.objs = c.len-q.ensures.value ∙ objective_number value file form stands in
-    subst (λ s. IfOk c.interior.result (IsWritten value s))
+    subst (λ s. IfOk c.interior_system.result (IsWritten value s))
     (ap (λ n. interior_system n (cone_of value form.cone) (duality_of value form.duality)) q_is ∙ ap₂ (interior_system file.objs) stands.cone stands.duality
-    ∙ sym (ap (λ n. named_system file (map value c.args.c.now) (named value n)) c.in-Interior.is)) c.interior.ensures
+    ∙ sym (ap (λ n. named_system file (map value c.args.c.now) (named value n)) c.in-Interior.is)) c.interior_system.ensures
 
 pub returns-in-Pointed : goal.returns-in-Pointed
 returns-in-Pointed g c = λ file stands.
     let value = g.F.Field.value in
     let form = c.args.form.now in
     let q_is : c.len-q.result ≡ file.objs = c.len-q.ensures.value ∙ objective_number value file form stands in
-    subst (λ s. IfOk c.pointed.result (IsWritten value s))
-    (ap₂ pointed_system q_is stands.cone ∙ sym (ap (λ n. named_system file (map value c.args.c.now) (named value n)) c.in-Pointed.is)) c.pointed.ensures
+    subst (λ s. IfOk c.pointed_system.result (IsWritten value s))
+    (ap₂ pointed_system q_is stands.cone ∙ sym (ap (λ n. named_system file (map value c.args.c.now) (named value n)) c.in-Pointed.is)) c.pointed_system.ensures

@@ -15,7 +15,7 @@ loop-i-preserved g c =
     let i = c.loop-i.i in
     let long : length negative ≡ length plus = c.requires.one_each in
     let inside : i < length plus = omega arith in
-    value_pushed value c.loop-i.w c.push.new.self c.signed.result _ c.in_ok-push.ensures.ok c.signed.ensures
+    value_pushed value c.loop-i.w c.push.new.self c.signed_number.result _ c.in_ok-push.ensures.ok c.signed_number.ensures
     ∙ ap (λ l. l ++ (value c.index-plus-i.result -ℚ value c.index-negative-i.result) ∷ []) c.loop-i.invariant
     ∙ sym (ap₂ minus (ap (map value) (take_next plus i c.index-plus-i.result inside c.index-plus-i.is) ∙ map_push value (take i plus) c.index-plus-i.result)
     (ap (map value) (take_next negative i c.index-negative-i.result (omega arith) c.index-negative-i.is) ∙ map_push value (take i negative) c.index-negative-i.result)
