@@ -7,7 +7,7 @@
 `write` writes three sets of covering and packing problems with random coefficients: `small`, 120 with two and three objectives, 8 to
 60 rows and digits from 1 to 9; `cover`, 60 with three and four objectives and up to 30 rows of such digits; `pack`, 60 with four
 objectives, 6 rows of 14 coefficients from 1 to 20, and supplies of 100. `run` tells for each PROGRAM, a path of a built bensolve
-with its command behind a colon, as `./bensolve:dual`, how many problems of each set it solves, the time of those that it does not, and
+with its command after a colon, as `./bensolve:dual`, how many problems of each set it solves, the time of those that it does not, and
 whether the programs that solve a problem tell the same image.
 """
 import os

@@ -175,7 +175,7 @@ def log_bits(path):
 
 
 def status_of(each):
-    """The status, and behind 5 the kind of place whose step was given up."""
+    """The status, and after 5 the kind of place whose step was given up."""
     if each.status is None:
         return ""
     fault = re.match(r"fault 5 (\w+)", each.output)

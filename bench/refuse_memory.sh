@@ -95,7 +95,7 @@ END
     cc -O2 -shared -fPIC -o "$work/refuse.so" "$work/refuse.c"
 }
 
-# Runs PROGRAM with the allocation of number $1 refused, and the words behind it: its status, report and log, and
+# Runs PROGRAM with the allocation of number $1 refused, and the words after it: its status, report and log, and
 # whether it came to that allocation, stand in the folder `now`.
 run_built() {
     local number=$1 status=0

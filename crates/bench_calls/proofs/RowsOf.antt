@@ -1,4 +1,4 @@
--- Rows of whole numbers, one behind the other.
+-- Rows of whole numbers, one after the other.
 use Rattle.std.proofs.Common.{◌≡◌, ℕ, suc, ◌+◌, ◌-◌, ◌<◌, ℤ, List, [], ◌∷◌, ◌++◌, map, take, drop, refl, ap, ◌∙◌, arith}
 use Rattle.std.proofs.lemmas.List.{map-id, append_assoc}
 use Rattle.exact_field.specs.Rational.{ℚ, whole}

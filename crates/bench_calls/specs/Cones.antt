@@ -4,7 +4,7 @@ use Rattle.exact_field.specs.Rational.{ℚ, whole}
 use Rattle.polyhedra.specs.LiveList.{LiveList}
 use Rattle.polyhedra.specs.LiveSteps.{IsLive}
 
--- so many rows of this width, one behind the other
+-- so many rows of this width, one after the other
 abbrev pub rows_of : ℕ → ℕ → List ℤ → List (List ℚ)
 rows_of zero width entries = []
 rows_of (suc count) width entries = map whole (take width entries) ∷ rows_of count width (drop width entries)

@@ -21,6 +21,7 @@ abbrev pub answer_of : ℕ → ℚ → ℚ → Option ℚ
 answer_of operation p q =
     cond ((nat_lt operation 3 || not (same_ℚ q zero_ℚ)) && is_held (exact_of operation p q)) (Some (exact_of operation p q)) None
 
+-- the number in place k, counted from 0
 abbrev pub at_place : List ℚ → ℕ → ℚ
 at_place numbers k = slice_index_or numbers k zero_ℚ
 
@@ -31,6 +32,7 @@ step_of numbers s =
     (option_map (λ r. slice_set numbers s.into r) (answer_of s.operation (at_place numbers s.left) (at_place numbers s.right)))
     None
 
+-- the rest of a program, where the numbers so far are there
 abbrev pub then_run : Option (List ℚ) → (List ℚ → Option (List ℚ)) → Option (List ℚ)
 then_run None rest = None
 then_run (Some numbers) rest = rest numbers
@@ -50,9 +52,11 @@ abbrev pub ends_in_zero : Option (List ℚ) → Bool
 ends_in_zero None = false
 ends_in_zero (Some numbers) = first_is_zero numbers
 
+-- the numbers that are given
 abbrev pub numbers_of : List Number → List ℚ
 numbers_of given = map number_of given
 
+-- each may be an operand
 abbrev pub are_operands : List Number → Bool
 are_operands given = list_all is_operand given
 

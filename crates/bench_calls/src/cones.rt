@@ -14,7 +14,7 @@ use lin_rows::{Indep, Rows, independent};
 use src_sink::Items;
 use std::alloc::Global;
 
-/// So many rows, one behind the other.
+/// So many rows, one after the other.
 #[tactic(auto, using(crate::proofs::RowsOf::read_more))]
 fn rows_from(alloc: Global, width: u32, count: u32, entries: &[i64]) -> Option<Rows<Frac>>
     ensures width { IfSome result (λ rows. rows.width ≡ width) }
@@ -37,7 +37,8 @@ fn rows_from(alloc: Global, width: u32, count: u32, entries: &[i64]) -> Option<R
     Some(rows)
 }
 
-/// Whether there are as many independent ones among the rows as they have entries; false also where an elimination overflows.
+/// Whether there are as many independent ones among the rows as they have entries; false also where
+/// an elimination overflows.
 fn have_full_rank(alloc: Global, rows: &Rows<Frac>) -> bool
     ensures { OnTrue result (HasFullRank rows.now.width (numbers (λ q. q) rows.now.list)) }
 {
@@ -73,7 +74,8 @@ fn add_all(dd: &mut Dd<Frac>, rows: &Rows<Frac>) -> bool
     true
 }
 
-/// The double description of rows, of which the first are independent and as many as they have entries.
+/// The double description of rows, of which the first are independent and as many as they have
+/// entries.
 fn cone_of(alloc: Global, width: u32, first: &[i64], count: u32, more: &[i64]) -> Option<Dd<Frac>>
     ensures width { IfSome result (λ dd. dd.width ≡ width) }
     ensures rows { IfSome result
@@ -115,9 +117,10 @@ fn write_parts(alloc: Global, dd: &Dd<Frac>, into: &mut [i64]) {
     }
 }
 
-/// How many generators the cone of the rows has: of `width` rows that are independent, and of `count` further ones. 0 where
-/// there are too few entries, a number is not held, or memory is wanting. The numerators and denominators of the generators'
-/// entries are written to `parts`, if they have 63 bits and there is room.
+/// How many generators the cone of the rows has: of `width` rows that are independent, and of
+/// `count` further ones. 0 where there are too few entries, a number is not held, or memory is
+/// wanting. The numerators and denominators of the generators' entries are written to `parts`, if
+/// they have 63 bits and there is room.
 #[unsafe(no_mangle)]
 pub extern "C" fn bench_generators(
     alloc: Global,

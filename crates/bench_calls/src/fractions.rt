@@ -28,7 +28,7 @@ pub struct Number {
     pub den: Wide,
 }
 
-/// Two numbers.
+/// The two operands that a driver passes.
 #[repr(C)]
 #[derive(Clone, Copy)]
 pub struct Operands {
@@ -79,7 +79,7 @@ pub extern "C" fn bench_sums(operands: &Operands, rounds: u32) -> u32
     }
 }
 
-/// The same in two sizes.
+/// The same over `Tier`, which holds numbers in two sizes.
 #[unsafe(no_mangle)]
 pub extern "C" fn bench_tier_sums(operands: &Operands, rounds: u32) -> u32
     ensures { result ≡ count (λ p q. is_held (p +ℚ q)) operands.now rounds }
@@ -108,7 +108,8 @@ fn products<F: Field>(first: F, second: F, rounds: u32) -> u32
     counted
 }
 
-/// Multiplies the fractions, and in each next round their negatives, and counts the products that are held.
+/// Multiplies the fractions, and in each next round their negatives, and counts the products that
+/// are held.
 #[unsafe(no_mangle)]
 pub extern "C" fn bench_products(operands: &Operands, rounds: u32) -> u32
     ensures { result ≡ count (λ p q. is_held (p *ℚ q)) operands.now rounds }
@@ -121,7 +122,7 @@ pub extern "C" fn bench_products(operands: &Operands, rounds: u32) -> u32
     }
 }
 
-/// The same in two sizes.
+/// The same over `Tier`.
 #[unsafe(no_mangle)]
 pub extern "C" fn bench_tier_products(operands: &Operands, rounds: u32) -> u32
     ensures { result ≡ count (λ p q. is_held (p *ℚ q)) operands.now rounds }
@@ -150,7 +151,8 @@ fn comparisons<F: Field>(first: F, second: F, rounds: u32) -> u32
     counted
 }
 
-/// Compares the fractions, and in each next round their negatives, and counts how often they differ.
+/// Compares the fractions, and in each next round their negatives, and counts how often they
+/// differ.
 #[unsafe(no_mangle)]
 pub extern "C" fn bench_comparisons(operands: &Operands, rounds: u32) -> u32
     ensures { result ≡ count (λ p q. not (same_ℚ p q)) operands.now rounds }
@@ -163,7 +165,7 @@ pub extern "C" fn bench_comparisons(operands: &Operands, rounds: u32) -> u32
     }
 }
 
-/// The same in two sizes.
+/// The same over `Tier`.
 #[unsafe(no_mangle)]
 pub extern "C" fn bench_tier_comparisons(operands: &Operands, rounds: u32) -> u32
     ensures { result ≡ count (λ p q. not (same_ℚ p q)) operands.now rounds }

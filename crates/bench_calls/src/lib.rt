@@ -1,5 +1,5 @@
-//! Calls that drivers in C and C++ time beside GMP, PPL and QSopt_ex: operations on fractions and programs of them, double
-//! descriptions, and linear programs.
+//! Calls that drivers in C and C++ time beside GMP, PPL and QSopt_ex: operations on fractions and
+//! programs of them, double descriptions, and linear programs.
 #![tactic(auto)]
 
 mod cones;

@@ -56,8 +56,9 @@ fn value_of(cost: &[Frac], x: &[Frac]) -> Option<Value> {
     Some(Value { num, den })
 }
 
-/// How the program ends: 1 with an optimum, whose value is written, 2 without a solution, 3 without a bound; 4 where a number
-/// is not held, and 0 where a list has the wrong length or memory is wanting. Of greatest cost with `a z = b` and `z >= 0`.
+/// How the program ends: 1 with an optimum, whose value is written, 2 without a solution, 3 without
+/// a bound; 4 where a number is not held, and 0 where a list has the wrong length or memory is
+/// wanting. Of greatest cost with `a z = b` and `z >= 0`.
 #[unsafe(no_mangle)]
 pub extern "C" fn bench_program(
     alloc: Global,

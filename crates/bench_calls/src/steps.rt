@@ -8,8 +8,8 @@ use crate::fractions::{Number, fraction};
 use exact_field::Field;
 use frac128::Frac;
 
-/// A step: the operation (0 sum, 1 difference, 2 product, else quotient), the places of its two operands, and the
-/// place of its result.
+/// A step: the operation (0 sum, 1 difference, 2 product, else quotient), the places of its two
+/// operands, and the place of its result.
 #[repr(C)]
 #[derive(Clone, Copy)]
 pub struct Step {
@@ -66,7 +66,8 @@ fn run(steps: &[Step], numbers: &mut [Frac]) -> bool
 /// How many places there are.
 const PLACES: usize = 2048;
 
-/// Puts the numbers into the first places, or answers false where one is not held or there are too few places.
+/// Puts the numbers into the first places, or answers false where one is not held or there are too
+/// few places.
 fn put(given: &[Number], numbers: &mut [Frac]) -> bool
     requires { length given.now ≤ length numbers.old }
     ensures items { OnTrue result (take (length given.now) numbers.new ≡ numbers_of given.now) }
@@ -90,7 +91,8 @@ fn begins_in_zero(numbers: &[Frac]) -> bool
     }
 }
 
-/// Runs the program so many times, each time from these numbers, and counts how often it ends with 0 in the first place.
+/// Runs the program so many times, each time from these numbers, and counts how often it ends with
+/// 0 in the first place.
 fn runs(steps: &[Step], numbers: &[Frac], rounds: u32) -> u32
     requires { length numbers.now ≤ 2048 }
     ensures { result ≡ cond (ends_in_zero (run_of steps.now numbers.now)) rounds 0 }
@@ -107,8 +109,9 @@ fn runs(steps: &[Step], numbers: &[Frac], rounds: u32) -> u32
     counted
 }
 
-/// Runs the program on the given numbers so many times, and counts the runs whose results are all held and that end
-/// with 0 in the first place; none where a given number is not held, or more than 2048 are given.
+/// Runs the program on the given numbers so many times, and counts the runs whose results are all
+/// held and that end with 0 in the first place; none where a given number is not held, or more than
+/// 2048 are given.
 #[unsafe(no_mangle)]
 pub extern "C" fn bench_runs(given: &[Number], steps: &[Step], rounds: u32) -> u32
     ensures { result

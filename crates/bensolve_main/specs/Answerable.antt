@@ -27,10 +27,12 @@ use Rattle.bensolve_main.specs.Tasks.Texts.{nothing, problem, problem_and_log, t
 use Rattle.bensolve_main.specs.World.{Channel, World}
 
 -- ---- of each task
+-- nothing stands against an answer without a text,
 abbrev pub AnswersAlone : Task → Type 0
 AnswersAlone (sample number) = IsSampleHeld number
 AnswersAlone _ = ⊥
 
+-- of a problem,
 abbrev pub AnswersFile : Task → Problem → Type 0
 AnswersFile solve file = IsSolvable file
 AnswersFile dual file = IsSolvable file
@@ -41,12 +43,14 @@ AnswersFile weights file = IsSolvable file
 AnswersFile (weigh word) file = CanWeigh word file
 AnswersFile _ file = ⊥
 
+-- of two problems,
 abbrev pub AnswersTwo : Task → Problem → Problem → Type 0
 AnswersTwo meet a b = CanMeet a b
 AnswersTwo sum a b = CanSum a b
 AnswersTwo join a b = CanJoin a b
 AnswersTwo _ a b = ⊥
 
+-- and of a representation
 abbrev pub AnswersRep : Task → Rep → Type 0
 AnswersRep vertices rep = CanTurn false rep
 AnswersRep facets rep = CanTurn true rep
@@ -115,6 +119,7 @@ pub record HonestConv (old new : World) : Type 0 where
   pub log_told : ToldWhole log_limit log_bytes old.log_in new.log_in
   pub can : (rep : Rep) → IsRepText bytes rep → CanReconvert rep log_bytes
 
+-- the outside told what a task reads, and nothing stands against an answer
 abbrev pub HonestTexts : Texts → Task → World → World → Type 0
 HonestTexts nothing t old new = AnswersAlone t
 HonestTexts problem t old new = HonestFile t old new

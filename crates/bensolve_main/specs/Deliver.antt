@@ -5,7 +5,7 @@ use Rattle.statuses.specs.declared.status.Status.{Status}
 use Rattle.statuses.specs.declared.status.Status.TheVariants.{WriteFault}
 use Rattle.bensolve_main.specs.World.{Channel, World, Uncalled, Written, PartlyWritten}
 
--- an output (that of the log, or the other one) failed behind a front of a text, and the result
+-- an output (that of the log, or the other one) failed after a front of a text, and the result
 -- says so
 abbrev pub Fails : Bool → List ℕ → Status → Channel → Channel → Type 0
 Fails log text result old new =

@@ -1,7 +1,7 @@
 -- The subject: World (the outside of a run), Reading (the texts), Tasks (how a task reads, and what
--- it says of what was read), Check and Sample (two of them), Deliver (how a reply is written),
--- Outcome (the stages together), Answerable (when there is an answer), Accepted (what `check` says
--- of the log of `solve`). What only serves proofs: Stages.
+-- it says of what was read), Check, Relog and Sample (three of them), Deliver (how a reply is
+-- written), Outcome (the stages together), Answerable (when there is an answer), Accepted (what a
+-- command that checks logs says of the log of another). For the code's own steps: Stages.
 pub mod World
 pub mod Deliver
 pub mod Reading

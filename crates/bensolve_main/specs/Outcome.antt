@@ -85,6 +85,7 @@ pub record TellsOfConv (t : Task) (r : Reply) (old new : Sources) : Type 0 where
   pub verdict : TellsConv t rep bytes r
 
 -- ---- what a reply says of what was read
+-- by what is read: a text is refused, or the task tells this of what was read
 abbrev pub RepliesTo : Texts → Task → Bool → Reply → Sources → Sources → Type 0
 RepliesTo nothing t logs r old new =
     TellsAlone t r × Uncalled old.problem new.problem × Uncalled old.log_in new.log_in
@@ -98,6 +99,7 @@ RepliesTo representation t logs r old new = RefusesRep r old new ⊎ TellsOfRep 
 RepliesTo representation_and_log t logs r old new =
     RefusesRep r old new ⊎ (ConvTooMuch r old new ⊎ TellsOfConv t r old new)
 
+-- what is replied where the words have this shape
 abbrev pub Replies : Shape → Reply → Sources → Sources → Type 0
 Replies s r old new = RepliesTo (texts_of s.task) s.task (writes_log s.files) r old new
 
@@ -119,6 +121,7 @@ pub record ConvFailed (s : Status) (old new : Sources) : Type 0 where
   pub good : GoodRep rep old.problem new.problem
   pub failed : SourceFailed true log_limit s old.log_in new.log_in
 
+-- by what is read, which source failed
 abbrev pub Fails : Texts → Status → Sources → Sources → Type 0
 Fails nothing s old new = ⊥
 Fails problem s old new = FirstFailed s old new

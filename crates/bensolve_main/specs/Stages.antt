@@ -45,6 +45,7 @@ TaskFits (associate columns) = (0 < columns) × (columns ≤ 19)
 TaskFits (weigh word) = IsTrue (are_weights word)
 TaskFits _ = Unit {0}
 
+-- both of a shape
 pub record ShapeFits (s : Shape) : Type 0 where
   pub files : FilesFit (texts_of s.task) s.files
   pub task : TaskFits s.task
@@ -65,6 +66,7 @@ ReadsTwo t = texts_of t ≡ two_problems
 abbrev pub ReadsRep : Task → Type 0
 ReadsRep t = texts_of t ≡ representation
 
+-- one text: a problem or a representation
 abbrev pub ReadsOne : Task → Type 0
 ReadsOne t = ReadsProblem t ⊎ ReadsRep t
 
@@ -113,18 +115,21 @@ HaltsEnd e s = (s ≡ NoMemory) ⊎ ((e ≡ end.Fault) × (s ≡ ReadFault true)
 abbrev pub RefusesLog : Problem → List ℕ → Reply → Type 0
 RefusesLog file bytes r = NoLog bytes r ⊎ (FailsAt file bytes r ⊎ StopsAt file bytes r)
 
+-- of a log: too many bytes, or what the task tells of them
 abbrev pub LogTold : Task → Problem → Reply → Channel → Channel → Type 0
 LogTold t file r old new =
     TooMuch true log_limit r old new
     ⊎ ((bytes : List ℕ) × ReadsWhole old.bytes new.bytes log_limit bytes
     × TellsLog t file bytes r)
 
+-- of a second problem: that it is refused, or what the task tells of both
 abbrev pub SecondTold : Task → Problem → Reply → Channel → Channel → Type 0
 SecondTold t first r old new =
     TooMuch true problem_limit r old new ⊎ (NoFile SecondFile r old new
     ⊎ ((second : Problem) × GoodFile second old new × TellsTwo t first second r))
 
 -- ---- what is told of the log after a representation
+-- too many bytes, or what the task tells of them
 abbrev pub ConvTold : Task → Rep → Reply → Channel → Channel → Type 0
 ConvTold t rep r old new =
     TooMuch true log_limit r old new
@@ -132,10 +137,12 @@ ConvTold t rep r old new =
     × TellsConv t rep bytes r)
 
 -- ---- what is told of all texts
+-- of a problem: that it is refused, or what the task tells of it
 abbrev pub FileTold : Task → Bool → Reply → Channel → Channel → Type 0
 FileTold t logs r old new =
     FileRefused r old new ⊎ ((file : Problem) × GoodFile file old new × TellsFile t logs file r)
 
+-- the same of a representation
 abbrev pub RepTold : Task → Bool → Reply → Channel → Channel → Type 0
 RepTold t logs r old new =
     RepRefused r old new ⊎ ((rep : Rep) × GoodRep rep old new × TellsRep t logs rep r)
@@ -146,18 +153,21 @@ OneTold problem t logs r old new = FileTold t logs r old new
 OneTold representation t logs r old new = RepTold t logs r old new
 OneTold _ t logs r old new = ⊥
 
+-- of a problem and a log, and why nothing is told
 abbrev pub WithLogTold : Task → Reply → Sources → Sources → Type 0
 WithLogTold t r old new = RepliesTo problem_and_log t false r old new
 
 abbrev pub WithLogHalts : Status → Sources → Sources → Type 0
 WithLogHalts s old new = HaltsFor problem_and_log s old new
 
+-- of two problems, and why nothing is told
 abbrev pub TwoTold : Task → Reply → Sources → Sources → Type 0
 TwoTold t r old new = RepliesTo two_problems t false r old new
 
 abbrev pub TwoHalts : Status → Sources → Sources → Type 0
 TwoHalts s old new = HaltsFor two_problems s old new
 
+-- of a representation and a log, and why nothing is told
 abbrev pub WithConvTold : Reply → Sources → Sources → Type 0
 WithConvTold r old new = RepliesTo representation_and_log reconv false r old new
 

@@ -25,6 +25,7 @@ pub data Texts : Type 0 where
   representation : Texts
   representation_and_log : Texts
 
+-- what each task reads
 abbrev pub texts_of : Task → Texts
 texts_of (sample number) = nothing
 texts_of check = problem_and_log

@@ -9,6 +9,7 @@ pub record Channel : Type 0 where
   pub bytes : Option (List ℕ)
   pub faults : ℕ
 
+-- a channel by its parts
 abbrev pub channel : Option (List ℕ) → ℕ → Channel
 channel bytes faults = record { bytes = bytes; faults = faults }
 
@@ -19,6 +20,7 @@ pub record World : Type 0 where
   pub out : Channel
   pub log_out : Channel
 
+-- the same of all four
 abbrev pub world : Channel → Channel → Channel → Channel → World
 world problem log_in out log_out = record {
   problem = problem;
@@ -32,9 +34,11 @@ pub record Sources : Type 0 where
   pub problem : Channel
   pub log_in : Channel
 
+-- the same of the two sources
 abbrev pub sources : Channel → Channel → Sources
 sources problem log_in = record { problem = problem; log_in = log_in }
 
+-- the two sources of the four channels
 abbrev pub sources_of : World → Sources
 sources_of w = sources w.problem w.log_in
 
@@ -58,7 +62,7 @@ pub record Written (text : List ℕ) (old new : Channel) : Type 0 where
   pub appended : Appends old.bytes new.bytes text
   pub counted : old.faults ≤ new.faults
 
--- the output failed behind the first `sent` bytes of the text that was to be written
+-- the output failed after the first `sent` bytes of the text that was to be written
 pub record PartlyWritten (sent : ℕ) (text : List ℕ) (old new : Channel) : Type 0 where
   pub part : sent < length text
   pub appended : Appends old.bytes new.bytes (take sent text)

@@ -1,4 +1,5 @@
-//! What is told of a representation: it is read, and converted, or the log of a conversion is checked.
+//! What is told of a representation: it is read, and converted, or the log of a conversion is
+//! checked.
 ghost use Rattle.std.specs.Prelude.{◌≡◌, ◌≤◌, false, true, IfOk, IfErr};
 ghost use Rattle.commands.specs.Seen.{task_seen};
 ghost use Rattle.commands.specs.Tasks.Task.{reconv};

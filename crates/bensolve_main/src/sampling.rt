@@ -11,7 +11,7 @@ use statuses::{Reply, Status};
 use std::alloc::Global;
 
 /// What is told of a solved answer.
-fn summed(alloc: Global, number: u32, answer: &Answer) -> Result<Reply, NoMemory>
+fn sum_up(alloc: Global, number: u32, answer: &Answer) -> Result<Reply, NoMemory>
     requires { IsSolved answer.now }
     ensures status { IfOk result (λ r. r.status ≡ Status.Done) }
     ensures text { IfOk result (λ r. Sums number answer.now r.text) }
@@ -30,7 +30,7 @@ pub(crate) fn sample_reply(alloc: Global, number: u32) -> Result<Reply, NoMemory
 {
     let file = sample_file(alloc, number)?;
     match solve(alloc, &file) {
-        Ok(solution) => summed(alloc, number, &solution.answer),
+        Ok(solution) => sum_up(alloc, number, &solution.answer),
         Err(end) => unsolved_reply(alloc, end),
     }
 }

@@ -22,28 +22,28 @@ use std::alloc::Global;
 ///   it proves.
 /// - `relog FILE LOG` reads both as `check` does, and writes the log of version 2 that says the
 ///   same. It keeps all entries, and the text that it writes.
-/// - `solve FILE` reads the problem, solves it, and reports its answer; `solve FILE LOG` then writes
-///   a log of version 2 that proves the answer.
-/// - `dual FILE` and `dual FILE LOG` do the same by the facets, and the log has a cut for each facet
-///   alone.
-/// - `sample N` makes the sample file of a number from 1 to 1000, solves it, and tells in five lines
-///   how many points, directions and facets its image has.
-/// - `project FILE K` describes the projection of the feasible set on its first K columns, from 1 to
-///   19 of them; `project FILE K LOG` then writes the log of the associated problem.
+/// - `solve FILE` reads the problem, solves it, and reports its answer; `solve FILE LOG` then
+///   writes a log of version 2 that proves the answer.
+/// - `dual FILE` and `dual FILE LOG` do the same by the facets, and the log has a cut for each
+///   facet alone.
+/// - `sample N` makes the sample file of a number from 1 to 1000, solves it, and tells in five
+///   lines how many points, directions and facets its image has.
+/// - `project FILE K` describes the projection of the feasible set on its first K columns, from 1
+///   to 19 of them; `project FILE K LOG` then writes the log of the associated problem.
 /// - `associate FILE K` writes that problem, as a file gives it.
 /// - `meet FILE FILE2` describes what is feasible for both problems, `sum FILE FILE2` the sums of a
 ///   feasible vector of each, and `join FILE FILE2` the closed convex hull of both feasible sets.
 /// - `map FILE` describes the image of the feasible set under the objectives.
 /// - `weights FILE` solves the problem, and tells for each point of its image the weights for which
 ///   it is least; `weigh FILE W` tells the points that are least for the weights that W writes.
-/// - `vertices FILE` reads inequalities and equations, and writes the points, directions and lines of
-///   the same set; `facets FILE` turns these into inequalities and equations. With LOG each then
+/// - `vertices FILE` reads inequalities and equations, and writes the points, directions and lines
+///   of the same set; `facets FILE` turns these into inequalities and equations. With LOG each then
 ///   writes a log of the conversion; `reconv FILE LOG` checks that log, and writes what it gives.
 ///
-/// The text goes to `out`; where there is no answer, it is the one fault line of the status. The log
-/// of `solve`, `dual`, `project`, `vertices` or `facets` goes to `log_out`, where there is an answer.
-/// Everything is read, and every text made, before anything is written. A problem or representation
-/// is read from `problem`, a log or a second problem from `log_in`.
+/// The text goes to `out`; where there is no answer, it is the one fault line of the status. The
+/// log of `solve`, `dual`, `project`, `vertices` or `facets` goes to `log_out`, where there is an
+/// answer. Everything is read, and every text made, before anything is written. A problem or
+/// representation is read from `problem`, a log or a second problem from `log_in`.
 pub fn run<S: Source, L: Source, T: Sink, K: Sink>(
     alloc: Global,
     words: &[String],
@@ -125,7 +125,7 @@ pub fn run<S: Source, L: Source, T: Sink, K: Sink>(
     }
 }
 
-/// Runs a command.
+/// Makes the reply of a command, and writes it where there is one.
 fn run_command<S: Source, L: Source, T: Sink, K: Sink>(
     alloc: Global,
     command: Command<'_>,
@@ -191,7 +191,7 @@ fn tell<T: Sink, K: Sink>(out: &mut T, log_out: &mut K, reply: Reply) -> Status
         None => send(out, false, status, text.as_slice()),
         Some(log) => match write_all(out, text.as_slice()) {
             Ok(()) => send(log_out, true, status, log.as_slice()),
-            Err(fault) => failed(false, fault),
+            Err(fault) => write_fault(false, fault),
         },
     }
 }
@@ -206,12 +206,12 @@ fn send<T: Sink>(sink: &mut T, log: bool, status: Status, text: &[u8]) -> Status
 {
     match write_all(sink, text) {
         Ok(()) => status,
-        Err(fault) => failed(log, fault),
+        Err(fault) => write_fault(log, fault),
     }
 }
 
 /// The status where an output (that of the log, or the other one) failed.
-fn failed(log: bool, fault: WriteFault) -> Status
+fn write_fault(log: bool, fault: WriteFault) -> Status
     ensures { result ≡ Status.WriteFault log fault.sent }
 {
     Status::WriteFault {

@@ -31,7 +31,7 @@ head_same x y xs ys e = cc
 tail_same : {X : Type 0} (x y : X) (xs ys : List X) → x ∷ xs ≡ y ∷ ys → xs ≡ ys
 tail_same x y xs ys e = cc
 
--- a member of a list with one more behind is one of the list, or the last
+-- a member of a list with one more after it is one of the list, or the last
 split_last : {X : Type 0} (before after vs : List X) (w last : X) → vs ++ last ∷ [] ≡ before ++ w ∷ after →
     ((rest : List X) × (vs ≡ before ++ w ∷ rest)) ⊎ ((before ≡ vs) × (w ≡ last))
 split_last [] after [] w last e = inr (refl, sym (head_same last w [] after e))
@@ -47,7 +47,7 @@ split_last {X} (b ∷ before) after (v ∷ vs) w last e = go (split_last before 
     go (inl (rest, k)) = inl (rest, ap₂ (λ (x : X) (xs : List X). x ∷ xs) same k)
     go (inr (k, l)) = inr (ap₂ (λ (x : X) (xs : List X). x ∷ xs) (sym same) k, l)
 
--- lists with one more behind
+-- lists with one more after them
 pub last_same : {X : Type 0} (xs ys : List X) (x y : X) → xs ++ x ∷ [] ≡ ys ++ y ∷ [] → (ys ≡ xs) × (y ≡ x)
 last_same {X} xs ys x y e = go (split_last ys [] xs y x e)
   where
@@ -96,7 +96,7 @@ enough_of q a b more not_less other = go (leb_tells q a) (leb_tells q b)
     go (inr (l, few)) (inl (m, at_least)) = absurd (other (omega (arith, few, at_least, more)))
     go (inr (l, few)) (inr (m, less)) = absurd (not_less less)
 
--- ---- one vector behind others
+-- ---- one vector after others
 module _ (q : ℕ) (vs : List (List ℚ)) (w : List ℚ) (complement : List (List ℚ)) (h : AreComplement q (vs ++ w ∷ []) complement) where
   abbrev bs : List Bool
   bs = marks q complement

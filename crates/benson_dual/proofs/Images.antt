@@ -58,7 +58,7 @@ apart live rise i j li lj other same =
       | inr more ↦ let n = up j i 0 (omega (arith, more, other)) li in omega (arith, n, same)
     ]
 
--- what is reached after one more of some live generators: those before it and it, and none of those behind it
+-- what is reached after one more of some live generators: those before it and it, and none of those after it
 module _ (old new : List Entry) (live : List Numbered) (rise : AllPairs (λ g g'. g.number < g'.number) live) (i : ℕ) (inside : i < length (numbers live))
     (here : preimages new (slice_index_or (numbers live) i 0) ≢ [])
     (others : (k : ℕ) → k ≢ slice_index_or (numbers live) i 0 → preimages new k ≡ preimages old k) where

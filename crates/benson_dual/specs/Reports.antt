@@ -28,8 +28,8 @@ ImagePartsAgree = (file : Problem) (c : List ℚ) (ls ls' : List LineGen) (point
 abbrev pub less_said : Problem → List ℚ
 less_said file = zeros (file.objs - 1) ++ signed file.dir (neg_ℚ one_ℚ) ∷ []
 
--- the lines `dual` behind their number: those of facets tell exactly the vertices of the lower image, and
--- the one behind them its one normed extreme direction, where it is not empty
+-- the lines `dual` after their number: those of facets tell exactly the vertices of the lower image, and
+-- the one after them its one normed extreme direction, where it is not empty
 pub record TellLowerImage (file : Problem) (c : List ℚ) (facets : List Facet) : Type 0 where
   pub vertices : List (List ℚ)
   pub exactly : (v : List ℚ) → Contains vertices v ↔ IsVertex (IsInLowerImageOf file c) v

@@ -1,5 +1,5 @@
-//! The end of the log in which all facets of an image are in use: the pre-images of its generators, and
-//! the facets by name.
+//! The end of the log in which all facets of an image are in use: the pre-images of its generators,
+//! and the facets by name.
 ghost use Rattle.std.specs.Prelude.{◌≡◌, ◌≢◌, ◌≤◌, ◌↔◌, [], ℕ, All, Contains, IfErr, IfOk, IsTrue, OnOk, length, map};
 ghost use Rattle.exact_field.specs.Rational.{zero_ℚ};
 ghost use Rattle.exact_field.specs.Vector.{entry};

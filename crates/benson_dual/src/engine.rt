@@ -40,7 +40,8 @@ fn small_count(length: usize) -> Result<u32, NoMemory>
     }
 }
 
-/// The log of an image over these facets, in the first of some orders in which no operation overflows.
+/// The log of an image over these facets, in the first of some orders in which no operation
+/// overflows.
 fn image_log_by<F: Field>(
     image: &Image<'_, F>,
     facets: &AllFacets<F>,
@@ -74,7 +75,8 @@ fn image_log<F: Field>(image: &Image<'_, F>, kept: &mut Kept<F>) -> Result<Entri
     image_log_by(image, &facets, kept)
 }
 
-/// The log of an image that is neither empty nor everything, from its lines on. x is a feasible point.
+/// The log of an image that is neither empty nor everything, from its lines on. x is a feasible
+/// point.
 fn facet_log<F: Field>(
     alloc: Global,
     form: &Data<F>,
@@ -131,7 +133,7 @@ fn dual_with<F: Field>(
     )? {
         First::Infeasible { u } => Ok(contradiction_log(alloc, u.as_slice())?),
         First::Whole { x, parts } => {
-            let opening = duality.entry.copied(alloc)?;
+            let opening = duality.entry.copy(alloc)?;
             Ok(everything_log(alloc, opening, x.as_slice(), &parts)?)
         }
         First::Cuts { x, lines, .. } => {
@@ -140,19 +142,18 @@ fn dual_with<F: Field>(
     }
 }
 
-/// The log that describes the image of a problem: that it is infeasible, that its image is everything,
-/// or its lines, vertices, extreme directions and facets. It is Benson's dual outer approximation
-/// (Ehrgott, Löhne and Shao 2012): the facets are found first, by an outer approximation of the lower
-/// image, and the log is written over them alone, so that each of its cuts is a facet.
+/// The log that describes the image of a problem: that it is infeasible, that its image is
+/// everything, or its lines, vertices, extreme directions and facets. It is Benson's dual outer
+/// approximation (Ehrgott, Löhne and Shao 2012): the facets are found first, by an outer
+/// approximation of the lower image, and the log is written over them alone, so that each of its
+/// cuts is a facet.
 ///
-/// Which facets come into use first is free, and the entries stay short where most generators on the
-/// way are vertices of the image: an order begins with the facets at one vertex, and goes on with those
-/// at the vertex that the most of them touch. Up to six orders are tried, from different vertices on.
-/// Where an operation overflows in each of them the overflow of the last is told, with the entries so
-/// far in this order as its trail. The linear programs that find pre-images are solved for the order
-/// that went through; an overflow there is told. So is one of the search for the facets, which has no
-/// trail. What it costs is said at `all_facets`; the log costs an addition to a double description for
-/// each facet in each order, and a linear program for each of its generators.
+/// Up to six orders of the facets are tried, each from the facets at another vertex on. Where an
+/// operation overflows in all of them the overflow of the last is told, with the entries so far in
+/// this order as its trail. Pre-images are found for the order that went through; an overflow there
+/// is told, and so is one of the search for the facets, which has no trail. Beside `all_facets` the
+/// log costs an addition to a double description for each facet in each order, and a linear program
+/// for each of its generators.
 pub fn dual<F: Field>(
     alloc: Global,
     form: &Data<F>,

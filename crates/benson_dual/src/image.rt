@@ -112,7 +112,7 @@ impl<'a, F: Field> Image<'a, F> {
         ensures left { IfErr result (λ fault.
             OnLicence fault (Licensed F.holds task.file task.c)) }
     {
-        let opening = self.opening.copied(self.alloc)?;
+        let opening = self.opening.copy(self.alloc)?;
         let mut trail = open_trail(self.alloc, opening, self.x, self.lines, first)?;
         match self.bring(&mut trail, first, others) {
             Ok(dd) => Ok(Approximation { trail, dd }),

@@ -1,7 +1,8 @@
 //! Laws of reports. Each function does nothing when it runs: its contract is the law.
 ghost use Rattle.benson_dual.specs.Reports.{DualLinesTell, ImagePartsAgree};
 
-/// Two right solutions for one file and one duality vector have the same report up to the witnesses.
+/// Two right solutions for one file and one duality vector have the same report up to the
+/// witnesses.
 pub fn image_parts_agree()
     ensures { ImagePartsAgree }
 {}

@@ -1,5 +1,5 @@
-//! The dual engine: all facets of an image by an outer approximation of its lower image, and the log
-//! of the image over them, in an order in which no addition overflows, if one of a few is such.
+//! The dual engine: all facets of an image by an outer approximation of its lower image, and the
+//! log of the image over them, in an order in which no addition overflows, if one of a few is such.
 #![tactic(auto)]
 
 mod approximation;

@@ -18,8 +18,8 @@ fn add_point(facets: &mut [Vec<usize>], places: &[u32], point: usize) -> Result<
     Ok(())
 }
 
-/// For each of `count` facets the places of the points that it touches, where for each point those of
-/// its facets are given.
+/// For each of `count` facets the places of the points that it touches, where for each point those
+/// of its facets are given.
 fn points_at(
     alloc: Global,
     count: u32,
@@ -107,7 +107,8 @@ impl Walk {
         Ok(())
     }
 
-    /// Of the points at which some facet is not listed that at which the most are, the first of several.
+    /// Of the points at which some facet is not listed that at which the most are, the first of
+    /// several.
     fn next_point(&self, points: &[Items<u32>]) -> Option<usize>
         ensures { IfSome result (λ point. point < length points.now) }
     {
@@ -139,7 +140,7 @@ impl Walk {
         Ok(())
     }
 
-    /// The order, with the facets that are not listed behind the others.
+    /// The order, with the facets that are not listed after the others.
     fn into_order(self, count: u32) -> Result<Items<u32>, NoMemory>
         requires { AreListed count self.listed.items self.order }
         ensures { IfOk result (IsOrder count) }
@@ -197,11 +198,11 @@ fn at_least_one(
 }
 
 /// The orders of `count` facets that are to be tried, each as their places from 0. `points` has for
-/// each of some points the places of the facets that touch it. From each of the first points, at most
-/// `most`, goes one order: first the facets there, then always those at the point that the most listed
-/// facets touch, and at the end those that touch none of the points. Where there is no point, it is
-/// the order in which the facets were found. An order costs a step for each facet at each point, and
-/// for each point that it goes to one for each point.
+/// each of some points the places of the facets that touch it. From each of the first points, at
+/// most `most`, goes one order: first the facets there, then always those at the point that the
+/// most listed facets touch, and at the end those that touch none of the points. Where there is no
+/// point, it is the order in which the facets were found. An order costs a step for each facet at
+/// each point, and for each point that it goes to one for each point.
 pub(crate) fn orders(
     alloc: Global,
     count: u32,

@@ -24,7 +24,7 @@ use std::alloc::Global;
 pub(crate) struct OrderedFacets<F: Drop> {
     /// First cuts of the image: with its lines as many as there are objectives.
     pub first: Vec<Cut<F>>,
-    /// The other facets.
+    /// The facets that are not among these.
     pub others: Vec<Cut<F>>,
 }
 
@@ -52,7 +52,6 @@ fn copy_of<F: Field>(alloc: Global, cut: &Cut<F>) -> Result<Cut<F>, NoMemory>
     })
 }
 
-/// Appends a cut.
 fn push_last<F: Field>(list: &mut Vec<Cut<F>>, cut: Cut<F>) -> Result<(), NoMemory>
     ensures { OnOk result (list.new.items ≡ list.old.items ++ cut ∷ []) }
 {
@@ -60,8 +59,8 @@ fn push_last<F: Field>(list: &mut Vec<Cut<F>>, cut: Cut<F>) -> Result<(), NoMemo
     Ok(())
 }
 
-/// Whether the normals of cuts are independent: whether with the vectors at which they are 0 they are
-/// as many as they have entries. Where an operation overflows, its trail has the cuts.
+/// Whether the normals of cuts are independent: whether with the vectors at which they are 0 they
+/// are as many as they have entries. Where an operation overflows, its trail has the cuts.
 fn are_independent<F: Field>(alloc: Global, q: u32, cuts: &[Cut<F>]) -> Result<bool, SolveFault>
     ghost task: { Task }
     requires width { q ≡ task.file.objs }
@@ -93,8 +92,8 @@ impl<F: Field> OrderedFacets<F> {
         }
     }
 
-    /// Takes one more facet: as one of the first, where these are fewer than `most` and its normal is
-    /// independent of theirs, and else as one of the others.
+    /// Takes one more facet: as one of the first, where these are fewer than `most` and its normal
+    /// is independent of theirs, and else as one of the others.
     fn take(&mut self, alloc: Global, q: u32, most: usize, cut: Cut<F>) -> Result<(), SolveFault>
         ghost task: { Task }
         requires width { q ≡ task.file.objs }
@@ -120,10 +119,11 @@ impl<F: Field> OrderedFacets<F> {
 }
 
 /// All facets of an image in an order, which has their places from 0. The first ones are as many as
-/// there are objectives, `q`, less the lines of the image, and their normals are independent without
-/// the entries at the places of the lines: each is the first in the order that is independent of
-/// those before it. So in an order that begins with the facets at a point they are at this point. It
-/// costs an elimination of at most `q` normals for each facet up to the last of the first ones.
+/// there are objectives, `q`, less the lines of the image, and their normals are independent
+/// without the entries at the places of the lines: each is the first in the order that is
+/// independent of those before it. So in an order that begins with the facets at a point they are
+/// at this point. It costs an elimination of at most `q` normals for each facet up to the last of
+/// the first ones.
 pub(crate) fn facets_in_order<F: Field>(
     alloc: Global,
     q: u32,

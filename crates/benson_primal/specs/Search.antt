@@ -35,7 +35,7 @@ pub record IsSearching {F : Type 0} (value : F → ℚ) (holds : ℚ → Bool) (
   pub marks : AreMarks s.trail s.reached
 
 -- a search stopped at a fault: no entry ends its trail, which after an overflow stands for the same
--- cuts as its double description, and the overflow is one behind this trail
+-- cuts as its double description, and the overflow is one after this trail
 pub record Stopped {F : Type 0} (holds : ℚ → Bool) (task : Task) (s : Search F) (fault : SolveFault) : Type 0 where
   pub trail : IsOpenTrail task s.trail
   pub same : OnLicence fault (λ licence. StandForSame task s.trail s.dd)

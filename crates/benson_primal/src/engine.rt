@@ -127,14 +127,15 @@ fn primal_with<F: Field>(
     }
 }
 
-/// The log that describes the image of a problem: that it is infeasible, that its image is everything,
-/// or its lines, vertices, extreme directions and facets, found by Benson's outer approximation
-/// (Benson 1998; Löhne 2011) in the image space. It differs from the textbook at two places. A generator
-/// of the outer polyhedron with long entries is asked at a vector with short ones near by first, since
-/// the cut that a linear program gives is valid whoever asks. And where the addition of a cut overflows,
-/// those of the other open generators are tried, up to three failed additions for each row in use. The
-/// overflow that is told is that of a cut which a generator itself violates, or of the program that asks
-/// at it; the licence has the entries so far as its trail.
+/// The log that describes the image of a problem: that it is infeasible, that its image is
+/// everything, or its lines, vertices, extreme directions and facets, found by Benson's outer
+/// approximation (Benson 1998; Löhne 2011) in the image space. It differs from the textbook at two
+/// places. A generator of the outer polyhedron with long entries is asked at a vector with short
+/// ones near by first, since the cut that a linear program gives is valid whoever asks. And where
+/// the addition of a cut overflows, those of the other open generators are tried, up to three
+/// failed additions for each row in use. The overflow that is told is that of a cut which a
+/// generator itself violates, or of the program that asks at it; the licence has the entries so far
+/// as its trail.
 pub fn primal<F: Field>(
     alloc: Global,
     form: &Data<F>,

@@ -1,4 +1,5 @@
-//! Benson's outer approximation of the image: from data and a duality vector to the log that describes it.
+//! Benson's outer approximation of the image: from data and a duality vector to the log that
+//! describes it.
 #![tactic(auto)]
 
 mod engine;

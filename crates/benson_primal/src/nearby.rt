@@ -45,7 +45,8 @@ fn round<F: Field>(x: F) -> Option<F> {
     F::of(num.checked_div(den)?, PARTS)
 }
 
-/// Another vector near `v`, mostly with shorter entries, if an entry of `v` is long and such a vector is found.
+/// Another vector near `v`, mostly with shorter entries, if an entry of `v` is long and such a
+/// vector is found.
 pub(crate) fn vector_nearby<F: Field>(alloc: Global, v: &[F]) -> Result<Option<Items<F>>, NoMemory>
     ensures { IfOk result (λ r. IfSome r (λ near. length near ≡ length v.now)) }
 {

@@ -1,4 +1,5 @@
-//! The search for cuts: each live generator is asked for a cut that it violates, until all have a pre-image.
+//! The search for cuts: each live generator is asked for a cut that it violates, until all have a
+//! pre-image.
 ghost use Rattle.std.specs.Prelude.{◌≡◌, ◌≢◌, ◌≤◌, ◌||◌, [], ℕ, List, false, IfErr, IfNone, IfOk, IfSome, IsTrue, OnOk, length, map, nat_eq, Contains};
 ghost use Rattle.incid_sets.specs.Marks.{has};
 ghost use Rattle.log_rules.specs.Live.{preimages};
@@ -24,9 +25,9 @@ use std::alloc::Global;
 /// Which live generators are asked.
 #[derive(Clone, Copy)]
 pub(crate) enum Scope {
-    /// Directions alone.
+    /// Those with last entry 0.
     Directions,
-    /// Points and directions.
+    /// Those and the points.
     Both,
 }
 

@@ -38,7 +38,7 @@ dual_wide q Orthant h = h
 dual_wide q (Gens vectors) h = h
 dual_wide q (Dual vectors) h = h
 
--- w is in the dual cone by what stands behind, as a sparse vector
+-- w is in the dual cone by what stands after it, as a sparse vector
 dual_held : (file : Problem) (q : ℕ) (cone : Cone) (w z : List ℚ) (m : List Spot) → length (behind_of file z) ≡ dual_unknowns q cone →
     AtLeastZero (behind_of file z) → asked cone w ≡ given q cone (behind_of file z) → IsVector (length (v_of file cone z)) m →
     dense (length (v_of file cone z)) m ≡ v_of file cone z → IsVector (length (generators (dual_of cone))) m × IsHeld (dual_of cone) w m

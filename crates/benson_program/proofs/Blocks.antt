@@ -50,7 +50,7 @@ pub values_listed : (n : ℕ) (f : ℕ → List ℚ) (z v : List ℚ) → length
 values_listed n f z v long h = map-list_from (λ r. dot r z) 1 n f ∙ listed-is n (λ j. dot (f j) z) v long h
 
 -- ---- what the cone asks
--- the equations of the cone ask that the first is the second: w, or its products with the generators; and what stands behind, or the
+-- the equations of the cone ask that the first is the second: w, or its products with the generators; and what stands after it, or the
 -- combination of the dual form's vectors by it
 abbrev pub asked : Cone → List ℚ → List ℚ
 asked Orthant w = w

@@ -1,5 +1,5 @@
 -- The columns of Benson's program priced with multipliers x, p, theta of its equations: the normals at x; at each place of w, and of its
--- negative, minus the objectives at x plus what the cone's equations give with p plus theta c; and minus what they give behind.
+-- negative, minus the objectives at x plus what the cone's equations give with p plus theta c; and minus what they give after it.
 use Rattle.std.proofs.Common.{◌≡◌, ℕ, zero, suc, List, [], ◌∷◌, ◌++◌, length, take, drop, refl, sym, ap, ap₂, ◌∙◌, subst, arith, ◌≤◌, ◌+◌, slice_index_or, append_assoc, drop-drop, length-append, true}
 use Rattle.std.specs.Prelude.{pos, negsuc}
 use Rattle.std.proofs.lemmas.List.{length-take-le, length-drop, length-map, take-append-drop}
@@ -32,7 +32,7 @@ use Rattle.benson_program.proofs.Solved.{u_long, a_long, b_long, behind_long}
 use Rattle.benson_program.proofs.Vectors.{AreAtMost, at_most_each, at_most_parts, at_most_both, at_least_zero, dot-minus, dot-parts, parts_of, same_on}
 
 -- ---- the cone's equations, priced with p
--- what they give at the places of w, and at those behind
+-- what they give at the places of w, and at those after them
 abbrev pub pulled : ℕ → Cone → List ℚ → List ℚ
 pulled q Orthant p = p
 pulled q (Gens vectors) p = combination q p vectors
@@ -308,7 +308,7 @@ module _ (file : Problem) (c y : List ℚ) (c_long : length c ≡ file.objs) (y_
     weights_are : negated v ≡ at_weights
     weights_are = at_most_both (negated v) at_weights one.1 two.1
 
-    -- the shares are at least 0 in what the cone asks behind
+    -- the shares are at least 0 in what the cone asks after w
     pub shares_positive : AtLeastZero (pushed file.cone (negated (take (dual_equations file.objs file.cone) (drop file.cols y))))
     shares_positive = subst AtLeastZero (negated-pushed file.cone p) (at_least_zero more (negated (pushed file.cone p)) pushed-long three.1)
 

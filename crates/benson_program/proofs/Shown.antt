@@ -40,7 +40,7 @@ shows q (Gens vectors) e m wide long v h = record {
 }
 
 -- ---- multipliers of the cone's equations
--- n, priced behind, is at least 0: so what it gives at the places of w is in the cone, and with another member k it makes e
+-- n, priced after w, is at least 0: so what it gives at the places of w is in the cone, and with another member k it makes e
 pub record IsMade (q : ℕ) (cone : Cone) (n k e : List ℚ) : Type 0 where
   pub wide : length e ≡ q
   pub one_each : length n ≡ dual_equations q cone

@@ -44,7 +44,8 @@ fn bound_of<F: Field>(alloc: Global, form: &Data<F>, u: &[F]) -> Result<F, Solve
     }
 }
 
-/// The cut that an optimum `z` of Benson's program at `v` says: its w, without a sum, and the bound that its u proves.
+/// The cut that an optimum `z` of Benson's program at `v` says: its w, without a sum, and the bound
+/// that its u proves.
 pub fn cut_of<F: Field>(
     alloc: Global,
     form: &Data<F>,

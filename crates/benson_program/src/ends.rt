@@ -13,16 +13,16 @@ pub enum FeasibleEnd<F: Drop> {
 /// How Benson's program ends.
 #[derive(Debug, Drop)]
 pub enum BensonEnd<F: Drop> {
-    /// An optimum.
+    /// A solution of the greatest cost, and the multipliers that show it.
     Optimal {
-        /// The solution.
+        /// A value for each unknown.
         z: Items<F>,
         /// A multiplier for each equation.
         dual: Items<F>,
         /// The basis at which both are read off.
         basis: Items<u32>,
     },
-    /// There is no solution.
+    /// The equations have no solution without a negative entry.
     Empty {
         /// A multiplier for each equation, which show it (Farkas).
         dual: Items<F>,

@@ -1,5 +1,5 @@
-//! What an end of the linear programs `Feasible` and `Benson` shows of a problem. Each function is a law: it does nothing, and its
-//! contract is the statement.
+//! What an end of the linear programs `Feasible` and `Benson` shows of a problem. Each function is
+//! a law: it does nothing, and its contract is the statement.
 ghost use Rattle.benson_program.specs.Laws.{AnswersExclude, BensonBounded, BensonCut, BensonPreimage, BensonWhole, FeasibleEnds};
 
 /// The ends of the program that asks whether the sides contradict each other.

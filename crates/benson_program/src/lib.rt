@@ -1,4 +1,5 @@
-//! Benson's program solved, and what is read off it: cuts, pre-images and what shows that an image is everything.
+//! Benson's program solved, and what is read off it: cuts, pre-images and what shows that an image
+//! is everything.
 #![tactic(auto)]
 
 mod cut;

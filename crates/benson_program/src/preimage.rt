@@ -42,7 +42,7 @@ fn share<F: Field>(alloc: Global, form: &Data<F>, dual: &[F]) -> Result<Items<F>
     negative(alloc, &dual[cols..cols + generator_count(&form.cone)])
 }
 
-/// A share, with the weights that combine the generators to the duality vector times the magnitude of the last multiplier.
+/// A share, with the weights that combine the generators to the duality vector times the magnitude
 fn add_weights<F: Field>(
     alloc: Global,
     share: &[F],
@@ -67,7 +67,8 @@ fn add_weights<F: Field>(
     }
 }
 
-/// The multipliers of the generators, with the share of the duality vector where the last multiplier is negative.
+/// The multipliers of the generators, with the share of the duality vector where the last
+/// multiplier is negative.
 fn full_share<F: Field>(
     alloc: Global,
     form: &Data<F>,
@@ -93,8 +94,9 @@ fn full_share<F: Field>(
     }
 }
 
-/// The pre-image that the multipliers of an optimum of Benson's program at `v` say, where its value, the last multiplier, is not positive.
-/// The weights combine the generators to the duality vector.
+/// The pre-image that the multipliers of an optimum of Benson's program at `v` say, where its
+/// value, the last multiplier, is not positive. The weights combine the generators to the duality
+/// vector.
 pub fn preimage_of<F: Field>(
     alloc: Global,
     form: &Data<F>,

@@ -7,7 +7,6 @@ use lp_form::{At, ConeOf, Data, SideOf};
 use src_sink::{Items, NoMemory};
 use std::alloc::Global;
 
-/// A copy of a list.
 pub(crate) fn copy<T: Copy>(alloc: Global, list: &[T]) -> Result<Items<T>, NoMemory>
     ensures { IfOk result (λ copy. copy ≡ list.now) }
 {
@@ -16,7 +15,6 @@ pub(crate) fn copy<T: Copy>(alloc: Global, list: &[T]) -> Result<Items<T>, NoMem
     Ok(copy)
 }
 
-/// A copy of lists.
 fn copies<T: Copy>(alloc: Global, lists: &[Items<T>]) -> Result<Items<Items<T>>, NoMemory>
     ensures { IfOk result (λ copies. copies ≡ lists.now) }
 {
@@ -27,7 +25,6 @@ fn copies<T: Copy>(alloc: Global, lists: &[Items<T>]) -> Result<Items<Items<T>>,
     Ok(copies)
 }
 
-/// A copy of sides.
 fn copy_sides<F: Field>(alloc: Global, sides: &[SideOf<F>]) -> Result<Items<SideOf<F>>, NoMemory>
     ensures { IfOk result (λ copies. copies ≡ sides.now) }
 {
@@ -39,7 +36,6 @@ fn copy_sides<F: Field>(alloc: Global, sides: &[SideOf<F>]) -> Result<Items<Side
     Ok(copies)
 }
 
-/// A copy of a cone.
 fn copy_cone<F: Field>(alloc: Global, cone: &ConeOf<F>) -> Result<ConeOf<F>, NoMemory>
     ensures { IfOk result (λ copy. copy ≡ cone.now) }
 {
@@ -100,7 +96,7 @@ fn are_same_vectors<F: Field>(one: &[Items<F>], other: &[Items<F>]) -> bool
     true
 }
 
-/// Whether two lines are the same, entry by entry.
+/// Whether two sparse rows are the same, entry by entry.
 fn is_same_line<F: Field>(one: &[At<F>], other: &[At<F>]) -> bool
     ensures { IsTrue result → one.now ≡ other.now }
 {
@@ -115,7 +111,7 @@ fn is_same_line<F: Field>(one: &[At<F>], other: &[At<F>]) -> bool
     true
 }
 
-/// Whether two lists of lines are the same.
+/// Whether two lists of sparse rows are the same.
 fn are_same_lines<F: Field>(one: &[Items<At<F>>], other: &[Items<At<F>>]) -> bool
     ensures { IsTrue result → one.now ≡ other.now }
 {
@@ -174,7 +170,6 @@ fn is_same_duality<F: Field>(one: &Option<Items<F>>, other: &Option<Items<F>>) -
     }
 }
 
-/// A copy of data.
 pub(crate) fn copy_data<F: Field>(alloc: Global, form: &Data<F>) -> Result<Data<F>, NoMemory>
     ensures { IfOk result (HasSameData form.now) }
 {

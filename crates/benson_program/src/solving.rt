@@ -107,7 +107,8 @@ fn named_end<F: Field>(
     }
 }
 
-/// Whether the sides contradict each other, with what shows it: multipliers, or a point that meets them all.
+/// Whether the sides contradict each other, with what shows it: multipliers, or a point that meets
+/// them all.
 pub fn feasible_end<F: Field>(alloc: Global, form: &Data<F>) -> Result<FeasibleEnd<F>, SolveFault>
     requires { StandForSome F.value form.now }
     ensures ok { (file : File) → IsDataOf F.value file form.now
@@ -134,8 +135,8 @@ pub(crate) fn benson_name<F: Field>(alloc: Global, v: &[F], t: bool) -> Result<L
     Ok(LpName::Benson { v: start, t })
 }
 
-/// How Benson's program at `v` ends, a point where `t` and else a direction, from where the last one ended: its equations are the
-/// same at each `v`. `c` is the duality vector.
+/// How Benson's program at `v` ends, a point where `t` and else a direction, from where the last
+/// one ended: its equations are the same at each `v`. `c` is the duality vector.
 pub fn benson_end<F: Field>(
     alloc: Global,
     form: &Data<F>,

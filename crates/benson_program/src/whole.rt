@@ -15,7 +15,8 @@ use overflows::{SolveFault, quotients_of};
 use src_sink::{Items, NoMemory};
 use std::alloc::Global;
 
-/// A direction of the feasible set along which the objectives fall by the duality vector, with what shows it.
+/// A direction of the feasible set along which the objectives fall by the duality vector, with what
+/// shows it.
 #[derive(Debug, Drop)]
 pub struct WholeParts<F: Drop> {
     /// The direction: a number for each variable.
@@ -47,8 +48,9 @@ fn whole_parts<F: Field>(alloc: Global, list: &[F], cols: usize) -> Result<Whole
     Ok(WholeParts { ray, m })
 }
 
-/// The direction that multipliers say which show that Benson's program at the origin has no solution: those of the variables and of
-/// the generators, divided by the magnitude of the last, which is negative.
+/// The direction that multipliers say which show that Benson's program at the origin has no
+/// solution: those of the variables and of the generators, divided by the magnitude of the last,
+/// which is negative.
 pub fn whole_of<F: Field>(
     alloc: Global,
     form: &Data<F>,

@@ -1,4 +1,5 @@
-//! Benson's program, written once for the data of a problem: from question to question only its cost is replaced.
+//! Benson's program, written once for the data of a problem: from question to question only its
+//! cost is replaced.
 ghost use Rattle.std.specs.Prelude.{◌≡◌, map, length, IfOk, IfErr, IfSome};
 ghost use Rattle.benson_program.specs.Ends.{StandForSome};
 ghost use Rattle.exact_simplex.specs.Ends.{IsCertified, IsLpFault, IsReadOff};
@@ -35,7 +36,8 @@ impl<F: Field> Model for Written<F> {
 }
 
 impl<F: Field> Written<F> {
-    /// How the program ends at `v`, with the cost of that, if it is the one for these data and this duality vector.
+    /// How the program ends at `v`, with the cost of that, if it is the one for these data and this
+    /// duality vector.
     fn end_at(
         &mut self,
         alloc: Global,

@@ -6,7 +6,6 @@ use src_sink::Items;
 use std::alloc::Global;
 use whole_simplex::{Program, Ratio, Solver, Stop, Term, at, item, put};
 
-/// Whether a number is 0.
 pub(crate) fn is_zero<F: Field>(x: F) -> bool {
     x.sign() == 0
 }
@@ -177,8 +176,8 @@ impl Draft {
         }
     }
 
-    /// The sides, of which two that bound one product from both ends are one row, and one that bounds a
-    /// column is none.
+    /// The sides, of which two that bound one product from both ends are one row, and one that
+    /// bounds a column is none.
     fn push_sides<F: Field>(&mut self, form: &Data<F>) -> Result<(), Stop> {
         let mut last = None;
         for h in 0..form.sides.len() {
@@ -187,8 +186,8 @@ impl Draft {
         Ok(())
     }
 
-    /// One side, behind another whose row has no bound from above yet. The row of this one, if it has
-    /// one of which the same is true.
+    /// One side, after another whose row has no bound from above yet. The row of this one, if it
+    /// has one of which the same is true.
     fn push_side<F: Field>(
         &mut self,
         form: &Data<F>,
@@ -248,8 +247,8 @@ impl Draft {
         put(&mut self.meanings, variable, meaning)
     }
 
-    /// The rows of the objectives: each less its share of the duality vector, with the multipliers of
-    /// the generators.
+    /// The rows of the objectives: each less its share of the duality vector, with the multipliers
+    /// of the generators.
     fn push_objectives<F: Field>(
         &mut self,
         form: &Data<F>,
@@ -285,8 +284,8 @@ impl Draft {
     }
 }
 
-/// What a vector's product with the objectives has at each column, and behind them the negative of its
-/// product with the duality vector.
+/// What a vector's product with the objectives has at each column, and after them the negative of
+/// its product with the duality vector.
 fn product_sums<F: Field>(
     alloc: Global,
     form: &Data<F>,

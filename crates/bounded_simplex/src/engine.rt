@@ -9,8 +9,8 @@ use src_sink::NoMemory;
 use std::alloc::Global;
 use whole_simplex::Stop;
 
-/// An engine for guesses over one problem and one duality vector. With another problem it makes guesses
-/// that fail their test, if any.
+/// An engine for guesses over one problem and one duality vector. With another problem it makes
+/// guesses that fail their test, if any.
 #[derive(Debug, Drop)]
 pub struct Engine {
     alloc: Global,
@@ -81,11 +81,11 @@ impl Engine {
     }
 
     /// A guess at the optimum of Benson's program at `v`, a point where `t` is true and a direction
-    /// otherwise. There is none where a number is too long, the steps are too many, or no optimum is
-    /// found. It is made for `shown_program::optimum_of`, which tests it.
+    /// otherwise. There is none where a number is too long, the steps are too many, or no optimum
+    /// is found. It is made for `shown_program::optimum_of`, which tests it.
     ///
-    /// A question near the last one takes few steps. A step costs the entries of a row of the inverse
-    /// times those of a column, and of the rows of the file that have a part in it.
+    /// A question near the last one takes few steps. A step costs the entries of a row of the
+    /// inverse times those of a column, and of the rows of the file that have a part in it.
     pub fn guess<F: Field>(
         &mut self,
         form: &Data<F>,
@@ -121,8 +121,8 @@ impl Engine {
         }
     }
 
-    /// A guess at a point of the sides, as one at the optimum of the program `Feasible`, or none. It
-    /// takes a basis of its own.
+    /// A guess at a point of the sides, as one at the optimum of the program `Feasible`, or none.
+    /// It takes a basis of its own.
     pub fn guess_feasible<F: Field>(&self, form: &Data<F>) -> Result<Option<Guess<F>>, NoMemory> {
         answered(asked_feasible(self.alloc, form))
     }

@@ -1,8 +1,8 @@
-//! Lists of places, one behind the other.
+//! Lists of places, one after the other.
 use std::alloc::Global;
 use whole_simplex::{Stop, at, put};
 
-/// The sum of a first number and a place behind it, as a number from 1.
+/// The sum of a first number and a place after it, as a number from 1.
 pub(crate) fn numbered(base: usize, i: usize) -> Result<u32, Stop> {
     let k = base.saturating_add(i);
     if k < 4_294_967_294 {
@@ -16,12 +16,11 @@ pub(crate) fn numbered(base: usize, i: usize) -> Result<u32, Stop> {
 #[derive(Debug, Drop)]
 pub(crate) struct Lists {
     members: Vec<usize>,
-    /// Where each list ends.
+    /// For each list the place after its last member.
     ends: Vec<usize>,
 }
 
 impl Lists {
-    /// No list.
     pub(crate) fn new(alloc: Global) -> Lists {
         Lists {
             members: Vec::new(alloc),
@@ -77,7 +76,7 @@ impl Lists {
     }
 }
 
-/// Where list `k` begins.
+/// The place of the first member of list `k`, from 0.
 fn start_of(ends: &[usize], k: usize) -> Result<usize, Stop> {
     if k == 0 { Ok(0) } else { at(ends, k - 1) }
 }

@@ -25,7 +25,7 @@ pub(crate) struct Bound {
     pub(crate) value: Ratio,
 }
 
-/// A variable.
+/// What a variable of the dual program stands for, and which sides bound it.
 #[derive(Clone, Copy, Debug)]
 pub(crate) struct Meaning {
     pub(crate) kind: Kind,

@@ -24,7 +24,8 @@ fn side_of(low: Option<Bound>, high: Option<Bound>, sign: i8, place: Place) -> O
     }
 }
 
-/// The weight vector that is read off so far: for the cone's dual form the combination of its vectors.
+/// The weight vector that is read off so far: for the cone's dual form the combination of its
+/// vectors.
 fn add_weights<F: Field>(
     form: &Data<F>,
     weights: &mut [F],

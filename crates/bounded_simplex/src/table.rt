@@ -9,8 +9,8 @@ use src_sink::Items;
 use std::alloc::Global;
 use whole_simplex::{Stop, at, item};
 
-/// How the large program is laid out: the first number, from 0, of each kind of column, and how many
-/// equations there are.
+/// How the large program is laid out: the first number, from 0, of each kind of column, and how
+/// many equations there are.
 #[derive(Clone, Copy, Debug)]
 pub(crate) struct Layout {
     weights: usize,
@@ -71,7 +71,7 @@ fn push_places<F: Field>(lists: &mut Lists, vector: &[At<F>]) -> Result<(), Stop
     Ok(())
 }
 
-/// Appends the places of a list's numbers that are not 0, behind a first one.
+/// Appends the places of a list's numbers that are not 0, after a first one.
 fn push_nonzero<F: Field>(lists: &mut Lists, base: usize, vector: &[F]) -> Result<(), Stop> {
     for i in 0..vector.len() {
         if !is_zero(vector[i]) {
@@ -162,7 +162,7 @@ impl<'a, F: Field> Basis<'a, F> {
         }
     }
 
-    /// The column of an unknown behind the weight vector.
+    /// The column of an unknown after the weight vector.
     pub(crate) fn push_behind(&mut self, d: usize, value: F) -> Result<(), Stop> {
         let form = self.form;
         let base = self.layout.cone;

@@ -32,7 +32,7 @@ pub(crate) enum Each {
     Calls,
 }
 
-/// What a line says.
+/// What a line of a list says: a run, and what is wanted of it.
 #[derive(Debug, Drop)]
 pub(crate) struct Case {
     /// The list, and the name in it.
@@ -82,7 +82,7 @@ pub(crate) fn case_of<R: Files + AllocGlobal>(
     Ok(case)
 }
 
-/// Sets what a key says.
+/// Takes one key of a line with its value.
 fn put<R: Files + AllocGlobal>(
     rt: &R,
     case: &mut Case,
@@ -105,7 +105,7 @@ fn put<R: Files + AllocGlobal>(
     Ok(())
 }
 
-/// The words of a text.
+/// The words of a text between white space.
 pub(crate) fn words_of(alloc: Global, text: &str) -> Result<Vec<String>, Fault> {
     let mut words = Vec::new(alloc);
     for word in text.split_whitespace() {

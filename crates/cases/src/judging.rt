@@ -1,14 +1,14 @@
 //! What of a run its case does not want.
 use crate::Fault;
 use crate::case::{Case, words_of};
-use crate::running::{Seen, Trial, printed_problem};
+use crate::running::{Seen, Trial, print_problem};
 use src_sink::{Bytes, MemSink};
 use statuses::Status;
 use std::alloc::Global;
 
-/// What of a run its case does not want, told in words; none where it wants all of it. Where calls fail, `whole` is the
-/// run in which none does.
-pub(crate) fn finding(
+/// What of a run its case does not want, told in words; none where it wants all of it. Where calls
+/// fail, `whole` is the run in which none does.
+pub(crate) fn find_difference(
     alloc: Global,
     case: &Case,
     trial: Trial<'_>,
@@ -21,7 +21,7 @@ pub(crate) fn finding(
     {
         return print_finding(alloc, case, trial);
     }
-    let seen = trial.seen(alloc)?;
+    let seen = trial.run_words(alloc)?;
     match difference_of(alloc, case, trial, whole, &seen)? {
         None => Ok(None),
         Some(what) => {
@@ -129,8 +129,8 @@ fn has_its_form(seen: &Seen) -> bool {
     }
 }
 
-/// What differs where what was written is no front of what is written without a fault, or not the whole though no call
-/// failed before its end.
+/// What differs where what was written is no front of what is written without a fault, or not the
+/// whole though no call failed before its end.
 fn front_difference(seen: &Seen, whole: &Seen) -> Option<&'static str> {
     let (out, log_out) = (seen.out.contents(), seen.log_out.contents());
     let (all, all_log) = (whole.out.contents(), whole.log_out.contents());
@@ -165,7 +165,7 @@ fn calm_run<'a>(
         most,
         fails: &[],
     };
-    Ok(trial.seen(alloc)?)
+    Ok(trial.run_words(alloc)?)
 }
 
 /// What differs where `check` reads the log that was written, or where the words name no log.
@@ -230,8 +230,8 @@ fn has_facets_alone(log: &str) -> bool {
     cuts == facets
 }
 
-/// What differs where `check` reads the log that was written and that which was read, or where it is
-/// written once more.
+/// What differs where `check` reads the log that was written and that which was read, or where it
+/// is written once more.
 fn relogged_difference(
     alloc: Global,
     trial: Trial<'_>,
@@ -247,7 +247,8 @@ fn relogged_difference(
     ]))
 }
 
-/// What differs where `check` reads the log that was written beside the text of `associate`, or where no log is named.
+/// What differs where `check` reads the log that was written beside the text of `associate`, or
+/// where no log is named.
 fn projected_difference(
     alloc: Global,
     trial: Trial<'_>,
@@ -302,11 +303,11 @@ fn fits(form: &str, text: &str) -> bool {
 
 /// What of a printed text is not as its case wants.
 fn print_finding(alloc: Global, case: &Case, trial: Trial<'_>) -> Result<Option<String>, Fault> {
-    let Some(printed) = trial.printed(alloc) else {
+    let Some(printed) = trial.print(alloc) else {
         return Ok(Some(String::from_str(alloc, "it is refused")?));
     };
     let text = std::str::from_utf8(printed.as_slice()).unwrap_or("no text");
-    let again = printed_problem(alloc, printed.as_slice());
+    let again = print_problem(alloc, printed.as_slice());
     let is_log = trial
         .words
         .get(1)

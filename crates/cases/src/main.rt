@@ -1,8 +1,10 @@
-//! Runs the cases of each list in the folder `data`, prints a line for each that comes out otherwise, and how many there were.
+//! Runs the cases of each list in the folder `data`, prints a line for each that comes out
+//! otherwise, and how many there were.
 //!
-//! A list is a folder with a file `cases`. A line of it is a case, unless it is empty or begins with `#`:
-//! `NAME | WORDS | KEY=VALUE | KEY=VALUE ..`. The words are those of a command, or `print problem`, `print log` or
-//! `print sample N`, for what no command prints: the text of the problem or the log that is read, or of a sample file.
+//! A list is a folder with a file `cases`. A line of it is a case, unless it is empty or begins
+//! with `#`: `NAME | WORDS | KEY=VALUE | KEY=VALUE ..`. The words are those of a command, or `print
+//! problem`, `print log` or `print sample N`, for what no command prints: the text of the problem
+//! or the log that is read, or of a sample file.
 //!
 //! | Key | Value |
 //! |---|---|
@@ -15,9 +17,10 @@
 //! | `sent` | how many bytes status 8 says were written |
 //! | `each` | many cases by one line, as below |
 //!
-//! A TEXT of these is `@PATH`, a file below `data`; or `@PATH:NUMBER LINES`, the same with other lines in place of one, or without
-//! it; or it stands there itself, with ` / ` for each end of a line but the last, which ends too, unless the text ends
-//! with `\`. In it `\r` and `\t` are a carriage return and a tab, and `\NxB` is N times the byte B, before the end of a line or a `\`.
+//! A TEXT of these is `@PATH`, a file below `data`; or `@PATH:NUMBER LINES`, the same with other
+//! lines in place of one, or without it; or it stands there itself, with ` / ` for each end of a
+//! line but the last, which ends too, unless the text ends with `\`. In it `\r` and `\t` are a
+//! carriage return and a tab, and `\NxB` is N times the byte B, before the end of a line or a `\`.
 //!
 //! | `each` | The cases |
 //! |---|---|
@@ -25,13 +28,16 @@
 //! | `nines of file`, `nines of log` | with each of its bytes changed to `9`, one at a time |
 //! | `calls` | with each of the calls 1 to 20 of each object failing, where what is written is a front of what is written without a fault |
 //!
-//! An object that the words do not name fails at its first call. Of every case the program tries that fault lines begin with their
-//! status, that nothing is written with the statuses 2, 6 and 7, and to the log's output only behind a report, and that `sent` is
-//! the length of what was written. Where `solve FILE LOG` or `dual FILE LOG` ends with 0, `check` accepts the log with the same
-//! report, and without LOG the report is the same; the log of `dual` has as many cuts as facets, and what it tells before the
-//! witnesses is what `solve` tells. Where `project FILE K LOG` ends with 0, `check` accepts the log with the text of
-//! `associate FILE K`, and without LOG the text is the same. Where `relog FILE LOG` does, `check` has the same report of what was written as
-//! of what was read, and `relog` of that writes it once more. What `print problem` writes is printed alike when it is read again.
+//! An object that the words do not name fails at its first call. Of every case the program tries
+//! that fault lines begin with their status, that nothing is written with the statuses 2, 6 and 7,
+//! and to the log's output only after a report, and that `sent` is the length of what was written.
+//! Where `solve FILE LOG` or `dual FILE LOG` ends with 0, `check` accepts the log with the same
+//! report, and without LOG the report is the same; the log of `dual` has as many cuts as facets,
+//! and what it tells before the witnesses is what `solve` tells. Where `project FILE K LOG` ends
+//! with 0, `check` accepts the log with the text of `associate FILE K`, and without LOG the text is
+//! the same. Where `relog FILE LOG` does, `check` has the same report of what was written as of
+//! what was read, and `relog` of that writes it once more. What `print problem` writes is printed
+//! alike when it is read again.
 #![tactic(auto)]
 
 mod case;
@@ -40,7 +46,7 @@ mod running;
 mod texts;
 
 use case::{Case, Each, Object, case_of};
-use judging::finding;
+use judging::find_difference;
 use running::{Seen, Trial};
 use src_sink::NoMemory;
 use std::alloc::{AllocError, AllocFailed};
@@ -99,7 +105,7 @@ impl Tally {
         whole: Option<&Seen>,
     ) -> Result<(), Fault> {
         self.cases = self.cases.saturating_add(1);
-        if let Some(what) = finding(rt.alloc(), case, trial, whole)? {
+        if let Some(what) = find_difference(rt.alloc(), case, trial, whole)? {
             let name = &case.name;
             println!(rt; "{name}, {number}: {what}")?;
         }
@@ -145,7 +151,7 @@ fn run_calls(
     trial: Trial<'_>,
     tally: &mut Tally,
 ) -> Result<(), Fault> {
-    let whole = trial.seen(rt.alloc())?;
+    let whole = trial.run_words(rt.alloc())?;
     for object in [Object::Problem, Object::Log, Object::Out, Object::LogOut] {
         if trial.names(object) {
             for call in 1..21u8 {

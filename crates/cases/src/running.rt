@@ -93,8 +93,8 @@ impl<'a> Trial<'a> {
         MemSink::new(alloc, ROOM, self.bytes_a_call(), calls)
     }
 
-    /// Runs the words.
-    pub(crate) fn seen(&self, alloc: Global) -> Result<Seen, NoMemory> {
+    /// Runs the words over sources and sinks in memory.
+    pub(crate) fn run_words(&self, alloc: Global) -> Result<Seen, NoMemory> {
         let mut problem = self.source(alloc, Object::Problem, self.file)?;
         let mut log_in = self.source(alloc, Object::Log, self.log)?;
         let mut out = self.sink(alloc, Object::Out)?;
@@ -115,9 +115,9 @@ impl<'a> Trial<'a> {
     }
 
     /// What the words `print ..` print; none where a text is refused, or the words are others.
-    pub(crate) fn printed(&self, alloc: Global) -> Option<Bytes> {
+    pub(crate) fn print(&self, alloc: Global) -> Option<Bytes> {
         match self.words {
-            [_, what] if what.as_str() == "problem" => printed_problem(alloc, self.file),
+            [_, what] if what.as_str() == "problem" => print_problem(alloc, self.file),
             [_, what] if what.as_str() == "log" && self.log.len() <= MOST_ITEMS => {
                 let log = read_log(alloc, self.log).ok()?;
                 print_log(alloc, &log).ok()
@@ -129,7 +129,7 @@ impl<'a> Trial<'a> {
 }
 
 /// The problem of a text, printed; none where the text is refused, or a number of it.
-pub(crate) fn printed_problem(alloc: Global, text: &[u8]) -> Option<Bytes> {
+pub(crate) fn print_problem(alloc: Global, text: &[u8]) -> Option<Bytes> {
     if text.len() > MOST_ITEMS {
         return None;
     }

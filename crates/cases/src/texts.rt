@@ -26,13 +26,13 @@ pub(crate) fn text_of<R: Files + AllocGlobal>(rt: &R, value: &str) -> Result<Str
         None => Ok(fs::read_to_string(rt, named)?),
         Some((path, change)) => {
             let text = fs::read_to_string(rt, path)?;
-            changed(rt.alloc(), text.as_str(), change)
+            change_line(rt.alloc(), text.as_str(), change)
         }
     }
 }
 
 /// A text with other lines in place of the one that `NUMBER LINES` names, or without it.
-fn changed(alloc: Global, text: &str, change: &str) -> Result<String, Fault> {
+fn change_line(alloc: Global, text: &str, change: &str) -> Result<String, Fault> {
     let (at, lines) = match change.split_once(' ') {
         None => (change, String::new(alloc)),
         Some((at, lines)) => (at, plain(alloc, lines)?),

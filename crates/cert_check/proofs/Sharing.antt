@@ -12,14 +12,14 @@ use Rattle.log_rules.specs.Events.Event.{test}
 use Rattle.log_rules.specs.Runs.{Runs, Stops, steps}
 use Rattle.log_rules.specs.declared.rule.Rule.TheVariants as rule
 use Rattle.log_rules.specs.declared.stop.Stop.{Stop}
-use Rattle.log_tests.proofs.Going.{test-passed}
+use Rattle.entry_checks.proofs.Going.{test-passed}
 use Rattle.log_solved.specs.Solving.{IsSolving}
 use Rattle.log_solved.specs.declared.solving.Solving.{Solving}
 use Rattle.log_versions.specs.Plain.{shares, plain_entry, plain}
 use Rattle.log_versions.specs.WrittenEvents.{is_there, written_kind_events}
 use Rattle.log_versions.proofs.PlainLogs.{plain-push}
 use Rattle.cert_check.specs.Taking.{Takes}
-use Rattle.cert_check.proofs.Taking.{stops_first, runs_behind}
+use Rattle.cert_check.proofs.Taking.{stops_first, runs_after}
 
 -- a number that passed its test
 pub is_number : (b : Bool) (k n : ℕ) → b ≡ (nat_le 1 k && nat_le k n) →
@@ -43,7 +43,7 @@ not_there b k before vectors h same es stop stops =
     stops_first rule.Index b (nat_le 1 k && nat_le k (length (shares before)))
     (there b k before vectors h same) es stop stops
 
--- the entry does what its plain entry does, behind the test that the vector is there
+-- the entry does what its plain entry does, after the test that the vector is there
 pub took_sharing : (file : Problem) (before : List Entry) (e p : Entry) (k : ℕ) (solving : Solving)
     (result : Result (Unit {0}) Stop) →
     plain_entry (shares before) e ≡ p ∷ [] → plain_entry (shares before) p ≡ p ∷ [] →
@@ -55,7 +55,7 @@ took_sharing file before e p k solving result plainly itself tests b same none h
     let plain_same : plain (before ++ p ∷ []) ≡ plain (before ++ e ∷ []) =
     plain-push before p ∙ ap (λ (es : List Entry). plain before ++ es) (itself ∙ sym plainly)
     ∙ sym (plain-push before e) in
-    let behind = runs_behind rule.Index b (nat_le 1 k && nat_le k (length (shares before))) same
+    let behind = runs_after rule.Index b (nat_le 1 k && nat_le k (length (shares before))) same
     (written_kind_events file before p) none
     (IsSolving file (plain (before ++ p ∷ [])) solving) result h in
     subst (λ (es : List Event). Runs is_held es 0 (steps es)

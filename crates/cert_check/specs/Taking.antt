@@ -21,7 +21,7 @@ pub record MayTake (file : Problem) (before : List Entry) (k : Kind) (known : Kn
   pub knows : IsKnown file before known
   pub stands : StandsBefore file (plain before) k solving
 
--- the events of the entry were gone through, and then it stands behind those before
+-- the events of the entry were gone through, and then it stands after those before
 abbrev pub Takes : Problem → List Entry → Entry → Solving → Result (Unit {0}) Stop → Type 0
 Takes file before e solving result =
     Runs is_held (written_kind_events file before e) 0 (steps (written_kind_events file before e))
@@ -42,7 +42,7 @@ IsDirection (entry.Whole x ray m) = ⊤
 IsDirection (entry.Line d x ray m back n) = ⊤
 IsDirection _ = ⊥
 
--- what is known of an entry that passed its tests, behind entries that did
+-- what is known of an entry that passed its tests, after entries that did
 pub record IsTested (file : Problem) (before : List Entry) (e : Entry) : Type 0 where
   pub begun : plain before ≡ [] → before ≡ []
   pub order : IsTrue (may_follow before e)

@@ -30,8 +30,7 @@ pub struct Found {
     pub ended: Option<EndKind>,
 }
 
-/// A copy of a list.
-pub fn copied<T: Copy + Drop>(alloc: Global, items: &Items<T>) -> Result<Items<T>, NoMemory>
+pub fn copy_list<T: Copy + Drop>(alloc: Global, items: &Items<T>) -> Result<Items<T>, NoMemory>
     ensures { IfOk result (λ copy. copy ≡ items.now) }
 {
     let mut copy = Items::new(alloc);
@@ -44,7 +43,7 @@ pub fn keep_scale(alloc: Global, c: &mut Vector, entry: &Entry) -> Result<(), No
     ensures { OnOk result (c.new ≡ next_scale c.old entry.now) }
 {
     if let Entry::Duality { c: given, .. } = entry {
-        *c = copied(alloc, given)?;
+        *c = copy_list(alloc, given)?;
     }
     Ok(())
 }
@@ -54,7 +53,7 @@ fn keep_farkas(alloc: Global, farkas: &mut Option<Sparse>, entry: &Entry) -> Res
     ensures { OnOk result (farkas.new ≡ next_farkas farkas.old entry.now) }
 {
     if let Entry::Farkas { u } = entry {
-        *farkas = Some(copied(alloc, u)?);
+        *farkas = Some(copy_list(alloc, u)?);
     }
     Ok(())
 }
@@ -65,8 +64,8 @@ fn keep_whole(alloc: Global, whole: &mut Option<FoundWhole>, entry: &Entry) -> R
 {
     if let Entry::Whole { x, ray, .. } = entry {
         *whole = Some(FoundWhole {
-            x: copied(alloc, x)?,
-            ray: copied(alloc, ray)?,
+            x: copy_list(alloc, x)?,
+            ray: copy_list(alloc, ray)?,
         });
     }
     Ok(())
@@ -82,9 +81,9 @@ fn line_gen(
 ) -> Result<LineGen, NoMemory>
     ensures { IfOk result (λ line. line ≡ line_of dir d.now ray.now back.now) }
 {
-    let d = copied(alloc, d)?;
-    let ray = copied(alloc, ray)?;
-    let back = copied(alloc, back)?;
+    let d = copy_list(alloc, d)?;
+    let ray = copy_list(alloc, ray)?;
+    let back = copy_list(alloc, back)?;
     match dir {
         Dir::Min => Ok(LineGen { d, ray, back }),
         Dir::Max => Ok(LineGen {
@@ -115,7 +114,7 @@ pub fn keep_way(alloc: Global, lines: &mut Items<Vector>, entry: &Entry) -> Resu
     ensures { OnOk result (lines.new ≡ next_ways lines.old entry.now) }
 {
     if let Entry::Line { d, .. } = entry {
-        lines.push(copied(alloc, d)?)?;
+        lines.push(copy_list(alloc, d)?)?;
     }
     Ok(())
 }
@@ -131,7 +130,7 @@ fn keep_end(ended: &mut Option<EndKind>, entry: &Entry)
 
 impl Found {
     /// Where there is no entry.
-    pub fn none(alloc: Global) -> Found
+    pub fn new(alloc: Global) -> Found
         ensures { (dir : Dir) → HasFound dir [] result }
     {
         Found {
@@ -142,7 +141,7 @@ impl Found {
         }
     }
 
-    /// With one entry more.
+    /// Keeps what an answer needs of one more entry.
     pub fn keep(&mut self, alloc: Global, dir: Dir, entry: &Entry) -> Result<(), NoMemory>
         ensures { (before : List Entry) → HasFound dir (plain before) self.old
             → OnOk result (HasFound dir (plain (before ++ entry.now ∷ [])) self.new) }

@@ -13,14 +13,14 @@ use deriv_log::Entry;
 use frac128::Vector;
 use src_sink::{Items, NoMemory};
 use std::alloc::Global;
-use vlp_matrices::Sheet;
+use vlp_matrices::Matrices;
 use vlp_reader::Problem;
 
 /// The problem by rows and columns, the kinds of the entries before, the duality vector, the lines,
 /// and the shared vectors.
 #[derive(Debug, Drop)]
 pub struct Known {
-    pub sheet: Sheet,
+    pub matrices: Matrices,
     pub kinds: Kinds,
     pub c: Vector,
     pub lines: Items<Vector>,
@@ -33,15 +33,15 @@ impl Known {
         ensures { IfOk result (IsKnown problem.now []) }
     {
         Ok(Known {
-            sheet: Sheet::of(alloc, problem)?,
-            kinds: Kinds::none(),
+            matrices: Matrices::of(alloc, problem)?,
+            kinds: Kinds::new(),
             c: Items::new(alloc),
             lines: Items::new(alloc),
-            shares: Shares::none(alloc),
+            shares: Shares::new(alloc),
         })
     }
 
-    /// With one entry more.
+    /// Keeps what later tests need of one more entry.
     pub fn keep(&mut self, alloc: Global, entry: &Entry) -> Result<(), NoMemory>
         requires { IsTrue (is_formed entry.now) }
         ensures { (file : Problem) (before : List Entry) → IsKnown file before self.old

@@ -1,10 +1,10 @@
-//! Each entry of a log against its rules, behind entries without a failure.
+//! Each entry of a log against its rules, after entries without a failure.
 ghost use Rattle.std.specs.Prelude.{◌≡◌, List, [], ◌∷◌, ◌++◌, IsTrue, IfOk, OnOk};
 ghost use Rattle.frac128.specs.Held.{is_held};
 ghost use Rattle.deriv_log.specs.Formed.{is_formed, IsLog};
 ghost use Rattle.deriv_log.specs.declared.entry.Entry.{Entry};
 ghost use Rattle.log_rules.specs.Proves.{PlainProves};
-ghost use Rattle.log_rules.specs.Runs.{Runs, steps};
+ghost use Rattle.log_rules.specs.Runs.{RunsAll};
 ghost use Rattle.log_rules.specs.declared.answer.Answer.TheVariants.{Whole};
 ghost use Rattle.log_versions.specs.Plain.{plain};
 ghost use Rattle.log_versions.specs.WrittenEvents.{written_events};
@@ -16,33 +16,23 @@ use crate::found::{Found, FoundWhole};
 use crate::known::Known;
 use crate::testing::take_entry;
 use deriv_log::{EndKind, Entry};
+use entry_checks::pass;
 use frac128::Vector;
 use log_answer::solved_answer;
 use log_rules::{Answer, Rule, Stop};
 use log_solved::Solving;
-use log_tests::pass;
 use src_sink::NoMemory;
 use std::alloc::Global;
 use vlp_reader::{Dir, Problem};
 
-/// What is known of a log's entries so far, none of whose events fails. Behind an error of `take`
+/// What is known of a log's entries so far, none of whose events fails. After an error of `take`
 /// the value is of no use. It takes memory for the cuts, the lines, the shared vectors, and the
 /// live generators with their tight sets and pre-images, and none for what is live no more.
 ///
-/// Each entry costs what its tests and operations cost, and what it gives is copied: `duality` the
-/// entries of the cone's vectors, and for a cone by generators the cube of the number of
-/// objectives; `cut` the entries of the sides and of the objectives, and the test in the dual cone;
-/// `start` twice the cube of the number of objectives, and once a place for each cut; `add` the
-/// entries of the live generators, and at the worst its opposite pairs times the generators times
-/// the words of a tight set; `point` and `ray` the entries of the sides and of the objectives;
-/// `facet` the rows in use and the facets, each times the words of a set of generators;
-/// `end solved` the rows in use times the facets times those words. The first entry that compares
-/// rows makes their sets, once: rows times generators.
-///
-/// `share` costs the places of its vector, which is kept; `cutof`, `pointof` and `rayof` what
-/// `cut`, `point` and `ray` do. A pair that `addh` lists costs what one of `add` does; each other
-/// opposite pair costs the search of its hint by number, and two passes over the words of tight
-/// sets.
+/// Each entry costs what the tests and operations of its kind cost, and a copy of what it gives.
+/// The most is that of an `add`: at the worst its opposite pairs times the generators times the
+/// words of a tight set. The first entry that compares rows makes their sets, once: rows times
+/// generators.
 #[derive(Debug, Drop)]
 pub struct Progress {
     pub known: Known,
@@ -65,7 +55,7 @@ impl Progress {
     {
         Ok(Progress {
             known: Known::new(alloc, problem)?,
-            found: Found::none(alloc),
+            found: Found::new(alloc),
             solving: Solving::new(alloc),
         })
     }
@@ -90,8 +80,7 @@ impl Progress {
         requires formed { IsTrue (is_formed entry.now) }
         requires standing { (before : List Entry) × IsAt problem.now before self.old }
         ensures { (before : List Entry) → IsAt problem.now before self.old
-            → Runs is_held (written_events problem.now before entry.now) 0
-            (steps (written_events problem.now before entry.now))
+            → RunsAll is_held (written_events problem.now before entry.now)
             (λ _. IsAt problem.now (before ++ entry.now ∷ []) self.new) result }
     {
         pass(Rule::Order, self.known.kinds.may_follow(entry))?;

@@ -5,7 +5,7 @@ ghost use Rattle.deriv_log.specs.Formed.{is_formed};
 ghost use Rattle.log_versions.specs.Plain.{shared};
 ghost use Rattle.cert_check.specs.Keeping.{next_shares};
 
-use crate::found::copied;
+use crate::found::copy_list;
 use deriv_log::Entry;
 use frac128::Sparse;
 use src_sink::{Items, NoMemory};
@@ -32,7 +32,7 @@ impl Model for Shares {
 
 impl Shares {
     /// Where there is no entry.
-    pub fn none(alloc: Global) -> Shares
+    pub fn new(alloc: Global) -> Shares
         ensures { result ≡ [] }
     {
         Shares {
@@ -46,7 +46,7 @@ impl Shares {
         ensures { OnOk result (self.new ≡ next_shares self.old entry.now) }
     {
         if let Entry::Share { v } = entry {
-            self.list.push(copied(alloc, v)?)?;
+            self.list.push(copy_list(alloc, v)?)?;
         }
         Ok(())
     }

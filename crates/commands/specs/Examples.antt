@@ -9,6 +9,7 @@ use Rattle.commands.specs.Tasks.Task.{check, relog, solve, dual, sample, project
 use Rattle.commands.specs.Tasks.Files.{none, one, two, logged}
 use Rattle.commands.specs.Weights.{are_weights, AreWeightsOf}
 
+-- words that write a number from 1 to a limit, and words that do not
 pub record NumberExamples : Type 0 where
   pub least : number_of 1000 (codes "1") ≡ Some 1
   pub greatest : number_of 1000 (codes "1000") ≡ Some 1000
@@ -21,6 +22,7 @@ pub record NumberExamples : Type 0 where
   pub letter : number_of 19 (codes "x") ≡ None
   pub empty : number_of 19 [] ≡ None
 
+-- words that write from 1 to 20 weights, and words that do not
 pub record WeightExamples : Type 0 where
   pub one : are_weights (codes "1") ≡ true
   pub zero : are_weights (codes "0") ≡ true
@@ -158,6 +160,7 @@ pub record PathExamples : Type 0 where
   pub no_file : problem_path (files_of (shape_of (codes "sample" ∷ codes "7" ∷ []))) ≡ None
   pub no_shape : problem_path (files_of (shape_of (codes "meet" ∷ codes "f" ∷ codes "f" ∷ []))) ≡ None
 
+-- all of these
 pub record Examples : Type 0 where
   pub numbers : NumberExamples
   pub weights : WeightExamples

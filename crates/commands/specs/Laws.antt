@@ -4,6 +4,7 @@ use Rattle.exact_field.specs.Rational.{ℚ}
 use Rattle.commands.specs.Numbers.{WordsOfNumbers}
 use Rattle.commands.specs.Weights.{AreWeightsOf, FewWeightsOf, are_weights}
 
+-- which words write numbers and weights
 pub record WordLaws : Type 0 where
   pub numbers : WordsOfNumbers
   -- the words that pass the test of weights are those that write from 1 to 20 of them

@@ -1,5 +1,5 @@
--- The subject: Tasks, Shapes, Numbers, Weights (the words of commands), with Examples; Paths.
--- What only serves proofs: Seen.
+-- The subject: Tasks, Shapes, Numbers, Weights (the words of commands), with Laws and Examples;
+-- Paths. For the code's own steps: Seen.
 pub mod Tasks
 pub mod Numbers
 pub mod Weights

@@ -37,6 +37,7 @@ abbrev pub weights_shape : List ℕ → List ℕ → Option Shape
 weights_shape file word = if are_weights word then Some (shape (weigh word) (one file)) else None
 
 -- ---- the commands by their names and numbers of words
+-- the shape of the words of a command, if they have one
 abbrev pub shape_of : List (List ℕ) → Option Shape
 shape_of (word ∷ file ∷ []) =
     if bytes_eq word (codes "solve") then Some (shape solve (one file))

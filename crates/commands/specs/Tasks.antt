@@ -34,5 +34,6 @@ pub record Shape : Type 0 where
   pub task : Task
   pub files : Files
 
+-- a shape by its parts
 abbrev pub shape : Task → Files → Shape
 shape task files = record { task = task; files = files }

@@ -2,8 +2,9 @@
 ghost use Rattle.commands.specs.Laws.{WordLaws};
 ghost use Rattle.commands.specs.Examples.{Examples};
 
-/// The decimal texts of numbers are the words of these numbers, and no other words are; and the words
-/// of weights are those that write from 1 to 20 fractions, of which a word writes but one list.
+/// The decimal texts of numbers are the words of these numbers, and no other words are; and the
+/// words of weights are those that write from 1 to 20 fractions, of which a word writes but one
+/// list.
 pub fn words_of_values()
     ensures { WordLaws }
 {}

@@ -38,7 +38,7 @@ one_more t old new x d k pushed is inside own = pushed ∙ ap₂ (λ (xs : List 
 pub front_is : (before t : List (List ℚ)) (k : ℕ) → k < length t → (before ++ take k t) ++ slice_index_or t k [] ∷ [] ≡ before ++ take (k + 1) t
 front_is before t k inside = append_assoc before (take k t) (slice_index_or t k [] ∷ []) ∙ ap (λ (xs : List (List ℚ)). before ++ xs) (sym (take_more t k [] inside))
 
--- so the next one may be added behind the rows so far
+-- so the next one may be added after the rows so far
 pub next_may : (s : Setting) (family : Family) (n : ℕ) (before t : List (List ℚ)) (k : ℕ) (list : LiveList) → k < length t →
     MayDescribe s family n (before ++ t) → IsMadeOver n (before ++ take k t) list →
     IsAddition s (before ++ take k t) (slice_index_or t k []) list family

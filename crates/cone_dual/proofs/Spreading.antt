@@ -10,7 +10,7 @@ use Rattle.lin_rows.specs.Read.{numbers}
 use Rattle.upper_image.specs.Spots.{dense, IsVector}
 use Rattle.cone_rules.specs.Laws.{spread, IsSpread}
 
--- at a vector that is 0, or behind the last number, the next is 0
+-- at a vector that is 0, or after the last number, the next is 0
 pub spread-zero : (v : List ℚ) (vectors : List (List ℚ)) (xs : List ℚ) → (list_all is_zero v ≡ true) ⊎ (xs ≡ []) →
     spread (v ∷ vectors) xs ≡ zero_ℚ ∷ spread vectors xs
 spread-zero v vectors [] h = refl

@@ -47,7 +47,7 @@ pub record IsDescriptionOf (n : ℕ) (rows : List (List ℚ)) (dd : State) : Typ
   pub rows_are : dd.rows ≡ begun_with picks rows
   pub made : IsMadeOver n dd.rows dd.list
 
--- some of these rows may be eliminated, and each of them added behind any of them as one of the
+-- some of these rows may be eliminated, and each of them added after any of them as one of the
 -- family
 pub record MayDescribe (s : Setting) (family : Family) (n : ℕ) (rows : List (List ℚ)) : Type 0 where
   pub eliminated : (some : List (List ℚ)) → All (Contains rows) some → AreElimRows s some n

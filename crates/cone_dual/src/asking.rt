@@ -104,7 +104,7 @@ pub fn inverse_columns<F: Field>(
     }
 }
 
-/// The rows, one behind the other.
+/// The rows, one after the other.
 fn joined_rows<F: Field>(alloc: Global, rows: &Rows<F>) -> Result<Items<F>, NoMemory>
     ensures { IfOk result (λ list. map F.value list ≡ joined (numbers F.value rows.now.list)) }
 {

@@ -30,8 +30,8 @@ pub struct ZeroCombination {
     pub m: Sparse,
 }
 
-/// The next of the numbers behind the first `next`, and how many are used then: 0 and no more at a
-/// vector that is 0, or behind the last.
+/// The next of the numbers after the first `next`, and how many are used then: 0 and no more at a
+/// vector that is 0, or after the last.
 fn next_number<F: Field>(vector: &[F], list: &[F], next: usize) -> (F, usize)
     requires { next ≤ length list.now }
     ensures inside { result.1 ≤ length list.now }

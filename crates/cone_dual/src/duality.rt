@@ -23,7 +23,6 @@ pub enum ConeEnd {
     Fault(ConeFault),
     /// An operation whose exact result is not held, with its licence.
     Left(Licence),
-    /// Want of memory.
     NoMemory,
 }
 

@@ -75,7 +75,7 @@ fn require_no_line<F: Field>(
     }
 }
 
-/// The entries of a list behind the first `n`.
+/// The entries of a list after the first `n`.
 fn entries_after<F: Field>(list: &[F], n: usize) -> &[F]
     requires { n ≤ length list.now }
     ensures { map F.value result.now ≡ drop n (map F.value list.now) }
@@ -84,7 +84,7 @@ fn entries_after<F: Field>(list: &[F], n: usize) -> &[F]
 }
 
 /// The fault that multipliers of the program of an interior vector show: those of the last
-/// equations, behind one for each generator.
+/// equations, after one for each generator.
 fn outside_fault<F: Field>(
     alloc: Global,
     form: &Data<F>,

@@ -26,7 +26,7 @@ pub fn first_not_positive<F: Field>(list: &[F]) -> Option<usize>
     None
 }
 
-/// The vectors as rows.
+/// The vectors, of `q` entries each, as rows.
 pub fn rows_of<F: Field>(alloc: Global, q: u32, vectors: &[Items<F>]) -> Result<Rows<F>, NoMemory>
     requires { AreWide q (numbers F.value vectors.now) }
     ensures width { IfOk result (λ rows. rows.width ≡ q) }

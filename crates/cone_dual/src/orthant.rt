@@ -47,7 +47,7 @@ fn given_duality<F: Field>(alloc: Global, form: &Data<F>, f: &[F]) -> Result<Dua
     Ok(duality_with(alloc, c, Items::new(alloc), Items::new(alloc), &[])?)
 }
 
-/// The vector of ones.
+/// All ones, which is interior to the orthant.
 fn ones<F: Field>(alloc: Global, form: &Data<F>) -> Result<Duality<F>, NoMemory>
     requires cone { form.now.cone ≡ cone.Orthant }
     requires duality { form.now.duality ≡ None }

@@ -122,7 +122,7 @@ four_parts n z h =
     (two_left (drop n (drop n z)) (omega (arith, h, length-drop n (drop n z), length-drop n z))
     ∙ ap₂ (λ x y. x ∷ y ∷ []) (slice_far n z 0 ∙ ap (λ i. slice_index_or z i zero_ℚ) place) (slice_far n z 1 ∙ ap (λ i. slice_index_or z i zero_ℚ) next)))
 
--- ---- two multipliers behind those of the gaps: of the equation on the last entry, and of
+-- ---- two multipliers after those of the gaps: of the equation on the last entry, and of
 -- e + k = 1
 abbrev pub on_last : ℕ → List ℚ → ℚ
 on_last n y = slice_index_or (drop n y) 0 zero_ℚ

@@ -181,7 +181,7 @@ values_columns q vectors z w =
     ∙ listed-is q (λ i. dot (column_of vectors i) z) (combination q z vectors) (length-combination q z vectors w)
     (λ i l u. dot_comm (column_of vectors i) z ∙ sym (entry-combination q z vectors i))
 
--- and with zeros behind the columns, at vectors that begin with z
+-- and with zeros after the columns, at vectors that begin with z
 pub values_columns_led : (q m : ℕ) (vectors : Table) (z more : List ℚ) → AreWide q vectors → length z ≡ length vectors →
     values (listed q (λ i. column_of vectors i ++ zeros m)) (z ++ more) ≡ combination q z vectors
 values_columns_led q m vectors z more w long =

@@ -128,6 +128,7 @@ pub record FoundProgram : Type 0 where
 abbrev pub interior_said : ℕ → List ℚ → List ℚ
 interior_said q x = minus (take q x) (take q (drop q x))
 
+-- what the ends of the program of an interior vector show of a cone in dual form
 pub record RowsProgram : Type 0 where
   -- where the cone is solid an optimum gives a vector with the last entry 1 at which each row that
   -- is not 0 is positive

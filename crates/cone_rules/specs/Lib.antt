@@ -1,2 +1,3 @@
+-- The subject: Faults, then Laws.
 pub mod Faults
 pub mod Laws

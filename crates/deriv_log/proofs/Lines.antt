@@ -1,4 +1,4 @@
--- What is known behind the lines of a log that were read.
+-- What is known after the lines of a log that were read.
 use Rattle.std.proofs.Common.{◌≡◌, ℕ, ◌+◌, ◌&&◌, true, false, not, Bool, List, [], ◌∷◌, ◌++◌, length, Some}
 use Rattle.std.specs.List.{list_any}
 use Rattle.src_sink.specs.Texts.{TextLine, lines_of}

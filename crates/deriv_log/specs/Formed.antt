@@ -7,9 +7,11 @@ use Rattle.deriv_log.specs.LogText.{entry_parts}
 use Rattle.deriv_log.specs.declared.entry.Entry.{Entry}
 use Rattle.deriv_log.specs.declared.entry.Entry.TheVariants.{End}
 
+-- each part of an entry can be written
 abbrev pub is_formed : Entry → Bool
 is_formed e = list_all is_formed_part (entry_parts e)
 
+-- whether an entry ends a log
 abbrev pub is_end : Entry → Bool
 is_end (End k) = true
 is_end _ = false

@@ -1,4 +1,5 @@
--- The subject: LogText, Formed, LineFault, LogGrammar, FirstFault. The statements of the laws: Laws. For the code: Taking.
+-- The subject: LogText, Formed, LineFault, LogGrammar, FirstFault. The statements of the laws:
+-- Laws. For the code's own steps: Taking.
 pub use Rattle.word_lines.specs.Names
 pub use Rattle.word_lines.specs.Numerals
 pub use Rattle.word_lines.specs.Printing

@@ -1,11 +1,11 @@
--- Which parts stand behind the first word of a line of a log, and the first test that a line fails.
+-- Which parts stand after the first word of a line of a log, and the first test that a line fails.
 use Rattle.std.specs.Prelude.{ℕ, Bool, if◌then◌else◌, List, [], ◌∷◌, codes, Option, None, Some}
 use Rattle.word_lines.specs.LineFault.{Form, natural, number, vector, naturals, sparse, pairs, kind}
 use Rattle.word_lines.specs.LineFault as line
 use Rattle.word_lines.specs.Numerals.{same_word}
 use Rattle.word_lines.specs.declared.fault.LogKind.{LogKind}
 
--- what stands behind the first word of a line of version 2; other first words have no line
+-- what stands after the first word of a line of version 2; other first words have no line
 abbrev pub second_forms_of : List ℕ → Option (List Form)
 second_forms_of name =
     if same_word name (codes "share") then Some (sparse ∷ [])
@@ -15,7 +15,7 @@ second_forms_of name =
     else if same_word name (codes "addh") then Some (natural ∷ pairs ∷ naturals ∷ [])
     else None
 
--- what stands behind the first word of a line
+-- what stands after the first word of a line
 abbrev pub forms_of : List ℕ → Option (List Form)
 forms_of name =
     if same_word name (codes "version") then Some (natural ∷ [])

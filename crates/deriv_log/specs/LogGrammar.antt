@@ -10,6 +10,7 @@ use Rattle.deriv_log.specs.LogText.{entry_name, entry_parts}
 use Rattle.deriv_log.specs.declared.entry.Entry.{Entry}
 use Rattle.deriv_log.specs.declared.entry.Entry.TheVariants.{Version, Duality, Cut, Start, Add, Point, Ray, Farkas, Whole, Line, Facet, End, Share, CutOf, PointOf, RayOf, AddHints}
 
+-- no name is empty,
 pub some_name : (e : Entry) → IsTrue (nat_lt 0 (length (entry_name e)))
 some_name (Version n) = refl
 some_name (Duality c weights picks inverse) = refl
@@ -29,6 +30,7 @@ some_name (PointOf generator share m) = refl
 some_name (RayOf generator share m) = refl
 some_name (AddHints cut ps hints) = refl
 
+-- its bytes are above `,`,
 pub letters : (e : Entry) → IsTrue (list_all (nat_lt 44) (entry_name e))
 letters (Version n) = refl
 letters (Duality c weights picks inverse) = refl
@@ -48,6 +50,7 @@ letters (PointOf generator share m) = refl
 letters (RayOf generator share m) = refl
 letters (AddHints cut ps hints) = refl
 
+-- only an entry that ends a log has the name `end`,
 pub end_name : (e : Entry) → same_word (entry_name e) (codes "end") ≡ is_end e
 end_name (Version n) = refl
 end_name (Duality c weights picks inverse) = refl
@@ -67,6 +70,7 @@ end_name (PointOf generator share m) = refl
 end_name (RayOf generator share m) = refl
 end_name (AddHints cut ps hints) = refl
 
+-- and the forms after a name are those of its entry's parts
 pub forms_known : (e : Entry) → forms_of (entry_name e) ≡ Some (map form_of (entry_parts e))
 forms_known (Version n) = refl
 forms_known (Duality c weights picks inverse) = refl
@@ -86,6 +90,7 @@ forms_known (PointOf generator share m) = refl
 forms_known (RayOf generator share m) = refl
 forms_known (AddHints cut ps hints) = refl
 
+-- the entries of logs as lines of words
 abbrev pub log_grammar : Grammar Entry
 log_grammar = record {
   name_of = entry_name;

@@ -26,7 +26,7 @@ entry_name (PointOf generator share m) = codes "pointof"
 entry_name (RayOf generator share m) = codes "rayof"
 entry_name (AddHints cut ps hints) = codes "addh"
 
--- what stands behind it, in order
+-- what stands after it, in order
 abbrev pub entry_parts : Entry → List Part
 entry_parts (Version n) = natural n ∷ []
 entry_parts (Duality c weights picks inverse) = vector c ∷ vector weights ∷ naturals picks ∷ vector inverse ∷ []

@@ -69,11 +69,11 @@ pub enum Entry {
         back: Sparse,
         n: Sparse,
     },
-    /// A cut that is a facet.
+    /// The number of a cut that is a facet.
     Facet {
         cut: u32,
     },
-    /// The end of the log.
+    /// The end of the log, and of which kind it is.
     End(EndKind),
     /// A vector that later entries share; it gets the next number, from 1.
     Share {
@@ -107,8 +107,7 @@ pub enum Entry {
     },
 }
 
-/// A copy of a list.
-fn copied<T: Copy + Drop>(alloc: Global, items: &Items<T>) -> Result<Items<T>, NoMemory>
+fn copy_items<T: Copy + Drop>(alloc: Global, items: &Items<T>) -> Result<Items<T>, NoMemory>
     ensures { IfOk result (λ copy. copy ≡ items.now) }
 {
     let mut copy = Items::new(alloc);
@@ -116,7 +115,7 @@ fn copied<T: Copy + Drop>(alloc: Global, items: &Items<T>) -> Result<Items<T>, N
     Ok(copy)
 }
 
-fn copied_duality(
+fn copy_duality(
     alloc: Global,
     c: &Vector,
     weights: &Vector,
@@ -126,14 +125,14 @@ fn copied_duality(
     ensures { IfOk result (λ copy. copy ≡ Entry.Duality c.now weights.now picks.now inverse.now) }
 {
     Ok(Entry::Duality {
-        c: copied(alloc, c)?,
-        weights: copied(alloc, weights)?,
-        picks: copied(alloc, picks)?,
-        inverse: copied(alloc, inverse)?,
+        c: copy_items(alloc, c)?,
+        weights: copy_items(alloc, weights)?,
+        picks: copy_items(alloc, picks)?,
+        inverse: copy_items(alloc, inverse)?,
     })
 }
 
-fn copied_cut(
+fn copy_cut(
     alloc: Global,
     w: &Vector,
     gamma: Frac,
@@ -143,14 +142,14 @@ fn copied_cut(
     ensures { IfOk result (λ copy. copy ≡ Entry.Cut w.now gamma u.now v.now) }
 {
     Ok(Entry::Cut {
-        w: copied(alloc, w)?,
+        w: copy_items(alloc, w)?,
         gamma,
-        u: copied(alloc, u)?,
-        v: copied(alloc, v)?,
+        u: copy_items(alloc, u)?,
+        v: copy_items(alloc, v)?,
     })
 }
 
-fn copied_start(
+fn copy_start(
     alloc: Global,
     cuts: &Items<u32>,
     point: &Vector,
@@ -159,52 +158,52 @@ fn copied_start(
     ensures { IfOk result (λ copy. copy ≡ Entry.Start cuts.now point.now directions.now) }
 {
     Ok(Entry::Start {
-        cuts: copied(alloc, cuts)?,
-        point: copied(alloc, point)?,
-        directions: copied(alloc, directions)?,
+        cuts: copy_items(alloc, cuts)?,
+        point: copy_items(alloc, point)?,
+        directions: copy_items(alloc, directions)?,
     })
 }
 
-fn copied_add(alloc: Global, cut: u32, pairs: &Items<LogPair>) -> Result<Entry, NoMemory>
+fn copy_add(alloc: Global, cut: u32, pairs: &Items<LogPair>) -> Result<Entry, NoMemory>
     ensures { IfOk result (λ copy. copy ≡ Entry.Add cut pairs.now) }
 {
-    let pairs = copied(alloc, pairs)?;
+    let pairs = copy_items(alloc, pairs)?;
     Ok(Entry::Add { cut, pairs })
 }
 
-fn copied_point(alloc: Global, generator: u32, x: &Sparse, m: &Sparse) -> Result<Entry, NoMemory>
+fn copy_point(alloc: Global, generator: u32, x: &Sparse, m: &Sparse) -> Result<Entry, NoMemory>
     ensures { IfOk result (λ copy. copy ≡ Entry.Point generator x.now m.now) }
 {
-    let x = copied(alloc, x)?;
-    let m = copied(alloc, m)?;
+    let x = copy_items(alloc, x)?;
+    let m = copy_items(alloc, m)?;
     Ok(Entry::Point { generator, x, m })
 }
 
-fn copied_ray(alloc: Global, generator: u32, x: &Sparse, m: &Sparse) -> Result<Entry, NoMemory>
+fn copy_ray(alloc: Global, generator: u32, x: &Sparse, m: &Sparse) -> Result<Entry, NoMemory>
     ensures { IfOk result (λ copy. copy ≡ Entry.Ray generator x.now m.now) }
 {
-    let x = copied(alloc, x)?;
-    let m = copied(alloc, m)?;
+    let x = copy_items(alloc, x)?;
+    let m = copy_items(alloc, m)?;
     Ok(Entry::Ray { generator, x, m })
 }
 
-fn copied_farkas(alloc: Global, u: &Sparse) -> Result<Entry, NoMemory>
+fn copy_farkas(alloc: Global, u: &Sparse) -> Result<Entry, NoMemory>
     ensures { IfOk result (λ copy. copy ≡ Entry.Farkas u.now) }
 {
-    let u = copied(alloc, u)?;
+    let u = copy_items(alloc, u)?;
     Ok(Entry::Farkas { u })
 }
 
-fn copied_whole(alloc: Global, x: &Sparse, ray: &Sparse, m: &Sparse) -> Result<Entry, NoMemory>
+fn copy_whole(alloc: Global, x: &Sparse, ray: &Sparse, m: &Sparse) -> Result<Entry, NoMemory>
     ensures { IfOk result (λ copy. copy ≡ Entry.Whole x.now ray.now m.now) }
 {
-    let x = copied(alloc, x)?;
-    let ray = copied(alloc, ray)?;
-    let m = copied(alloc, m)?;
+    let x = copy_items(alloc, x)?;
+    let ray = copy_items(alloc, ray)?;
+    let m = copy_items(alloc, m)?;
     Ok(Entry::Whole { x, ray, m })
 }
 
-fn copied_line(
+fn copy_line(
     alloc: Global,
     d: &Vector,
     x: &Sparse,
@@ -216,23 +215,23 @@ fn copied_line(
     ensures { IfOk result (λ copy. copy ≡ Entry.Line d.now x.now ray.now m.now back.now n.now) }
 {
     Ok(Entry::Line {
-        d: copied(alloc, d)?,
-        x: copied(alloc, x)?,
-        ray: copied(alloc, ray)?,
-        m: copied(alloc, m)?,
-        back: copied(alloc, back)?,
-        n: copied(alloc, n)?,
+        d: copy_items(alloc, d)?,
+        x: copy_items(alloc, x)?,
+        ray: copy_items(alloc, ray)?,
+        m: copy_items(alloc, m)?,
+        back: copy_items(alloc, back)?,
+        n: copy_items(alloc, n)?,
     })
 }
 
-fn copied_share(alloc: Global, v: &Sparse) -> Result<Entry, NoMemory>
+fn copy_share(alloc: Global, v: &Sparse) -> Result<Entry, NoMemory>
     ensures { IfOk result (λ copy. copy ≡ Entry.Share v.now) }
 {
-    let v = copied(alloc, v)?;
+    let v = copy_items(alloc, v)?;
     Ok(Entry::Share { v })
 }
 
-fn copied_cutof(
+fn copy_cutof(
     alloc: Global,
     w: &Vector,
     gamma: Frac,
@@ -241,15 +240,15 @@ fn copied_cutof(
 ) -> Result<Entry, NoMemory>
     ensures { IfOk result (λ copy. copy ≡ Entry.CutOf w.now gamma share v.now) }
 {
-    let w = copied(alloc, w)?;
-    let v = copied(alloc, v)?;
+    let w = copy_items(alloc, w)?;
+    let v = copy_items(alloc, v)?;
     Ok(Entry::CutOf { w, gamma, share, v })
 }
 
-fn copied_pointof(alloc: Global, generator: u32, share: u32, m: &Sparse) -> Result<Entry, NoMemory>
+fn copy_pointof(alloc: Global, generator: u32, share: u32, m: &Sparse) -> Result<Entry, NoMemory>
     ensures { IfOk result (λ copy. copy ≡ Entry.PointOf generator share m.now) }
 {
-    let m = copied(alloc, m)?;
+    let m = copy_items(alloc, m)?;
     Ok(Entry::PointOf {
         generator,
         share,
@@ -257,10 +256,10 @@ fn copied_pointof(alloc: Global, generator: u32, share: u32, m: &Sparse) -> Resu
     })
 }
 
-fn copied_rayof(alloc: Global, generator: u32, share: u32, m: &Sparse) -> Result<Entry, NoMemory>
+fn copy_rayof(alloc: Global, generator: u32, share: u32, m: &Sparse) -> Result<Entry, NoMemory>
     ensures { IfOk result (λ copy. copy ≡ Entry.RayOf generator share m.now) }
 {
-    let m = copied(alloc, m)?;
+    let m = copy_items(alloc, m)?;
     Ok(Entry::RayOf {
         generator,
         share,
@@ -268,7 +267,7 @@ fn copied_rayof(alloc: Global, generator: u32, share: u32, m: &Sparse) -> Result
     })
 }
 
-fn copied_addh(
+fn copy_addh(
     alloc: Global,
     cut: u32,
     pairs: &Items<LogPair>,
@@ -276,14 +275,14 @@ fn copied_addh(
 ) -> Result<Entry, NoMemory>
     ensures { IfOk result (λ copy. copy ≡ Entry.AddHints cut pairs.now hints.now) }
 {
-    let pairs = copied(alloc, pairs)?;
-    let hints = copied(alloc, hints)?;
+    let pairs = copy_items(alloc, pairs)?;
+    let hints = copy_items(alloc, hints)?;
     Ok(Entry::AddHints { cut, pairs, hints })
 }
 
 impl Entry {
     /// A copy, with lists of its own. It costs their lengths.
-    pub fn copied(&self, alloc: Global) -> Result<Entry, NoMemory>
+    pub fn copy(&self, alloc: Global) -> Result<Entry, NoMemory>
         ensures { IfOk result (λ copy. copy ≡ self.now) }
     {
         match self {
@@ -293,18 +292,18 @@ impl Entry {
                 weights,
                 picks,
                 inverse,
-            } => copied_duality(alloc, c, weights, picks, inverse),
-            Entry::Cut { w, gamma, u, v } => copied_cut(alloc, w, *gamma, u, v),
+            } => copy_duality(alloc, c, weights, picks, inverse),
+            Entry::Cut { w, gamma, u, v } => copy_cut(alloc, w, *gamma, u, v),
             Entry::Start {
                 cuts,
                 point,
                 directions,
-            } => copied_start(alloc, cuts, point, directions),
-            Entry::Add { cut, pairs } => copied_add(alloc, *cut, pairs),
-            Entry::Point { generator, x, m } => copied_point(alloc, *generator, x, m),
-            Entry::Ray { generator, x, m } => copied_ray(alloc, *generator, x, m),
-            Entry::Farkas { u } => copied_farkas(alloc, u),
-            Entry::Whole { x, ray, m } => copied_whole(alloc, x, ray, m),
+            } => copy_start(alloc, cuts, point, directions),
+            Entry::Add { cut, pairs } => copy_add(alloc, *cut, pairs),
+            Entry::Point { generator, x, m } => copy_point(alloc, *generator, x, m),
+            Entry::Ray { generator, x, m } => copy_ray(alloc, *generator, x, m),
+            Entry::Farkas { u } => copy_farkas(alloc, u),
+            Entry::Whole { x, ray, m } => copy_whole(alloc, x, ray, m),
             Entry::Line {
                 d,
                 x,
@@ -312,32 +311,32 @@ impl Entry {
                 m,
                 back,
                 n,
-            } => copied_line(alloc, d, x, ray, m, back, n),
+            } => copy_line(alloc, d, x, ray, m, back, n),
             Entry::Facet { cut } => Ok(Entry::Facet { cut: *cut }),
             Entry::End(kind) => Ok(Entry::End(*kind)),
-            _ => self.copied_second(alloc),
+            _ => self.copy_second(alloc),
         }
     }
 
     /// The same of an entry of version 2.
-    fn copied_second(&self, alloc: Global) -> Result<Entry, NoMemory>
+    fn copy_second(&self, alloc: Global) -> Result<Entry, NoMemory>
         requires { IsSecond self.now }
         ensures { IfOk result (λ copy. copy ≡ self.now) }
     {
         match self {
-            Entry::Share { v } => copied_share(alloc, v),
-            Entry::CutOf { w, gamma, share, v } => copied_cutof(alloc, w, *gamma, *share, v),
+            Entry::Share { v } => copy_share(alloc, v),
+            Entry::CutOf { w, gamma, share, v } => copy_cutof(alloc, w, *gamma, *share, v),
             Entry::PointOf {
                 generator,
                 share,
                 m,
-            } => copied_pointof(alloc, *generator, *share, m),
+            } => copy_pointof(alloc, *generator, *share, m),
             Entry::RayOf {
                 generator,
                 share,
                 m,
-            } => copied_rayof(alloc, *generator, *share, m),
-            Entry::AddHints { cut, pairs, hints } => copied_addh(alloc, *cut, pairs, hints),
+            } => copy_rayof(alloc, *generator, *share, m),
+            Entry::AddHints { cut, pairs, hints } => copy_addh(alloc, *cut, pairs, hints),
             _ => unreachable!(),
         }
     }

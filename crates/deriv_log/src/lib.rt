@@ -1,7 +1,7 @@
 //! The log of a run: its entries, their text, and the first fault of a text that is no log.
 //!
-//! A log shows why an answer is right. It is written by the engines and read by the checker, which share
-//! nothing else.
+//! A log shows why an answer is right. It is written by the engines and read by the checker, which
+//! share nothing else.
 #![tactic(auto)]
 
 mod entry;

@@ -262,9 +262,9 @@ impl LineEntry for Entry {
     }
 }
 
-/// The entry of a line of a log, given the line's number, its text without the line feed, whether that
-/// line feed stood, and whether an `end` line stands before it. A fault names this number and the first
-/// test that the line fails.
+/// The entry of a line of a log, given the line's number, its text without the line feed, whether
+/// that line feed stood, and whether an `end` line stands before it. A fault names this number and
+/// the first test that the line fails.
 pub fn read_line(
     alloc: Global,
     number: u32,

@@ -8,8 +8,8 @@ use src_sink::MOST_ITEMS;
 use std::alloc::Global;
 use word_lines::{LogEnd, read_entries};
 
-/// The entries of the log with this text, or its first fault. Lines are read one at a time, up to the
-/// first that has a fault.
+/// The entries of the log with this text, or its first fault. Lines are read one at a time, up to
+/// the first that has a fault.
 pub fn read_log(alloc: Global, bytes: &[u8]) -> Result<Entries, LogEnd>
     requires { length bytes.now ≤ MOST_ITEMS }
     ensures ok { IfOk result (IsTextOf bytes.now) }

@@ -330,7 +330,7 @@ pub(crate) fn put_entry(entry: &Entry, into: &mut Bytes) -> Result<(), NoMemory>
     }
 }
 
-/// Puts the line of an entry behind a text, with its line feed.
+/// Puts the line of an entry after a text, with its line feed.
 pub fn print_line(entry: &Entry, into: &mut Bytes) -> Result<(), NoMemory>
     ensures { OnOk result (into.new ≡ into.old ++ line_text (entry_words entry.now)) }
 {

@@ -44,41 +44,52 @@ abbrev pub IsSetDescribable : (Problem → Type 0) → ℕ → Type 0
 IsSetDescribable Layout n = (made : Problem) → Layout made → IsDescribable n made
 
 -- ---- what is feasible for both problems
+-- the set is described
 pub record MeetDescribed (a b : Problem) (r : Reply) : Type 0 where
   pub fit : SizesFit a b
   pub set : SetDescribed (IsMeet a b) (IsInBoth a b) a.cols r
 
+-- what `meet` replies
 abbrev pub MeetVerdict : Problem → Problem → Reply → Type 0
 MeetVerdict a b r = SizesTold a b r ⊎ MeetDescribed a b r
 
+-- nothing stands against an answer
 pub record CanMeet (a b : Problem) : Type 0 where
   pub fit : SizesFit a b
   pub describable : IsSetDescribable (IsMeet a b) a.cols
 
 -- ---- the sums of a feasible vector of each
+-- the set is described
 pub record SumDescribed (a b : Problem) (r : Reply) : Type 0 where
   pub fit : SizesFit a b
   pub set : SetDescribed (IsSum a b) (IsInSum a b) a.cols r
 
+-- what `sum` replies
 abbrev pub SumVerdict : Problem → Problem → Reply → Type 0
 SumVerdict a b r = SizesTold a b r ⊎ SumDescribed a b r
 
+-- nothing stands against an answer
 pub record CanSum (a b : Problem) : Type 0 where
   pub fit : SizesFit a b
   pub describable : IsSetDescribable (IsSum a b) a.cols
 
 -- ---- the closed convex hull of both, where neither is empty
+-- the set is described
 pub record JoinDescribed (a b : Problem) (r : Reply) : Type 0 where
   pub parts : BothAreFeasible a b
   pub set : SetDescribed (IsJoin a b) (IsInJoin a b) a.cols r
 
+-- the numbers of columns fit; then a part is empty, or an overflow stops the question, or the set
+-- is described
 pub record JoinTold (a b : Problem) (r : Reply) : Type 0 where
   pub fit : SizesFit a b
   pub told : PartIsEmpty a b r ⊎ (PartStopped a b r ⊎ JoinDescribed a b r)
 
+-- what `join` replies
 abbrev pub JoinVerdict : Problem → Problem → Reply → Type 0
 JoinVerdict a b r = SizesTold a b r ⊎ JoinTold a b r
 
+-- nothing stands against an answer
 pub record CanJoin (a b : Problem) : Type 0 where
   pub fit : SizesFit a b
   pub parts : BothAreFeasible a b
@@ -87,13 +98,16 @@ pub record CanJoin (a b : Problem) : Type 0 where
   pub describable : IsSetDescribable (IsJoin a b) a.cols
 
 -- ---- the image under the objectives
+-- the set is described
 pub record MapDescribed (a : Problem) (r : Reply) : Type 0 where
   pub few : a.objs ≤ 19
   pub set : SetDescribed (IsMap a) (IsInMap a) a.objs r
 
+-- what `map` replies
 abbrev pub MapVerdict : Problem → Reply → Type 0
 MapVerdict a r = ObjectivesTold a r ⊎ MapDescribed a r
 
+-- nothing stands against an answer
 pub record CanMap (a : Problem) : Type 0 where
   pub few : a.objs ≤ 19
   pub describable : IsSetDescribable (IsMap a) a.objs

@@ -19,9 +19,11 @@ pub record Projected (k : ℕ) (file : Problem) (logs : Bool) (r : Reply) : Type
   pub within : k ≤ file.cols
   pub describes : Describes k file logs r
 
+-- what `project` replies
 abbrev pub ProjectVerdict : ℕ → Bool → Problem → Reply → Type 0
 ProjectVerdict k logs file r = ColumnsWanting k file r ⊎ Projected k file logs r
 
+-- nothing stands against an answer
 pub record IsProjectable (k : ℕ) (file : Problem) : Type 0 where
   pub within : k ≤ file.cols
   pub describable : IsDescribable k file
@@ -35,5 +37,6 @@ pub record Associated (k : ℕ) (file : Problem) (r : Reply) : Type 0 where
   pub text : r.text ≡ problem_text made
   pub no_log : r.log ≡ None
 
+-- what `associate` replies
 abbrev pub AssociateVerdict : ℕ → Problem → Reply → Type 0
 AssociateVerdict k file r = ColumnsWanting k file r ⊎ Associated k file r

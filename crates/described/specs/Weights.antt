@@ -26,6 +26,7 @@ pub record WeightsTold (file : Problem) (r : Reply) : Type 0 where
   pub text : r.text ≡ weights_text solution.answer
   pub no_log : r.log ≡ None
 
+-- what `weights` replies
 abbrev pub WeightsVerdict : Problem → Reply → Type 0
 WeightsVerdict file r = WeightsTold file r ⊎ Unsolved file r
 
@@ -57,6 +58,7 @@ pub record WeighingTold (weights : List ℚ) (file : Problem) (r : Reply) : Type
   pub text : r.text ≡ weighed_text solution.answer weighed
   pub no_log : r.log ≡ None
 
+-- there are as many weights as objectives, and a weighing is told, or why there is none
 pub record WeighingDone (weights : List ℚ) (file : Problem) (r : Reply) : Type 0 where
   pub counted : length weights ≡ file.objs
   pub told : WeighingTold weights file r ⊎ (WeighingStopped weights file r ⊎ Unsolved file r)

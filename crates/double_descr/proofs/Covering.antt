@@ -1,5 +1,7 @@
 -- Sets of tight rows: the meet of two, one more number, and how many rows two have in common.
-use Rattle.std.proofs.Common.{Contains, ◌+◌, ◌-◌, ◌++◌, min, set, ◌≡◌, ℕ, zero, suc, ◌<◌, ◌≤◌, ◌⊎◌, inl, inr, subst, cond, count_by, List, [], ◌∷◌, length, map, Bool, true, false, ◌&&◌, refl, sym, ap, ap₂, ◌∙◌, arith}
+use Rattle.std.proofs.Common.{true≢false, IsTrue, ◌↔◌, Contains, ◌+◌, ◌-◌, ◌++◌, min, set, ◌≡◌, ℕ, zero, suc, ◌<◌, ◌≤◌, ◌⊎◌, inl, inr, subst, cond, count_by, List, [], ◌∷◌, length, map, Bool, true, false, ◌&&◌, refl, sym, ap, ap₂, ◌∙◌, arith}
+use Rattle.std.specs.Prelude.{IsFalse}
+use Rattle.std.proofs.lemmas.Bool.{cases_lt}
 use Rattle.std.proofs.lemmas.List.{ext_get_or, length-map}
 use Rattle.std.proofs.lemmas.List.Sums.{sum_by-cons, length-filter}
 use Rattle.exact_field.specs.Rational.{ℚ}
@@ -113,3 +115,15 @@ module _ {F : Type 0} (value : F → ℚ) (n : ℕ) (rows : List (List ℚ)) (ge
           ⊎ (length (tight_rows rows (values value m.vector.items)) ≤ length (common_rows rows (values value p.vector.items) (values value m.vector.items)) + 1)
       counted (inl h) = inl (let e : size p.tight ≡ length (tight_rows rows (values value p.vector.items)) = tight_size p two.plus_listed in omega (arith, h, e, shared_size))
       counted (inr h) = inr (let e : size m.tight ≡ length (tight_rows rows (values value m.vector.items)) = tight_size m two.minus_listed in omega (arith, h, e, shared_size))
+
+-- where fewer than the width less 2 are common, by a test
+pub few_shared : {F : Type 0} (value : F → ℚ) (n : ℕ) (rows : List (List ℚ)) (gens : List (Generator F)) (p m : Generator F) →
+    AreTwoLive value n rows gens p m → (least : ℕ) → least ≡ length p.vector.items - 2 → (enough : Bool) →
+    (common : List Bool) × IsMeet common p.tight m.tight × (IsTrue enough ↔ (least ≤ size common)) → IsFalse enough →
+    is_uncovered_live rows (live_of value gens) (pair_of value p m) ≡ false
+few_shared value n rows gens p m two least is enough (common, meet, told) few =
+    few_are_no_pair value n rows gens p m common two meet (by (cases_lt (size common) least))
+  where
+    by : (size common < least) ⊎ (least ≤ size common) → size common < length p.vector.items - 2
+    by (inl l) = omega (arith, l, is)
+    by (inr l) = absurd (true≢false (sym (told.1 l) ∙ few))

@@ -1,14 +1,12 @@
 -- The live list after one more row: from the values, the generators that stay and the new ones.
-use Rattle.std.proofs.Common.{◌≡◌, ℕ, ◌+◌, ◌<◌, List, [], ◌∷◌, ◌++◌, map, length, filter, All, Bool, refl, sym, ap, ◌∙◌, subst, append_assoc}
+use Rattle.std.proofs.Common.{◌≡◌, ℕ, ◌+◌, List, [], ◌∷◌, ◌++◌, map, length, filter, All, Bool, refl, sym, ap, ◌∙◌, subst, append_assoc}
 use Rattle.std.proofs.lemmas.List.{length-map, append-nil}
 use Rattle.std.proofs.lemmas.List.Elements.{All-nil, All-append}
 use Rattle.exact_field.specs.Rational.{ℚ}
-use Rattle.exact_field.specs.Vector.{dot}
 use Rattle.polyhedra.specs.DoubleDescription.{made}
-use Rattle.polyhedra.specs.LiveList.{Numbered, LivePair, numbered, staying, dropped, step, without_numbers, is_uncovered_live, live_pairs}
-use Rattle.polyhedra.specs.LiveSteps.{IsLive}
+use Rattle.polyhedra.specs.LiveList.{LivePair, numbered, staying, dropped, step, without_numbers, is_uncovered_live, live_pairs}
 use Rattle.double_descr.specs.State.{live_of, list_of, HasTightSet, IsNext}
-use Rattle.double_descr.specs.Adding.{AreHeld, IsAddFault, IsChange, value_block, pair_block, pair_blocks, add_blocks}
+use Rattle.double_descr.specs.Adding.{AreHeld, IsAddFault, IsChange, value_block, pair_block, pair_blocks}
 use Rattle.double_descr.specs.Making.{Addition, blocks_of_all, blocks_of_pairs, candidates, IsMadeSoFar, pair_numbers, live_numbers}
 use Rattle.double_descr.specs.declared.generator.Generator.{Generator}
 use Rattle.double_descr.specs.declared.made.Made.{Made}

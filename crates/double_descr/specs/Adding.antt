@@ -17,9 +17,11 @@ pub record Block : Type 0 where
   pub second : ℕ
   pub steps : List Step
 
+-- the steps of the product of the row with a generator, under its number
 abbrev pub value_block : List ℚ → Numbered → Block
 value_block row g = record { first = g.number; second = 0; steps = product_steps zero_ℚ row g.vector }
 
+-- the steps of the meeting point of a pair, under its two numbers
 abbrev pub pair_block : List ℚ → LivePair → Block
 pair_block row pair = record {
   first = pair.plus_side.number;
@@ -27,6 +29,7 @@ pair_block row pair = record {
   steps = meeting_steps (dot row pair.plus_side.vector) (dot row pair.minus_side.vector) pair.plus_side.vector pair.minus_side.vector;
 }
 
+-- the blocks of the opposite pairs that no third generator covers, in their order
 abbrev pub pair_blocks : List (List ℚ) → List Numbered → List ℚ → List Block
 pair_blocks rows live row = map (pair_block row) (live_pairs rows live row)
 

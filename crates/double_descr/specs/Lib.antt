@@ -1,3 +1,5 @@
+-- The subject: State (what a double description holds), Starting and Adding (what its two calls
+-- answer), with Steps (operations in their order). For the code's own steps: Making, Faults.
 pub mod Adding
 pub mod Faults
 pub mod Making

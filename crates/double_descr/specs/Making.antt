@@ -35,13 +35,15 @@ pub record IsAddition {F : Type 0} (value : F → ℚ) (a : Addition) (gens : Li
 abbrev pub AreValuesAt : {F : Type 0} → (F → ℚ) → List ℚ → List (Generator F) → List F → Type 0
 AreValuesAt value row gens vals = map value vals ≡ map (λ g. dot row g.vector) (live_of value gens)
 
--- the candidates of one generator: where the row is positive at it, with each at which the row is negative
+-- the pairs of a generator with each at which the row is negative
 abbrev pub with_negatives : List ℚ → Numbered → List Numbered → List LivePair
 with_negatives row p live = map (λ m. record { plus_side = p; minus_side = m }) (filter (λ g. lt_ℚ (dot row g.vector) zero_ℚ) live)
 
+-- the candidates of one generator: these pairs where the row is positive at it, else none
 abbrev pub candidates_of : List ℚ → Numbered → List Numbered → List LivePair
 candidates_of row p live = if lt_ℚ zero_ℚ (dot row p.vector) then with_negatives row p live else []
 
+-- those of some generators, one after the other
 abbrev pub candidates : List ℚ → List Numbered → List Numbered → List LivePair
 candidates row [] live = []
 candidates row (p ∷ ps) live = candidates_of row p live ++ candidates row ps live
@@ -80,6 +82,7 @@ pub record AddsPair {F : Type 0} (value : F → ℚ) (holds : ℚ → Bool) (p m
   pub tight : generator.tight ≡ common ++ true ∷ []
   pub held : AreHeld holds (block_of value p m a b)
 
+-- a pair was tried: taken where it is uncovered, and else nothing was added
 abbrev pub IsTried : {F : Type 0} → (F → ℚ) → (ℚ → Bool) → Bool → Generator F → Generator F → ℚ → ℚ → Made F → Made F → Type 0
 IsTried value holds true p m a b old new = AddsPair value holds p m a b old new
 IsTried value holds false p m a b old new = (new.pairs ≡ old.pairs) × (new.generators ≡ old.generators)
@@ -94,6 +97,7 @@ IsPairFault value holds uncovered block NoMemory = Unit {0}
 abbrev pub pair_numbers : Pair → ℕ × ℕ
 pair_numbers p = (p.plus, p.minus)
 
+-- the same of a pair of live generators
 abbrev pub live_numbers : LivePair → ℕ × ℕ
 live_numbers pair = (pair.plus_side.number, pair.minus_side.number)
 

@@ -15,12 +15,15 @@ pub record State : Type 0 where
   pub rows : List (List ℚ)
   pub list : LiveList
 
+-- a numbered generator is stored as its number and its vector,
 abbrev pub numbered_code : Coded Numbered
 numbered_code = code_by (ℕ × List ℚ) (coded× coded_ℕ (coded_list coded_ℚ)) (λ g. (g.number, g.vector)) (λ p. record { number = p.0; vector = p.1 }) (λ _. refl)
 
+-- a live list as its generators and the next number,
 abbrev pub list_code : Coded LiveList
 list_code = code_by (List Numbered × ℕ) (coded× (coded_list numbered_code) coded_ℕ) (λ l. (l.live, l.next)) (λ p. record { live = p.0; next = p.1 }) (λ _. refl)
 
+-- and a state as its width, its rows and its live list
 abbrev pub state_code : Coded State
 state_code = code_by (ℕ × (List (List ℚ) × LiveList)) (coded× coded_ℕ (coded× (coded_list (coded_list coded_ℚ)) list_code))
     (λ s. (s.width, (s.rows, s.list))) (λ p. record { width = p.0; rows = p.1.0; list = p.1.1 }) (λ _. refl)
@@ -29,6 +32,7 @@ state_code = code_by (ℕ × (List (List ℚ) × LiveList)) (coded× coded_ℕ (
 abbrev pub numbered_of : {F : Type 0} → (F → ℚ) → Generator F → Numbered
 numbered_of value g = record { number = g.number; vector = values value g.vector.items }
 
+-- generators in numbers
 abbrev pub live_of : {F : Type 0} → (F → ℚ) → List (Generator F) → List Numbered
 live_of value gs = map (numbered_of value) gs
 

@@ -15,13 +15,14 @@ pub record Step : Type 0 where
   pub a : ℚ
   pub b : ℚ
 
--- the exact result
+-- the exact result of an operation
 abbrev pub computed : Op → ℚ → ℚ → ℚ
 computed Add a b = a +ℚ b
 computed Sub a b = a -ℚ b
 computed Mul a b = a *ℚ b
 computed Div a b = a /ℚ b
 
+-- the exact result of a step
 abbrev pub exact : Step → ℚ
 exact s = computed s.op s.a s.b
 

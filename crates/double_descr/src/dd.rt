@@ -21,9 +21,10 @@ use src_sink::{Items, MOST_ITEMS};
 use std::alloc::Global;
 use std::marker::Model;
 
-/// The rows of a pointed cone in their order, numbered from 0, and its generators under their numbers, from 1: a double
-/// description pair (Fukuda and Prodon), which grows by one row at a time. Each generator is normed: divided by the magnitude
-/// of its last entry or, if that is 0, of its first entry that is not.
+/// The rows of a pointed cone in their order, numbered from 0, and its generators under their
+/// numbers, from 1: a double description pair (Fukuda and Prodon), which grows by one row at a
+/// time. Each generator is normed: divided by the magnitude of its last entry or, if that is 0, of
+/// its first entry that is not.
 #[derive(Drop)]
 pub struct Dd<F: Field> {
     width: u32,
@@ -55,8 +56,9 @@ impl<F: Field> Model for Dd<F> {
 }
 
 impl<F: Field> Dd<F> {
-    /// The double description of as many rows as they have entries, which are independent. Generator `j` is positive at row
-    /// `j - 1` and 0 at the others. The cost is that of one elimination of the rows with the unit matrix beside them.
+    /// The double description of as many rows as they have entries, which are independent.
+    /// Generator `j` is positive at row `j - 1` and 0 at the others. The cost is that of one
+    /// elimination of the rows with the unit matrix beside them.
     pub fn start(alloc: Global, rows: &Rows<F>) -> Result<Dd<F>, DdFault<F>>
         requires square { length rows.now.list ≡ rows.now.width }
         requires rank { HasFullRank rows.now.width (table F.value rows.now.list) }
@@ -95,7 +97,7 @@ impl<F: Field> Dd<F> {
         self.rows.len() as u32
     }
 
-    /// Row `k`.
+    /// Row `k`, counted from 0.
     pub fn row(&self, k: u32) -> &[F]
         requires { k < length self.now.rows }
         ensures { values F.value result.now ≡ slice_index_or self.now.rows k [] }
@@ -126,10 +128,11 @@ impl<F: Field> Dd<F> {
         &self.generators.as_slice()[place].tight
     }
 
-    /// Adds a row of this width, as its next one. The generators at which it is negative are dropped, and each opposite pair that
-    /// no third live generator covers gives a new one, where the row is 0 between the two. After a refusal all is as before: the
-    /// next live list is made aside, with a copy of each generator that stays. The cost is at the worst that of the opposite
-    /// pairs times the live generators times the words of a set of rows.
+    /// Adds a row of this width, as its next one. The generators at which it is negative are
+    /// dropped, and each opposite pair that no third live generator covers gives a new one, where
+    /// the row is 0 between the two. After a refusal all is as before: the next live list is made
+    /// aside, with a copy of each generator that stays. The cost is at the worst that of the
+    /// opposite pairs times the live generators times the words of a set of rows.
     pub fn add(&mut self, row: &[F]) -> Result<Change, DdFault<F>>
         requires { length row.now ≡ self.old.width }
         ensures ok { OnOk result (self.new

@@ -18,7 +18,8 @@ pub struct Pair {
 pub struct Change {
     /// The generators that are live no more, rising.
     pub dropped: Items<u32>,
-    /// The opposite pairs that no third live generator covered, rising by plus, then minus. Each gives a new generator.
+    /// The opposite pairs that no third live generator covered, rising by plus, then minus. Each
+    /// gives a new generator.
     pub pairs: Items<Pair>,
     /// The number of the first new generator.
     pub first_new: u32,
@@ -27,11 +28,12 @@ pub struct Change {
 /// Why a double description was given up.
 #[derive(Debug, Drop)]
 pub enum DdFault<F: Drop> {
-    /// A step of a start whose result is not held: of the elimination, or of the norming of a generator. Of a norming the basis
-    /// is empty, the row 0, the column the place of the entry, from 1, and the step 1.
+    /// A step of a start whose result is not held: of the elimination, or of the norming of a
+    /// generator. Of a norming the basis is empty, the row 0, the column the place of the entry,
+    /// from 1, and the step 1.
     Elim(RowFault<F>),
-    /// A step of an addition whose result is not held: of the value of the generator `first` at the new row, and then `second`
-    /// is 0, or of the pair of both.
+    /// A step of an addition whose result is not held: of the value of the generator `first` at the
+    /// new row, and then `second` is 0, or of the pair of both.
     Left {
         /// The generator, or that of the pair at which the row is positive.
         first: u32,

@@ -15,12 +15,12 @@ use incid_sets::Marks;
 use src_sink::NoMemory;
 use std::alloc::Global;
 
-/// A live generator.
+/// A live generator of a double description.
 #[derive(Debug, Drop)]
 pub struct Generator<F: Drop> {
     /// Its number, from 1.
     pub number: u32,
-    /// Its entries.
+    /// Its entries, normed.
     pub vector: Vec<F>,
     /// The rows that are 0 at it.
     pub tight: Marks,

@@ -1,6 +1,6 @@
 //! The new generators of an addition.
-ghost use Rattle.std.specs.Prelude.{◌≡◌, ◌≢◌, ◌+◌, ◌<◌, ◌++◌, ℕ, List, [], ◌∷◌, IfErr, OnOk, get_or, length, map};
-ghost use Rattle.exact_field.specs.Rational.{ℚ, zero_ℚ, ◌<ℚ◌};
+ghost use Rattle.std.specs.Prelude.{◌≡◌, ◌≢◌, ◌+◌, ◌<◌, ◌++◌, List, [], ◌∷◌, IfErr, OnOk, get_or, length, map};
+ghost use Rattle.exact_field.specs.Rational.{zero_ℚ, ◌<ℚ◌};
 ghost use Rattle.polyhedra.specs.DoubleDescription.{norming};
 ghost use Rattle.polyhedra.specs.LiveList.{LivePair, is_uncovered_live};
 ghost use Rattle.double_descr.specs.Adding.{IsAddFault, block_of};
@@ -10,7 +10,7 @@ ghost use Rattle.double_descr.specs.Steps.{between, values};
 
 use crate::fault::{DdFault, Pair};
 use crate::generator::{Generator, between_two};
-use crate::pairs::are_adjacent;
+use crate::pairs::{are_adjacent, share_enough};
 use crate::signs::is_above;
 use exact_field::Field;
 use incid_sets::Marks;
@@ -20,7 +20,7 @@ use std::alloc::Global;
 /// The pairs of an addition so far, with their new generators.
 #[derive(Debug, Drop)]
 pub struct Made<F: Drop> {
-    /// The pairs.
+    /// The pairs so far, by the numbers of their generators.
     pub pairs: Items<Pair>,
     /// The generators that stay, and then a new one for each pair.
     pub generators: Items<Generator<F>>,
@@ -61,6 +61,9 @@ fn try_pair<F: Field>(
         (live_of F.value generators.now) (pair_of F.value plus.now minus.now))
         (block_of F.value plus.now minus.now (F.value at_plus) (F.value at_minus))) }
 {
+    if !share_enough(plus, minus) {
+        return Ok(());
+    }
     so_far.common.set_meet(&plus.tight, &minus.tight);
     if !are_adjacent(generators, plus, minus, &so_far.common, &mut so_far.last) {
         return Ok(());
@@ -78,7 +81,8 @@ fn try_pair<F: Field>(
     Ok(())
 }
 
-/// Makes the new generator of one generator, at which the row is positive, with generator `j`, at which it is negative.
+/// Makes the new generator of one generator, at which the row is positive, with generator `j`, at
+/// which it is negative.
 fn meet_at<F: Field>(
     alloc: Global,
     generators: &[Generator<F>],
@@ -110,7 +114,8 @@ fn meet_at<F: Field>(
     try_pair(alloc, generators, plus, minus, at_plus, at_minus, so_far)
 }
 
-/// Makes the new generators of one generator at which the row is positive, with each at which it is negative, from their places.
+/// Makes the new generators of one generator at which the row is positive, with each at which it is
+/// negative, from their places.
 fn meet_with<F: Field>(
     alloc: Global,
     generators: &[Generator<F>],
@@ -169,9 +174,10 @@ fn try_plus<F: Field>(
     meet_with(alloc, generators, values, plus, at_plus, below, so_far)
 }
 
-/// Makes all new generators of an addition, from the values of the row at the live generators, and the places of those below 0.
-/// The cost is at the worst that of the opposite pairs times the live generators times the words of a tight set. Pairs with too
-/// few common tight rows are not scanned, and most other scans stop early.
+/// Makes all new generators of an addition, from the values of the row at the live generators, and
+/// the places of those below 0. The cost is at the worst that of the opposite pairs times the live
+/// generators times the words of a tight set. Pairs with too few common tight rows are not scanned,
+/// and most other scans stop early.
 pub fn meet_all<F: Field>(
     alloc: Global,
     generators: &[Generator<F>],

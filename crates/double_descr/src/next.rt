@@ -19,11 +19,11 @@ use std::alloc::Global;
 pub struct Next<F: Drop> {
     /// The numbers of the live generators.
     pub numbers: Items<u32>,
-    /// The live generators.
+    /// The generators under these numbers, in the same order.
     pub generators: Items<Generator<F>>,
     /// The number that the next new generator gets.
     pub next: u32,
-    /// What has changed.
+    /// Which generators were dropped, and which pairs gave new ones.
     pub change: Change,
 }
 

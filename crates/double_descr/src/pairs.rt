@@ -1,5 +1,5 @@
 //! Opposite pairs of generators, and the new generators between them.
-ghost use Rattle.std.specs.Prelude.{◌≡◌, ◌<◌, ◌≤◌, ◌+◌, ◌||◌, ℕ, List, All, IsTrue, length, not, nat_eq};
+ghost use Rattle.std.specs.Prelude.{◌≡◌, ◌≤◌, ◌+◌, ◌||◌, ℕ, List, All, IsFalse, IsTrue, false, not, nat_eq};
 ghost use Rattle.incid_sets.specs.Marks.{size, IsMeet};
 ghost use Rattle.exact_field.specs.Rational.{ℚ};
 ghost use Rattle.polyhedra.specs.DoubleDescription.{covers};
@@ -78,9 +78,21 @@ fn has_one_more<F: Field>(generator: &Generator<F>, count: u32) -> bool
     !generator.tight.has_at_least(count.saturating_add(2))
 }
 
-/// Whether no third generator covers the pair. One does where fewer rows are tight at both than the
-/// width less 2, and none does where at most one tight row of either is not tight at the other; so
-/// most pairs need no scan.
+/// Whether at least as many rows are tight at both generators as the width less 2. Where there are
+/// fewer, a third one covers the pair.
+pub fn share_enough<F: Field>(plus: &Generator<F>, minus: &Generator<F>) -> bool
+    ensures { (n : ℕ) (rows : List (List ℚ)) (generators : List (Generator F))
+        → AreTwoLive F.value n rows generators plus.now minus.now → IsFalse result
+        → is_uncovered_live rows (live_of F.value generators)
+        (pair_of F.value plus.now minus.now)
+        ≡ false }
+{
+    let least = plus.vector.len().saturating_sub(2);
+    plus.tight.shares(&minus.tight, least)
+}
+
+/// Whether no third generator covers the pair. None does where at most one tight row of either is not
+/// tight at the other; so many pairs need no scan.
 pub fn are_adjacent<F: Field>(
     generators: &[Generator<F>],
     plus: &Generator<F>,
@@ -96,10 +108,6 @@ pub fn are_adjacent<F: Field>(
         (pair_of F.value plus.now minus.now) }
 {
     let count = common.count();
-    let least = plus.vector.len().saturating_sub(2);
-    if (count as usize) < least {
-        return false;
-    }
     if has_one_more(plus, count) {
         return true;
     }

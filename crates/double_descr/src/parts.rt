@@ -1,6 +1,6 @@
-//! The parts of an addition: the values of the row, the places of those below 0, and the generators that stay.
+//! The parts of an addition: the values of the row, the places of those below 0, and the generators
+//! that stay.
 ghost use Rattle.std.specs.Prelude.{◌≡◌, ◌+◌, ◌<◌, ◌++◌, List, All, [], ◌∷◌, IfErr, IfOk, MatchResult, OnOk, length, map};
-ghost use Rattle.exact_field.specs.Rational.{ℚ};
 ghost use Rattle.exact_field.specs.Vector.{dot};
 ghost use Rattle.polyhedra.specs.LiveList.{dropped, staying};
 ghost use Rattle.double_descr.specs.Adding.{AreHeld, IsAddFault, IsFault, value_block};

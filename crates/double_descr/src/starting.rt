@@ -33,7 +33,8 @@ fn all_but(alloc: Global, bound: u32, out: u32) -> Result<Marks, NoMemory>
     Ok(marks)
 }
 
-/// A vector, normed, as a generator of so many rows, of which all but the one at its place are tight at it.
+/// A vector, normed, as a generator of so many rows, of which all but the one at its place are
+/// tight at it.
 fn normed_generator<F: Field>(
     alloc: Global,
     vector: &[F],
@@ -71,7 +72,8 @@ fn normed_generator<F: Field>(
     }
 }
 
-/// Vectors, normed, as generators under the numbers from 1 on: each of the rows is 0 at all of them but its own.
+/// Vectors, normed, as generators under the numbers from 1 on: each of the rows is 0 at all of them
+/// but its own.
 pub fn normed_all<F: Field>(
     alloc: Global,
     vectors: &Rows<F>,
@@ -94,7 +96,6 @@ pub fn normed_all<F: Field>(
     Ok(out)
 }
 
-/// A copy of the rows.
 pub fn copy_rows<F: Copy>(alloc: Global, rows: &Rows<F>) -> Result<Items<Items<F>>, NoMemory>
     ensures { IfOk result (λ list. list ≡ rows.now.list) }
 {

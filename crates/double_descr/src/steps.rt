@@ -64,8 +64,8 @@ fn add_term<F: Field>(x: F, y: F, total: F, done: u64) -> Result<(F, u64), Stop<
     }
 }
 
-/// The product of two vectors of one width, step by step: where the short way has no answer. The first
-/// step that is not held is told.
+/// The product of two vectors of one width, step by step: where the short way has no answer. The
+/// first step that is not held is told.
 fn product_by_steps<F: Field>(row: &[F], vector: &[F]) -> Result<F, Stop<F>>
     requires same { length row.now ≡ length vector.now }
     requires narrow { length row.now < 4294967296 }

@@ -20,6 +20,7 @@ gcd_by_is zero a b h = absurd (omega arith)
 gcd_by_is (suc fuel) a zero h = IsGcd-from_zero a zero refl
 gcd_by_is (suc fuel) a (suc b) h = IsGcd-from_mod a (suc b) _ (gcd_by_is fuel (suc b) (a % suc b) (omega arith))
 
+-- what Euclid's steps end with is the greatest common divisor
 pub gcd_is : (a b : ℕ) → IsGcd a b (gcd a b)
 unfolding gcd
 gcd_is a b = gcd_by_is (suc b) a b (omega arith)
@@ -36,11 +37,13 @@ positive_right a (suc b) h = omega arith
 product_of_quotient : (a b g : ℕ) → IsGcd a b g → (g * (a / g) ≡ a) × (g * (b / g) ≡ b)
 product_of_quotient a b g h = (mul-div_cancel' g h.0, mul-div_cancel' g h.1)
 
+-- where the second number is positive, so is the greatest common divisor,
 pub gcd-positive : (a b : ℕ) → 0 < b → 0 < gcd a b
 gcd-positive a b h =
     let whole = product_of_quotient a b (gcd a b) (gcd_is a b) in
     positive_left (gcd a b) (b / gcd a b) (subst (λ (n : ℕ). 0 < n) (sym whole.1) h)
 
+-- and the second number divided by it
 pub quotient-positive : (a b : ℕ) → 0 < b → 0 < b / gcd a b
 quotient-positive a b h =
     let whole = product_of_quotient a b (gcd a b) (gcd_is a b) in

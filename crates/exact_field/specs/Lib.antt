@@ -1,3 +1,5 @@
+-- The subject: Gcd, Rational, Order, Vector (numbers and vectors), Field (what a call of an exact
+-- field answers), Laws. What only serves proofs: Ring (the tool for identities), LeastQuotient.
 pub mod Field
 pub mod Gcd
 pub mod Laws

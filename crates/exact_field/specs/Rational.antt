@@ -30,9 +30,11 @@ same_parts p q n d = λ i.
 abbrev pub coded_ℚ : Coded ℚ
 coded_ℚ = coded_via (coded× coded_ℤ coded_ℕ) (λ q. (q.num, q.den)) (λ p q e. same_parts p q (λ i. (e i).0) (λ i. (e i).1))
 
+-- a successor is positive
 pub suc-positive : (n : ℕ) → 0 < suc n
 suc-positive n = omega arith
 
+-- the greatest common divisor of a number and 1 is 1
 pub coprime-one : (n : ℕ) → IsGcd n 1 1
 coprime-one n = (one-dvd n, one-dvd 1, λ d _ right. right)
 
@@ -49,6 +51,7 @@ lowest_negated (negsuc n) d h = h
 unfoldable pub whole : ℤ → ℚ
 whole n = record { num = n; den = 1; positive = suc-positive 0; lowest = coprime-one (unsigned_abs n) }
 
+-- the numbers 0 and 1
 abbrev pub zero_ℚ : ℚ
 zero_ℚ = whole (pos 0)
 
@@ -60,6 +63,8 @@ abbrev pub exact_quotient : ℤ → ℕ → ℤ
 exact_quotient (pos n) g = pos (n / g)
 exact_quotient (negsuc n) g = neg_ℤ (pos (suc n / g))
 
+-- a numerator and a positive denominator, divided by their greatest common divisor, are in lowest
+-- terms
 pub lowest_quotients : (n : ℤ) (d : ℕ) → 0 < d → IsGcd (unsigned_abs (exact_quotient n (gcd (unsigned_abs n) d))) (d / gcd (unsigned_abs n) d) 1
 lowest_quotients (pos n) d h = quotients-coprime n d h
 lowest_quotients (negsuc n) d h =
@@ -79,15 +84,19 @@ fraction n (suc d) =
 infixl 60 ◌+ℚ◌ ◌-ℚ◌
 infixl 70 ◌*ℚ◌ ◌/ℚ◌
 infix 50 ◌≤ℚ◌ ◌<ℚ◌
+-- the sum of the cross products, over the product of the denominators
 unfoldable pub ◌+ℚ◌ : ℚ → ℚ → ℚ
 p +ℚ q = fraction (p.num *ℤ pos q.den +ℤ q.num *ℤ pos p.den) (p.den * q.den)
 
+-- the product of the numerators, over that of the denominators
 unfoldable pub ◌*ℚ◌ : ℚ → ℚ → ℚ
 p *ℚ q = fraction (p.num *ℤ q.num) (p.den * q.den)
 
+-- the numerator with the other sign
 unfoldable pub neg_ℚ : ℚ → ℚ
 neg_ℚ p = record { num = neg_ℤ p.num; den = p.den; positive = p.positive; lowest = lowest_negated p.num p.den p.lowest }
 
+-- the difference
 abbrev pub ◌-ℚ◌ : ℚ → ℚ → ℚ
 p -ℚ q = p +ℚ neg_ℚ q
 
@@ -112,8 +121,10 @@ le_ℚ p q = int_le (p.num *ℤ pos q.den) (q.num *ℤ pos p.den)
 abbrev pub lt_ℚ : ℚ → ℚ → Bool
 lt_ℚ p q = not (le_ℚ q p)
 
+-- p is at most q
 abbrev pub ◌≤ℚ◌ : ℚ → ℚ → Type 0
 p ≤ℚ q = IsTrue (le_ℚ p q)
 
+-- p is less than q
 abbrev pub ◌<ℚ◌ : ℚ → ℚ → Type 0
 p <ℚ q = IsTrue (lt_ℚ p q)

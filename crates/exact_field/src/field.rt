@@ -1,4 +1,5 @@
-//! Exact fields: finite sets of rational numbers whose operations answer the exact value or say that it is not held.
+//! Exact fields: finite sets of rational numbers whose operations answer the exact value or say
+//! that it is not held.
 
 ghost use Rattle.std.specs.Prelude.{ℤ, pos, ◌≡◌, ◌≢◌, Bool, IsTrue, length, map};
 ghost use Rattle.exact_field.specs.Field.{Answers, AnswersFraction, AnswersHeld, IsShortDot, IsSmall};
@@ -8,9 +9,10 @@ ghost use Rattle.exact_field.specs.declared.op.Op.TheVariants.{Add, Sub, Mul, Di
 
 use crate::op::{Left, Op};
 
-/// Numbers of which each is a rational number in lowest terms, with one representation for each value.
-/// A type holds some rational numbers, 0 and 1 among them and with each its negative, and an operation
-/// answers the exact value wherever that is held. No call rounds, and no call takes memory.
+/// Numbers of which each is a rational number in lowest terms, with one representation for each
+/// value. A type holds some rational numbers, 0 and 1 among them and with each its negative, and an
+/// operation answers the exact value wherever that is held. No call rounds, and no call takes
+/// memory.
 pub trait Field: Copy + Eq + Ord {
     /// The rational number that a value stands for.
     ghost value: { Self → ℚ };
@@ -44,34 +46,35 @@ pub trait Field: Copy + Eq + Ord {
         ensures part { result ≡ pos (value self).den }
         ensures held { IsTrue (holds (value self)) };
 
-    /// The negative.
+    /// The negative, which is always held.
     fn neg(self) -> Self
         ensures { value result ≡ neg_ℚ (value self) };
 
-    /// -1, 0 or 1.
+    /// -1, 0 or 1, as the number is below, at or above 0.
     fn sign(self) -> i8
         ensures { result ≡ sign_ℚ (value self) };
 
-    /// The sum.
+    /// The exact sum, or the operands where it is not held.
     fn add(self, other: Self) -> Result<Self, Left<Self>>
         ensures { Answers value holds Add self other (value self +ℚ value other) result };
 
-    /// The difference.
+    /// The exact difference, likewise.
     fn sub(self, other: Self) -> Result<Self, Left<Self>>
         ensures { Answers value holds Sub self other (value self -ℚ value other) result };
 
-    /// The product.
+    /// The exact product, likewise.
     fn mul(self, other: Self) -> Result<Self, Left<Self>>
         ensures { Answers value holds Mul self other (value self *ℚ value other) result };
 
-    /// The quotient.
+    /// The exact quotient, likewise.
     fn div(self, other: Self) -> Result<Self, Left<Self>>
         requires { value other ≢ zero_ℚ }
         ensures { Answers value holds Div self other (value self /ℚ value other) result };
 
-    /// The product of two vectors of one width, calculated in a short way of the type's own. An answer says that each
-    /// product of two entries is held and each sum of those so far, so that entry by entry the same comes out.
-    /// `None` says nothing: then the product is calculated entry by entry.
+    /// The product of two vectors of one width, calculated in a short way of the type's own. An
+    /// answer says that each product of two entries is held and each sum of those so far, so that
+    /// entry by entry the same comes out. `None` says nothing: then the product is calculated entry
+    /// by entry.
     fn short_dot(row: &[Self], vector: &[Self]) -> Option<Self>
         requires { length row.now ≡ length vector.now }
         ensures { IsShortDot value holds (map value row.now) (map value vector.now) result };

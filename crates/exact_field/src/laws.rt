@@ -8,8 +8,8 @@ pub fn rationals_are_a_field()
     ensures { FieldLaws }
 {}
 
-/// A number has one form in lowest terms, by Gauss's lemma, and two fractions are one number exactly where the cross
-/// products are equal.
+/// A number has one form in lowest terms, by Gauss's lemma, and two fractions are one number
+/// exactly where the cross products are equal.
 pub fn lowest_terms_are_unique()
     ensures { FractionLaws }
 {}

@@ -1,4 +1,4 @@
-// Exact numbers: the rational numbers, their laws, and the trait of exact fields.
+//! Exact numbers: the rational numbers, their laws, and the trait of exact fields.
 #![tactic(auto)]
 
 pub mod field;

@@ -3,23 +3,23 @@
 /// An operation with two operands.
 #[derive(Clone, Copy, Debug, PartialEq, Eq)]
 pub enum Op {
-    /// A sum.
+    /// `a + b`.
     Add,
-    /// A difference.
+    /// `a - b`.
     Sub,
-    /// A product.
+    /// `a b`.
     Mul,
-    /// A quotient.
+    /// `a / b`.
     Div,
 }
 
 /// An operation whose exact value is not held, with both operands as they were given.
 #[derive(Clone, Copy, Debug, PartialEq, Eq)]
 pub struct Left<F> {
-    /// The operation.
+    /// What was to be calculated.
     pub op: Op,
-    /// The first operand.
+    /// The first operand; of a quotient the dividend.
     pub a: F,
-    /// The second operand.
+    /// The second operand; of a quotient the divisor.
     pub b: F,
 }

@@ -1,4 +1,4 @@
--- The lines of the table of a program, as they are written.
+-- The sparse rows of the table of a program, as they are written.
 use Rattle.std.proofs.Common.{◌≡◌, ℕ, List, [], ◌∷◌, ◌++◌, length, map, take, sym, ap, ap₂, ◌∙◌, subst, arith, ◌<◌, ◌+◌, ◌-◌, inl, slice_index_or}
 use Rattle.std.proofs.lemmas.List.{get_or-map}
 use Rattle.exact_field.specs.Rational.{ℚ, zero_ℚ, one_ℚ, neg_ℚ}

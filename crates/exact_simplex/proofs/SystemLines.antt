@@ -1,4 +1,4 @@
--- The lines of the table of a system, cell by cell.
+-- The sparse rows of the table of a system, cell by cell.
 use Rattle.std.proofs.Common.{◌≡◌, ◌≢◌, ℕ, suc, List, [], ◌∷◌, ◌++◌, length, map, take, sym, refl, ap, ◌∙◌, subst, arith, ◌<◌, ◌≤◌, ◌+◌, ◌-◌, inl, inr, slice_index_or}
 use Rattle.std.proofs.Math.ListN.{length-append}
 use Rattle.std.proofs.lemmas.Bool.{cases_lt}
@@ -18,7 +18,7 @@ use Rattle.lin_rows.specs.Lines.{Rises, last_place}
 use Rattle.lin_rows.specs.Read.{IsLineOf}
 use Rattle.lin_rows.proofs.Building.{line_pushed, last_pushed}
 
--- the line stands for the first i entries of a row of at most n, and has no cell behind them
+-- the sparse row stands for the first i entries of a row of at most n, and has no cell after them
 pub record IsLineTo (n i : ℕ) (xs : List ℚ) (es : List Entry) : Type 0 where
   pub line : IsLineOf n (take i xs) es
   pub last : last_place 0 es ≤ i
@@ -58,7 +58,7 @@ line_skipped n i j xs es h l none =
 pub line_none : (n j : ℕ) (xs : List ℚ) → ((k : ℕ) → k < j → slice_index_or xs k zero_ℚ ≡ zero_ℚ) → IsLineTo n j xs []
 line_none n j xs none = line_skipped n 0 j xs [] (record { line = record { rises = tt; sums = λ a low. refl }; last = omega arith }) (omega arith) (λ k l u. none k u)
 
--- one entry more, behind some that are 0
+-- one entry more, after some that are 0
 pub line_behind : (n i j : ℕ) (xs : List ℚ) (x : ℚ) (old new : List Entry) → IsLineTo n i xs old → i ≤ j → ((k : ℕ) → i ≤ k → k < j → slice_index_or xs k zero_ℚ ≡ zero_ℚ) →
     j < length xs → length xs ≤ n → slice_index_or xs j zero_ℚ ≡ x → Writes (j + 1) x old new → IsLineTo n (j + 1) xs new
 line_behind n i j xs x old new h l none inside high is w =

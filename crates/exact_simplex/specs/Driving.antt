@@ -8,7 +8,7 @@ use Rattle.lin_rows.specs.Lines.{sum_at}
 use Rattle.lin_rows.specs.declared.tableau.Tableau.{Tableau}
 use Rattle.exact_simplex.specs.Program.{table_in}
 
--- a line is 0 at the columns from 1 to n, or not 0 at this one
+-- a sparse row is 0 at the columns from 1 to n, or not 0 at this one
 abbrev pub IsSupport : List Entry → ℕ → Option ℕ → Type 0
 IsSupport es n None = (j : ℕ) → 1 ≤ j → j ≤ n → sum_at es j ≡ zero_ℚ
 IsSupport es n (Some c) = (1 ≤ c) × (c ≤ n) × (sum_at es c ≢ zero_ℚ)

@@ -42,7 +42,7 @@ pub record IsLast {F : Type 0} (value : F → ℚ) (p : Program F) (last : Optio
 abbrev pub second_row : {F : Type 0} → (F → ℚ) → Program F → List ℚ
 second_row value p = row_of (table_of (system_of value p)) (second_cost (system_of value p))
 
--- a line is a cost row less a combination of the equations of a system, and 0 at the first columns of a basis
+-- a sparse row is a cost row less a combination of the equations of a system, and 0 at the first columns of a basis
 pub record IsClearedTo (s : System) (original : List ℚ) (basis : List ℕ) (count : ℕ) (es : List Entry) : Type 0 where
   pub rises : Rises (right_column s) 0 es
   pub changed : IsChanged (right_column s) (table_of s) basis original (dense (right_column s) es)

@@ -1,4 +1,4 @@
--- The quotients of a row that the ratio test compares, over lines.
+-- The quotients of a row that the ratio test compares, over sparse rows.
 use Rattle.std.specs.Prelude.{ℕ, ◌<◌, ◌≤◌, ◌≡◌, false, Bool, IsFalse, List, [], map, length, slice_index_or, Option, None, Some}
 use Rattle.exact_field.specs.Rational.{ℚ, zero_ℚ, ◌/ℚ◌, ◌≤ℚ◌, ◌<ℚ◌}
 use Rattle.exact_field.specs.declared.op.Op.TheVariants.{Div}
@@ -25,6 +25,7 @@ abbrev pub IsEitherAt : {F : Type 0} → (F → ℚ) → (ℚ → Bool) → ℚ 
 IsEitherAt value holds p us r vs col (First left) = (left.op ≡ Div) × (value left.a ≡ sum_at us col) × (value left.b ≡ p) × IsFalse (holds (sum_at us col /ℚ p))
 IsEitherAt value holds p us r vs col (Second left) = (left.op ≡ Div) × (value left.a ≡ sum_at vs col) × (value left.b ≡ r) × IsFalse (holds (sum_at vs col /ℚ r))
 
+-- a quotient of one of two rows is not held at one of these columns
 abbrev pub IsEither : {F : Type 0} → (F → ℚ) → (ℚ → Bool) → ℚ → List Entry → ℚ → List Entry → List ℕ → Either F → Type 0
 IsEither value holds p us r vs columns (First left) = IsRatioLeft value holds p us columns left
 IsEither value holds p us r vs columns (Second left) = IsRatioLeft value holds r vs columns left
@@ -35,14 +36,14 @@ IsLeast entry_of ratios_of n None = (i : ℕ) → i < n → entry_of i ≤ℚ ze
 IsLeast entry_of ratios_of n (Some r) =
     (r < n) × (zero_ℚ <ℚ entry_of r) × ((i : ℕ) → i < n → zero_ℚ <ℚ entry_of i → lex_less (ratios_of i) (ratios_of r) ≡ false)
 
--- the entry of line i in a column, and its quotients by this entry
+-- the entry of sparse row i in a column, and its quotients by this entry
 abbrev pub entry_in : List (List Entry) → ℕ → ℕ → ℚ
 entry_in ls col i = sum_at (slice_index_or ls i []) col
 
 abbrev pub ratios_in : List (List Entry) → ℕ → List ℕ → ℕ → List ℚ
 ratios_in ls col columns i = ratios (entry_in ls col i) (slice_index_or ls i []) columns
 
--- the ratio test over the first n lines
+-- the ratio test over the first n sparse rows
 abbrev pub IsLeaving : List (List Entry) → ℕ → List ℕ → ℕ → Option ℕ → Type 0
 IsLeaving ls col columns n best = IsLeast (entry_in ls col) (ratios_in ls col columns) n best
 

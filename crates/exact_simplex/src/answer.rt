@@ -6,13 +6,13 @@ use exact_field::Left;
 use lin_rows::RowFault;
 use src_sink::{Items, NoMemory};
 
-/// How a linear program ends. A basis names for each equation its column: from 1 those of the unknowns, and behind them one
-/// artificial column for each equation.
+/// How a linear program ends. A basis names for each equation its column: from 1 those of the
+/// unknowns, and after them one artificial column for each equation.
 #[derive(Debug, Drop)]
 pub enum LpEnd<F: Drop> {
     /// A solution of the greatest cost, and the multipliers of the equations that show it.
     Optimal {
-        /// The solution.
+        /// A value for each unknown.
         x: Items<F>,
         /// A multiplier for each equation.
         dual: Items<F>,
@@ -28,7 +28,7 @@ pub enum LpEnd<F: Drop> {
     },
     /// The cost grows without end.
     Unbounded {
-        /// A solution.
+        /// A solution from which the cost grows.
         x: Items<F>,
         /// The direction in which the cost grows.
         ray: Items<F>,
@@ -42,13 +42,16 @@ pub enum LpEnd<F: Drop> {
 pub enum LpFault<F: Drop> {
     /// An exact value that is not held.
     Left {
-        /// The basis of the dictionary in which the pivot is: for each row its column, and 0 for none.
+        /// The basis of the dictionary in which the pivot is: for each row its column, and 0 for
+        /// none.
         basis: Items<u32>,
-        /// The row of the pivot, from 1, or the first cost row, behind the equations, where multipliers are read off it.
+        /// The row of the pivot, from 1, or the first cost row, after the equations, where
+        /// multipliers are read off it.
         row: u32,
         /// The column of the pivot, from 1.
         col: u32,
-        /// 1 is the quotient of an entry of the pivot row by the pivot, 2 a product, and 3 a difference.
+        /// 1 is the quotient of an entry of the pivot row by the pivot, 2 a product, and 3 a
+        /// difference.
         step: u8,
         /// The operation, with its operands.
         left: Left<F>,

@@ -26,8 +26,8 @@ fn support<F: Field>(row: &[Cell<F>], count: u32) -> Option<u32>
     None
 }
 
-/// Drives the artificial column of equation `i`, counted from 0, out at the lowest unknown at which its row is not 0, if it
-/// has an artificial column and there is such an unknown.
+/// Drives the artificial column of equation `i`, counted from 0, out at the lowest unknown at which
+/// its row is not 0, if it has an artificial column and there is such an unknown.
 fn drive_row<F: Field>(
     tableau: &mut Tableau<F>,
     system: &System<F>,

@@ -1,5 +1,6 @@
-//! Linear programs over an exact field, by the two-phase simplex method: the columns that better a cost row enter, and rows
-//! leave by the lexicographically least quotients, so that no basis comes twice (Dantzig, Orden and Wolfe).
+//! Linear programs over an exact field, by the two-phase simplex method: the columns that better a
+//! cost row enter, and rows leave by the lexicographically least quotients, so that no basis comes
+//! twice (Dantzig, Orden and Wolfe).
 #![tactic(auto)]
 
 mod answer;

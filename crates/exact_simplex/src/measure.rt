@@ -1,4 +1,5 @@
-//! The magnitudes of numbers, by which the column that enters is chosen: no clause speaks of this choice.
+//! The magnitudes of numbers, by which the column that enters is chosen: no clause speaks of this
+//! choice.
 
 ghost use Rattle.std.specs.Prelude.{◌≡◌, ◌≤◌, length};
 
@@ -14,8 +15,8 @@ fn bits(n: u128) -> u32
     128u32.saturating_sub(n.leading_zeros())
 }
 
-/// The binary order of magnitude of a number that is not 0, and 128 more: the bits of its numerator less those of its
-/// denominator.
+/// The binary order of magnitude of a number that is not 0, and 128 more: the bits of its numerator
+/// less those of its denominator.
 pub fn magnitude<F: Field>(x: F) -> u32
     ensures { result ≤ 256 }
 {

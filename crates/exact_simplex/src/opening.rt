@@ -92,7 +92,8 @@ pub fn second_cost_line<F: Field>(
     Ok(line)
 }
 
-/// The table of the program, with one artificial column for each equation and a cost row for each phase.
+/// The table of the program, with one artificial column for each equation and a cost row for each
+/// phase.
 pub fn unopened<F: Field>(alloc: Global, system: &System<F>) -> Result<Tableau<F>, NoMemory>
     requires { HasLengths system.now }
     ensures { IfOk result (IsUnopened F.value (system_of F.value system.now)) }
@@ -129,7 +130,8 @@ pub fn artificial_column<F: Field>(tableau: &Tableau<F>, system: &System<F>, i: 
     tableau.width - system.rows + i
 }
 
-/// Gives each equation its artificial column, by a pivot each. No right side is negative afterwards.
+/// Gives each equation its artificial column, by a pivot each. No right side is negative
+/// afterwards.
 pub fn open<F: Field>(tableau: &mut Tableau<F>, system: &System<F>) -> Result<(), RowFault<F>>
     requires lengths { HasLengths system.now }
     requires unopened { IsUnopened F.value (system_of F.value system.now) tableau.old }

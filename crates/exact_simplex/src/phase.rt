@@ -17,7 +17,8 @@ use lin_rows::{RowFault, System};
 use src_sink::{Items, NoMemory};
 use std::mem::replace;
 
-/// The overflow of a step in the dictionary of the tableau, at this row, counted from 0, and column. The tableau is given up.
+/// The overflow of a step in the dictionary of the tableau, at this row, counted from 0, and
+/// column. The tableau is given up.
 pub fn given_up<F: Field>(
     tableau: &mut Tableau<F>,
     row: usize,
@@ -40,10 +41,11 @@ pub fn given_up<F: Field>(
     }
 }
 
-/// Pivots at columns that better the row `cost`, counted from 0, until there is none, or one without limit, which it answers.
-/// The first `equations` rows are the equations, the first `unknowns` columns may enter, and `columns` are those that are
-/// compared when a row is chosen. A turn costs a pivot, and a quotient for each row and compared column at the worst. After
-/// `Left` the table is given up.
+/// Pivots at columns that better the row `cost`, counted from 0, until there is none, or one
+/// without limit, which it answers. The first `equations` rows are the equations, the first
+/// `unknowns` columns may enter, and `columns` are those that are compared when a row is chosen. A
+/// turn costs a pivot, and a quotient for each row and compared column at the worst. After `Left`
+/// the table is given up.
 pub fn run_phase<F: Field>(
     tableau: &mut Tableau<F>,
     equations: usize,
@@ -94,7 +96,8 @@ pub fn run_phase<F: Field>(
     Ok(None)
 }
 
-/// The columns by which a phase compares rows: that of the right sides, and those with which it begins.
+/// The columns by which a phase compares rows: that of the right sides, and those with which it
+/// begins.
 fn compared<F: Field>(tableau: &Tableau<F>, equations: u32) -> Result<Vec<u32>, NoMemory>
     requires { equations ≤ length tableau.now.basis.items }
     ensures { IfOk result
@@ -106,8 +109,8 @@ fn compared<F: Field>(tableau: &Tableau<F>, equations: u32) -> Result<Vec<u32>, 
     Ok(columns)
 }
 
-/// Runs a phase whose cost stands in the row `cost`, counted from 0: the unknown that betters it without limit, if there is
-/// one, and none if no unknown betters it any more.
+/// Runs a phase whose cost stands in the row `cost`, counted from 0: the unknown that betters it
+/// without limit, if there is one, and none if no unknown betters it any more.
 pub fn optimize<F: Field>(
     tableau: &mut Tableau<F>,
     system: &System<F>,

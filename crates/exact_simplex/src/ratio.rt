@@ -1,4 +1,5 @@
-//! The choice of a column and of a row: the signs of a cost row, and the lexicographic order of the quotients of rows.
+//! The choice of a column and of a row: the signs of a cost row, and the lexicographic order of the
+//! quotients of rows.
 
 ghost use Rattle.std.specs.Prelude.{◌≡◌, ◌≢◌, ◌+◌, ◌<◌, ◌≤◌, ℕ, ⊤, length, IfOk, IfErr, MatchOption};
 ghost use Rattle.exact_field.specs.Order.{cmp_ℚ};
@@ -15,9 +16,9 @@ use std::cmp::Ordering;
 
 /// Which of two rows an overflow concerns.
 pub enum Either<F> {
-    /// The first.
+    /// A quotient of the first row.
     First(Left<F>),
-    /// The second.
+    /// A quotient of the second row.
     Second(Left<F>),
 }
 
@@ -84,7 +85,7 @@ fn is_before<F: Field>(
 pub struct TestLeft<F: Drop> {
     /// The row, counted from 0.
     pub row: usize,
-    /// The operands.
+    /// The quotient that is not held.
     pub left: Left<F>,
 }
 
@@ -136,7 +137,8 @@ fn better<F: Field>(
     }
 }
 
-/// The ratio test over the first `count` rows: the row with the lexicographically least quotients, if any has a positive entry.
+/// The ratio test over the first `count` rows: the row with the lexicographically least quotients,
+/// if any has a positive entry.
 pub fn leaving<F: Field>(
     rows: &[Vec<Cell<F>>],
     count: usize,
@@ -164,7 +166,8 @@ struct Candidate {
     score: u32,
 }
 
-/// The better of a column and the best so far: that whose cost is the greater in magnitude beside its greatest entry.
+/// The better of a column and the best so far: that whose cost is the greater in magnitude beside
+/// its greatest entry.
 fn better_column<F: Field>(cell: Cell<F>, greatest: &[u32], best: Option<Candidate>) -> Candidate
     ensures { IsBetterColumn cell.at best result }
 {
@@ -180,7 +183,8 @@ fn better_column<F: Field>(cell: Cell<F>, greatest: &[u32], best: Option<Candida
     }
 }
 
-/// A column among the first `count` at which the row is negative: of those that serve best the first.
+/// A column among the first `count` at which the row is negative: of those that serve best the
+/// first.
 fn best_column<F: Field>(row: &[Cell<F>], count: u32, greatest: &[u32]) -> Option<Candidate>
     ensures { (n : ℕ) → Rises n 0 (entries F.value row.now)
         → IsEnteringCandidate (entries F.value row.now) count result }
@@ -195,8 +199,8 @@ fn best_column<F: Field>(row: &[Cell<F>], count: u32, greatest: &[u32]) -> Optio
     best
 }
 
-/// A column among the first `count` at which the cost row is negative. `greatest` has the memory for the magnitudes of the
-/// columns in the first `equations` rows.
+/// A column among the first `count` at which the cost row is negative. `greatest` has the memory
+/// for the magnitudes of the columns in the first `equations` rows.
 pub fn entering<F: Field>(
     row: &[Cell<F>],
     count: u32,

@@ -77,7 +77,7 @@ fn columns_of<F: Field>(tableau: &Tableau<F>, system: &System<F>) -> Result<Item
     Ok(columns)
 }
 
-/// The solution.
+/// A value for each unknown: the right side of its row, or 0.
 fn solution_at<F: Field>(tableau: &Tableau<F>, system: &System<F>) -> Result<Items<F>, NoMemory>
     requires lengths { HasLengths system.now }
     requires held { IsTableauOf F.value (system_of F.value system.now) tableau.now }

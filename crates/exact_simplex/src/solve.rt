@@ -175,10 +175,11 @@ fn solved<F: Field>(alloc: Global, system: &System<F>) -> Result<LpEnd<F>, RowFa
 
 /// How the program ends: maximise `cost . z` subject to `a z = b` and `z >= 0`.
 ///
-/// The table has one artificial column for each equation and a cost row for each phase. Only unknowns enter that better the
-/// phase's cost, on rows that keep the solution at least 0. Artificial columns that are left with the value 0 after phase one
-/// go out at the lowest unknown that is not 0 in their row, if there is one. Pivots cost one sparse row operation for each
-/// row that has an entry in the pivot column.
+/// The table has one artificial column for each equation and a cost row for each phase. Only
+/// unknowns enter that better the phase's cost, on rows that keep the solution at least 0.
+/// Artificial columns that are left with the value 0 after phase one go out at the lowest unknown
+/// that is not 0 in their row, if there is one. Pivots cost one sparse row operation for each row
+/// that has an entry in the pivot column.
 pub fn solve_lp<F: Field>(alloc: Global, system: &System<F>) -> Result<LpEnd<F>, LpFault<F>>
     requires { HasLengths system.now }
     ensures certified { IfOk result (IsCertified F.value (system_of F.value system.now)) }
@@ -211,9 +212,10 @@ fn solved_from<F: Field>(
 
 /// How the program ends, as `solve_lp` says, with a hint at its last basis.
 ///
-/// The unknowns of the hint come in one after the other, each at some row without a column where it is not 0; numbers that name
-/// no unknown, and those that find no such row, are passed over, so no artificial column comes in. If then an equation has no
-/// column, or a right side is negative, the program is solved anew. Overflows of these pivots are answered as any others.
+/// The unknowns of the hint come in one after the other, each at some row without a column where it
+/// is not 0; numbers that name no unknown, and those that find no such row, are passed over, so no
+/// artificial column comes in. If then an equation has no column, or a right side is negative, the
+/// program is solved anew. Overflows of these pivots are answered as any others.
 pub fn solve_lp_from<F: Field>(
     alloc: Global,
     system: &System<F>,
@@ -232,7 +234,8 @@ pub fn solve_lp_from<F: Field>(
     }
 }
 
-/// The end of a program, from the dictionary of another cost over its equations on, where there is one.
+/// The end of a program, from the dictionary of another cost over its equations on, where there is
+/// one.
 fn solved_on<F: Field>(
     alloc: Global,
     system: &System<F>,
@@ -253,7 +256,8 @@ fn solved_on<F: Field>(
     finish(begun, system)
 }
 
-/// The end of a program, which is kept with its last dictionary. After a fault it is kept without one.
+/// The end of a program, which is kept with its last dictionary. After a fault it is kept without
+/// one.
 fn solved_kept<F: Field>(
     alloc: Global,
     system: System<F>,
@@ -297,10 +301,12 @@ fn table_for<F: Field>(kept: &mut Kept<F>, system: &System<F>) -> Option<Tableau
     }
 }
 
-/// How the program ends, as `solve_lp` says, from where the last one ended, if both have the same equations and this one had
-/// a solution: its last dictionary gets the new cost, at the price of one sparse row operation for each equation, and phase
-/// two goes on. Where a number of this cost row is not held the last basis is a hint, as that of `solve_lp_from`, and without
-/// a last dictionary the program begins with phase one. The program is kept, after a fault without a dictionary.
+/// How the program ends, as `solve_lp` says, from where the last one ended, if both have the same
+/// equations and this one had a solution: its last dictionary gets the new cost, at the price of
+/// one sparse row operation for each equation, and phase two goes on. Where a number of this cost
+/// row is not held the last basis is a hint, as that of `solve_lp_from`, and without a last
+/// dictionary the program begins with phase one. The program is kept, after a fault without a
+/// dictionary.
 pub fn solve_lp_next<F: Field>(
     alloc: Global,
     system: System<F>,
@@ -316,8 +322,9 @@ pub fn solve_lp_next<F: Field>(
     solved_kept(alloc, system, tableau, kept)
 }
 
-/// How the program that is kept ends with this cost in the place of its own, as `solve_lp_next` says of the whole program: no
-/// equation is written or compared. The program is kept with this cost.
+/// How the program that is kept ends with this cost in the place of its own, as `solve_lp_next`
+/// says of the whole program: no equation is written or compared. The program is kept with this
+/// cost.
 pub fn solve_lp_with_cost<F: Field>(
     alloc: Global,
     cost: Items<F>,

@@ -60,7 +60,7 @@ signed_of_one (negsuc n) (negsuc m) h k e =
     let same : suc n ≡ suc m = decimal_of_one (suc n) (suc m) (omega arith) (omega arith) (tail_same 45 (decimal (suc n)) (decimal (suc m)) e) in
     ap negsuc (omega arith)
 
--- what stands behind the numerator
+-- what stands after the numerator
 den_text : ℕ → List ℕ
 den_text d = if d == 1 then [] else 47 ∷ decimal d
 

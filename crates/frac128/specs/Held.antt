@@ -25,6 +25,7 @@ pub record IsNarrow (q : ℚ) : Type 0 where
   pub num : unsigned_abs q.num < 2 ^ 30
   pub den : q.den < 2 ^ 30
 
+-- 0 and 1 are held, and tiny
 pub held_zero : IsTrue (is_held zero_ℚ)
 unfolding whole
 held_zero = refl
@@ -41,11 +42,13 @@ pub tiny_one : IsTrue (is_tiny one_ℚ)
 unfolding whole
 tiny_one = refl
 
+-- a whole number and its negative have one magnitude
 pub size-neg : (n : ℤ) → unsigned_abs (neg_ℤ n) ≡ unsigned_abs n
 size-neg (pos zero) = refl
 size-neg (pos (suc n)) = refl
 size-neg (negsuc n) = refl
 
+-- the negative of a number that is held is held, and that of a tiny one is tiny
 pub held_neg : (q : ℚ) → IsTrue (is_held q) → IsTrue (is_held (neg_ℚ q))
 unfolding neg_ℚ
 held_neg q h = subst (λ (n : ℕ). IsTrue (nat_lt n (2 ^ 120) && nat_lt q.den (2 ^ 120))) (sym (size-neg q.num)) h
@@ -54,6 +57,7 @@ pub tiny_neg : (q : ℚ) → IsTrue (is_tiny q) → IsTrue (is_tiny (neg_ℚ q))
 unfolding neg_ℚ
 tiny_neg q h = subst (λ (n : ℕ). IsTrue (nat_lt n (2 ^ 7) && nat_lt q.den (2 ^ 7))) (sym (size-neg q.num)) h
 
+-- numbers that are held are small, and so are tiny ones
 pub held_small : (q : ℚ) → IsTrue (is_held q) → IsSmall q
 held_small q h =
     let parts = and_parts (nat_lt (unsigned_abs q.num) (2 ^ 120)) (nat_lt q.den (2 ^ 120)) h in

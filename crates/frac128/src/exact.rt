@@ -12,8 +12,8 @@ fn closer(odd: u64, inverse: u64) -> u64
     inverse.wrapping_mul(2u64.wrapping_sub(odd.wrapping_mul(inverse)))
 }
 
-/// The inverse of an odd number modulo 2^64, from the number itself, which is its inverse modulo 2^3, by inverses
-/// modulo 2^6, 2^12, 2^24 and 2^48.
+/// The inverse of an odd number modulo 2^64, from the number itself, which is its inverse modulo
+/// 2^3, by inverses modulo 2^6, 2^12, 2^24 and 2^48.
 fn word_inverse(odd: u64) -> u64
     requires { odd % 2 ≡ 1 }
     ensures { odd * result % 2 ^ 64 ≡ 1 }

@@ -13,8 +13,8 @@ fn odd_part(n: u64) -> u64
     n >> n.trailing_zeros()
 }
 
-/// The difference without its power of 2. Its zeros are counted in the wrapping difference, which has as many and is
-/// known before the greater number is.
+/// The difference without its power of 2. Its zeros are counted in the wrapping difference, which
+/// has as many and is known before the greater number is.
 fn odd_difference(x: u64, y: u64) -> u64
     requires { x ≢ y }
     ensures odd { result % 2 ≡ 1 }
@@ -151,8 +151,8 @@ pub fn quotient(x: u128, y: u128) -> u128
     }
 }
 
-/// The quotient and the remainder, without a division where the quotient is small, and without a wide one where words
-/// hold both numbers.
+/// The quotient and the remainder, without a division where the quotient is small, and without a
+/// wide one where words hold both numbers.
 pub(crate) fn divided(x: u128, y: u128) -> (u128, u128)
     requires { 0 < y }
     ensures quotient { result.0 ≡ x / y }
@@ -175,7 +175,7 @@ pub(crate) fn divided(x: u128, y: u128) -> (u128, u128)
     (whole, x - whole * y)
 }
 
-/// The remainder.
+/// The remainder of `x` by `y`.
 pub(crate) fn remainder(x: u128, y: u128) -> u128
     requires { 0 < y }
     ensures { result ≡ x % y }

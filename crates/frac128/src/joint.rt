@@ -16,7 +16,8 @@ struct Mixed {
     rest: u128,
 }
 
-/// A whole number by its sign and its magnitude, and that by quotient and remainder by a divisor that is passed along.
+/// A whole number by its sign and its magnitude, and that by quotient and remainder by a divisor
+/// that is passed along.
 #[derive(Clone, Copy)]
 pub(crate) struct Total {
     pub(crate) negative: bool,
@@ -144,9 +145,9 @@ impl Carry {
     }
 }
 
-/// `a x + c y` by quotient and remainder, or `None` where its magnitude is at least 2^120 times the divisor.
-/// Both products are carried together, four bits of `x` and `y` a turn from the top, and the carrying ends where the
-/// sum so far is too far from 0 for the bits that are still to come.
+/// `a x + c y` by quotient and remainder, or `None` where its magnitude is at least 2^120 times the
+/// divisor. Both products are carried together, four bits of `x` and `y` a turn from the top, and
+/// the carrying ends where the sum so far is too far from 0 for the bits that are still to come.
 fn joint(a: i128, x: u128, c: i128, y: u128, divisor: u128) -> Option<Mixed>
     requires positive { 0 < divisor }
     requires divisor_small { divisor < 2 ^ 120 }
@@ -198,8 +199,8 @@ fn is_short(x: u128, y: u128) -> bool
     bits(x) + bits(y) <= 126
 }
 
-/// `a x + c y` by sign, quotient and remainder, or `None` where its magnitude is at least 2^120 times the divisor:
-/// without carrying where the products are short.
+/// `a x + c y` by sign, quotient and remainder, or `None` where its magnitude is at least 2^120
+/// times the divisor: without carrying where the products are short.
 pub(crate) fn numerator(a: i128, x: u128, c: i128, y: u128, divisor: u128) -> Option<Total>
     requires positive { 0 < divisor }
     requires divisor_small { divisor < 2 ^ 120 }

@@ -1,4 +1,5 @@
-//! Fractions of 120-bit whole numbers, vectors of them and their products, and their canonical text.
+//! Fractions of 120-bit whole numbers, vectors of them and their products, and their canonical
+//! text.
 #![tactic(auto)]
 
 mod exact;

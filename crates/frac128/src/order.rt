@@ -18,8 +18,8 @@ enum Floors {
     Same(u128, u128),
 }
 
-/// The floor quotients of `a / b` and `c / d`, neither of which is less than 1: one division, and the other quotient
-/// is only compared.
+/// The floor quotients of `a / b` and `c / d`, neither of which is less than 1: one division, and
+/// the other quotient is only compared.
 fn divided_alike(a: u128, b: u128, c: u128, d: u128) -> Floors
     requires b_positive { 0 < b }
     requires d_positive { 0 < d }
@@ -71,8 +71,9 @@ fn floor_quotients(a: u128, b: u128, c: u128, d: u128) -> Floors
     }
 }
 
-/// Compares `a / b` with `c / d`. Where the quotients are equal, the remainders decide: `a / b` is to `c / d` as
-/// `d / r` is to `b / s`, for the remainders r of `a / b` and s of `c / d`. In words the products decide.
+/// Compares `a / b` with `c / d`. Where the quotients are equal, the remainders decide: `a / b` is
+/// to `c / d` as `d / r` is to `b / s`, for the remainders r of `a / b` and s of `c / d`. In words
+/// the products decide.
 pub(crate) fn compare(a: u128, b: u128, c: u128, d: u128) -> Ordering
     requires b_positive { 0 < b }
     requires d_positive { 0 < d }

@@ -14,8 +14,9 @@ use exact_field::{Field, Left, Op};
 use std::cmp::Ordering;
 use std::marker::Model;
 
-/// A reduced fraction whose numerator's magnitude and whose denominator are below 2^7. It calculates as `Frac` does,
-/// and so small a type shows in a test what comes where a number is not held.
+/// A reduced fraction whose numerator's magnitude and whose denominator are below 2^7. It
+/// calculates as `Frac` does, and so small a type shows in a test what comes where a number is not
+/// held.
 #[derive(Clone, Copy, Debug)]
 pub struct Tiny {
     num: i8,

@@ -20,7 +20,8 @@ pub struct Spot {
     pub value: Frac,
 }
 
-/// A vector that is 0 at all places that it does not name. Its places rise from 1, and no value is 0.
+/// A vector that is 0 at all places that it does not name. Its places rise from 1, and no value is
+/// 0.
 pub type Sparse = Items<Spot>;
 
 /// Whether a number is 0, and so has no place in a sparse vector.

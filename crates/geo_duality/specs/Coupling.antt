@@ -29,6 +29,7 @@ slack e y = dot e.normal y -ℚ e.bound
 abbrev pub joined : ℚ → ℚ → ℚ → ℚ → ℚ
 joined direct weight height bound = direct +ℚ height *ℚ (one_ℚ -ℚ weight) -ℚ bound
 
+-- the four steps of this, in their order
 abbrev pub joining_steps : ℚ → ℚ → ℚ → ℚ → List Step
 joining_steps direct weight height bound =
     record { op = Sub; a = one_ℚ; b = weight }
@@ -36,7 +37,7 @@ joining_steps direct weight height bound =
     ∷ record { op = Add; a = direct; b = height *ℚ (one_ℚ -ℚ weight) }
     ∷ record { op = Sub; a = direct +ℚ height *ℚ (one_ℚ -ℚ weight); b = bound } ∷ []
 
--- the steps behind both products
+-- the steps after both products
 abbrev pub last_steps : List ℚ → List ℚ → List ℚ → List Step
 last_steps y star c = joining_steps (dot (front y) (front star)) (dot (front c) (front star)) (last y) (last star)
 
@@ -51,7 +52,7 @@ pub record IsCouplingHeld (holds : ℚ → Bool) (y star c : List ℚ) : Type 0 
   pub rest : All (IsHeld holds) (last_steps y star c)
 
 -- the first step that is not held is one of the first product, or, where all of that are held, of the second, or, where all of both
--- are held, one behind them
+-- are held, one after them
 abbrev pub IsCouplingLeft : {F : Type 0} → (F → ℚ) → (ℚ → Bool) → List ℚ → List ℚ → List ℚ → Left F → Type 0
 IsCouplingLeft value holds y star c left =
     IsDotLeft value holds (front y) (front star) left

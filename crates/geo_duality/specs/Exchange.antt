@@ -16,6 +16,7 @@ dual_vector normal bound c = front normal ++ bound ∷ dot normal c ∷ []
 abbrev pub entry_steps : ℚ → ℚ → ℚ → List Step
 entry_steps k y c = record { op = Mul; a = k; b = c } ∷ record { op = Sub; a = y; b = k *ℚ c } ∷ []
 
+-- the steps of y - k c, entry by entry
 abbrev pub difference_steps : ℚ → List ℚ → List ℚ → List Step
 difference_steps k [] cs = []
 difference_steps k (y ∷ ys) [] = []

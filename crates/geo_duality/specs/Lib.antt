@@ -1,3 +1,5 @@
+-- The subject: Facets, Coupling, and Exchange with Rows (the row of a point or direction), each of
+-- one call.
 pub mod Coupling
 pub mod Exchange
 pub mod Facets

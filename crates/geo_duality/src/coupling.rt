@@ -6,8 +6,8 @@ ghost use Rattle.geo_duality.specs.Coupling.{IsCouplingHeld, IsCouplingLeft, ine
 use exact_field::{Field, Left};
 use lin_rows::dot;
 
-/// What is made of both products of a coupling: what the second leaves of 1, times the last entry of the vector, plus the first
-/// product, minus the bound.
+/// What is made of both products of a coupling: what the second leaves of 1, times the last entry
+/// of the vector, plus the first product, minus the bound.
 fn join<F: Field>(direct: F, weight: F, height: F, bound: F) -> Result<F, Left<F>>
     ensures value { IfOk result (λ r. F.value r
         ≡ joined (F.value direct) (F.value weight) (F.value height) (F.value bound)) }
@@ -24,9 +24,10 @@ fn join<F: Field>(direct: F, weight: F, height: F, bound: F) -> Result<F, Left<F
     total.sub(bound)
 }
 
-/// The coupling of `y` with `star`: the product of all entries of `y` but the last with those of `star`, plus the last entry of `y`
-/// times what the product of those of `c` and `star` leaves of 1, minus the last entry of `star` (Heyde and Löhne). It is the
-/// slack of `y` in the inequality for which `star` stands, whose normal has the product 1 with `c`.
+/// The coupling of `y` with `star`: the product of all entries of `y` but the last with those of
+/// `star`, plus the last entry of `y` times what the product of those of `c` and `star` leaves of
+/// 1, minus the last entry of `star` (Heyde and Löhne). It is the slack of `y` in the inequality
+/// for which `star` stands, whose normal has the product 1 with `c`.
 pub fn phi<F: Field>(y: &[F], star: &[F], c: &[F]) -> Result<F, Left<F>>
     requires some { 1 ≤ length y.now }
     requires star { length star.now ≡ length y.now }

@@ -15,12 +15,12 @@ use std::alloc::Global;
 pub enum ExchangeFault<F: Drop> {
     /// A product or a difference that is not held.
     Left {
-        /// Of entry `i`, counted from 1, the product is step `2 i - 1` and the difference step `2 i`.
+        /// Of entry `i`, counted from 1, the product is step `2 i - 1` and the difference step `2
+        /// i`.
         step: u64,
         /// The operation, with its operands.
         left: Left<F>,
     },
-    /// Want of memory.
     NoMemory,
 }
 
@@ -66,9 +66,10 @@ fn at_bound<F: Field>(t: bool) -> F
     if t { F::one().neg() } else { F::zero() }
 }
 
-/// The row of a point or, where `t` is false, of a direction: each entry but the last less the last entry times that of `c`, then -1
-/// or 0, then the last entry. Over a dual vector, all entries of a normal but the last, the bound, and the product of the
-/// normal with `c`, its value is that of the inequality at the point or direction.
+/// The row of a point or, where `t` is false, of a direction: each entry but the last less the last
+/// entry times that of `c`, then -1 or 0, then the last entry. Over a dual vector, all entries of a
+/// normal but the last, the bound, and the product of the normal with `c`, its value is that of the
+/// inequality at the point or direction.
 pub fn exchange<F: Field>(
     alloc: Global,
     y: &[F],

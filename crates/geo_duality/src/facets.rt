@@ -24,7 +24,8 @@ fn is_no_part(set: &Marks, other: &Marks) -> bool
     !lies_in(set, other) || lies_in(other, set)
 }
 
-/// Whether the set of a row does not lie in that of row 0, and lies in that of another row only where both are the same.
+/// Whether the set of a row does not lie in that of row 0, and lies in that of another row only
+/// where both are the same.
 fn may_be_named(sets: &[Marks], k: usize) -> bool
     requires { k < length sets.now }
     ensures { (generators rows : List (List ℚ)) → sets.now ≡ map (tight_places generators) rows
@@ -69,9 +70,9 @@ fn is_facet(sets: &[Marks], listed: &[u32], k: usize) -> bool
     may_be_named(sets, k) && !is_listed(sets, listed, k)
 }
 
-/// The numbers of the rows other than row 0 whose sets of tight generators do not lie in row 0's and lie in no other row's that is
-/// not the same, of rows with one set the first, rising. The cost is the square of the number of rows times the words of a set
-/// of generators.
+/// The numbers of the rows other than row 0 whose sets of tight generators do not lie in row 0's
+/// and lie in no other row's that is not the same, of rows with one set the first, rising. The cost
+/// is the square of the number of rows times the words of a set of generators.
 pub fn facets_of<F: Field>(alloc: Global, dd: &Dd<F>) -> Result<Items<u32>, NoMemory>
     ensures rows { IfOk result
         (λ facets. facets ≡ facet_rows (vectors dd.now.list.live) dd.now.rows) }

@@ -1,5 +1,5 @@
-//! Geometric duality: the rows that are facets, the coupling of the image with its lower image, and the rows by which points and
-//! directions stand for inequalities of the dual.
+//! Geometric duality: the rows that are facets, the coupling of the image with its lower image, and
+//! the rows by which points and directions stand for inequalities of the dual.
 #![tactic(auto)]
 
 mod coupling;

@@ -1,3 +1,4 @@
 pub mod Bits
+pub mod Shared
 pub mod Sets
 pub mod Sizes

@@ -1,6 +1,7 @@
 -- Numbers as the bits of words: number k is bit k % 64 of word k / 64.
 use Rattle.std.specs.Prelude.{ℕ, ◌*◌, ◌/◌, ◌%◌, ◌≤◌, List, Bool, ◌≡◌, ◌≢◌, true, false, map, length, ◌==◌, slice_index}
 use Rattle.std.specs.Int.{bit_at}
+use Rattle.std.specs.Int.Bits.{bit_and}
 use Rattle.std.specs.List.{range_with_len}
 
 -- whether the words have number k
@@ -10,6 +11,11 @@ is_marked words k = bit_at (slice_index words (k / 64)) (k % 64) == 1
 -- which numbers below a bound the words have
 abbrev pub marks_below : ℕ → List ℕ → List Bool
 marks_below bound words = map (is_marked words) (range_with_len 0 bound)
+
+-- the words of the common numbers of the two, as many as the first has
+abbrev pub common_words : List ℕ → List ℕ → List ℕ
+common_words a b =
+    map (λ i. bit_and (slice_index a i) (slice_index b i)) (range_with_len 0 (length a))
 
 -- the words have room for each number below the bound, and have no other
 pub record AreBounded (words : List ℕ) (bound : ℕ) : Type 0 where

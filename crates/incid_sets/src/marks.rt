@@ -1,10 +1,10 @@
 //! Sets of numbers below a bound.
-ghost use Rattle.std.specs.Prelude.{◌≡◌, ◌<◌, ◌≤◌, ◌*◌, ◌-◌, ◌++◌, ◌↔◌, ℕ, IsTrue, true, OnOk, OnErr, IfOk, length, slice_set};
+ghost use Rattle.std.specs.Prelude.{◌≡◌, ◌<◌, ◌≤◌, ◌*◌, ◌-◌, ◌++◌, ◌↔◌, ℕ, List, Bool, IsTrue, true, OnOk, OnErr, IfOk, length, slice_set};
 ghost use Rattle.incid_sets.specs.Marks.{has, no_marks, size, ContainsAll, CoversBoth, IsMeet};
 
 use crate::words::{
     contains_words, count_marks, covers_words, grow_words, has_mark, have_at_least, set_mark,
-    words_for, write_meet, zero_words,
+    share_at_least, words_for, write_meet, zero_words,
 };
 use src_sink::NoMemory;
 use std::alloc::Global;
@@ -29,7 +29,7 @@ impl Model for Marks {
 }
 
 impl Marks {
-    /// The empty set.
+    /// The empty set, for numbers below `bound`.
     pub fn new(alloc: Global, bound: u32) -> Result<Marks, NoMemory>
         ensures { IfOk result (λ marks. marks ≡ no_marks bound) }
     {
@@ -37,7 +37,7 @@ impl Marks {
         Ok(Marks { words, bound })
     }
 
-    /// The bound.
+    /// The number below which all members are.
     pub fn bound(&self) -> u32
         ensures { result ≡ length self.now }
     {
@@ -74,6 +74,14 @@ impl Marks {
         ensures { IsTrue result ↔ (count ≤ size self.now) }
     {
         have_at_least(&self.words, count)
+    }
+
+    /// Whether the two have at least as many common numbers as `count`.
+    pub fn shares(&self, other: &Marks, count: usize) -> bool
+        ensures { (common : List Bool) × IsMeet common self.now other.now
+            × (IsTrue result ↔ (count ≤ size common)) }
+    {
+        share_at_least(&self.words, &other.words, count)
     }
 
     /// How many numbers the set has.

@@ -1,7 +1,8 @@
-//! Bits of words, taken a word at a time. A list of words that is shorter counts as continued with zeros.
+//! Bits of words, taken a word at a time. A list of words that is shorter counts as continued with
+//! zeros.
 ghost use Rattle.std.specs.Prelude.{◌≡◌, ◌<◌, ◌/◌, ◌*◌, ◌^◌, ◌≤◌, ◌↔◌, ℕ, IsTrue, IfOk, OnOk, replicate, ◌&&◌, slice_index, vec_len};
 ghost use Rattle.incid_sets.specs.Marks.{size};
-ghost use Rattle.incid_sets.specs.Words.{is_marked, marks_below, AddsMark, AreBounded};
+ghost use Rattle.incid_sets.specs.Words.{common_words, is_marked, marks_below, AddsMark, AreBounded};
 
 use src_sink::NoMemory;
 use std::alloc::Global;
@@ -93,6 +94,22 @@ pub fn have_at_least(words: &[u64], count: u32) -> bool
     let mut missing = count;
     for word in words {
         let ones = word.count_ones();
+        if missing <= ones {
+            return true;
+        }
+        missing -= ones;
+    }
+    missing == 0
+}
+
+/// Whether the two have at least as many common numbers as `count`. It stops at the first words that do.
+pub fn share_at_least(a: &[u64], b: &[u64], count: usize) -> bool
+    ensures { (bound : ℕ) → AreBounded (common_words a.now b.now) bound
+        → IsTrue result ↔ (count ≤ size (marks_below bound (common_words a.now b.now))) }
+{
+    let mut missing = count;
+    for (i, word) in a.iter().enumerate() {
+        let ones = (*word & word_at(b, i)).count_ones() as usize;
         if missing <= ones {
             return true;
         }

@@ -25,7 +25,7 @@ next k = omega arith
 not_named : (basis : List ℕ) (vs : List ℚ) (j : ℕ) → ((k : ℕ) → basic_column basis k ≢ j) → value_of_column basis vs j ≡ zero_ℚ
 not_named basis vs j h = value-is (λ q. q ≡ zero_ℚ) basis vs j refl (λ k l e. absurd (h (1 + k) (ap (λ i. slice_index_or basis i 0) (next k) ∙ e)))
 
--- with the unit matrix beside the rows: behind the rows' own columns the vector would be 0
+-- with the unit matrix beside the rows: after the rows' own columns the vector would be 0
 module _ (n c : ℕ) (a : Table) (basis : List ℕ) (d : Table) (a_long : length a ≡ n) (a_wide : AreWide n a)
     (within : (k : ℕ) → basic_column basis k ≤ n) (free : (k : ℕ) → basic_column basis k ≢ c) (low : 1 ≤ c) (high : c ≤ n) where
   abbrev part : ℕ → ℚ

@@ -1,4 +1,4 @@
--- The worked entries of a trail and behind one, computed.
+-- The worked entries of a trail and after one, computed.
 use Rattle.std.proofs.Common.{◌≡◌, ℕ, Bool, true, false, true≢false, List, [], ◌∷◌, ◌++◌, refl, sym, ap, ◌∙◌, Option, None, Some, inl, not, codes, pos}
 use Rattle.std.specs.Prelude.{◌==◌}
 use Rattle.std.specs.List.{list_all}
@@ -198,7 +198,7 @@ point_is =
 with_point_is : IsBaseTrail leaning ones weights with_point
 with_point_is = more started point (ray ∷ []) started_is refl point_is
 
--- ---- the ray behind it
+-- ---- the ray after it
 abbrev across : List ℚ
 across = n 1 ∷ n 2 ∷ []
 

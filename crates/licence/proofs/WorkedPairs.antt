@@ -92,7 +92,7 @@ bounds = overflow_laws.term is_few in_narrow [] [] (n 3 ∷ []) (n 2 ∷ []) 1 (
     (lit≤ tt) (lit≤ tt) (lit≤ tt) (inl (refl, refl, refl, refl))
 
 -- ---- weights: the entries of a w sum to 1
--- u, the two lists of w, and the two unknowns behind them
+-- u, the two lists of w, and the two unknowns after them
 seven : (P : List ℚ → Type 0) → ((u a b c d k l : ℚ) → P (u ∷ a ∷ b ∷ c ∷ d ∷ k ∷ l ∷ [])) → (z : List ℚ) → length z ≡ 7 → P z
 seven P h (u ∷ a ∷ b ∷ c ∷ d ∷ k ∷ l ∷ []) e = h u a b c d k l
 seven P h [] e = absurd (omega (arith, e))
@@ -482,7 +482,7 @@ negative : AtLeastZero below → ⊥
 unfolding whole le_ℚ
 negative h = true≢false (sym (h 0 zero_ℚ (lit< tt)))
 
--- what stands behind u and w has two entries, neither of them negative
+-- what stands after u and w has two entries, neither of them negative
 behind : (m : List Spot) (x : List ℚ) → length x ≡ 7 → AtLeastZero x → dense (length (v_of in_dual_form in_dual_form.cone x)) m ≡ v_of in_dual_form in_dual_form.cone x →
     AtLeastZero (dense 2 m)
 unfolding whole

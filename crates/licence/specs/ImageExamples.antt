@@ -1,5 +1,5 @@
 -- Rows and generators of the image in a trail with a start, and the numbers of entries of a trail
--- or behind one, beside near ones that are none: each example would fail if a definition were
+-- or after one, beside near ones that are none: each example would fail if a definition were
 -- wrong.
 use Rattle.std.specs.Prelude.{◌||◌, pos, negsuc, codes, Bool, List, [], ◌∷◌, ◌++◌, Some, refl}
 use Rattle.exact_field.specs.Rational.{ℚ, fraction}
@@ -22,13 +22,14 @@ use Rattle.licence.specs.Steps.{operation}
 use Rattle.licence.specs.Trails.{IsBaseTrail}
 
 -- ---- the image of a file with four cuts
+-- 1/4 and 3/4
 abbrev pub quarter : ℚ
 quarter = fraction (pos 1) 4
 
 abbrev pub three_quarters : ℚ
 three_quarters = fraction (pos 3) 4
 
--- behind (y_1 + y_2) / 2 ≥ 0 the cuts y_2 ≥ 0, y_1 / 4 + 3 y_2 / 4 ≥ 3 and y_2 ≥ 4; the first two
+-- after (y_1 + y_2) / 2 ≥ 0 the cuts y_2 ≥ 0, y_1 / 4 + 3 y_2 / 4 ≥ 3 and y_2 ≥ 4; the first two
 -- meet in (0, 0), and the third one comes into use
 abbrev pub chain : List Entry
 chain =
@@ -41,9 +42,11 @@ chain =
     ∷ Cut (n 0 ∷ n 1 ∷ []) (n 4) (record { at = 1; value = third } ∷ record { at = 2; value = third } ∷ []) []
     ∷ []
 
+-- the plain file with this trail
 abbrev pub in_chain : Setting
 in_chain = record { file = plain; c = Some ones; weights = []; trail = chain }
 
+-- the operation overflows at the place there
 abbrev pub OverflowsChain : Place → Left ℚ → Type 0
 OverflowsChain place left = IsOverflow is_few in_chain place left
 
@@ -88,6 +91,7 @@ pub record ImageExamples : Type 0 where
 abbrev pub leaning : Problem
 leaning = narrow_with (Gens (rows (codes "1 0" ∷ codes "1 2" ∷ []))) (Some (numbers (codes "1 1"))) refl refl
 
+-- half the sum of the generators is the duality vector
 abbrev pub weights : List ℚ
 weights = half ∷ half ∷ []
 
@@ -103,6 +107,7 @@ behind =
     ∷ Start (1 ∷ 2 ∷ []) (n 6 ∷ minus 3 ∷ []) (n 1 ∷ n 2 ∷ n 1 ∷ minus_half ∷ [])
     ∷ []
 
+-- these entries, after a `version` and a `duality` entry
 abbrev pub started : List Entry
 started = opening ones weights (1 ∷ 2 ∷ []) (n 1 ∷ minus_half ∷ n 0 ∷ half ∷ []) ++ behind
 
@@ -113,12 +118,15 @@ point = Point 1 (record { at = 1; value = n 3 } ∷ []) []
 abbrev pub ray : Entry
 ray = Ray 2 [] (record { at = 2; value = n 1 } ∷ [])
 
+-- the leaning file with this trail and the pre-image of the point,
 abbrev pub at_point : Setting
 at_point = record { file = leaning; c = Some ones; weights = weights; trail = started ++ point ∷ [] }
 
+-- and without it
 abbrev pub at_begin : Setting
 at_begin = record { file = leaning; c = Some ones; weights = weights; trail = started }
 
+-- numbers of entries that stand in the trail, or may stand next
 pub record EntryExamples : Type 0 where
   pub with_point : IsBaseTrail leaning ones weights (started ++ point ∷ [])
   -- the side with the x of the point, which stands in the trail; the second entries of the
@@ -144,6 +152,7 @@ pub record ShareExamples : Type 0 where
   pub other_weight : IsShareStep at_begin 2 2 (operation Mul (fraction (pos 5) 2) third) → ⊥
   pub no_weight : IsShareStep at_begin 3 2 (operation Mul (fraction (pos 5) 2) half) → ⊥
 
+-- all of these
 pub record WorkedImages : Type 0 where
   pub images : ImageExamples
   pub entries : EntryExamples

@@ -66,15 +66,19 @@ line =
     Line (n 1 ∷ n 0 ∷ []) (record { at = 2; value = n 4 } ∷ []) (record { at = 1; value = n 1 } ∷ []) []
     (record { at = 1; value = minus 1 } ∷ []) []
 
+-- these entries, from the cuts to the start
 abbrev pub beside : List Entry
 beside = cuts ++ line ∷ Start (1 ∷ []) (n 0 ∷ n 0 ∷ []) (n 0 ∷ n 1 ∷ []) ∷ []
 
+-- the same after a `version` and a `duality` entry
 abbrev pub along : List Entry
 along = trail_of ones ++ beside
 
+-- the half plane with this trail
 abbrev pub in_along : Setting
 in_along = record { file = half_plane; c = Some ones; weights = []; trail = along }
 
+-- the operation overflows at the place there
 abbrev pub OverflowsAlong : Place → Left ℚ → Type 0
 OverflowsAlong place left = IsOverflow is_few in_along place left
 

@@ -65,6 +65,7 @@ abbrev pub IsTrailNormal : Setting → List ℚ → Type 0
 IsTrailNormal s w = Contains (trail_normals s.file.objs s.trail) w
 
 -- ---- programs
+-- the system of a program in a setting
 abbrev pub system_in : Setting → Program → System
 system_in s program = named_system s.file (vector_of s.c) program
 

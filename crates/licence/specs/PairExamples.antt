@@ -49,6 +49,7 @@ narrow_with cone duality vectors entries =
       duality_entries = entries;
     }
 
+-- the file with the orthant
 abbrev pub narrow : Problem
 narrow = narrow_with Orthant None refl refl
 
@@ -60,16 +61,20 @@ in_dual_form = narrow_with (Dual (rows (codes "1 0" ∷ codes "0 1" ∷ []))) No
 abbrev pub wider : Problem
 wider = narrow_with (Dual (rows (codes "2 1" ∷ codes "0 3" ∷ []))) None refl refl
 
+-- 1/3
 abbrev pub third : ℚ
 third = fraction (pos 1) 3
 
+-- its first two entries alone
 abbrev pub in_narrow : Setting
 in_narrow = setting narrow ones
 
+-- the operation overflows at the place there
 abbrev pub OverflowsNarrow : Place → Left ℚ → Type 0
 OverflowsNarrow place left = IsOverflow is_few in_narrow place left
 
 -- ---- lists that are multiplied
+-- products of lists at one place
 pub record PairExamples : Type 0 where
   -- the bound 3 and the u of the cut (1, 0); no u has a negative entry
   pub bounds : OverflowsNarrow (Elim [] [] 0 1 2) (operation Mul (n 3) (n 2))
@@ -97,6 +102,7 @@ pub record PairExamples : Type 0 where
   pub no_place : OverflowsNarrow (Elim [] [] 0 4 2) (operation Mul (n 3) (n 2)) → ⊥
 
 -- ---- vectors that are divided
+-- quotients of a vector
 pub record ScaleExamples : Type 0 where
   -- a generator of the cone by its first entry, and not with its entries exchanged
   pub direction : IsOverflow is_few (at_start generated ones) (Scale (n 2 ∷ n 1 ∷ []) 2) (operation Div (n 1) (n 2))
@@ -107,6 +113,7 @@ pub record ScaleExamples : Type 0 where
   pub image : OverflowsNarrow (Scale (n 2 ∷ minus 1 ∷ []) 2) (operation Div (minus 1) (n 2))
   pub no_image : IsScaled in_narrow (n 2 ∷ n 1 ∷ []) → ⊥
 
+-- all of these
 pub record WorkedPairs : Type 0 where
   pub pairs : PairExamples
   pub scales : ScaleExamples

@@ -96,7 +96,7 @@ abbrev pub IsLiveAt : ℕ → List Entry → ℕ → List ℚ → Type 0
 IsLiveAt q before k y = (g : Numbered) × IsLiveAfter q before g × (g.number ≡ k) × (y ≡ y_of q g)
 
 -- ---- trails
--- an entry behind others is a base trail's, where c and the weights are those of the duality entry.
+-- an entry after others is a base trail's, where c and the weights are those of the duality entry.
 -- What is not said here the rules of the log fix
 abbrev pub IsBaseEntry : Problem → (c weights : List ℚ) → List Entry → Entry → Type 0
 IsBaseEntry file c weights before (Duality c' weights' picks inverse) =
@@ -118,7 +118,7 @@ IsBaseEntry file c weights before (PointOf k share m) = ⊤
 IsBaseEntry file c weights before (RayOf k share m) = ⊤
 IsBaseEntry file c weights before (AddHints cut pairs hints) = ⊤
 
--- each entry of a trail is one behind those before it
+-- each entry of a trail is one after those before it
 abbrev pub AllBase : Problem → (c weights : List ℚ) → List Entry → Type 0
 AllBase file c weights trail = (before : List Entry) (e : Entry) (after : List Entry) → trail ≡ before ++ e ∷ after → IsBaseEntry file c weights before e
 

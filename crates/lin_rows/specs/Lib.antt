@@ -1,3 +1,6 @@
+-- The subject: Read and Lines (rows and sparse rows as tables), System, Answers, Eliminate,
+-- Complement and Sums (what the calls answer). Worked example: ComplementExamples. For the code's
+-- own steps: Clear, Pivot, Widths.
 pub mod Answers
 pub mod Clear
 pub mod Complement

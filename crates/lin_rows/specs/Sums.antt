@@ -58,6 +58,7 @@ IsFaultAt index Want fault = fault ≡ NoMemory
 abbrev pub AreSumsHeld : (ℚ → Bool) → List ℚ → ℚ → List ℚ → ℕ → Type 0
 AreSumsHeld holds a k b n = (j : ℕ) → 1 ≤ j → j ≤ n → IsTrue (holds (k *ℚ entry b j)) × IsTrue (holds (entry a j +ℚ k *ℚ entry b j))
 
+-- the products of k with the first n entries are held
 abbrev pub AreProductsHeld : (ℚ → Bool) → ℚ → List ℚ → ℕ → Type 0
 AreProductsHeld holds k a n = (j : ℕ) → 1 ≤ j → j ≤ n → IsTrue (holds (k *ℚ entry a j))
 
@@ -67,6 +68,7 @@ IsCombineFault value holds a k b (Stuck basis row col step left) =
     (basis ≡ []) × (row ≡ 0) × (1 ≤ col) × (col ≤ length a) × IsPlusLeft value holds (entry a col) k (entry b col) step left
 IsCombineFault value holds a k b NoMemory = Unit {0}
 
+-- nothing is eliminated, and the product of k with an entry is not held
 abbrev pub IsScaleFault : {F : Type 0} → (F → ℚ) → (ℚ → Bool) → ℚ → List ℚ → RowFault F → Type 0
 IsScaleFault value holds k a (Stuck basis row col step left) =
     (basis ≡ []) × (row ≡ 0) × (1 ≤ col) × (col ≤ length a)

@@ -34,8 +34,8 @@ pub fn add_product<F: Field>(total: F, x: F, y: F) -> Result<F, Left<F>>
     total.add(product)
 }
 
-/// The sum of the products of two lists of one length, over the places at which neither entry is 0, from the first on:
-/// each takes one product, and then one sum with the total.
+/// The sum of the products of two lists of one length, over the places at which neither entry is 0,
+/// from the first on: each takes one product, and then one sum with the total.
 pub fn dot<F: Field>(a: &[F], b: &[F]) -> Result<F, Left<F>>
     requires { length a.now ≡ length b.now }
     ensures ok { IfOk result (λ r. F.value r ≡ product (map F.value a.now) (map F.value b.now)) }
@@ -105,7 +105,7 @@ pub fn combine<F: Field>(alloc: Global, a: &[F], k: F, b: &[F]) -> Result<Items<
     Ok(out)
 }
 
-/// A product.
+/// A product, which is step 2.
 fn product_of<F: Field>(k: F, y: F) -> Result<F, Stop<F>>
     ensures ok { IfOk result (λ r. F.value r ≡ F.value k *ℚ F.value y) }
     ensures held { IfOk result (λ r. IsTrue (F.holds (F.value k *ℚ F.value y))) }
@@ -117,7 +117,7 @@ fn product_of<F: Field>(k: F, y: F) -> Result<F, Stop<F>>
     }
 }
 
-/// `k a`.
+/// The vector `k a`.
 pub fn scale<F: Field>(alloc: Global, a: &[F], k: F) -> Result<Items<F>, RowFault<F>>
     requires { length a.now ≤ 4294967294 }
     ensures ok { IfOk result (λ r. map F.value r ≡ scaled (F.value k) (map F.value a.now)) }

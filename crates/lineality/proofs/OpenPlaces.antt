@@ -24,7 +24,7 @@ use Rattle.lineality.proofs.Marks.{marked, marks_line, first_within}
 use Rattle.lineality.proofs.Erased.{erased_wide, same_product, erased_homogenised, erased_rows}
 
 -- ---- counting
--- the marks of places behind the first line are those of the others
+-- the marks of places after the first line are those of the others
 others_from : (d : List ℚ) (lines : List (List ℚ)) (k n : ℕ) → first d < k → marks_from (suc k) n (d ∷ lines) ≡ marks_from (suc k) n lines
 others_from d lines k zero h = refl
 others_from d lines k (suc n) h = ap₂ (λ b bs. b ∷ bs) (here d lines k h) (others_from d lines (suc k) n (omega arith))

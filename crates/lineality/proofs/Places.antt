@@ -11,7 +11,7 @@ use Rattle.polyhedra.proofs.Algebra.{zero_add, mul_zero, neg_zero}
 use Rattle.polyhedra.proofs.Tests.{zero_of_test}
 use Rattle.lineality.specs.Lines.{leading_place}
 
--- the entry behind k others, and 0 past the end
+-- the entry after k others, and 0 past the end
 abbrev pub at : List ℚ → ℕ → ℚ
 at v k = slice_index_or v k zero_ℚ
 

@@ -23,6 +23,7 @@ pub record AreSameAlong (lines lines' points points' directions directions' : Li
   pub directions_same : SameMembers directions directions'
   pub facets_same : SameMembers facets facets'
 
+-- where the directions are a convex cone, two exact descriptions along lines are the same
 abbrev pub OneDescriptionAlong : (List ℚ → Type 0) → (List ℚ → Type 0) → Type 0
 OneDescriptionAlong Set Directions = (n : ℕ) (c : List ℚ)
     (lines lines' points points' directions directions' : List (List ℚ))
@@ -51,6 +52,7 @@ pub record OfNegativesAlong (n : ℕ) (Set Directions : List ℚ → Type 0)
       IsInHull n points directions lines y
       ↔ IsInHull n (map negated points) (map negated directions) lines (negated y)
 
+-- so it is for every list of lines
 abbrev pub NegativesAlong : (List ℚ → Type 0) → (List ℚ → Type 0) → Type 0
 NegativesAlong Set Directions = (n : ℕ) (lines : List (List ℚ)) →
     OfNegativesAlong n Set Directions lines

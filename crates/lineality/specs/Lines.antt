@@ -12,7 +12,7 @@ pub record IsInLineality (Directions : List ℚ → Type 0) (d : List ℚ) : Typ
   pub forth : Directions d
   pub back : Directions (negated d)
 
--- the place of the first entry that is not 0, counted from 1, and the place behind the last where
+-- the place of the first entry that is not 0, counted from 1, and the place after the last where
 -- there is none
 abbrev pub leading_place : List ℚ → ℕ
 leading_place [] = 1

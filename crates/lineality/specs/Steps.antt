@@ -27,6 +27,7 @@ IsClear bs v = with_zeros bs (without bs v) ≡ v
 abbrev pub numbered_without : List Bool → Numbered → Numbered
 numbered_without bs g = record { number = g.number; vector = without bs g.vector }
 
+-- a live list without these entries, under the same numbers
 abbrev pub list_without : List Bool → LiveList → LiveList
 list_without bs list = record { live = map (numbered_without bs) list.live; next = list.next }
 
@@ -42,6 +43,7 @@ pub record IsStepWithout (bs : List Bool) (rows : List (List ℚ)) (list : LiveL
   pub same_pairs : pairs rows list.live row
       ≡ pairs (map (without bs) rows) (list_without bs list).live (without bs row)
 
+-- so it is after any row, where the generators before it are 0 at the marked places
 abbrev pub StepsWithout : Type 0
 StepsWithout = (bs : List Bool) (rows : List (List ℚ)) (list : LiveList) (row : List ℚ) →
     AreWide (suc (length bs)) (vectors list.live) → All (IsClear bs) (vectors list.live) →
@@ -84,6 +86,7 @@ pub record IsMeetingWithout (rows : List (List ℚ)) (row p m : List ℚ) : Type
   pub both : IsTightAtBoth rows row p m
   pub not_zero : norming (meeting row p m) ≡ zero_ℚ → ⊥
 
+-- so it is where the row is positive at one of two such generators, and negative at the other
 abbrev pub MeetingsWithout : Type 0
 MeetingsWithout = (n : ℕ) (bs : List Bool) (rows generators : List (List ℚ)) (row p m : List ℚ) →
     AreWide (suc (length bs)) generators → All (IsClear bs) generators →
@@ -98,5 +101,6 @@ pub record NothingMarked (n : ℕ) (v : List ℚ) : Type 0 where
   pub without_none : without (marks n []) v ≡ v
   pub with_none : with_zeros (marks n []) v ≡ v
 
+-- so it is for vectors of any length
 abbrev pub NoneMarked : Type 0
 NoneMarked = (n : ℕ) (v : List ℚ) → NothingMarked n v

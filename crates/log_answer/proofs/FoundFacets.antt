@@ -28,8 +28,8 @@ use Rattle.log_rules.specs.declared.answer.Facet.{Facet}
 use Rattle.log_rules.specs.declared.answer.Gen.{Gen}
 use Rattle.log_rules.proofs.CutsStay.{Exists, cut_of}
 use Rattle.log_rules.proofs.NamedCuts.{named_stand}
-use Rattle.log_tests.specs.Cuts.{stated}
-use Rattle.log_tests.specs.declared.corner.Cut.{Cut}
+use Rattle.entry_checks.specs.Cuts.{stated}
+use Rattle.entry_checks.specs.declared.corner.Cut.{Cut}
 use Rattle.vlp_matrices.proofs.Lists.{length-zip}
 use Rattle.std.proofs.lemmas.List.{get_or_default}
 use Rattle.log_live.specs.Live.{HasTightSet}

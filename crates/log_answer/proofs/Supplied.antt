@@ -24,8 +24,8 @@ use Rattle.log_rules.specs.Proves.{shown}
 use Rattle.log_rules.proofs.KeepsDescription.{IsKept, kept, rules_keep_description}
 use Rattle.log_rules.proofs.NormedMembers.{IsPoint, IsNormedWay, one_standing, one_not_zero}
 use Rattle.log_rules.proofs.SolvedIsSolved.{solved_met}
-use Rattle.log_tests.specs.Cuts.{stated}
-use Rattle.log_tests.specs.declared.corner.Cut.{Cut}
+use Rattle.entry_checks.specs.Cuts.{stated}
+use Rattle.entry_checks.specs.declared.corner.Cut.{Cut}
 use Rattle.log_live.specs.Live.{numbered_of, HasPreimage, listed}
 use Rattle.log_live.specs.declared.generator.Generator.{Generator}
 use Rattle.log_answer.specs.Members.{last, is_point, IsReached, member, shown_of}

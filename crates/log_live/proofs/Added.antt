@@ -147,7 +147,7 @@ module _ (file : Problem) (s : State) (cut : ℕ) (w : List ℚ) (gamma : ℚ) (
     next = next;
   }
 
-  -- ---- what stands behind them
+  -- ---- what stands after them
   module _ (pairs : List LogPair) (change : Change) (c : IsChange file.objs s cut pairs live change)
       (new : Live)
       (kept : new.generators.items ≡ kept_of (cut_row s cut) live.generators.items ++

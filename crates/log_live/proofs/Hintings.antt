@@ -137,7 +137,7 @@ module _ (rows : List (List ℚ)) (live : List Numbered) (pairs : List LogPair) 
       ap (λ (os : List LivePair). walk rows live os (drop a.listed pairs)
       (drop a.hinted hints) a.right) (append_assoc X Y more) ∙ h (Y ++ more)
 
--- nothing is left behind so many
+-- nothing is left after so many
 none_left : {X : Type 0} (xs : List X) (n : ℕ) →
     nat_le (length xs) n ≡ elim (drop n xs) [ [] ↦ true | x ∷ rest ↦ false ]
 none_left [] zero = le-leb 0 0 (omega arith)

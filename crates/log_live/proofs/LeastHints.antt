@@ -49,7 +49,7 @@ module _ (u : LivePair → Bool) where
   ahead o os h x c = member_of (λ b. Before (named_pair o) (named_pair b)) os x
       (pairs-head (λ a b. Before (named_pair a) (named_pair b)) o os h) c
 
-  -- a name of a later one stands behind that of the first
+  -- a name of a later one stands after that of the first
   behind : (o : LivePair) (os : List LivePair) → Rising (o ∷ os) →
       (p : LogPair) → Contains (Free os) p → Before (named_pair o) p
   behind o os h p c =

@@ -95,13 +95,15 @@ uncovered_pair rows live p m =
 abbrev pub negatives_of : List ℚ → List Numbered → List Numbered
 negatives_of row live = filter (λ g. lt_ℚ (value row g) zero_ℚ) live
 
--- the pairs of a generator with those of a list, and of the generators of a list at which the row is positive with those at which it is negative
+-- the pairs of a generator with those of a list, without those that a third one covers
 abbrev pub pairs_with : List (List ℚ) → List Numbered → Numbered → List Numbered → List LogPair
 pairs_with rows live p ms = flat_map (uncovered_pair rows live p) ms
 
+-- those of a generator at which the row is positive, with all at which it is negative
 abbrev pub pairs_at : List (List ℚ) → List Numbered → List ℚ → Numbered → List LogPair
 pairs_at rows live row p = if lt_ℚ zero_ℚ (value row p) then pairs_with rows live p (negatives_of row live) else []
 
+-- and those of the generators of a list
 abbrev pub pairs_from : List (List ℚ) → List Numbered → List ℚ → List Numbered → List LogPair
 pairs_from rows live row ps = flat_map (pairs_at rows live row) ps
 
@@ -110,7 +112,7 @@ abbrev pub Matches : List LogPair → ℕ → Bool → ℕ → List LogPair → 
 Matches pairs old result new block = (more : List LogPair) → same_pairs (drop old pairs) (block ++ more) ≡ (if result then same_pairs (drop new pairs) more else false)
 
 -- ---- the whole entry
--- the events of an `add` entry behind the test that its number is that of a cut that is not in use
+-- the events of an `add` entry after the test that its number is that of a cut that is not in use
 abbrev pub added_events : ℕ → State → ℕ → List LogPair → List Event
 added_events q s cut pairs =
     flat_map (value_steps q (cut_at s.cuts cut)) s.list.live

@@ -29,7 +29,7 @@ hints_test q s cut pairs hints =
     test rule.Hint (are_hints (rows_in_use q s) s.list.live
     (unlisted s.list.live (cut_row s cut) pairs) hints)
 
--- the events of an `addh` entry behind the test that its number is that of a cut that is not in use
+-- the events of an `addh` entry after the test that its number is that of a cut that is not in use
 abbrev pub hinted_added_events : ℕ → State → ℕ → List LogPair → List ℕ → List Event
 hinted_added_events q s cut pairs hints =
     flat_map (value_steps q (cut_at s.cuts cut)) s.list.live

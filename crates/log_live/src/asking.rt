@@ -18,10 +18,10 @@ use crate::hinting::{Met, have_hints};
 use crate::matching::has_pairs;
 use crate::telling::tell_hints;
 use deriv_log::LogPair;
+use entry_checks::pass;
 use frac128::Frac;
 use incid_sets::Marks;
 use log_rules::{Rule, Stop};
-use log_tests::pass;
 use src_sink::{Items, NoMemory};
 use std::alloc::Global;
 

@@ -14,9 +14,9 @@ use crate::generator::{Generator, find};
 use crate::matching::{is_next, negative_generators};
 use crate::pairs::{are_adjacent, covers_pair};
 use deriv_log::LogPair;
+use entry_checks::is_positive;
 use frac128::Frac;
 use incid_sets::Marks;
-use log_tests::is_positive;
 use src_sink::NoMemory;
 use std::alloc::Global;
 

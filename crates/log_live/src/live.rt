@@ -11,26 +11,26 @@ ghost use Rattle.vlp_reader.specs.declared.problem.Problem.{Problem};
 ghost use Rattle.log_rules.specs.Events.{is_open};
 ghost use Rattle.log_rules.specs.Live.{State, after, cut_row, nothing, preimages, rows_in_use};
 ghost use Rattle.log_rules.specs.Meets.{MeetsStart};
-ghost use Rattle.log_rules.specs.Runs.{Runs, steps};
+ghost use Rattle.log_rules.specs.Runs.{RunsAll, steps};
 ghost use Rattle.log_versions.specs.Hints.{least_hints};
 ghost use Rattle.log_live.specs.Adding.{IsAddition, IsChange, added_events, kept_of};
 ghost use Rattle.log_live.specs.Hinting.{PassesAddition, hinted_added_events};
 ghost use Rattle.log_live.specs.Live.{HasPreimages, IsListOf, IsOpenAt, StandsFor};
 
-use crate::adding::{keep_all, new_generators, number_behind};
+use crate::adding::{keep_all, new_generators, number_after};
 use crate::asking::{hints_told, test_hints, test_pairs};
 use crate::generator::{Generator, find};
 use crate::starting::{start_direction, start_point};
 use crate::values::values_at;
 use deriv_log::LogPair;
+use entry_checks::Steps;
 use frac128::{Frac, Sparse};
 use log_rules::Stop;
-use log_tests::Steps;
 use src_sink::{Items, NoMemory};
 use std::alloc::Global;
 use std::mem::replace;
 
-/// The live generators of a log behind some of its entries, each with the rows in use that are
+/// The live generators of a log after some of its entries, each with the rows in use that are
 /// tight at it and the pre-image that it has.
 #[derive(Debug, Drop)]
 pub struct Live {
@@ -45,7 +45,7 @@ pub struct Live {
 pub struct Change {
     /// The values of the row at the live generators.
     pub values: Items<Frac>,
-    /// The new generators.
+    /// The new generators, one for each listed pair.
     pub made: Vec<Generator>,
     /// The number that the next new one gets.
     pub next: u32,
@@ -60,7 +60,7 @@ fn are_given(generators: &[Generator]) -> bool
 
 impl Live {
     /// No generators, as before a `start`.
-    pub fn none(alloc: Global) -> Live
+    pub fn new(alloc: Global) -> Live
         ensures list { (q : ℕ) (s : State) → s.list ≡ nothing.list → IsListOf q s result }
         ensures preimages { (before : List Entry) → ((k : ℕ) → 1 ≤ k → preimages before k ≡ [])
             → HasPreimages before result }
@@ -105,7 +105,7 @@ impl Live {
         })
     }
 
-    /// What an `add` entry changes, by its events behind the test of its number.
+    /// What an `add` entry changes, by its events after the test of its number.
     fn change_at(
         &self,
         alloc: Global,
@@ -117,8 +117,7 @@ impl Live {
             × IsAddition file s cut w.now gamma self.now }
         ensures { (file : Problem) (s : State) (cut : ℕ)
             → IsAddition file s cut w.now gamma self.now
-            → Runs is_held (added_events file.objs s cut pairs.now) 0
-            (steps (added_events file.objs s cut pairs.now))
+            → RunsAll is_held (added_events file.objs s cut pairs.now)
             (IsChange file.objs s cut pairs.now self.now) result }
     {
         let first_new = self.next;
@@ -136,11 +135,11 @@ impl Live {
             pairs,
             first_new,
         )?;
-        let next = number_behind(first_new, pairs.len())?;
+        let next = number_after(first_new, pairs.len())?;
         Ok(Change { values, made, next })
     }
 
-    /// What an `addh` entry changes, by its events behind the test of its number.
+    /// What an `addh` entry changes, by its events after the test of its number.
     fn change_hinted(
         &self,
         alloc: Global,
@@ -153,11 +152,10 @@ impl Live {
             × IsAddition file s cut w.now gamma self.now }
         ensures { (file : Problem) (s : State) (cut : ℕ)
             → IsAddition file s cut w.now gamma self.now
-            → Runs is_held (hinted_added_events file.objs s cut pairs.now hints.now) 0
-            (steps (hinted_added_events file.objs s cut pairs.now hints.now))
+            → RunsAll is_held (hinted_added_events file.objs s cut pairs.now hints.now)
             (IsChange file.objs s cut pairs.now self.now) result }
     {
-        let behind_all = self.next;
+        let after_all = self.next;
         let generators = self.generators.as_slice();
         let mut counter = Steps { taken: 0 };
         let values = values_at(alloc, &mut counter, w, gamma, generators)?;
@@ -170,9 +168,9 @@ impl Live {
             generators,
             at_row,
             pairs,
-            behind_all,
+            after_all,
         )?;
-        let next = number_behind(behind_all, pairs.len())?;
+        let next = number_after(after_all, pairs.len())?;
         Ok(Change { values, made, next })
     }
 
@@ -196,9 +194,9 @@ impl Live {
         Ok(())
     }
 
-    /// The events of an `add` entry behind the test of its number, for the cut `w.y >= gamma`: its
+    /// The events of an `add` entry after the test of its number, for the cut `w.y >= gamma`: its
     /// values at the live generators, the test of the pairs, and the new generators. Those at which
-    /// it is negative are dropped, and the others keep their pre-images. Behind an error the value
+    /// it is negative are dropped, and the others keep their pre-images. After an error the value
     /// is of no use. The cost is at the worst that of the opposite pairs times the generators times
     /// the words of a tight set; most pairs are decided by counts of tight rows.
     pub fn add(
@@ -212,8 +210,7 @@ impl Live {
             × IsAddition file s cut w.now gamma self.old }
         ensures runs { (file : Problem) (s : State) (cut : ℕ)
             → IsAddition file s cut w.now gamma self.old
-            → Runs is_held (added_events file.objs s cut pairs.now) 0
-            (steps (added_events file.objs s cut pairs.now))
+            → RunsAll is_held (added_events file.objs s cut pairs.now)
             (λ _. IsListOf file.objs (after file.objs s (Add cut pairs.now)) self.new) result }
         ensures preimages { (file : Problem) (s : State) (cut : ℕ) (before : List Entry)
             → IsAddition file s cut w.now gamma self.old → HasPreimages before self.old
@@ -226,7 +223,7 @@ impl Live {
         }
     }
 
-    /// The events of an `addh` entry behind the test of its number: as `add`, but each opposite
+    /// The events of an `addh` entry after the test of its number: as `add`, but each opposite
     /// pair that is not listed has a hint, a third live generator that covers it, and is not
     /// searched for.
     pub fn add_hinted(
@@ -241,8 +238,7 @@ impl Live {
             × IsAddition file s cut w.now gamma self.old }
         ensures runs { (file : Problem) (s : State) (cut : ℕ)
             → IsAddition file s cut w.now gamma self.old
-            → Runs is_held (hinted_added_events file.objs s cut pairs.now hints.now) 0
-            (steps (hinted_added_events file.objs s cut pairs.now hints.now))
+            → RunsAll is_held (hinted_added_events file.objs s cut pairs.now hints.now)
             (λ _. IsListOf file.objs (after file.objs s (Add cut pairs.now)) self.new) result }
         ensures preimages { (file : Problem) (s : State) (cut : ℕ) (before : List Entry)
             → IsAddition file s cut w.now gamma self.old → HasPreimages before self.old

@@ -13,9 +13,9 @@ use crate::generator::Generator;
 use crate::matching::{is_next, negative_generators};
 use crate::pairs::covers_pair;
 use deriv_log::LogPair;
+use entry_checks::is_positive;
 use frac128::Frac;
 use incid_sets::Marks;
-use log_tests::is_positive;
 use src_sink::{Items, NoMemory};
 use std::alloc::Global;
 
@@ -24,7 +24,7 @@ use std::alloc::Global;
 pub struct Telling {
     /// How many listed pairs were met.
     pub listed: usize,
-    /// The hints so far.
+    /// A hint for each other pair so far.
     pub hints: Items<u32>,
     /// Where the common tight rows of a pair are written.
     pub common: Marks,

@@ -33,7 +33,7 @@ use Rattle.deriv_log.specs.declared.entry.Entry.{Entry}
 use Rattle.deriv_log.specs.declared.entry.Entry.TheVariants.{Cut, Start, Add, Line}
 use Rattle.log_rules.specs.Order as order
 
--- the cuts are wide, those in use exist, the image runs along the lines, and behind a `start` the description stands
+-- the cuts are wide, those in use exist, the image runs along the lines, and after a `start` the description stands
 pub record IsKept (file : Problem) (ls : List (List ℚ)) (s : State) (started : Bool) : Type 0 where
   pub wide : All (λ (c : Stated). length c.w ≡ file.objs) s.cuts
   pub exist : All (Exists s.cuts) s.used

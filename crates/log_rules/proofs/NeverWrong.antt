@@ -33,7 +33,7 @@ first_step holds n (step o a b ∷ es) h =
       | false ↦ tt
     ]
 
--- behind the entries before: where all numbers are held nothing fails, so all tests are passed
+-- after the entries before: where all numbers are held nothing fails, so all tests are passed
 first_step_in : (holds : ℚ → Bool) (file : Problem) (before entries : List Entry) → first_failing (λ _. true) file before entries ≡ None →
     IsStepIn (first_failing holds file before entries)
 first_step_in holds file before [] h = tt

@@ -160,6 +160,7 @@ interior q (Gens vectors) c weights picks inverse =
     ++ test rule.Index (rises picks && all_within (length vectors) picks)
     ∷ inverse_steps q vectors picks inverse
 
+-- `duality`: the lengths, c scaled and as the file gives it, and then that it is interior
 abbrev pub duality_events : Problem → List ℚ → List ℚ → List ℕ → List ℚ → List Event
 duality_events file c weights picks inverse =
     test rule.Length (length c == file.objs && has_lengths file.objs file.cone weights picks inverse)
@@ -174,6 +175,8 @@ balance file w u j =
     product_steps (side_column file j) u ++ dot_steps (objective_column file j) w
     ++ test rule.Balance (same_ℚ (product (side_column file j) u) (dot (objective_column file j) w)) ∷ []
 
+-- `cut`: nonnegative multipliers u of the sides that balance w; then that w is in the dual cone,
+-- that its product with the duality vector is 1, and the bound
 abbrev pub cut_events : Problem → List Entry → List ℚ → ℚ → List Spot → List Spot → List Event
 cut_events file before w gamma u v =
     test rule.Length (length w == file.objs)
@@ -198,6 +201,8 @@ corner directions cut =
 abbrev pub all_reduced : List (List ℚ) → List (List ℚ) → Bool
 all_reduced ls vs = list_all (λ v. list_all (λ d. is_zero (entry v (leading_place d))) ls) vs
 
+-- `start`: the lengths and numbers; point and directions reduced, and the directions normed; then
+-- each cut tight at the point, and its products with the directions
 abbrev pub start_events : Problem → List (List ℚ) → State → List ℕ → List ℚ → List ℚ → List Event
 start_events file ls s cuts point directions =
     let named_cuts = map (cut_at s.cuts) cuts in
@@ -253,6 +258,8 @@ pair_of q row live pair =
       | None ↦ []
     ]
 
+-- `add`: a cut that is not in use, its values at the live generators, then the pairs, and the new
+-- generator of each
 abbrev pub add_events : Problem → State → ℕ → List LogPair → List Event
 add_events file s cut pairs =
     test rule.Index (nat_le 1 cut && nat_le cut (length s.cuts) && not (contains s.used cut))
@@ -270,15 +277,19 @@ is_open q before live k t =
 abbrev pub y_at : ℕ → List Numbered → ℕ → List ℚ
 y_at q live k = elim (find live k) [ Some g ↦ y_of q g | None ↦ [] ]
 
+-- `point`: an open generator of height 1, a feasible x, and y above its value
 abbrev pub point_events : Problem → List Entry → State → ℕ → List Spot → List Spot → List Event
 point_events file before s k x m =
     test rule.Index (is_open file.objs before s.list.live k one_ℚ) ∷ in_feasible file x ++ above file (y_at file.objs s.list.live k) x m
 
+-- `ray`: an open generator of height 0, an x in the recession cone, and y above its value
 abbrev pub ray_events : Problem → List Entry → State → ℕ → List Spot → List Spot → List Event
 ray_events file before s k x m =
     test rule.Index (is_open file.objs before s.list.live k zero_ℚ) ∷ in_recession file x ++ above file (y_at file.objs s.list.live k) x m
 
 -- ---- farkas, whole, line
+-- `farkas`: nonnegative multipliers of the sides that combine the normals to 0, and the bounds to
+-- more than 0
 abbrev pub farkas_events : Problem → List Spot → List Event
 farkas_events file u =
     places_within (length (sides file)) u
@@ -287,16 +298,18 @@ farkas_events file u =
     ++ product_steps (side_bounds file) u
     ++ test rule.Bound (lt_ℚ zero_ℚ (product (side_bounds file) u)) ∷ []
 
+-- `whole`: a feasible x, and a pre-image of the direction -c
 abbrev pub whole_events : Problem → List ℚ → List Spot → List Spot → List Spot → List Event
 whole_events file c x ray m = in_feasible file x ++ in_recession file ray ++ above file (map neg_ℚ c) ray m
 
 -- d goes on the reduced echelon form of the lines before it: its first entry that is not 0 is 1 and
--- stands behind their places, and they are 0 at its place
+-- stands after their places, and they are 0 at its place
 abbrev pub goes_on : List (List ℚ) → List ℚ → Bool
 goes_on ls d =
     same_ℚ (leading d) one_ℚ
     && list_all (λ e. nat_lt (leading_place e) (leading_place d) && is_zero (entry e (leading_place d))) ls
 
+-- `line`: d goes on the lines before it; a feasible x, and pre-images of d and of -d
 abbrev pub line_events : Problem → List (List ℚ) → List ℚ → List Spot → List Spot → List Spot → List Spot → List Spot → List Event
 line_events file ls d x ray m back n =
     test rule.Length (length d == file.objs)
@@ -320,6 +333,7 @@ is_largest q s row =
 abbrev pub is_taken : State → List ℕ → List ℚ → Bool
 is_taken s names row = list_any (λ k. lies_in s.list.live row (cut_row s k) && lies_in s.list.live (cut_row s k) row) names
 
+-- `facet`: a cut in use that is not named, with a largest tight set, which no named one has
 abbrev pub facet_events : Problem → List Entry → State → ℕ → List Event
 facet_events file before s cut =
     test rule.Index (contains s.used cut && not (contains (named before) cut))
@@ -329,6 +343,7 @@ facet_events file before s cut =
 abbrev pub is_accounted : ℕ → State → List ℕ → List ℚ → Bool
 is_accounted q s names row = lies_in s.list.live row (level q) || list_any (λ k. lies_in s.list.live row (cut_row s k)) names
 
+-- `end`: what an answer of the kind needs stands before it; nothing ends with `novertex`
 abbrev pub end_events : Problem → List Entry → State → EndKind → List Event
 end_events file before s kind.Infeasible = test rule.Missing (order.has order.farkas before) ∷ []
 end_events file before s kind.Whole = test rule.Missing (order.has order.whole before) ∷ []
@@ -343,7 +358,7 @@ end_events file before s kind.Solved =
 abbrev pub never : List Event
 never = test rule.Order false ∷ []
 
--- the tests and steps of an entry behind the entries before it, after the test of its order
+-- the tests and steps of an entry after the entries before it, after the test of its order
 abbrev pub kind_events : Problem → List Entry → State → Entry → List Event
 kind_events file before s (Version n) = test rule.Version (n == 1) ∷ []
 kind_events file before s (Duality c weights picks inverse) = duality_events file c weights picks inverse
@@ -363,7 +378,7 @@ kind_events file before s (PointOf _ _ _) = never
 kind_events file before s (RayOf _ _ _) = never
 kind_events file before s (AddHints _ _ _) = never
 
--- the tests and steps of an entry behind the entries before it
+-- the tests and steps of an entry after the entries before it
 abbrev pub events : Problem → List Entry → Entry → List Event
 events file before e = test rule.Order (in_order before (order.kind e)) ∷ kind_events file before (state file.objs before) e
 
@@ -373,7 +388,7 @@ pub record Failing : Type 0 where
   pub entry : ℕ
   pub failure : Failure
 
--- the first failure of the entries, behind those before them
+-- the first failure of the entries, after those before them
 abbrev pub first_failing : (ℚ → Bool) → Problem → List Entry → List Entry → Option Failing
 first_failing holds file before [] = None
 first_failing holds file before (e ∷ entries) =

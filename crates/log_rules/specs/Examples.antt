@@ -23,6 +23,7 @@ use Rattle.log_rules.specs.Events.Failure.{wrong, left}
 use Rattle.log_rules.specs.declared.answer.Answer.TheVariants.{Solved}
 
 -- ---- files and logs in short
+-- whole numbers, and -1, 1/2 and 1/3
 abbrev pub n : ℕ → ℚ
 n k = whole (pos k)
 
@@ -39,6 +40,7 @@ third = fraction (pos 1) 3
 abbrev pub wide : ℕ
 wide = 100000000000000000000
 
+-- an entry of a matrix, a place of a sparse vector with its value, and a pair of generators
 abbrev pub cell : ℕ → ℕ → ℚ → Cell
 cell i j v = record { row = i; col = j; value = v }
 
@@ -89,6 +91,7 @@ abbrev pub Passes : Parts → List Entry → Type 0
 Passes parts log = Fails parts log []
 
 -- ---- two rows, two objectives: three cuts, and so two vertices, two directions and three facets
+-- 2 x1 + x2 and x1 + 2 x2 are at least 6, and x ≥ 0; the objectives are x1 - x2 and x1 + x2
 abbrev pub small : Parts
 small = record {
   dir = Min;
@@ -122,14 +125,16 @@ small_front =
     ∷ entry.Ray 2 [] []
     ∷ []
 
+-- the pre-image of the second direction
 abbrev pub last_ray : Entry
 last_ray = entry.Ray 3 (at 2 (n 1) ∷ []) []
 
+-- the end of a solved log
 abbrev pub solved_end : List Entry
 solved_end = entry.End kind.Solved ∷ []
 
 -- the log as it should be; the bound of a cut changed; a pair left out; no pre-image of a
--- direction; a facet not named; an `add` behind a facet
+-- direction; a facet not named; an `add` after a facet
 pub record SmallLogs : Type 0 where
   pub solved : Passes small (small_front ++ last_ray ∷ entry.Facet 1 ∷ entry.Facet 2 ∷ entry.Facet 3 ∷ solved_end)
   pub bound : Fails small (small_cuts (n 4) ++ solved_end) (6 ∷ 0 ∷ 10 ∷ [])
@@ -139,6 +144,7 @@ pub record SmallLogs : Type 0 where
   pub add_last : Fails small (small_front ++ entry.Facet 1 ∷ entry.Add 1 [] ∷ solved_end) (12 ∷ 0 ∷ 2 ∷ [])
 
 -- ---- x2 ≥ 10^20 x1 and x1 ≥ 10^20: the sum of the bounds is not held, at step 11
+-- -10^20 x1 + x2 is at least 0, and x1 at least 10^20; the objective is x2
 abbrev pub large : Parts
 large = record {
   dir = Min;
@@ -151,13 +157,16 @@ large = record {
   duality = None;
 }
 
+-- the first entries of a log with one objective
 abbrev pub one_duality : List Entry
 one_duality = entry.Version 1 ∷ entry.Duality (n 1 ∷ []) [] [] [] ∷ []
 
+-- a cut by the multipliers 1 and 10^20
 abbrev pub large_log : List Entry
 large_log = one_duality ++ entry.Cut (n 1 ∷ []) (n 0) (at 1 (n 1) ∷ at 2 (n wide) ∷ []) [] ∷ solved_end
 
 -- ---- no rows, and the variables as objectives
+-- two variables, with these bounds
 abbrev pub plain : Cone → Option (List ℚ) → List Bound → Parts
 plain cone duality bounds = record {
   dir = Min;
@@ -174,9 +183,11 @@ plain cone duality bounds = record {
 abbrev pub line_file : Parts
 line_file = plain Orthant None (Free ∷ Lower (n 0) ∷ [])
 
+-- the line (1, 0), by x1 and by -x1
 abbrev pub the_line : Entry
 the_line = entry.Line (n 1 ∷ n 0 ∷ []) [] (at 1 (n 1) ∷ []) [] (at 1 minus_one ∷ []) []
 
+-- the cut y2 ≥ 0, by the bound of x2
 abbrev pub line_cuts : List Entry
 line_cuts =
     entry.Version 1 ∷ entry.Duality (n 1 ∷ n 1 ∷ []) [] [] []
@@ -191,6 +202,7 @@ line_end point directions =
     ∷ entry.Ray 2 [] []
     ∷ entry.Facet 1 ∷ solved_end
 
+-- the line after the cut
 abbrev pub line_log : List Entry
 line_log = line_cuts ++ the_line ∷ line_end (n 0 ∷ n 0 ∷ []) (n 0 ∷ n 1 ∷ [])
 
@@ -240,9 +252,11 @@ half_space = record {
 abbrev pub line_by : List ℚ → List Spot → List Spot → Entry
 line_by d ray back = entry.Line d [] ray [] back []
 
+-- the line (1, 0, -1), by the first variable,
 abbrev pub first_line : Entry
 first_line = line_by (n 1 ∷ n 0 ∷ minus_one ∷ []) (at 1 (n 1) ∷ []) (at 1 minus_one ∷ [])
 
+-- and (0, 1, -1), by the second
 abbrev pub second_line : Entry
 second_line = line_by (n 0 ∷ n 1 ∷ minus_one ∷ []) (at 2 (n 1) ∷ []) (at 2 minus_one ∷ [])
 
@@ -267,6 +281,7 @@ half_space_log one two =
 abbrev pub wide_cone : Cone
 wide_cone = Gens ((n 1 ∷ n 2 ∷ []) ∷ (n 2 ∷ n 1 ∷ []) ∷ [])
 
+-- a log with this cone
 abbrev pub cone_log : List Entry
 cone_log =
     entry.Version 1
@@ -284,6 +299,7 @@ cone_log =
 abbrev pub cone_alone : Parts
 cone_alone = plain wide_cone (Some (n 2 ∷ n 2 ∷ [])) (Fixed (n 0) ∷ Fixed (n 0) ∷ [])
 
+-- its log, whose directions are multiples of the second vector and of the first
 abbrev pub cone_alone_log : List Entry
 cone_alone_log =
     entry.Version 1
@@ -301,6 +317,7 @@ cone_alone_log =
 abbrev pub dual_cone : Cone
 dual_cone = Dual ((n 1 ∷ n 0 ∷ []) ∷ (n 0 ∷ n 1 ∷ []) ∷ [])
 
+-- a log with this cone
 abbrev pub dual_log : List Entry
 dual_log =
     entry.Version 1
@@ -326,9 +343,11 @@ one bound = record {
   duality = None;
 }
 
+-- a log of it where there is no bound,
 abbrev pub whole_log : List Entry
 whole_log = one_duality ++ entry.Whole [] (at 1 minus_one ∷ []) [] ∷ entry.End kind.Whole ∷ []
 
+-- and where there is a lower bound
 abbrev pub bounded_log : ℚ → List Entry
 bounded_log bound =
     one_duality ++ entry.Cut (n 1 ∷ []) bound (at 1 (n 1) ∷ []) [] ∷ entry.Start (1 ∷ []) (bound ∷ []) (n 1 ∷ [])
@@ -347,11 +366,12 @@ empty = record {
   duality = None;
 }
 
+-- 1 times the first side and u times the second
 abbrev pub farkas_log : ℚ → List Entry
 farkas_log u = entry.Version 1 ∷ entry.Farkas (at 1 (n 1) ∷ at 2 u ∷ []) ∷ entry.End kind.Infeasible ∷ []
 
--- a line, behind a cut and before it, and a start whose direction is not reduced, or whose point is not;
--- a line twice, one behind the start, and the end that no log has. A row that comes into use beside a
+-- a line, after a cut and before it, and a start whose direction is not reduced, or whose point is not;
+-- a line twice, one after the start, and the end that no log has. A row that comes into use beside a
 -- line, and its one pair left out. Two lines, of which the first is not 0 at the place of the second,
 -- and whose places fall
 pub record LineLogs : Type 0 where
@@ -384,6 +404,7 @@ pub record OtherLogs : Type 0 where
   pub end_first : Fails (one Unsaid) (entry.End kind.Whole ∷ []) (1 ∷ 0 ∷ 2 ∷ [])
 
 -- ---- a file that maximises: x1 + x2 ≤ 1 and x ≥ 0, the variables as objectives
+-- both objectives are maximised
 abbrev pub largest : Parts
 largest = record {
   dir = Max;
@@ -396,6 +417,7 @@ largest = record {
   duality = None;
 }
 
+-- its log without the end,
 abbrev pub largest_front : List Entry
 largest_front =
     entry.Version 1
@@ -411,9 +433,11 @@ largest_front =
     ∷ entry.Ray 3 [] []
     ∷ entry.Facet 2 ∷ entry.Facet 3 ∷ entry.Facet 1 ∷ []
 
+-- and with it
 abbrev pub largest_log : List Entry
 largest_log = largest_front ++ solved_end
 
+-- the numerators of vectors
 abbrev pub numerators : List (List ℚ) → List (List ℤ)
 numerators vs = map (λ v. map (λ q. q.num) v) vs
 
@@ -439,6 +463,7 @@ line_below = record line_file {
   col_bounds = Free ∷ Upper (n 0) ∷ [];
 }
 
+-- its log, in working coordinates: a pre-image of the line (1, 0) is (-1, 0)
 abbrev pub line_below_log : List Entry
 line_below_log =
     line_cuts
@@ -454,6 +479,7 @@ pub record LineBelow : Type 0 where
   pub line : shown_lines file line_below_log ≡ record { d = n 1 ∷ n 0 ∷ []; ray = at 1 (n 1) ∷ []; back = at 1 minus_one ∷ [] } ∷ []
   pub direction : numerators (map (λ g. g.y) (live_at file line_below_log zero_ℚ)) ≡ (pos 0 ∷ negsuc 0 ∷ []) ∷ []
 
+-- all of these logs
 pub record WorkedLogs : Type 0 where
   pub small : SmallLogs
   pub lines : LineLogs

@@ -72,6 +72,7 @@ pub record IsReached (file : Problem) (entries : List Entry) (c : List ℚ) (ls 
   pub hull_in : (y : List ℚ) → IsInHull file.objs (map (λ g. g.y) points) (map (λ g. g.y) directions) (map (λ l. l.d) ls) y → IsInImage file y
   pub facets_valid : All (λ f. IsValidFor file (stated f)) facets
 
+-- so it is where the log proves the answer
 abbrev pub SolvedIsReached : Type 0
 SolvedIsReached = (file : Problem) (entries : List Entry) (c : List ℚ) (ls : List LineGen) (points directions : List Gen) (facets : List Facet) →
     PlainProves file entries (Solved c ls points directions facets) → IsReached file entries c ls points directions facets

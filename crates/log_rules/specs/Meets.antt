@@ -1,4 +1,4 @@
--- What an entry must meet behind the entries before it: rule by rule, over exact numbers, in no
+-- What an entry must meet after the entries before it: rule by rule, over exact numbers, in no
 -- order.
 use Rattle.polyhedra.specs.DoubleDescription.{leading}
 use Rattle.lineality.specs.Lines.{leading_place}
@@ -49,12 +49,14 @@ pub record IsOpen (q : ℕ) (before : List Entry) (s : State) (k : ℕ) (t : ℚ
   pub level : t_of q g ≡ t
   pub fresh : preimages before k ≡ []
 
+-- of a point,
 pub record MeetsPoint (file : Problem) (before : List Entry) (s : State) (k : ℕ) (x m : List Spot) : Type 0 where
   pub point : Numbered
   pub index : IsOpen file.objs before s k one_ℚ point
   pub feasible : ShowsFeasible file x
   pub above : ShowsAbove file (y_of file.objs point) x m
 
+-- and of a direction
 pub record MeetsRay (file : Problem) (before : List Entry) (s : State) (k : ℕ) (x m : List Spot) : Type 0 where
   pub direction : Numbered
   pub index : IsOpen file.objs before s k zero_ℚ direction
@@ -103,6 +105,7 @@ pub record MeetsSolved (file : Problem) (before : List Entry) (s : State) : Type
   pub reached : All (λ g. preimages before g.number ≢ []) s.list.live
   pub accounted : All (IsAccounted file.objs (map (λ k. inequality (cut_at s.cuts k)) (named before)) (live_vectors s)) (in_use s)
 
+-- what stands before an end of each kind; nothing ends with `novertex`
 abbrev pub MeetsEnd : Problem → List Entry → EndKind → Type 0
 MeetsEnd file before kind.Infeasible = IsTrue (order.has order.farkas before)
 MeetsEnd file before kind.Whole = IsTrue (order.has order.whole before)
@@ -131,7 +134,7 @@ MeetsKind file before s (PointOf _ _ _) = ⊥
 MeetsKind file before s (RayOf _ _ _) = ⊥
 MeetsKind file before s (AddHints _ _ _) = ⊥
 
--- the entry meets each of its rules behind the entries before it
+-- the entry meets each of its rules after the entries before it
 pub record Meets (file : Problem) (before : List Entry) (e : Entry) : Type 0 where
   pub order : IsTrue (in_order before (order.kind e))
   pub rules : MeetsKind file before (state file.objs before) e

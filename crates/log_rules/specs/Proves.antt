@@ -24,7 +24,7 @@ use Rattle.word_lines.specs.declared.part.EndKind.TheVariants as kind
 use Rattle.deriv_log.specs.declared.entry.Entry.{Entry}
 use Rattle.deriv_log.specs.declared.entry.Entry.TheVariants as entry
 
--- each entry meets its rules behind those before it
+-- each entry meets its rules after those before it
 abbrev pub AllMeet : Problem → List Entry → Type 0
 AllMeet file entries = (before : List Entry) (e : Entry) (after : List Entry) → entries ≡ before ++ e ∷ after → Meets file before e
 

@@ -32,6 +32,7 @@ largest_answer = Solved (n 1 ∷ n 1 ∷ []) []
     ∷ record { w = half ∷ half ∷ []; gamma = half; u = at 1 half ∷ []; tight = 1 ∷ 2 ∷ [] }
     ∷ record { w = n 1 ∷ n 0 ∷ []; gamma = n 1; u = at 1 (n 1) ∷ at 3 (n 1) ∷ []; tight = 2 ∷ 4 ∷ [] } ∷ [])
 
+-- its report
 abbrev pub largest_report : List (List ℕ)
 largest_report =
     codes "report 1" ∷ codes "answer solved" ∷ codes "free 0 0" ∷ codes "c 1 1"
@@ -50,6 +51,7 @@ bounded_answer = Solved (n 1 ∷ []) []
     (record { y = n 1 ∷ []; pre = [] } ∷ [])
     (record { w = n 1 ∷ []; gamma = fraction (pos 3) 2; u = at 1 (n 1) ∷ []; tight = 1 ∷ [] } ∷ [])
 
+-- its report
 abbrev pub bounded_report : List (List ℕ)
 bounded_report =
     codes "report 1" ∷ codes "answer solved" ∷ codes "free 0 0" ∷ codes "c 1"
@@ -64,6 +66,7 @@ line_answer = Solved (n 1 ∷ n 1 ∷ []) (record { d = n 1 ∷ n 0 ∷ []; ray 
     (record { y = n 0 ∷ n 1 ∷ []; pre = [] } ∷ [])
     (record { w = n 0 ∷ n 1 ∷ []; gamma = n 0; u = at 1 (n 1) ∷ []; tight = 1 ∷ [] } ∷ [])
 
+-- its report
 abbrev pub line_report : List (List ℕ)
 line_report =
     codes "report 1" ∷ codes "answer solved" ∷ codes "free 0 0" ∷ codes "c 1 1"
@@ -72,6 +75,8 @@ line_report =
     ∷ codes "dual 1" ∷ codes "1 0 0" ∷ codes "0 0 -1" ∷ codes "incidence 1" ∷ codes "n 1 1"
     ∷ codes "witnesses" ∷ codes "r 1 1 1" ∷ codes "r 1 1 -1" ∷ codes "x 0" ∷ codes "r 0" ∷ codes "u 1 1 1" ∷ []
 
+-- these reports, and those of an image that is everything and of a file without a feasible point; a
+-- log proves the answer with a line
 pub record WorkedReports : Type 0 where
   pub solved : Reports largest largest_answer largest_report
   pub one_objective : Reports (one (Lower (fraction (pos 3) 2))) bounded_answer bounded_report

@@ -10,8 +10,8 @@ pub struct Gen {
     pub pre: Sparse,
 }
 
-/// A line: a vector along which the image goes on for ever both ways, with a pre-image of it and one
-/// of its negative.
+/// A line: a vector along which the image goes on for ever both ways, with a pre-image of it and
+/// one of its negative.
 #[derive(Debug, Drop)]
 pub struct LineGen {
     pub d: Vector,

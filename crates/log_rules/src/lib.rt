@@ -1,5 +1,5 @@
-//! The rules of a plain log, one without shared vectors and hints, what it proves, and when an answer
-//! is right. Each function is a law: it does nothing, and its contract is the statement.
+//! The rules of a plain log, one without shared vectors and hints, what it proves, and when an
+//! answer is right. Each function is a law: it does nothing, and its contract is the statement.
 #![tactic(auto)]
 
 ghost use Rattle.log_rules.specs.Examples.{WorkedLogs};

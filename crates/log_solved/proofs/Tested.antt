@@ -1,4 +1,4 @@
--- Calls behind tests, and what an entry meets that was gone through.
+-- Calls after tests, and what an entry meets that was gone through.
 use Rattle.std.proofs.Common.{◌≡◌, ℕ, zero, suc, ◌-◌, ◌<◌, ◌≤◌, List, [], ◌∷◌, refl, sym, ap, ◌∙◌, subst, arith, map, take, length, All, Bool, true, false, IsTrue, None, Contains, slice_index_or, get_or, inl, inr}
 use Rattle.std.specs.Prelude.{Result}
 use Rattle.std.proofs.lemmas.List.{length-take}
@@ -27,8 +27,8 @@ use Rattle.log_rules.proofs.Failures.{runs-then, stops-then}
 use Rattle.log_rules.proofs.KeepsDescription.{kept, rules_keep_description}
 use Rattle.log_rules.proofs.LogMeets.{IsWide, entry-meets, next_wide}
 use Rattle.log_rules.proofs.NormedMembers.{one_standing}
-use Rattle.log_tests.specs.Cuts as cuts
-use Rattle.log_tests.specs.declared.corner.Cut as held
+use Rattle.entry_checks.specs.Cuts as cuts
+use Rattle.entry_checks.specs.declared.corner.Cut as held
 use Rattle.log_live.specs.Live.{StandsFor, numbered_of}
 use Rattle.log_live.specs.declared.generator.Generator.{Generator}
 use Rattle.log_live.specs.declared.live.Live.{Live}

@@ -10,35 +10,35 @@ ghost use Rattle.deriv_log.specs.declared.entry.Entry.TheVariants as entry;
 ghost use Rattle.word_lines.specs.declared.part.EndKind.TheVariants as end;
 ghost use Rattle.vlp_reader.specs.Sides.{numbers_from};
 ghost use Rattle.vlp_reader.specs.declared.problem.Problem.{Problem};
-ghost use Rattle.log_rules.specs.Events.{add_events, end_events, facet_events, is_accounted, is_largest, is_taken, point_events, ray_events, start_events};
+ghost use Rattle.log_rules.specs.Events.{add_events, end_events, facet_events, is_accounted, is_largest, is_taken, start_events};
 ghost use Rattle.log_rules.specs.Live.{contains, cut_row, lines as lines_of, named, preimages, state};
 ghost use Rattle.log_rules.specs.Meets.{Meets};
 ghost use Rattle.log_rules.specs.Order as order;
-ghost use Rattle.log_rules.specs.Runs.{Runs, steps};
 ghost use Rattle.log_rules.specs.declared.stop.Stop.TheVariants as stopped;
-ghost use Rattle.vlp_matrices.specs.Sheets.{IsSheetOf};
+ghost use Rattle.vlp_matrices.specs.Matrices.{AreMatricesOf};
 ghost use Rattle.log_live.specs.Live.{IsOpenAt, live_of};
 ghost use Rattle.log_live.specs.Tight.{AreTight, is_accounted_at};
 ghost use Rattle.log_live.specs.declared.generator.Generator.{Generator};
 ghost use Rattle.log_versions.specs.WrittenEvents.{hinted_events};
 ghost use Rattle.log_solved.specs.Places.{place_of};
-ghost use Rattle.log_solved.specs.Solving.{IsSolving, StandsBefore, PassesAdd, hints_of};
+ghost use Rattle.log_solved.specs.Shown.{entry_of, kind_of, preimage_events};
+ghost use Rattle.log_solved.specs.Solving.{Enters, IsSolving, PassesAdd, StandsBefore, hints_of};
 ghost use Rattle.log_solved.specs.Uses.{AreUses};
 
-use crate::shown::{shows_point, shows_ray};
+use crate::shown::{GenKind, t_of, test_preimage};
 use crate::uses::Uses;
 use deriv_log::LogPair;
+use entry_checks::{Cut, check_start, pass};
 use frac128::{Frac, Spot, Vector};
 use log_live::{Live, TightSets};
 use log_rules::{Rule, Stop};
-use log_tests::{Cut, check_start, pass};
 use src_sink::{Items, MOST_ITEMS, NoMemory};
 use std::alloc::Global;
-use vlp_matrices::Sheet;
+use vlp_matrices::Matrices;
 use vlp_reader::Problem;
 
-/// What stands of a solved log behind some of its entries. Behind an error of a call that changes it the value is of no
-/// use: the check of the log has ended.
+/// What stands of a solved log after some of its entries. After an error of a call that changes it
+/// the value is of no use: the check of the log has ended.
 #[derive(Debug, Drop)]
 pub struct Solving {
     /// The cuts: number k stands at place k - 1.
@@ -49,12 +49,12 @@ pub struct Solving {
     pub named: Items<u32>,
     /// Their places among the rows in use.
     pub facets: Items<u32>,
-    /// The sets of tight generators by rows, from the first entry on that compares them. Behind it no row comes into use.
+    /// The sets of tight generators by rows, from the first entry on that compares them. After it
+    /// no row comes into use.
     pub sets: Option<TightSets>,
 }
 
-/// A copy of a list.
-fn copied<T: Copy + Drop>(alloc: Global, items: &[T]) -> Result<Items<T>, NoMemory>
+fn copy_list<T: Copy + Drop>(alloc: Global, items: &[T]) -> Result<Items<T>, NoMemory>
     ensures { IfOk result (λ copy. copy ≡ items.now) }
 {
     let mut copy = Items::new(alloc);
@@ -92,8 +92,8 @@ impl Solving {
     {
         Solving {
             cuts: Vec::new(alloc),
-            uses: Uses::none(alloc),
-            live: Live::none(alloc),
+            uses: Uses::new(alloc),
+            live: Live::new(alloc),
             named: Items::new(alloc),
             facets: Items::new(alloc),
             sets: None,
@@ -113,9 +113,9 @@ impl Solving {
             → OnOk result (IsSolving file (before ++ entry.Cut w.now gamma u.now v ∷ []) self.new) }
     {
         let cut = Cut {
-            w: copied(alloc, w)?,
+            w: copy_list(alloc, w)?,
             gamma,
-            u: copied(alloc, u)?,
+            u: copy_list(alloc, u)?,
         };
         self.cuts.push(cut)?;
         self.uses.grow()?;
@@ -148,7 +148,7 @@ impl Solving {
         Ok(())
     }
 
-    /// The events of a `start` entry behind these lines.
+    /// The events of a `start` entry after these lines.
     pub fn start(
         &mut self,
         alloc: Global,
@@ -163,11 +163,9 @@ impl Solving {
             × (lines.now ≡ lines_of before)) }
         ensures { (before : List Entry) → StandsBefore problem.now before order.start self.old
             → lines.now ≡ lines_of before
-            → Runs is_held (start_events problem.now lines.now (state problem.now.objs before)
-            named.now point.now directions.now) 0 (steps (start_events problem.now lines.now
-            (state problem.now.objs before) named.now point.now directions.now)) (λ _. IsSolving
-            problem.now (before ++ entry.Start named.now point.now directions.now ∷ [])
-            self.new) result }
+            → Enters problem.now before (entry.Start named.now point.now directions.now)
+            (start_events problem.now lines.now (state problem.now.objs before) named.now point.now
+            directions.now) self.new result }
     {
         check_start(
             problem,
@@ -206,9 +204,8 @@ impl Solving {
             × ((before : List Entry) × StandsBefore file before order.add self.old) }
         ensures { (file : Problem) (before : List Entry)
             → StandsBefore file before order.add self.old
-            → Runs is_held (add_events file (state file.objs before) cut pairs.now) 0
-            (steps (add_events file (state file.objs before) cut pairs.now))
-            (λ _. IsSolving file (before ++ entry.Add cut pairs.now ∷ []) self.new) result }
+            → Enters file before (entry.Add cut pairs.now)
+            (add_events file (state file.objs before) cut pairs.now) self.new result }
     {
         pass(Rule::Index, self.is_unused(cut))?;
         let row = &self.cuts[cut as usize - 1];
@@ -220,7 +217,8 @@ impl Solving {
         }
     }
 
-    /// The events of an `addh` entry. What stands behind it is what stands behind an `add` of its pairs.
+    /// The events of an `addh` entry. What stands after it is what stands after an `add` of its
+    /// pairs.
     pub fn add_hinted(
         &mut self,
         alloc: Global,
@@ -232,9 +230,8 @@ impl Solving {
             × ((before : List Entry) × StandsBefore file before order.add self.old) }
         ensures { (file : Problem) (before : List Entry)
             → StandsBefore file before order.add self.old
-            → Runs is_held (hinted_events file (state file.objs before) cut pairs.now hints.now) 0
-            (steps (hinted_events file (state file.objs before) cut pairs.now hints.now))
-            (λ _. IsSolving file (before ++ entry.Add cut pairs.now ∷ []) self.new) result }
+            → Enters file before (entry.Add cut pairs.now)
+            (hinted_events file (state file.objs before) cut pairs.now hints.now) self.new result }
     {
         pass(Rule::Index, self.is_unused(cut))?;
         let row = &self.cuts[cut as usize - 1];
@@ -247,8 +244,8 @@ impl Solving {
         }
     }
 
-    /// The least hints of an `add` entry that passes: for each opposite pair that it does not list, in
-    /// their order, the least generator that covers it. They cost the opposite pairs times the
+    /// The least hints of an `add` entry that passes: for each opposite pair that it does not list,
+    /// in their order, the least generator that covers it. They cost the opposite pairs times the
     /// generators in front of those.
     pub fn least_hints(
         &self,
@@ -280,7 +277,7 @@ impl Solving {
             → OnOk result (IsSolving file (before ++ entry.Ray k x.now m ∷ []) self.new) }
         ensures memory { IfErr result (λ stop. stop ≡ stopped.NoMemory) }
     {
-        match copied(alloc, x) {
+        match copy_list(alloc, x) {
             Ok(x) => {
                 self.live.set_preimage(place, x);
                 Ok(())
@@ -289,67 +286,33 @@ impl Solving {
         }
     }
 
-    /// The events of a `point` entry: they cost those of its pre-image, and the logarithm of the number of generators.
-    pub fn certify_point(
+    /// The events of a `point` entry: they cost those of its pre-image, and the logarithm of the
+    /// number of generators.
+    pub fn certify(
         &mut self,
         alloc: Global,
         problem: &Problem,
-        sheet: &Sheet,
+        matrices: &Matrices,
+        kind: GenKind,
         number: u32,
         x: &[Spot],
         m: &[Spot],
     ) -> Result<(), Stop>
-        requires sheet { IsSheetOf problem.now sheet.now }
+        requires matrices { AreMatricesOf problem.now matrices.now }
         requires preimage { IsSparse x.now }
         requires multipliers { IsSparse m.now }
         requires standing { (before : List Entry)
-            × StandsBefore problem.now before order.point self.old }
-        ensures { (before : List Entry) → StandsBefore problem.now before order.point self.old
-            → Runs is_held
-            (point_events problem.now before (state problem.now.objs before) number x.now m.now)
-            0 (steps (point_events problem.now before (state problem.now.objs before) number
-            x.now m.now)) (λ _. IsSolving problem.now
-            (before ++ entry.Point number x.now m.now ∷ []) self.new) result }
+            × StandsBefore problem.now before (kind_of kind) self.old }
+        ensures { (before : List Entry) → StandsBefore problem.now before (kind_of kind) self.old
+            → Enters problem.now before (entry_of kind number x.now m.now)
+            (preimage_events kind problem.now before (state problem.now.objs before) number x.now
+            m.now) self.new result }
     {
-        match self.live.place_open(number, Frac::from(1)) {
+        match self.live.place_open(number, t_of(kind)) {
             Some(place) => {
                 let vector = self.live.generators[place].vector.as_slice();
                 let y = &vector[..problem.objs as usize];
-                shows_point(alloc, problem, sheet, y, x, m)?;
-                self.give(alloc, place, x)
-            }
-            None => Err(Stop::Wrong(Rule::Index)),
-        }
-    }
-
-    /// The events of a `ray` entry. They cost as much.
-    pub fn certify_ray(
-        &mut self,
-        alloc: Global,
-        problem: &Problem,
-        sheet: &Sheet,
-        number: u32,
-        x: &[Spot],
-        m: &[Spot],
-    ) -> Result<(), Stop>
-        requires sheet { IsSheetOf problem.now sheet.now }
-        requires preimage { IsSparse x.now }
-        requires multipliers { IsSparse m.now }
-        requires standing { (before : List Entry)
-            × StandsBefore problem.now before order.ray self.old }
-        ensures { (before : List Entry) → StandsBefore problem.now before order.ray self.old
-            → Runs is_held
-            (ray_events problem.now before (state problem.now.objs before) number x.now m.now) 0
-            (steps (ray_events problem.now before (state problem.now.objs before) number x.now
-            m.now))
-            (λ _. IsSolving problem.now (before ++ entry.Ray number x.now m.now ∷ []) self.new)
-            result }
-    {
-        match self.live.place_open(number, Frac::from(0)) {
-            Some(place) => {
-                let vector = self.live.generators[place].vector.as_slice();
-                let y = &vector[..problem.objs as usize];
-                shows_ray(alloc, problem, sheet, y, x, m)?;
+                test_preimage(alloc, problem, matrices, kind, y, x, m)?;
                 self.give(alloc, place, x)
             }
             None => Err(Stop::Wrong(Rule::Index)),
@@ -383,8 +346,8 @@ impl Solving {
         self.uses.place(cut) != 0 && !has_number(self.named.as_slice(), cut)
     }
 
-    /// Whether the cut at this place among the rows in use has a largest set of tight generators, which is that of no
-    /// facet.
+    /// Whether the cut at this place among the rows in use has a largest set of tight generators,
+    /// which is that of no facet.
     fn is_facet(&self, place: u32) -> bool
         requires standing { (file : Problem)
             × ((before : List Entry)
@@ -424,7 +387,7 @@ impl Solving {
         }
     }
 
-    /// Lists a facet.
+    /// Lists a facet, whose row has this place.
     fn list_facet(&mut self, cut: u32, place: u32) -> Result<(), NoMemory>
         ensures { (file : Problem) (before : List Entry) → IsSolving file before self.old
             → IsTrue (contains (state file.objs before).used cut)
@@ -436,16 +399,16 @@ impl Solving {
         Ok(())
     }
 
-    /// The events of a `facet` entry. It costs the rows in use and the facets, each times the words of a set of
-    /// generators; the first one, and else the end, costs the rows times the generators.
+    /// The events of a `facet` entry. It costs the rows in use and the facets, each times the words
+    /// of a set of generators; the first one, and else the end, costs the rows times the
+    /// generators.
     pub fn name_facet(&mut self, alloc: Global, cut: u32) -> Result<(), Stop>
         requires { (file : Problem)
             × ((before : List Entry) × StandsBefore file before order.facet self.old) }
         ensures { (file : Problem) (before : List Entry)
             → StandsBefore file before order.facet self.old
-            → Runs is_held (facet_events file before (state file.objs before) cut) 0
-            (steps (facet_events file before (state file.objs before) cut))
-            (λ _. IsSolving file (before ++ entry.Facet cut ∷ []) self.new) result }
+            → Enters file before (entry.Facet cut)
+            (facet_events file before (state file.objs before) cut) self.new result }
     {
         pass(Rule::Index, self.is_unnamed(cut))?;
         if let Err(NoMemory) = self.compare(alloc) {
@@ -471,15 +434,14 @@ impl Solving {
         started && self.live.are_reached()
     }
 
-    /// The events of an `end solved` entry. It costs the rows in use times the facets times the words of a set of
-    /// generators, and the generators.
+    /// The events of an `end solved` entry. It costs the rows in use times the facets times the
+    /// words of a set of generators, and the generators.
     pub fn end(&mut self, alloc: Global, started: bool) -> Result<(), Stop>
         requires { (file : Problem) × ((before : List Entry) × IsSolving file before self.old) }
         ensures { (file : Problem) (before : List Entry) → IsSolving file before self.old
             → started ≡ order.has order.start before
-            → Runs is_held (end_events file before (state file.objs before) end.Solved) 0
-            (steps (end_events file before (state file.objs before) end.Solved))
-            (λ _. IsSolving file (before ++ entry.End end.Solved ∷ []) self.new) result }
+            → Enters file before (entry.End end.Solved)
+            (end_events file before (state file.objs before) end.Solved) self.new result }
     {
         if !self.is_reached(started) {
             return Err(Stop::Wrong(Rule::Missing));

@@ -1,4 +1,4 @@
--- What is kept of the vectors of a log, behind one entry more.
+-- What is kept of the vectors of a log, after one entry more.
 use Rattle.std.proofs.Common.{◌≡◌, ℕ, zero, suc, ◌+◌, ◌<◌, List, [], ◌∷◌, ◌++◌, refl, sym, ap, ◌∙◌, subst, append-nil, arith, length, Bool, true, false, true≢false, not, ◌==◌, ◌&&◌, cond, if◌then◌else◌, nat_lt, lt-ltb, Option, None, Some, add-zero, add-one, length-append}
 use Rattle.std.specs.BTreeMap.{BTreeMap, get, Updates, is_at}
 use Rattle.std.specs.List.{filter_map, cons_option, count_by, sum_by}
@@ -72,7 +72,7 @@ none_met all e (s ∷ v) h =
     ap (λ (vs : List (List Spot)). standing_of (count_by (same_spots (s ∷ v)) vs) 0)
     (filter_map-append body all (e ∷ []) ∙ ap (λ (o : Option (List Spot)). filter_map body all ++ cons_option o []) h ∙ append-nil (filter_map body all))
 
--- ---- a place and what is shared behind it, by what stands of the vector
+-- ---- a place and what is shared after it, by what stands of the vector
 abbrev pub place_from : Option Standing → ℕ → Place
 place_from None n = Own
 place_from (Some Once) n = Own

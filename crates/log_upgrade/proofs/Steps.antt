@@ -142,7 +142,7 @@ changed_step q all before vectors e x h i k = record {
   formed = and_from (is_formed x) true k refl;
 }
 
--- the least hints behind some entries
+-- the least hints after some entries
 abbrev pub hints_at : ℕ → List Entry → ℕ → List LogPair → List ℕ
 hints_at q before cut ps =
     let s = state q before in least_hints (rows_in_use q s) s.list.live (cut_row s cut) ps
@@ -187,7 +187,7 @@ same_step q all before vectors e h s k = record {
   formed = and_from (is_formed e) true k refl;
 }
 
--- ---- the vectors that are shared behind it
+-- ---- the vectors that are shared after it
 longer : (vectors : List (List Spot)) (u : List Spot) (b : Bool) → length (if b then vectors ++ u ∷ [] else vectors) ≤ length vectors + 1
 longer vectors u true = omega (arith, length-append vectors (u ∷ []))
 longer vectors u false = omega arith
@@ -203,8 +203,8 @@ few_more all vectors e = go (body e)
     go (Some u) = longer vectors u (is_repeated all u && number_from 1 u vectors == 0)
     go None = omega arith
 
-pub few_behind : (all before : List Entry) (vectors : List (List Spot)) (e : Entry) → length vectors ≤ length before →
+pub few_after : (all before : List Entry) (vectors : List (List Spot)) (e : Entry) → length vectors ≤ length before →
     length (more_shared all vectors e) ≤ length (before ++ e ∷ [])
-few_behind all before vectors e h =
+few_after all before vectors e h =
     let more = few_more all vectors e in
     omega (arith, length-append before (e ∷ []))

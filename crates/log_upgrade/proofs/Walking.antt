@@ -67,7 +67,7 @@ written_next file all i written u v e x h k w p s =
       formed = list_all-append is_formed written (in_place e x) ∙ and_from (list_all is_formed written) (list_all is_formed (in_place e x)) w.formed p.formed;
     }
 
--- ---- behind the last entry
+-- ---- after the last entry
 pub written_last : (file : Problem) (all : List Entry) (i : ℕ) (written : List Entry) (u : Upgrader) → length all ≤ i → IsWritten file all i written u →
     IsWhole file.objs all written
 written_last file all i written u h w = record {

@@ -20,12 +20,12 @@ standing_of (suc zero) k = Some Once
 standing_of (suc (suc n)) zero = Some Several
 standing_of (suc (suc n)) (suc k) = Some (Shared (suc k))
 
--- of a vector, behind these shared ones; an empty one is not kept
+-- of a vector, after these shared ones; an empty one is not kept
 abbrev pub standing : List Entry → List (List Spot) → List Spot → Option Standing
 standing all vectors [] = None
 standing all vectors (s ∷ u) = standing_of (count_by (same_spots (s ∷ u)) (filter_map body all)) (number_from 1 (s ∷ u) vectors)
 
--- the value is what stands of the vectors of all entries, behind these shared ones
+-- the value is what stands of the vectors of all entries, after these shared ones
 pub record AreStandings (all : List Entry) (vectors : List (List Spot)) (r : Repeats) : Type 0 where
   pub standings : (key : VectorKey) → get cmp_keys r.standings key ≡ standing all vectors key.spots.now
   pub shared : r.shared ≡ length vectors
@@ -37,6 +37,6 @@ place_of all vectors u =
     then elim (number_from 1 u vectors) [ zero ↦ First (suc (length vectors)) | suc k ↦ Again (suc k) ]
     else Own
 
--- the vectors that are shared behind it
+-- the vectors that are shared after it
 abbrev pub with_place : List Entry → List (List Spot) → List Spot → List (List Spot)
 with_place all vectors u = if is_repeated all u && number_from 1 u vectors == 0 then vectors ++ u ∷ [] else vectors

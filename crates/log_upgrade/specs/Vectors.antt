@@ -22,13 +22,17 @@ cmp_pairs p q = ordering_then (nat_cmp p.0 q.0) (cmp_ℚ p.1 q.1)
 abbrev pub compared : List Spot → List Spot → Ordering
 compared u v = slice_cmp cmp_pairs (map pair u) (map pair v)
 
+-- how one key of the map is to another
 abbrev pub cmp_keys : VectorKey → VectorKey → Ordering
 cmp_keys a b = compared a.spots.now b.spots.now
 
+-- whether two keys are one
 abbrev pub same_keys : VectorKey → VectorKey → Bool
 same_keys = eq_by_cmp cmp_keys
 
 -- ---- the laws of a comparison
+-- sparse vectors are totally ordered, and so are keys, which are equal where neither stands before
+-- the other
 pub vectors_total : IsTotalOrder compared
 vectors_total =
     on_total (λ (u : List Spot). map pair u)

@@ -40,7 +40,7 @@ pub record IsFirst (file : Problem) (all : List Entry) : Type 0 where
   pub first : is_version_2 all ≡ false
   pub short : length all ≤ 4294967294
 
--- what is known behind some entries of a log, and the one that comes next
+-- what is known after some entries of a log, and the one that comes next
 pub record IsNext (file : Problem) (all before : List Entry) (vectors : List (List Spot))
     (e : Entry) (after : List Entry) (checker : Checker) (repeats : Repeats) : Type 0 where
   pub log : IsFirst file all
@@ -49,7 +49,7 @@ pub record IsNext (file : Problem) (all before : List Entry) (vectors : List (Li
   pub standings : AreStandings all vectors repeats
   pub few : length vectors ≤ length before
 
--- the upgrader stands behind some entries of a log, and these vectors are shared
+-- the upgrader stands after some entries of a log, and these vectors are shared
 pub record StandsAt (file : Problem) (all before : List Entry) (vectors : List (List Spot))
     (u : Upgrader) : Type 0 where
   pub checked : StandsFor file before u.checker
@@ -62,7 +62,7 @@ pub record IsUpgraded (q : ℕ) (all before : List Entry) (vectors : List (List 
   pub is : in_place e u ≡ upgraded_entry q all before vectors e
   pub formed : IsTrue (list_all is_formed (in_place e u))
 
--- what stands in the place of the entry is appended, and the upgrader stands behind the entry
+-- what stands in the place of the entry is appended, and the upgrader stands after the entry
 pub record IsPut (file : Problem) (all before : List Entry) (vectors : List (List Spot))
     (e : Entry) (old new : List Entry) (u : Upgrader) : Type 0 where
   pub upgraded : Upgraded

@@ -15,16 +15,16 @@ mod repeats;
 mod vectors;
 mod walk;
 
-use crate::logs::{copied, is_second, upgraded, upgraded_text};
+use crate::logs::{copy_log, is_second, make_upgrade, make_upgrade_text};
 use cert_check::{Refusal, check};
 use deriv_log::{Entries, print_log};
 use src_sink::{Bytes, NoMemory};
 use std::alloc::Global;
 use vlp_reader::Problem;
 
-/// The log of version 2 that says the same as a log which `check` accepts: each `add` gets the least
-/// generators that cover as hints, and each vector that stands in several entries is shared. A log of
-/// version 2 is its own. It costs about what two checks cost.
+/// The log of version 2 that says the same as a log which `check` accepts: each `add` gets the
+/// least generators that cover as hints, and each vector that stands in several entries is shared.
+/// A log of version 2 is its own. It costs about what two checks cost.
 pub fn upgrade(alloc: Global, problem: &Problem, entries: &Entries) -> Result<Entries, Refusal>
     requires { IsLog entries.now }
     ensures ok { IfOk result (IsUpgradeOf problem.now entries.now) }
@@ -32,9 +32,9 @@ pub fn upgrade(alloc: Global, problem: &Problem, entries: &Entries) -> Result<En
 {
     check(alloc, problem, entries)?;
     if is_second(entries.as_slice()) {
-        Ok(copied(alloc, entries)?)
+        Ok(copy_log(alloc, entries)?)
     } else {
-        Ok(upgraded(alloc, problem, entries)?)
+        Ok(make_upgrade(alloc, problem, entries)?)
     }
 }
 
@@ -47,6 +47,6 @@ pub fn upgrade_text(alloc: Global, problem: &Problem, entries: &Entries) -> Resu
     if is_second(entries.as_slice()) {
         print_log(alloc, entries)
     } else {
-        upgraded_text(alloc, problem, entries)
+        make_upgrade_text(alloc, problem, entries)
     }
 }

@@ -16,20 +16,19 @@ pub(crate) fn is_second(entries: &[Entry]) -> bool
     matches!(entries, [Entry::Version(2), ..])
 }
 
-/// A copy of a log.
-pub(crate) fn copied(alloc: Global, entries: &Entries) -> Result<Entries, NoMemory>
+pub(crate) fn copy_log(alloc: Global, entries: &Entries) -> Result<Entries, NoMemory>
     ensures { IfOk result (λ copy. copy ≡ entries.now) }
 {
     let list = entries.as_slice();
     let mut copy = Items::new(alloc);
     for entry in list {
-        copy.push(entry.copied(alloc)?)?;
+        copy.push(entry.copy(alloc)?)?;
     }
     Ok(copy)
 }
 
 /// The upgrade of a log that is not of version 2.
-pub(crate) fn upgraded(
+pub(crate) fn make_upgrade(
     alloc: Global,
     problem: &Problem,
     entries: &Entries,
@@ -45,7 +44,7 @@ pub(crate) fn upgraded(
 }
 
 /// Its text. The upgrade is held one entry at a time.
-pub(crate) fn upgraded_text(
+pub(crate) fn make_upgrade_text(
     alloc: Global,
     problem: &Problem,
     entries: &Entries,

@@ -39,7 +39,7 @@ enum Standing {
 /// How an entry of the upgrade has its vector.
 #[derive(Clone, Copy)]
 pub(crate) enum Place {
-    /// In itself.
+    /// As its own, in itself.
     Own,
     /// By this number, under which it is shared right before.
     First(u32),

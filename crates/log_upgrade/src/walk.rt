@@ -33,7 +33,7 @@ pub(crate) enum Upgraded {
 }
 
 /// A list with these items.
-fn listed<T: Copy + Drop>(alloc: Global, items: &[T]) -> Result<Items<T>, NoMemory>
+fn copy_list<T: Copy + Drop>(alloc: Global, items: &[T]) -> Result<Items<T>, NoMemory>
     ensures { IfOk result (λ list. list ≡ items.now) }
 {
     let mut list = Items::new(alloc);
@@ -42,27 +42,27 @@ fn listed<T: Copy + Drop>(alloc: Global, items: &[T]) -> Result<Items<T>, NoMemo
 }
 
 /// The entry with a shared vector in place of its own.
-fn named(alloc: Global, entry: &Entry, share: u32) -> Result<Entry, NoMemory>
+fn name_vector(alloc: Global, entry: &Entry, share: u32) -> Result<Entry, NoMemory>
     ensures { IfOk result (λ other. other ≡ naming share entry.now) }
 {
     match entry {
         Entry::Cut { w, gamma, v, .. } => Ok(Entry::CutOf {
-            w: listed(alloc, w.as_slice())?,
+            w: copy_list(alloc, w.as_slice())?,
             gamma: *gamma,
             share,
-            v: listed(alloc, v.as_slice())?,
+            v: copy_list(alloc, v.as_slice())?,
         }),
         Entry::Point { generator, m, .. } => Ok(Entry::PointOf {
             generator: *generator,
             share,
-            m: listed(alloc, m.as_slice())?,
+            m: copy_list(alloc, m.as_slice())?,
         }),
         Entry::Ray { generator, m, .. } => Ok(Entry::RayOf {
             generator: *generator,
             share,
-            m: listed(alloc, m.as_slice())?,
+            m: copy_list(alloc, m.as_slice())?,
         }),
-        _ => entry.copied(alloc),
+        _ => entry.copy(alloc),
     }
 }
 
@@ -84,11 +84,11 @@ fn at_place(
         Place::Own => Ok(Upgraded::Same),
         Place::First(share) => {
             let first = Entry::Share {
-                v: listed(alloc, vector)?,
+                v: copy_list(alloc, vector)?,
             };
-            Ok(Upgraded::Shared(first, named(alloc, entry, share)?))
+            Ok(Upgraded::Shared(first, name_vector(alloc, entry, share)?))
         }
-        Place::Again(share) => Ok(Upgraded::Changed(named(alloc, entry, share)?)),
+        Place::Again(share) => Ok(Upgraded::Changed(name_vector(alloc, entry, share)?)),
     }
 }
 
@@ -98,7 +98,12 @@ fn are_short(numbers: &[u32])
 {}
 
 /// An `add` with its hints.
-fn hinted(alloc: Global, cut: u32, pairs: &[LogPair], hints: Items<u32>) -> Result<Entry, NoMemory>
+fn add_with_hints(
+    alloc: Global,
+    cut: u32,
+    pairs: &[LogPair],
+    hints: Items<u32>,
+) -> Result<Entry, NoMemory>
     requires { IsTrue (is_formed (Entry.Add cut pairs.now)) }
     ensures is { IfOk result (λ entry. entry ≡ Entry.AddHints cut pairs.now hints) }
     ensures formed { IfOk result (λ entry. IsTrue (is_formed entry)) }
@@ -106,7 +111,7 @@ fn hinted(alloc: Global, cut: u32, pairs: &[LogPair], hints: Items<u32>) -> Resu
     are_short(hints.as_slice());
     Ok(Entry::AddHints {
         cut,
-        pairs: listed(alloc, pairs)?,
+        pairs: copy_list(alloc, pairs)?,
         hints,
     })
 }
@@ -126,7 +131,7 @@ fn with_hints(alloc: Global, checker: &Checker, entry: &Entry) -> Result<Upgrade
         Entry::Version(_) => Ok(Upgraded::Changed(Entry::Version(2))),
         Entry::Add { cut, pairs } => {
             let hints = checker.least_hints(alloc, *cut, pairs.as_slice())?;
-            Ok(Upgraded::Changed(hinted(alloc, *cut, pairs.as_slice(), hints)?))
+            Ok(Upgraded::Changed(add_with_hints(alloc, *cut, pairs.as_slice(), hints)?))
         }
         _ => Ok(Upgraded::Same),
     }
@@ -160,7 +165,7 @@ fn in_upgrade<'a>(
     }
 }
 
-/// What is known behind some entries of a log.
+/// What is known after some entries of a log.
 #[derive(Drop)]
 pub(crate) struct Upgrader<'a> {
     checker: Checker,
@@ -182,7 +187,8 @@ impl<'a> Upgrader<'a> {
         })
     }
 
-    /// What stands in the place of the next entry. Its copies are all that it takes memory for, besides the hints.
+    /// What stands in the place of the next entry. Its copies are all that it takes memory for,
+    /// besides the hints.
     pub(crate) fn take(
         &mut self,
         alloc: Global,
@@ -228,7 +234,7 @@ impl<'a> Upgrader<'a> {
         upgraded.put(alloc, entry, upgrade)
     }
 
-    /// Puts the lines of what stands in the place of the next entry behind a text.
+    /// Puts the lines of what stands in the place of the next entry after a text.
     fn print_next(
         &mut self,
         alloc: Global,
@@ -269,7 +275,8 @@ impl<'a> Upgrader<'a> {
         Ok(())
     }
 
-    /// Puts its text into an empty one: at each entry what stands in its place is printed, and let go.
+    /// Puts its text into an empty one: at each entry what stands in its place is printed, and let
+    /// go.
     pub(crate) fn print_all(
         &mut self,
         alloc: Global,
@@ -289,7 +296,7 @@ impl<'a> Upgrader<'a> {
     }
 }
 
-/// Puts the line of an entry behind a text, and lets the entry go.
+/// Puts the line of an entry after a text, and lets the entry go.
 fn print_made(entry: Entry, text: &mut Bytes) -> Result<(), NoMemory>
     ensures { OnOk result (text.new ≡ text.old ++ line_text (entry_words entry)) }
 {
@@ -307,7 +314,7 @@ impl Upgraded {
         ensures { OnOk result (upgrade.new ≡ upgrade.old ++ in_place entry.now self) }
     {
         match self {
-            Upgraded::Same => upgrade.push(entry.copied(alloc)?),
+            Upgraded::Same => upgrade.push(entry.copy(alloc)?),
             Upgraded::Changed(other) => upgrade.push(other),
             Upgraded::Shared(share, other) => {
                 upgrade.push(share)?;
@@ -316,7 +323,7 @@ impl Upgraded {
         }
     }
 
-    /// Puts its lines behind a text.
+    /// Puts its lines after a text.
     pub(crate) fn print(self, entry: &Entry, text: &mut Bytes) -> Result<(), NoMemory>
         ensures { OnOk result (text.new ≡ text.old ++ log_text (in_place entry.now self)) }
     {

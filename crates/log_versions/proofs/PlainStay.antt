@@ -68,7 +68,7 @@ front_plain (d ∷ before) e after h =
     let q : (list_all is_plain before ≡ true) × (is_plain e ≡ true) = front_plain before e after p.1 in
     (and_from (is_plain d) (list_all is_plain before) p.0 q.0, q.1)
 
--- behind its own plain log, what a plain entry must meet is what it meets as a plain entry
+-- after its own plain log, what a plain entry must meet is what it meets as a plain entry
 meets_written : (file : Problem) (before : List Entry) (e : Entry) → plain before ≡ before → is_plain e ≡ true → Meets file before e → WrittenMeets file before e
 meets_written file before e same h m = go e h (subst (λ (b : List Entry). Meets file b e) (sym same) m)
   where
@@ -204,7 +204,7 @@ one_or a true h = absurd (true≢false (sym h))
 one_or true false h = refl
 one_or false false h = refl
 
--- in the events of an entry behind plain entries nothing differs
+-- in the events of an entry after plain entries nothing differs
 same_failure : (holds : ℚ → Bool) (file : Problem) (before : List Entry) (e : Entry) → plain before ≡ before → is_version_2 (before ++ e ∷ []) ≡ false →
     first_failure holds 1 (written_events file before e) ≡ first_failure holds 1 (events file before e)
 same_failure holds file before (Version n) same second = go before same second (n == 2) refl

@@ -1,5 +1,5 @@
--- The upgrade of a log without a failure says the same: entry by entry, what is written behind what was written passes, and stands for
--- the entry behind those before it.
+-- The upgrade of a log without a failure says the same: entry by entry, what is written after what was written passes, and stands for
+-- the entry after those before it.
 use Rattle.std.proofs.Common.{◌≡◌, ℕ, zero, suc, ◌+◌, ◌-◌, ◌<◌, ◌≤◌, ◌⊎◌, inl, inr, List, [], ◌∷◌, ◌++◌, refl, sym, ap, ap₂, ◌∙◌, subst, arith, append_assoc, append-nil, Bool, true, false, true≢false, not, ◌&&◌, ◌||◌, ◌==◌, nat_le, IsTrue, ne_eqb, length, length-append, flat_map, map, Option, None, Some, if◌then◌else◌, slice_index_or}
 use Rattle.std.specs.List.{list_all}
 use Rattle.std.proofs.lemmas.Bool.{eqb-true}
@@ -252,7 +252,7 @@ module _ (holds : ℚ → Bool) (file : Problem) where
       go true e = e
       go false e = refl
 
-  -- ---- any entry behind the first
+  -- ---- any entry after the first
   pub begins : (done : List Entry) (k : Kind) → IsTrue (in_order done k) → IsTrue (begins_well done k)
   begins done k h =
       let a = both_true _ (implies (order.ends_at_facet k) (not (order.has order.facet done))) h in

@@ -26,7 +26,7 @@ both_none None f r h = (refl, h)
 both_none (Some x) f r h = absurd cc
 
 module _ (holds : ℚ → Bool) (file : Problem) (all : List Entry) where
-  -- the upgrade of the entries that are left behind what is written of those before
+  -- the upgrade of the entries that are left after what is written of those before
   record IsRest (front done rest : List Entry) (vectors : List (List Spot)) : Type 0 where
     pub passes : first_written_failing holds file front (upgraded_behind file.objs all done vectors rest) ≡ None
     pub plainly : plain (front ++ upgraded_behind file.objs all done vectors rest) ≡ done ++ rest

@@ -40,7 +40,7 @@ module _ (rows : List (List ℚ)) (live : List Numbered) where
   abbrev Rising : List LivePair → Type 0
   Rising opposite = AllPairs (λ a b. Before (named_pair a) (named_pair b)) opposite
 
-  -- a name among those of a list stands behind that of the pair before the list
+  -- a name among those of a list stands after that of the pair before the list
   behind : (o : LivePair) (opposite : List LivePair) (p : LogPair) → Rising (o ∷ opposite) → Contains (Free opposite) p → Before (named_pair o) p
   behind o opposite p rise c =
       let s : (x : LivePair) × Contains (filter (is_uncovered_live rows live) opposite) x × (named_pair x ≡ p) =
@@ -121,7 +121,7 @@ module _ (rows : List (List ℚ)) (live : List Numbered) where
       (complete opposite pairs hints right (pairs-tail (λ a b. Before (named_pair a) (named_pair b)) o opposite rise))
       (complete opposite (p ∷ pairs) (drop 1 hints) (right && next_covers rows live o hints) (pairs-tail (λ a b. Before (named_pair a) (named_pair b)) o opposite rise))
     where
-      -- what comes behind a pair of the rest, or behind the first, is in the rest
+      -- what comes after a pair of the rest, or after the first, is in the rest
       rest_of : (q : LogPair) → Contains (Free (o ∷ opposite)) q → Before (named_pair o) q → Contains (Free opposite) q
       rest_of q c b = by (free_cases o opposite q c)
         where

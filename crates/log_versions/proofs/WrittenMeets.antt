@@ -174,7 +174,7 @@ pub written_events_give_meets : WrittenEventsGiveMeets
 written_events_give_meets holds file entries h before e later same =
     splits holds file [] entries (record { c_wide = omega arith; cuts_wide = All-nil (λ (cut : Stated). length cut.w ≡ file.objs) }) h before e later same
 
--- each of the entries, behind those before it
+-- each of the entries, after those before it
 held-behind : (file : Problem) (before entries : List Entry) →
     ((mid : List Entry) (e : Entry) (later : List Entry) → entries ≡ mid ++ e ∷ later → WrittenMeets file (before ++ mid) e) →
     first_written_failing (λ _. true) file before entries ≡ None

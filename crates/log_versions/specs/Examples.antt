@@ -59,6 +59,7 @@ corner = record {
   duality = None;
 }
 
+-- 1/4
 abbrev pub quarter : ℚ
 quarter = fraction (pos 1) 4
 
@@ -81,6 +82,7 @@ corner_log version first second =
     ∷ entry.Ray 3 [] []
     ∷ entry.Facet 1 ∷ entry.Facet 2 ∷ entry.Facet 4 ∷ solved_end
 
+-- the pairs of the first addition
 abbrev pub first_pairs : List LogPair
 first_pairs = pair 2 1 ∷ pair 3 1 ∷ []
 
@@ -122,9 +124,11 @@ pub record CoveredPairs : Type 0 where
       (corner_hints (pair 2 4 ∷ pair 2 5 ∷ pair 3 5 ∷ []) (3 ∷ [])) (9 ∷ 0 ∷ 13 ∷ [])
 
 -- ---- shared vectors
+-- one variable of at least 1, which is the objective
 abbrev pub half_line : Parts
 half_line = one (Lower (n 1))
 
+-- its duality vector
 abbrev pub one_duality : Entry
 one_duality = entry.Duality (n 1 ∷ []) [] [] []
 
@@ -132,12 +136,15 @@ one_duality = entry.Duality (n 1 ∷ []) [] [] []
 abbrev pub unit : Entry
 unit = entry.Share (at 1 (n 1) ∷ [])
 
+-- the cut y ≥ 1 with a vector of its own,
 abbrev pub own_cut : Entry
 own_cut = entry.Cut (n 1 ∷ []) (n 1) (at 1 (n 1) ∷ []) []
 
+-- and with the shared vector number k
 abbrev pub shared_cut : ℕ → Entry
 shared_cut k = entry.CutOf (n 1 ∷ []) (n 1) k []
 
+-- the start at 1
 abbrev pub half_line_start : Entry
 half_line_start = entry.Start (1 ∷ []) (n 1 ∷ []) (n 1 ∷ [])
 
@@ -145,12 +152,12 @@ half_line_start = entry.Start (1 ∷ []) (n 1 ∷ []) (n 1 ∷ [])
 abbrev pub shared_front : List Entry
 shared_front = entry.Version 2 ∷ one_duality ∷ unit ∷ shared_cut 1 ∷ []
 
--- from the start on, with these pre-images, and these entries behind the facet
+-- from the start on, with these pre-images, and these entries after the facet
 abbrev pub half_line_end : Entry → Entry → List Entry → List Entry
 half_line_end point ray more =
     half_line_start ∷ point ∷ ray ∷ entry.Facet 1 ∷ more ++ solved_end
 
--- the upgrade of a log with a vector that stands in two entries; a vector shared behind a facet and
+-- the upgrade of a log with a vector that stands in two entries; a vector shared after a facet and
 -- never used, and one shared before the duality vector; a cut, a point and a direction by a vector
 -- that is not there, and a point by number 0
 pub record SharedVectors : Type 0 where
@@ -196,6 +203,7 @@ pub record Versions : Type 0 where
       (entry.Share [] ∷ entry.Version 2 ∷ solved_end) (1 ∷ 0 ∷ 2 ∷ [])
   pub version_3 : FailsWritten half_line (entry.Version 3 ∷ solved_end) (1 ∷ 0 ∷ 1 ∷ [])
 
+-- all of these logs
 pub record WorkedVersions : Type 0 where
   pub listed : ListedPairs
   pub covered : CoveredPairs

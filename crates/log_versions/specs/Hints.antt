@@ -20,6 +20,7 @@ opposite_pairs live row =
 abbrev pub named_pair : LivePair → LogPair
 named_pair pair = log_pair (pair.plus_side.number, pair.minus_side.number)
 
+-- whether two pairs are one
 abbrev pub same_pair : LogPair → LogPair → Bool
 same_pair p r = p.plus == r.plus && p.minus == r.minus
 
@@ -36,6 +37,7 @@ unlisted live row pairs =
 abbrev pub pair_before : LogPair → LogPair → Bool
 pair_before p r = nat_lt p.plus r.plus || p.plus == r.plus && nat_lt p.minus r.minus
 
+-- the pairs rise
 abbrev pub pairs_rise : List LogPair → Bool
 pairs_rise [] = true
 pairs_rise (p ∷ ps) = list_all (pair_before p) ps && pairs_rise ps

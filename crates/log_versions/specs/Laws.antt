@@ -84,6 +84,7 @@ pub record IsUpgrade (holds : ℚ → Bool) (file : Problem) (entries : List Ent
       Proves file entries answer → Proves file (upgraded file.objs entries) answer
   pub once : upgraded file.objs (upgraded file.objs entries) ≡ upgraded file.objs entries
 
+-- so it is for every log without a failure
 abbrev pub UpgradesSayTheSame : Type 0
 UpgradesSayTheSame = (holds : ℚ → Bool) (file : Problem) (entries : List Entry) →
     IsLog entries → log_failure holds file entries ≡ None → IsUpgrade holds file entries

@@ -1,3 +1,5 @@
+-- The subject: Plain, Hints, Written (the rules of logs as they are written), WrittenEvents,
+-- Upgrade, then Laws. Worked examples: Examples. For the code's own steps: Walk.
 pub mod Plain
 pub mod Hints
 pub mod Written

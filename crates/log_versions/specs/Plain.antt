@@ -14,10 +14,11 @@ share_in _ = None
 abbrev pub shares : List Entry → List (List Spot)
 shares entries = filter_map share_in entries
 
+-- the shared vector number k
 abbrev pub shared : List (List Spot) → ℕ → List Spot
 shared vectors k = slice_index_or vectors (k - 1) []
 
--- an entry as it stands in the plain log, behind so many shared vectors; none where it only shares
+-- an entry as it stands in the plain log, after so many shared vectors; none where it only shares
 -- one
 abbrev pub plain_entry : List (List Spot) → Entry → List Entry
 plain_entry vectors (Version n) = Version (if n == 2 then 1 else n) ∷ []
@@ -28,6 +29,7 @@ plain_entry vectors (RayOf generator share m) = Ray generator (shared vectors sh
 plain_entry vectors (AddHints cut pairs hints) = Add cut pairs ∷ []
 plain_entry vectors e = e ∷ []
 
+-- the plain entries of some entries, after these shared vectors
 abbrev pub plain_behind : List (List Spot) → List Entry → List Entry
 plain_behind vectors [] = []
 plain_behind vectors (e ∷ entries) =

@@ -18,6 +18,7 @@ body (Point generator x m) = Some x
 body (Ray generator x m) = Some x
 body _ = None
 
+-- whether two sparse vectors are one
 abbrev pub same_spots : List Spot → List Spot → Bool
 same_spots [] [] = true
 same_spots [] (_ ∷ _) = false
@@ -59,7 +60,7 @@ with_hints q before (Add cut pairs) =
     AddHints cut pairs (least_hints (rows_in_use q s) s.list.live (cut_row s cut) pairs)
 with_hints q before e = e
 
--- an entry of the log, behind those before it and so many shared vectors
+-- an entry of the log, after those before it and so many shared vectors
 abbrev pub upgraded_entry : ℕ → List Entry → List Entry → List (List Spot) → Entry → List Entry
 upgraded_entry q all before vectors e =
     elim (body e) [
@@ -67,7 +68,7 @@ upgraded_entry q all before vectors e =
       | None ↦ with_hints q before e ∷ []
     ]
 
--- the vectors that are shared behind one more entry
+-- the vectors that are shared after one more entry
 abbrev pub more_shared : List Entry → List (List Spot) → Entry → List (List Spot)
 more_shared all vectors e =
     elim (body e) [
@@ -76,6 +77,7 @@ more_shared all vectors e =
       | None ↦ vectors
     ]
 
+-- the upgrade of some entries, after those before them and these shared vectors
 abbrev pub upgraded_behind :
     ℕ → List Entry → List Entry → List (List Spot) → List Entry → List Entry
 upgraded_behind q all before vectors [] = []

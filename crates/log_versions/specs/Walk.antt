@@ -56,6 +56,7 @@ pub record Decides
       all_hinted (walk rows live (opposite_pairs live row) pairs hints true)
       ≡ are_hints rows live (unlisted live row pairs) hints
 
+-- so it does where the numbers of the live generators rise
 abbrev pub WalkDecides : Type 0
 WalkDecides = (rows : List (List ℚ)) (list : LiveList) (row : List ℚ) (pairs : List LogPair)
     (hints : List ℕ) → IsRising list → Decides rows list.live row pairs hints

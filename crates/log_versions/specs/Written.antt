@@ -24,8 +24,8 @@ plain_kind (RayOf generator share m) = order.ray
 plain_kind (AddHints cut pairs hints) = order.add
 plain_kind e = order.kind e
 
--- the entry may stand behind these: one of version 2 in a log of version 2 alone, and else as its
--- plain entry behind theirs
+-- the entry may stand after these: one of version 2 in a log of version 2 alone, and else as its
+-- plain entry after theirs
 abbrev pub may_follow : List Entry → Entry → Bool
 may_follow before (Share v) = is_version_2 before
 may_follow before e =
@@ -36,7 +36,7 @@ may_follow before e =
 abbrev pub IsShared : List Entry → ℕ → Type 0
 IsShared before k = (1 ≤ k) × (k ≤ length (shares before))
 
--- what the entry must meet but for its order: what its plain entry must meet behind theirs, that
+-- what the entry must meet but for its order: what its plain entry must meet after theirs, that
 -- the vector which it names is there, and for `addh` the rules of its hints
 abbrev pub WrittenKind : Problem → List Entry → Entry → Type 0
 WrittenKind file before (Version n) = (n ≡ 1) ⊎ (n ≡ 2)
@@ -54,11 +54,12 @@ WrittenKind file before (AddHints cut pairs hints) =
     MeetsAddHints file (state file.objs (plain before)) cut pairs hints
 WrittenKind file before e = MeetsKind file (plain before) (state file.objs (plain before)) e
 
--- the entry meets each of its rules behind the entries before it
+-- the entry meets each of its rules after the entries before it
 pub record WrittenMeets (file : Problem) (before : List Entry) (e : Entry) : Type 0 where
   pub order : IsTrue (may_follow before e)
   pub rules : WrittenKind file before e
 
+-- each entry of a log meets its rules
 abbrev pub AllWrittenMeet : Problem → List Entry → Type 0
 AllWrittenMeet file entries = (before : List Entry) (e : Entry) (after : List Entry) →
     entries ≡ before ++ e ∷ after → WrittenMeets file before e

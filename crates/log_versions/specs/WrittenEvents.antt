@@ -29,7 +29,7 @@ hinted_events file s cut pairs hints =
     ∷ test rule.Hint (are_hints rows s.list.live (unlisted s.list.live row pairs) hints)
     ∷ flat_map (pair_of file.objs row s.list.live) pairs
 
--- the tests and steps of an entry after the test of its order: those of its plain entry, behind the
+-- the tests and steps of an entry after the test of its order: those of its plain entry, after the
 -- plain log of those before it
 abbrev pub written_kind_events : Problem → List Entry → Entry → List Event
 written_kind_events file before (Version n) = test rule.Version (n == 1 || n == 2) ∷ []
@@ -48,11 +48,12 @@ written_kind_events file before (AddHints cut pairs hints) =
 written_kind_events file before e =
     kind_events file (plain before) (state file.objs (plain before)) e
 
+-- the tests and steps of an entry, the test of its order first
 abbrev pub written_events : Problem → List Entry → Entry → List Event
 written_events file before e =
     test rule.Order (may_follow before e) ∷ written_kind_events file before e
 
--- the first failure of the entries, behind those before them
+-- the first failure of the entries, after those before them
 abbrev pub first_written_failing : (ℚ → Bool) → Problem → List Entry → List Entry → Option Failing
 first_written_failing holds file before [] = None
 first_written_failing holds file before (e ∷ entries) =

@@ -1,4 +1,4 @@
--- Overflows of the search for all facets as licences. They stand behind no entries, which stand for a `version` and a `duality` entry.
+-- Overflows of the search for all facets as licences. They stand after no entries, which stand for a `version` and a `duality` entry.
 use Rattle.std.proofs.Common.{◌≡◌, List, [], Bool, Result, Ok, Err, sym, subst}
 use Rattle.std.specs.Prelude.{IfErr}
 use Rattle.exact_field.specs.Rational.{ℚ}

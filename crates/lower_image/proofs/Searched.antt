@@ -28,7 +28,7 @@ use Rattle.lower_image.proofs.Generators.{in_cone}
 use Rattle.lower_image.proofs.LowerRows.{base_long, lower_rows}
 use Rattle.lower_image.proofs.Weights.{c_wide, fits}
 
--- one row behind the others
+-- one row after the others
 abbrev pub more_rows : Description → List ℚ → Description
 more_rows d row = record { width = d.width; rows = d.rows ++ row ∷ []; list = step d.rows d.list row }
 

@@ -49,7 +49,7 @@ nonneg_dual (suc n) (x ∷ w) l h =
     others : (y : List ℚ) → dot (x ∷ w) (zero_ℚ ∷ y) ≡ dot w y
     others y = dot_comm (x ∷ w) (zero_ℚ ∷ y) ∙ ap₂ (λ a b. a +ℚ b) (zero_mul x) (dot_comm y w) ∙ zero_add (dot w y)
 
--- w is in the dual cone, by what stands behind, as a sparse vector
+-- w is in the dual cone, by what stands after it, as a sparse vector
 pub dual_shown : (file : Problem) (q : ℕ) (cone : Cone) (w z : List ℚ) (m : List Spot) → IsTrue (cone_fits q cone) → length w ≡ q →
     IsInDual q (IsIn q cone) w → AtLeastZero (behind_of file z) → tied q cone w (behind_of file z) ≡ zeros (weight_equations q cone) →
     IsVector (length (v_of file cone z)) m → dense (length (v_of file cone z)) m ≡ v_of file cone z → length (behind_of file z) ≡ weight_unknowns cone →
@@ -70,7 +70,7 @@ dual_shown file q (Dual vs) w z m fits long d positive e v s l =
     shows q (Gens vs) w m (cone_wide q (Dual vs) fits) long (subst (λ (n : ℕ). IsVector n m) l v)
     (subst AtLeastZero (sym same) positive, λ r. ap (λ s. dot r s) made ∙ dot-combination q r h vs ∙ ap (λ s. dot s (values vs r)) (sym same))
 
--- at a weight in the dual cone, what multipliers that are at most 0 behind give is at most 0
+-- at a weight in the dual cone, what multipliers that are at most 0 after w give is at most 0
 negated-values : (vs : List (List ℚ)) (f : List ℚ) → negated (values vs f) ≡ values vs (negated f)
 negated-values [] f = refl
 negated-values (v ∷ vs) f = ap₂ (λ a b. a ∷ b) (sym (dot-negated v f)) (negated-values vs f)

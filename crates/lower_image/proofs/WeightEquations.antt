@@ -39,7 +39,7 @@ entry-negated v j = go v (j - 1)
 length-objective_column : (file : Problem) (j : ℕ) → length (objective_column file j) ≡ file.objs
 length-objective_column file j = length-map (numbers_from 1 file.objs) _ ∙ length-numbers 1 file.objs
 
--- the balances, with any number of unknowns behind
+-- the balances, with any number of unknowns after them
 module _ (file : Problem) (more : ℕ) (u a b h : List ℚ) (u_long : length u ≡ side_total file) (a_long : length a ≡ file.objs)
     (b_long : length b ≡ file.objs) where
   pub balances-value : values (balances file more) (u ++ a ++ b ++ h) ≡
@@ -68,7 +68,7 @@ module _ (file : Problem) (more : ℕ) (u a b h : List ℚ) (u_long : length u �
       objectives_part : List ℚ
       objectives_part = combination file.cols (minus a b) (objectives file)
 
--- ---- what the cone asks behind
+-- ---- what the cone asks after w
 -- in the dual form that the combination of the vectors by h is w, and nothing for the other cones
 abbrev pub tied : ℕ → Cone → (w h : List ℚ) → List ℚ
 tied q Orthant w h = []

@@ -1,5 +1,5 @@
 -- The columns of the program of a weight priced with multipliers x, p, f of its equations: the normals at x; at each place of w, and of its
--- negative, minus the objectives at x plus p plus, in the dual form, f; and minus the products of its vectors with f behind.
+-- negative, minus the objectives at x plus p plus, in the dual form, f; and minus the products of its vectors with f after it.
 use Rattle.std.proofs.Common.{◌≡◌, ℕ, zero, suc, List, [], ◌∷◌, ◌++◌, length, take, drop, refl, sym, ap, ap₂, ◌∙◌, subst, arith, ◌≤◌, ◌+◌, ◌-◌, slice_index_or, append_assoc, length-append}
 use Rattle.std.specs.Prelude.{pos}
 use Rattle.std.proofs.lemmas.List.{length-take-le, length-drop, length-map, take-append-drop}
@@ -31,7 +31,7 @@ use Rattle.benson_program.proofs.Vectors.{AreAtMost, at_most_each, at_most_parts
 use Rattle.lower_image.proofs.WeightEquations.{tied, rows-value, weight_rows, weight_total, length-weight_cost, u_long, a_long, b_long, behind_long}
 use Rattle.upper_image.proofs.Widths.{wide_normals, wide_objectives}
 
--- ---- what the cone's equations, priced with f, give at the places of w, and behind
+-- ---- what the cone's equations, priced with f, give at the places of w, and after them
 abbrev pub pulled : ℕ → Cone → List ℚ → List ℚ
 pulled q Orthant f = zeros q
 pulled q (Gens vectors) f = zeros q
@@ -219,7 +219,7 @@ module _ (file : Problem) (y : List ℚ) (y_long : length y ≡ file.cols + file
       (sym (entry-combination (weight_total file) y (weight_rows file) (suc i)) ∙ ap (λ v. entry v (suc i)) priced_is ∙ entry-suc priced i)
       (subst (λ (s : ℚ). s ≤ℚ dot y (column_of (weight_rows file) (suc i))) (entry-suc k i) (h (suc i) (omega arith) (omega (arith, l, long)))))
 
-  -- what follows from prices that are at least a cost that has nothing on w and behind
+  -- what follows from prices that are at least a cost that has nothing on w and after it
   module _ (front : List ℚ) (front_long : length front ≡ side_total file)
       (bounds : (j : ℕ) → 1 ≤ j → j ≤ weight_total file →
       entry (on_parts front (zeros file.objs) (zeros (weight_unknowns file.cone))) j ≤ℚ dot y (column_of (weight_rows file) j)) where

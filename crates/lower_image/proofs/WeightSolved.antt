@@ -27,7 +27,7 @@ same_from_difference n f g h k e =
     equal : (x y : ℚ) → x +ℚ neg_ℚ y ≡ zero_ℚ → x ≡ y
     equal x y d = ring_by rationals (x ∷ y ∷ []) v0 v1 (num (pos 1)) (v0 ⊝ v1) (num (pos 0)) d refl
 
--- z has the values `right` at the columns' equations, w at those that fix the weight, and `last` behind
+-- z has the values `right` at the columns' equations, w at those that fix the weight, and `last` after those
 module _ (file : Problem) (z w last : List ℚ) (z_long : length z ≡ weight_total file) (wide_w : length w ≡ file.objs)
     (solves : values (weight_rows file) z ≡ zeros file.cols ++ w ++ last) where
   wide : IsWideCone file.objs file.cone

@@ -64,6 +64,7 @@ first_row = n 1 ∷ n 0 ∷ n 0 ∷ []
 abbrev pub second_row : List ℚ
 second_row = minus 1 ∷ n 0 ∷ n 1 ∷ []
 
+-- weights, rows, certified generators and facets, and near ones that are none
 pub record LowerExamples : Type 0 where
   -- the weight of (1, gamma, 1) is completed by c: its entries sum to the last one
   pub weight : weight_at ones (n 1 ∷ []) (n 1) ≡ n 1 ∷ n 0 ∷ []

@@ -31,6 +31,7 @@ use Rattle.licence.specs.Turns.{IsRowTurn, said_exchange}
 use Rattle.lower_image.specs.Lower.{AreLowerRows, AreSpanning, AreAllFacets, IsLower, IsCertified, dual_at, dual_vector, inequality_of, weighted}
 
 -- ---- rows
+-- what holds of the rows, and of one row more
 pub record LowerRowLaws : Type 0 where
   -- base rows may be added
   pub grows : (file : Problem) (c : List ℚ) (rows : List (List ℚ)) (row : List ℚ) → AreLowerRows file c rows → IsBaseRow file c row →
@@ -44,6 +45,7 @@ pub record LowerRowLaws : Type 0 where
       IsValidAt file.objs (IsInWorkingImage file) c e → All (λ r. zero_ℚ ≤ℚ dot r (dual_vector c e)) rows
 
 -- ---- the start
+-- how rows begin, and which generators stay
 pub record LowerStartLaws : Type 0 where
   -- rows begin with those of a feasible point and of directions that span the ordering cone, in whatever order
   pub begins : (file : Problem) (c x : List ℚ) (es : List (List ℚ)) → Fits file c → IsBaseChoice file x → AreSpanning file es →
@@ -74,6 +76,7 @@ pub record IsWeighted (file : Problem) (c g : List ℚ) : Type 0 where
   pub base : IsBaseWeight file c (weight_of c g)
   pub same : g ≡ dual_vector c (inequality_of file.objs c g)
 
+-- a generator is such a one, or that in which the bound says less
 pub record LowerGeneratorLaws : Type 0 where
   pub weighted : (file : Problem) (c : List ℚ) (rows : List (List ℚ)) (list : LiveList) (g : List ℚ) → Fits file c → IsLower file c rows list →
       Contains (vectors list.live) g → entry g (suc file.objs) ≢ zero_ℚ → IsWeighted file c g
@@ -81,6 +84,7 @@ pub record LowerGeneratorLaws : Type 0 where
       Contains (vectors list.live) g → entry g (suc file.objs) ≡ zero_ℚ → g ≡ dual_at (zeros (file.objs - 1)) (neg_ℚ one_ℚ) zero_ℚ
 
 -- ---- turns
+-- a program whose end does not certify a generator gives a row that turns
 pub record LowerTurnLaws : Type 0 where
   -- where the best bound of the weight is not that of the generator, it is below, and the row of the choice turns
   pub choice : (file : Problem) (c : List ℚ) (rows : List (List ℚ)) (list : LiveList) (g z y : List ℚ) → Fits file c → IsLower file c rows list →
@@ -100,6 +104,7 @@ CertifiedAreFacets = (file : Problem) (c : List ℚ) (rows : List (List ℚ)) (l
     All (IsCertified file c) (weighted (vectors list.live)) →
     AreAllFacets file c (map (inequality_of file.objs c) (weighted (vectors list.live)))
 
+-- what all facets of an image show
 pub record AllFacetsLaws : Type 0 where
   -- a vector that has the product 0 with the normal of each facet has it with that of each valid
   -- inequality. So where the normals of some valid inequalities have full rank without the entries

@@ -80,11 +80,12 @@ fn facets_over<F: Field>(
 ///
 /// The cone of dual vectors is cut out by the rows of points and directions, those of x and of
 /// directions that span the ordering cone first. Each of its generators that stands for an
-/// inequality is asked by the linear program of its weight: it is a facet, or a row follows at which
-/// it is negative. So the cost is that of a linear program for each facet and for each further row,
-/// each beginning at the basis at which the last one ended, and of an addition to the double
-/// description for each row. Where the addition of a row overflows, those of the next generators
-/// are tried, up to six, and then the overflow of the first is told; the licence has no trail.
+/// inequality is asked by the linear program of its weight: it is a facet, or a row follows at
+/// which it is negative. So the cost is that of a linear program for each facet and for each
+/// further row, each beginning at the basis at which the last one ended, and of an addition to the
+/// double description for each row. Where the addition of a row overflows, those of the next
+/// generators are tried, up to six, and then the overflow of the first is told; the licence has no
+/// trail.
 pub fn all_facets<F: Field>(
     alloc: Global,
     form: &Data<F>,

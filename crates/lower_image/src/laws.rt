@@ -1,6 +1,6 @@
-//! What the ends of the linear program of a weight show, and what the cone of dual vectors is, which
-//! the rows of points and directions cut out. Each function is a law: it does nothing, and its
-//! contract is the statement.
+//! What the ends of the linear program of a weight show, and what the cone of dual vectors is,
+//! which the rows of points and directions cut out. Each function is a law: it does nothing, and
+//! its contract is the statement.
 ghost use Rattle.lower_image.specs.Examples.{LowerExamples};
 ghost use Rattle.lower_image.specs.Laws.{AllFacetsLaws, CertifiedAreFacets, LowerGeneratorLaws, LowerRowLaws, LowerStartLaws, LowerTurnLaws};
 ghost use Rattle.lower_image.specs.Weights.{WeightBounded, WeightChoice, WeightCut, WeightRay};

@@ -22,7 +22,7 @@ use overflows::{SolveFault, fractions, operation, sum_of_products, term_fault};
 use src_sink::{Items, NoMemory};
 use std::alloc::Global;
 
-/// The numbers of a line at all places.
+/// The numbers of a sparse row at all places.
 fn numbers_of<F: Field>(alloc: Global, line: &[Cell<F>], cols: u32) -> Result<Items<F>, NoMemory>
     requires { IsTrue (are_places cols 0 line.now) }
     ensures { IfOk result (λ list. map F.value list ≡ vector_of F.value cols line.now) }

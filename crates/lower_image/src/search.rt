@@ -1,5 +1,5 @@
-//! The search for all facets: each generator of the cone of dual vectors is asked for a row at which
-//! it is negative, until all of them stand for cuts.
+//! The search for all facets: each generator of the cone of dual vectors is asked for a row at
+//! which it is negative, until all of them stand for cuts.
 ghost use Rattle.std.specs.Prelude.{◌≡◌, ◌≢◌, ◌≤◌, ◌↔◌, ◌||◌, ℕ, List, [], false, suc, nat_eq, map, length, Contains, IfErr, IfNone, IfOk, IfSome, IsTrue, OnOk};
 ghost use Rattle.deriv_log.specs.declared.entry.Entry.{Entry};
 ghost use Rattle.exact_field.specs.Rational.{ℚ, zero_ℚ};
@@ -79,7 +79,7 @@ pub(crate) struct Search<'a, F: Field> {
 }
 
 impl<'a, F: Field> Search<'a, F> {
-    /// The cuts so far.
+    /// The cuts of the certified generators.
     pub(crate) fn into_cuts(self) -> Vec<Cut<F>>
         ensures { result.items ≡ self.entry.cuts }
     {

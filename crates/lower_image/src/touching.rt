@@ -9,7 +9,7 @@ use lin_rows::cells::is_zero;
 use src_sink::{Items, MOST_ITEMS, NoMemory};
 use std::alloc::Global;
 
-/// A point.
+/// A point, and which facets touch it.
 #[derive(Drop)]
 struct TouchedPoint {
     /// How many bits the longest numerator or denominator of its row has.

@@ -30,7 +30,7 @@ use std::alloc::Global;
 pub enum Weighed<F: Drop> {
     /// The generator stands for a cut.
     Certified {
-        /// The cut.
+        /// The cut for which it stands.
         cut: Cut<F>,
         /// The basis at which the program ended.
         basis: Items<u32>,

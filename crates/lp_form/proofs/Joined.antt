@@ -1,4 +1,4 @@
--- Tables whose rows stand one behind the other in one list.
+-- Tables whose rows stand one after the other in one list.
 use Rattle.std.proofs.Common.{◌≡◌, ℕ, suc, List, [], ◌∷◌, ◌++◌, length, map, take, drop, refl, sym, ap, ap₂, ◌∙◌, subst, arith, ◌+◌, ◌-◌, ◌*◌}
 use Rattle.std.specs.List.{slice_range}
 use Rattle.std.proofs.Math.ListN.{length-append}
@@ -47,7 +47,7 @@ length-joined cols [] wide = omega arith
 length-joined cols (r ∷ rows) wide =
     length-append r (joined rows) ∙ ap₂ (λ a b. a + b) (wide-head cols r rows wide) (length-joined cols rows (wide-tail cols r rows wide)) ∙ omega arith
 
--- a row that stands behind others is cut out
+-- a row that stands after others is cut out
 cut_row : (front r more : List ℚ) (start width : ℕ) → length front ≡ start → length r ≡ width → slice_range (front ++ (r ++ more)) start (start + width) ≡ r
 cut_row front r more start width long wide =
     let same : start + width - start ≡ length r = omega arith in
@@ -72,7 +72,7 @@ module _ {F : Type 0} (value : F → ℚ) where
   pub slice-map : (xs : List F) (i j : ℕ) → map value (slice_range xs i j) ≡ slice_range (map value xs) i j
   slice-map xs i j = sym (ap (take (j - i)) (drop-map value i xs) ∙ take-map value (j - i) (drop i xs))
 
-  -- lists that are a system's, its equations one behind the other, are a program that is this system in numbers
+  -- lists that are a system's, its equations one after the other, are a program that is this system in numbers
   pub written : (s : System) (p : Program F) → IsSystem s → map value p.a ≡ joined s.equations → map value p.b ≡ s.right → map value p.cost ≡ s.cost →
       p.rows ≡ length p.b → p.cols ≡ length p.cost → IsWritten value s p
   unfolding system
@@ -94,7 +94,7 @@ module _ {F : Type 0} (value : F → ℚ) where
         numbers = same_parts equations b cost;
       }
 
--- ---- pieces behind an empty list
+-- ---- pieces after an empty list
 module _ {F : Type 0} (value : F → ℚ) where
   pub one_piece : (start a : List F) (p : List ℚ) → start ≡ [] → map value a ≡ map value start ++ p → map value a ≡ p
   one_piece start a p e h = h ∙ ap (λ l. map value l ++ p) e
@@ -115,7 +115,7 @@ module _ {F : Type 0} (value : F → ℚ) where
   pub appended : (old new more : List F) → new ≡ old ++ more → map value new ≡ map value old ++ map value more
   appended old new more h = ap (map value) h ∙ map-append value old more
 
--- ---- pieces behind a list
+-- ---- pieces after a list
 pub pushed2 : {A : Type 0} (l0 l1 l2 u v : List A) → l1 ≡ l0 ++ u → l2 ≡ l1 ++ v → l2 ≡ l0 ++ (u ++ v)
 pushed2 l0 l1 l2 u v h k = k ∙ ap (λ x. x ++ v) h ∙ append_assoc l0 u v
 
@@ -125,10 +125,10 @@ pushed3 l0 l1 l2 l3 u v w h k l = pushed2 l0 l2 l3 (u ++ v) w (pushed2 l0 l1 l2 
 pub pushed4 : {A : Type 0} (l0 l1 l2 l3 l4 u v w x : List A) → l1 ≡ l0 ++ u → l2 ≡ l1 ++ v → l3 ≡ l2 ++ w → l4 ≡ l3 ++ x → l4 ≡ l0 ++ (u ++ v ++ w ++ x)
 pushed4 l0 l1 l2 l3 l4 u v w x h k l m = pushed2 l0 l3 l4 (u ++ v ++ w) x (pushed3 l0 l1 l2 l3 u v w h k l) m
 
--- an equation on u, w and what stands behind, piece by piece
+-- an equation on u, w and what stands after them, piece by piece
 pub parts_pushed : (l0 l1 l2 l3 u w behind : List ℚ) → l1 ≡ l0 ++ u → l2 ≡ (l1 ++ w) ++ negated w → l3 ≡ l2 ++ behind → l3 ≡ l0 ++ on_parts u w behind
 parts_pushed l0 l1 l2 l3 u w behind h k l = pushed4 l0 l1 (l1 ++ w) l2 l3 u w (negated w) behind h refl k l
 
--- two rows behind others
+-- two rows after others
 pub joined_two : (t : Table) (r s : List ℚ) → joined (t ++ r ∷ s ∷ []) ≡ (joined t ++ r) ++ s
 joined_two t r s = joined-append t (r ∷ s ∷ []) ∙ ap (λ x. joined t ++ (r ++ x)) (append-nil s) ∙ sym (append_assoc (joined t) r s)

@@ -28,7 +28,7 @@ part_is z a n b k e h =
     let long : a + n - a ≡ n = omega arith in
     ap (λ m. take m (drop a z)) (long ∙ h) ∙ ap (λ m. take k (drop m z)) e
 
--- what stands behind w
+-- what stands after w
 pub behind_is : (file : Problem) (cone : Cone) (z : List ℚ) → kept_behind cone (behind_of file z) ≡ v_of file cone z
 behind_is file Orthant z = refl
 behind_is file (Gens vectors) z = refl

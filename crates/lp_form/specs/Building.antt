@@ -1,4 +1,4 @@
--- Programs as they are built: equations that stand one behind the other in one list.
+-- Programs as they are built: equations that stand one after the other in one list.
 use Rattle.std.specs.Prelude.{◌≡◌, List}
 use Rattle.std.specs.List.{flat_map}
 use Rattle.exact_field.specs.Rational.{ℚ}
@@ -6,7 +6,7 @@ use Rattle.tableaux.specs.Table.{Table, System}
 use Rattle.lin_rows.specs.declared.system.System.{System as Program}
 use Rattle.lin_rows.specs.System.{HasLengths, system_of}
 
--- the rows of a table, one behind the other
+-- the rows of a table, one after the other
 abbrev pub joined : Table → List ℚ
 joined rows = flat_map (λ r. r) rows
 

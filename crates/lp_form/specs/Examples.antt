@@ -18,19 +18,24 @@ use Rattle.deriv_log.specs.declared.licence.Program.TheVariants.{Feasible, Benso
 use Rattle.lp_form.specs.Programs.{named_system, u_of, w_of, v_of, choice_of, value_of, share_of, full_share_of}
 
 -- ---- numbers as a file writes them
+-- the numbers that the words of a line write
 abbrev pub numbers : List ℕ → List ℚ
 numbers line = map (λ word. number_value (number_of word)) (words_of line)
 
+-- and those of several lines
 abbrev pub rows : List (List ℕ) → Table
 rows lines = map numbers lines
 
+-- a system, each equation and list by a line
 abbrev pub written : List (List ℕ) → List ℕ → List ℕ → System
 written equations right cost = record { equations = rows equations; right = numbers right; cost = numbers cost }
 
 -- ---- the file: 2 x_1 + x_2 and x_1 + 2 x_2 are at least 6, x_1 and x_2 at least 0; the objectives are x_1 - x_2 and x_1 + x_2
+-- the entry at row i and column j
 abbrev pub cell : ℕ → ℕ → ℤ → Cell
 cell i j v = record { row = i; col = j; value = whole v }
 
+-- the file with this direction, ordering cone and duality vector
 abbrev pub file_with : Dir → (cone : Cone) → (duality : Option (List ℚ)) → IsTrue (cone_fits 2 cone) → IsTrue (duality_fits 2 duality) → Problem
 unfolding whole
 file_with dir cone duality vectors entries =
@@ -85,7 +90,8 @@ v = numbers (codes "4 5")
 abbrev pub w : List ℚ
 w = numbers (codes "7 9")
 
--- ---- the programs: u has four entries, w two and two, and the rest stands behind
+-- ---- the programs: u has four entries, w two and two, and the rest stands after them
+-- the programs of the sides
 pub record SideExamples : Type 0 where
   pub feasible : named_system plain [] Feasible ≡ written (codes "2 1 1 0" ∷ codes "1 2 0 1" ∷ []) (codes "0 0") (codes "6 6 0 0")
   pub benson : named_system plain c (Benson v true)
@@ -160,9 +166,11 @@ pub record ConeExamples : Type 0 where
 abbrev pub z : List ℚ
 z = numbers (codes "1 2 3 4  5 0 0 7  8 9 6")
 
+-- multipliers: of the two columns, of the three vectors, and the last one
 abbrev pub y : List ℚ
 y = numbers (codes "10 20  3 4 5  -6")
 
+-- what is read off these two
 pub record ReadExamples : Type 0 where
   pub u : u_of dual_form z ≡ numbers (codes "1 2 3 4")
   pub w : w_of dual_form z ≡ numbers (codes "5 -7")
@@ -173,6 +181,7 @@ pub record ReadExamples : Type 0 where
   pub share : share_of given given.cone y ≡ numbers (codes "-3 -4 -5")
   pub full_share : full_share_of given given.cone (numbers (codes "1 2 0")) y ≡ numbers (codes "3 8 -5")
 
+-- all of these
 pub record Examples : Type 0 where
   pub of_sides : SideExamples
   pub of_cone : ConeExamples

@@ -1,5 +1,5 @@
--- The subject: Programs, with Examples; Data and Names (data and names in a field), with Shapes; Reading and Sparse (what is read off);
--- Building (what a program in a field is).
+-- The subject: Programs, with Examples; Data and Names (data and names in a field), with Shapes;
+-- Reading and Sparse (what is read off); Building (what a program in a field is).
 pub mod Building
 pub mod Data
 pub mod Examples

@@ -1,5 +1,5 @@
 -- The named programs of a file, each as a linear program in equations. Their unknowns are multipliers u of the sides, a weight vector
--- w as the difference of two lists of unknowns, and what the ordering cone asks for behind them.
+-- w as the difference of two lists of unknowns, and what the ordering cone asks for after them.
 use Rattle.std.specs.Prelude.{ℕ, suc, ◌+◌, Bool, not, List, [], ◌∷◌, ◌++◌, length, replicate, take, drop, filter, Option, None, Some, if◌then◌else◌}
 use Rattle.std.specs.List.{list_all}
 use Rattle.exact_field.specs.Rational.{ℚ, zero_ℚ, one_ℚ, neg_ℚ, lt_ℚ}
@@ -32,7 +32,7 @@ generators (Dual vectors) = []
 abbrev pub nonzero_vectors : Cone → List (List ℚ)
 nonzero_vectors cone = filter (λ v. not (list_all is_zero v)) (cone_vectors cone)
 
--- ---- equations on u, w and the unknowns behind them
+-- ---- equations on u, w and the unknowns after them
 -- an equation by its coefficients on the three; those on w stand twice, as w is a difference
 abbrev pub on_parts : List ℚ → List ℚ → List ℚ → List ℚ
 on_parts u w behind = u ++ w ++ negated w ++ behind
@@ -42,13 +42,13 @@ abbrev pub balances : Problem → ℕ → Table
 balances file more = listed file.cols (λ j. on_parts (side_column file j) (negated (objective_column file j)) (zeros more))
 
 -- that w is in the dual cone, with m sides and q objectives: its entries, or its products with the generators, are the unknowns
--- behind; or the vectors of the dual form, times these, sum to it
+-- after it; or the vectors of the dual form, times these, sum to it
 abbrev pub dual_members : (m q : ℕ) → Cone → Table
 dual_members m q Orthant = listed q (λ i. on_parts (zeros m) (unit q i) (negated (unit q i)))
 dual_members m q (Gens vectors) = listed (length vectors) (λ g. on_parts (zeros m) (row_of vectors g) (negated (unit (length vectors) g)))
 dual_members m q (Dual vectors) = listed q (λ i. on_parts (zeros m) (unit q i) (negated (column_of vectors i)))
 
--- how many unknowns these equations have behind u and w
+-- how many unknowns these equations have after u and w
 abbrev pub dual_unknowns : ℕ → Cone → ℕ
 dual_unknowns q Orthant = q
 dual_unknowns q (Gens vectors) = length vectors
@@ -66,11 +66,13 @@ weight_members m q Orthant = []
 weight_members m q (Gens vectors) = []
 weight_members m q (Dual vectors) = dual_members m q (Dual vectors)
 
+-- how many unknowns they have after u and w,
 abbrev pub weight_unknowns : Cone → ℕ
 weight_unknowns Orthant = 0
 weight_unknowns (Gens vectors) = 0
 weight_unknowns (Dual vectors) = length vectors
 
+-- and how many equations they are
 abbrev pub weight_equations : ℕ → Cone → ℕ
 weight_equations q Orthant = 0
 weight_equations q (Gens vectors) = 0
@@ -181,7 +183,7 @@ named_system file c Interior = interior_system file.objs file.cone file.duality
 named_system file c Pointed = pointed_system file.objs file.cone
 
 -- ---- what is read off
--- the parts of a solution z of Benson's program or of that of a weight: u, w as the difference of its two lists, and what stands behind
+-- the parts of a solution z of Benson's program or of that of a weight: u, w as the difference of its two lists, and what stands after them
 abbrev pub u_of : Problem → List ℚ → List ℚ
 u_of file z = take (side_total file) z
 
@@ -191,7 +193,7 @@ w_of file z = minus (take file.objs (drop (side_total file) z)) (take file.objs 
 abbrev pub behind_of : Problem → List ℚ → List ℚ
 behind_of file z = drop (side_total file + file.objs + file.objs) z
 
--- the multipliers of the dual form's vectors, which stand behind; none for the other cones
+-- the multipliers of the dual form's vectors, which stand after w; none for the other cones
 abbrev pub v_of : Problem → Cone → List ℚ → List ℚ
 v_of file Orthant z = []
 v_of file (Gens vectors) z = []

@@ -40,7 +40,7 @@ HasEquations value form (Weight w) y = length y ≡ form.cols + length form.p + 
 HasEquations value form Interior y = ⊥
 HasEquations value form Pointed y = ⊥
 
--- the unknowns behind w, where the cone is in dual form
+-- the unknowns after w, where the cone is in dual form
 abbrev pub kept_behind : Cone → List ℚ → List ℚ
 kept_behind Orthant behind = []
 kept_behind (Gens vectors) behind = []

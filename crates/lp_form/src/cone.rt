@@ -20,7 +20,7 @@ use lin_rows::cells::is_zero;
 use src_sink::{Items, NoMemory};
 use std::alloc::Global;
 
-/// Appends ones.
+/// Appends `n` ones.
 pub fn push_ones<F: Field>(list: &mut Items<F>, n: u32) -> Result<(), NoMemory>
     ensures { OnOk result (map F.value list.new ≡ map F.value list.old ++ replicate n one_ℚ) }
 {
@@ -72,7 +72,8 @@ fn nonzero<F: Field>(alloc: Global, vectors: &[Items<F>]) -> Result<Items<Items<
     Ok(kept)
 }
 
-/// Appends an equation for each entry: the vectors times unknowns, and nothing of the `more` unknowns behind these.
+/// Appends an equation for each entry: the vectors times unknowns, and nothing of the `more`
+/// unknowns after these.
 fn push_columns<F: Field>(
     alloc: Global,
     list: &mut Items<F>,
@@ -139,7 +140,7 @@ fn interior_given<F: Field>(
     Ok(system(a, b, cost))
 }
 
-/// Appends the costs or the coefficients of e and k behind `n` zeros.
+/// Appends the costs or the coefficients of e and k after `n` zeros.
 fn push_last_two<F: Field>(list: &mut Items<F>, n: u32, e: F, k: F) -> Result<(), NoMemory>
     ensures { OnOk result (map F.value list.new
         ≡ map F.value list.old ++ (zero_vector n ++ F.value e ∷ F.value k ∷ [])) }

@@ -10,7 +10,7 @@ use frac128::Frac;
 use lin_rows::cells::Cell;
 use src_sink::{Items, NoMemory};
 use std::alloc::Global;
-use vlp_matrices::Sheet;
+use vlp_matrices::Matrices;
 use vlp_reader::Problem;
 
 /// An entry that is not 0, with its place, from 1. In a list of these the places rise.
@@ -23,7 +23,7 @@ pub struct SideOf<F: Drop> {
     pub beta: F,
 }
 
-/// The ordering cone.
+/// The ordering cone, with its vectors in the field.
 #[derive(Debug, Drop)]
 pub enum ConeOf<F: Drop> {
     /// All vectors without a negative entry.
@@ -34,11 +34,11 @@ pub enum ConeOf<F: Drop> {
     Dual(Items<Items<F>>),
 }
 
-/// A problem in a field: its sides in their order, the rows of its objectives (negated where it maximises), its ordering cone
-/// and the duality vector that it gives.
+/// A problem in a field: its sides in their order, the rows of its objectives (negated where it
+/// maximises), its ordering cone and the duality vector that it gives.
 #[derive(Debug, Drop)]
 pub struct Data<F: Drop> {
-    /// The variables.
+    /// How many variables there are.
     pub cols: u32,
     pub sides: Items<SideOf<F>>,
     /// The objectives, one list for each.
@@ -61,7 +61,6 @@ pub struct Data<F: Drop> {
 pub enum DataFault {
     /// The first number of the problem, in the order of printing, that the field does not hold.
     NotHeld(Frac),
-    /// Want of memory.
     NoMemory,
 }
 
@@ -81,7 +80,8 @@ impl<F: Field> Data<F> {
     ghost use Rattle.vlp_reader.specs.Values.{printed_numbers};
     ghost use Rattle.lp_form.specs.Data.{IsDataOf, RefusesNumber};
 
-    /// The data of a problem. The cost is that of its entries that are not 0, its rows and its columns.
+    /// The data of a problem. The cost is that of its entries that are not 0, its rows and its
+    /// columns.
     pub fn of(alloc: Global, problem: &Problem) -> Result<Data<F>, DataFault>
         ensures ok { IfOk result (IsDataOf F.value problem.now) }
         ensures held { IfOk result
@@ -89,9 +89,13 @@ impl<F: Field> Data<F> {
         ensures refused { IfErr result (RefusesNumber F.holds problem.now) }
     {
         test_numbers::<F>(alloc, problem)?;
-        let sheet = Sheet::of(alloc, problem)?;
-        let sides = sides_in(alloc, sheet.sides.rows.as_slice(), sheet.bounds.as_slice())?;
-        let p = lines_in(alloc, sheet.objectives.rows.as_slice())?;
+        let matrices = Matrices::of(alloc, problem)?;
+        let sides = sides_in(
+            alloc,
+            matrices.sides.rows.as_slice(),
+            matrices.bounds.as_slice(),
+        )?;
+        let p = lines_in(alloc, matrices.objectives.rows.as_slice())?;
         let cone = cone_in(alloc, &problem.cone)?;
         let duality = duality_in(alloc, &problem.duality)?;
         Ok(Data {

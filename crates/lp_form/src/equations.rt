@@ -20,7 +20,7 @@ use lin_rows::System;
 use src_sink::{Items, NoMemory};
 use std::alloc::Global;
 
-/// The program of these equations, one behind the other, right sides and costs.
+/// The program of these equations, one after the other, right sides and costs.
 pub fn system<F: Field>(a: Items<F>, b: Items<F>, cost: Items<F>) -> System<F>
     ensures { (s : NamedSystem) → IsSystem s → map F.value a ≡ joined s.equations
         → map F.value b ≡ s.right → map F.value cost ≡ s.cost → IsWritten F.value s result }
@@ -46,7 +46,8 @@ pub fn push_side_columns<F: Field>(list: &mut Items<F>, form: &Data<F>) -> Resul
     Ok(())
 }
 
-/// Appends an equation for each column: the sides times u, less the objectives times w, are 0 there.
+/// Appends an equation for each column: the sides times u, less the objectives times w, are 0
+/// there.
 pub fn push_balances<F: Field>(
     alloc: Global,
     list: &mut Items<F>,
@@ -183,7 +184,7 @@ pub fn push_entries_of_w<F: Field>(
     Ok(())
 }
 
-/// How many unknowns the equations of `push_members` have behind w.
+/// How many unknowns the equations of `push_members` have after w.
 pub fn dual_unknowns<F: Field>(q: u32, cone: &ConeOf<F>) -> u32
     ensures { result ≡ dual_unknowns q (cone_of F.value cone.now) }
 {
@@ -203,7 +204,7 @@ pub fn dual_equations<F: Field>(q: u32, cone: &ConeOf<F>) -> u32
     }
 }
 
-/// How many unknowns the equations of `push_weight_members` have behind w.
+/// How many unknowns the equations of `push_weight_members` have after w.
 pub fn weight_unknowns<F: Field>(cone: &ConeOf<F>) -> u32
     ensures { result ≡ weight_unknowns (cone_of F.value cone.now) }
 {

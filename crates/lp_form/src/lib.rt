@@ -1,4 +1,5 @@
-//! The named programs of a file: linear programs in equations over its sides, its objectives and its ordering cone.
+//! The named programs of a file: linear programs in equations over its sides, its objectives and
+//! its ordering cone.
 #![tactic(auto)]
 
 mod cone;

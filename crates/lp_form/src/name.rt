@@ -16,8 +16,8 @@ pub enum LpName<F: Drop> {
     Pointed,
 }
 
-/// A solution: the multipliers of the sides, the weight vector, and the multipliers that combine the vectors of a cone in dual
-/// form to it. What the program does not have is empty.
+/// A solution: the multipliers of the sides, the weight vector, and the multipliers that combine
+/// the vectors of a cone in dual form to it. What the program does not have is empty.
 #[derive(Debug, Drop)]
 pub struct Parts<F: Drop> {
     pub u: Items<F>,

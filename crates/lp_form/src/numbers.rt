@@ -123,7 +123,8 @@ fn first_unheld<F: Field>(numbers: &[Frac]) -> Option<Frac>
     None
 }
 
-/// Whether the field holds each number of a problem, or which is the first, in the order of printing, that it does not hold.
+/// Whether the field holds each number of a problem, or which is the first, in the order of
+/// printing, that it does not hold.
 pub fn test_numbers<F: Field>(alloc: Global, problem: &Problem) -> Result<(), DataFault>
     ensures held { OnOk result (All (λ q. IsTrue (F.holds q)) (printed_numbers problem.now)) }
     ensures refused { IfErr result (RefusesNumber F.holds problem.now) }

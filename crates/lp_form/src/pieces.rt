@@ -16,7 +16,7 @@ use lin_rows::cells::entry_at;
 use src_sink::{Items, NoMemory};
 use std::alloc::Global;
 
-/// Appends zeros.
+/// Appends `n` zeros.
 pub fn push_zeros<F: Field>(list: &mut Items<F>, n: u32) -> Result<(), NoMemory>
     ensures { OnOk result (map F.value list.new ≡ map F.value list.old ++ zero_vector n) }
 {
@@ -46,7 +46,7 @@ pub fn push_difference<F: Field>(list: &mut Items<F>, vector: &[F]) -> Result<()
     push_negated(list, vector)
 }
 
-/// The vector of zeros.
+/// The vector of `n` zeros.
 pub fn zeros<F: Field>(alloc: Global, n: u32) -> Result<Items<F>, NoMemory>
     ensures { IfOk result (λ v. map F.value v ≡ zero_vector n) }
 {
@@ -140,7 +140,8 @@ pub fn negative_at<F: Field>(
     Ok(column)
 }
 
-/// Appends an equation on w and the unknowns behind it, in which none of the `m` unknowns before w has a part.
+/// Appends an equation on w and the unknowns after it, in which none of the `m` unknowns before w
+/// has a part.
 pub fn push_on_w<F: Field>(
     list: &mut Items<F>,
     m: u32,

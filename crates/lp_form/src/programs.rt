@@ -128,9 +128,10 @@ fn weight_system<F: Field>(alloc: Global, form: &Data<F>, w: &[F]) -> Result<Sys
     Ok(system(a, b, cost))
 }
 
-/// The system of a named program, by no operation but `neg`. `c` is the duality vector, which only `Benson` uses. The cost is the
-/// size of the system, which is dense: its equations times its unknowns, and for each column of the problem a search in each side
-/// and each row of the objectives.
+/// The system of a named program, by no operation but `neg`. `c` is the duality vector, which only
+/// `Benson` uses. The cost is the size of the system, which is dense: its equations times its
+/// unknowns, and for each column of the problem a search in each side and each row of the
+/// objectives.
 pub fn program<F: Field>(
     alloc: Global,
     form: &Data<F>,

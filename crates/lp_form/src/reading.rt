@@ -14,7 +14,6 @@ use lin_rows::cells::is_zero;
 use src_sink::{Items, NoMemory};
 use std::alloc::Global;
 
-/// A copy of a list.
 fn copy<F: Field>(alloc: Global, list: &[F]) -> Result<Items<F>, NoMemory>
     ensures { IfOk result (λ copy. copy ≡ list.now) }
 {
@@ -45,7 +44,7 @@ pub fn difference<F: Field>(alloc: Global, plus: &[F], negative: &[F]) -> Result
     Ok(w)
 }
 
-/// What stands behind w, where the cone is in dual form.
+/// What stands after w, where the cone is in dual form.
 fn behind<F: Field>(alloc: Global, cone: &ConeOf<F>, list: &[F]) -> Result<Items<F>, NoMemory>
     ensures { IfOk result
         (λ v. map F.value v ≡ kept_behind (cone_of F.value cone.now) (map F.value list.now)) }
@@ -72,8 +71,9 @@ fn split<F: Field>(alloc: Global, form: &Data<F>, z: &[F]) -> Result<Parts<F>, N
     Ok(Parts { u, w, v })
 }
 
-/// The parts of a solution `z`: w as the one of its two columns in each entry that is not 0, with its sign, and no sum; v where the
-/// ordering cone is in dual form. `Feasible` has u alone, and the programs of the cone have none of the three.
+/// The parts of a solution `z`: w as the one of its two columns in each entry that is not 0, with
+/// its sign, and no sum; v where the ordering cone is in dual form. `Feasible` has u alone, and the
+/// programs of the cone have none of the three.
 pub fn parts<F: Field>(
     alloc: Global,
     form: &Data<F>,
@@ -102,7 +102,8 @@ pub fn parts<F: Field>(
     }
 }
 
-/// The point that multipliers of the equations say, in the programs of the sides: those of the columns of the problem.
+/// The point that multipliers of the equations say, in the programs of the sides: those of the
+/// columns of the problem.
 pub fn choice<F: Field>(
     alloc: Global,
     form: &Data<F>,

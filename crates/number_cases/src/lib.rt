@@ -1,4 +1,5 @@
-//! Worked cases of fractions, sets of numbers, lists, and sources and sinks over std, and texts of representations: tests alone.
+//! Worked cases of fractions, sets of numbers, lists, and sources and sinks over std, and texts of
+//! representations: tests alone.
 #![tactic(auto)]
 
 #[cfg(test)]

@@ -40,7 +40,7 @@ use Rattle.outer_approx.proofs.Corner.{IsWay, is_corner, point, rows_full, ways}
 use Rattle.outer_approx.proofs.Lifted.{lifted}
 use Rattle.outer_approx.proofs.Numbers.{by_places, range_places, range_rises}
 
--- a `start` may stand behind a duality entry, and no other `start`
+-- a `start` may stand after a duality entry, and no other `start`
 pub start_in_order : (trail : List Entry) → IsTrue (has order.duality trail) → has order.start trail ≡ false → IsTrue (in_order trail order.start)
 start_in_order [] h k = absurd (true≢false (sym h))
 start_in_order (e ∷ trail) h k = both_hold _ _ (both_hold _ _ (both_hold _ _ (both_hold _ _ (ap not k) h) refl) refl) refl

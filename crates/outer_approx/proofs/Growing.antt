@@ -1,4 +1,4 @@
--- An open trail and an outer trail with one more entry, and the live generators behind it.
+-- An open trail and an outer trail with one more entry, and the live generators after it.
 use Rattle.std.proofs.Common.{◌≡◌, ℕ, suc, List, [], ◌∷◌, ◌++◌, map, length, All, Contains, refl, sym, ap, ap₂, ◌∙◌, subst, Bool, true, false, ◌||◌, ◌==◌, not, IsTrue, ◌⊎◌, inl, inr, Option, None, append-nil}
 use Rattle.std.specs.List.{cons_option, range_with_len}
 use Rattle.std.proofs.lemmas.List.Elements.{All-nil, All-cons, All-append, All-weaker, filter_map-append}
@@ -150,7 +150,7 @@ live_within task trail o started g live =
     stands.is_live.described.inside short).within)
 
 -- a live generator of a double description beside an outer trail, with zeros at the places of the lines, is a point or a direction,
--- which is live behind the trail under its number, and at which no row in use is negative
+-- which is live after the trail under its number, and at which no row in use is negative
 pub live_generator : (task : Task) (trail : List Entry) (dd : Description) → IsOuter task trail dd → (g : Numbered) → Contains dd.list.live g →
     let full = with_zeros (line_places task trail) g.vector in
     (v : List ℚ) × (t : Bool) × (full ≡ homogenised v (last_of t)) × (length v ≡ task.file.objs)

@@ -1,4 +1,4 @@
--- The lines of a log, behind its cuts.
+-- The lines of a log, after its cuts.
 use Rattle.std.proofs.Common.{◌≡◌, ℕ, ◌≤◌, ◌<◌, List, [], ◌∷◌, ◌++◌, map, length, All, AllPairs, Contains, IsTrue, true, false, true≢false, not, refl, sym, ap, ◌∙◌, subst}
 use Rattle.std.proofs.lemmas.List.{length-map, map-append}
 use Rattle.std.proofs.lemmas.List.Elements.{All-cons, All-nil, Contains-append_right}
@@ -44,7 +44,7 @@ earlier R (y ∷ before) x rest h = All-cons (λ z. R z x) y before
     (member_of (R y) (before ++ x ∷ rest) x (pairs-head R y (before ++ x ∷ rest) h) (Contains-append_right before (x ∷ rest) x (Contains-here x rest x refl)))
     (earlier R before x rest (pairs-tail R y (before ++ x ∷ rest) h))
 
--- a line may stand behind a duality entry, and before a `start`
+-- a line may stand after a duality entry, and before a `start`
 line_in_order : (trail : List Entry) → IsTrue (has order.duality trail) → has order.start trail ≡ false → IsTrue (in_order trail order.line)
 line_in_order [] h k = absurd (true≢false (sym h))
 line_in_order (t ∷ trail) h k = both_hold _ _ (both_hold _ _ (both_hold _ _ h refl) (ap not k)) refl

@@ -1,4 +1,4 @@
--- Facets that are named behind an outer trail, and the end behind them.
+-- Facets that are named after an outer trail, and the end after them.
 use Rattle.std.proofs.Common.{◌≡◌, ◌≢◌, ℕ, suc, ◌+◌, ◌-◌, ◌<◌, ◌≤◌, List, [], ◌∷◌, ◌++◌, map, length, All, AllPairs, Contains, true, false, true≢false, not, IsTrue, fold, refl, sym, ap, ap₂, ◌∙◌, subst, slice_index_or, append_assoc, append-nil, arith, Bool}
 use Rattle.std.specs.List.{filter_map, range_with_len}
 use Rattle.std.proofs.lemmas.Bool.{not-true}
@@ -64,7 +64,7 @@ in_range n k a b = (
   get_or-range_with_len 1 n (k - 1) k (omega (arith, a, b)) ∙ (let e : 1 + (k - 1) ≡ k = omega (arith, a) in e),
 )
 
--- ---- what stands behind names
+-- ---- what stands after names
 fold_naming : (q : ℕ) (s : State) (ks : List ℕ) → fold (after q) s (naming ks) ≡ s
 fold_naming q s [] = refl
 fold_naming q s (k ∷ ks) = fold_naming q s ks

@@ -63,7 +63,7 @@ says_cut value cut w gamma u v w_is gamma_is u_is v_is written =
     record { u = u; v = v; is = ap₂ (λ (x : List ℚ) (y : ℚ). Cut x y u v) w_is gamma_is; u_is = u_is; v_is = v_is; written = written }
 
 -- ---- a cut
--- a cut may stand behind a duality entry
+-- a cut may stand after a duality entry
 cut_in_order : (trail : List Entry) → IsTrue (has order.duality trail) → IsTrue (in_order trail order.cut)
 cut_in_order [] h = absurd (true≢false (sym h))
 cut_in_order (t ∷ trail) h = both_hold _ _ (both_hold _ _ (both_hold _ _ h refl) refl) refl

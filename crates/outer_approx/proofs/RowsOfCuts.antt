@@ -1,4 +1,4 @@
--- The row t ≥ 0 and those of cuts, one behind the other, without the entries at the places of lines.
+-- The row t ≥ 0 and those of cuts, one after the other, without the entries at the places of lines.
 use Rattle.std.proofs.Common.{◌≡◌, ℕ, suc, List, [], ◌∷◌, ◌++◌, map, length, Bool, sym, ap, ap₂, ◌∙◌}
 use Rattle.std.proofs.lemmas.List.{map-append}
 use Rattle.exact_field.specs.Rational.{ℚ, neg_ℚ, one_ℚ}

@@ -1,4 +1,4 @@
--- Cuts that are in use in their order, and what one more cut behind them changes.
+-- Cuts that are in use in their order, and what one more cut after them changes.
 use Rattle.std.proofs.Common.{◌≡◌, ℕ, zero, suc, ◌+◌, ◌-◌, ◌<◌, ◌≤◌, List, [], ◌∷◌, ◌++◌, map, length, Contains, refl, sym, ap, ap₂, ◌∙◌, arith, append_assoc, length-append, slice_index_or}
 use Rattle.std.specs.List.{range_with_len}
 use Rattle.std.proofs.Math.Seq.{get_or-append_seam}
@@ -66,7 +66,7 @@ first_used s es more cuts used =
     each [] = refl
     each (k ∷ ks) = ap₂ (λ (x : Inequality) (xs : List Inequality). x ∷ xs) (said s.cuts k) (each ks)
 
--- the row of the cut behind them
+-- the row of the cut after them
 pub next_row : (s : State) (es more : List Inequality) (e : Inequality) → map inequality s.cuts ≡ es ++ e ∷ more → cut_row s (length es + 1) ≡ row_of e
 next_row s es more e cuts =
     ap row_of (said s.cuts (length es + 1) ∙ ap (λ (all : List Inequality). said_at all (length es + 1)) cuts ∙ said_last es more e)

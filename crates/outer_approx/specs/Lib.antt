@@ -1,5 +1,5 @@
--- The subject: Task, Standing, Cuts, Preimages, Lines (the log as it grows), Unstarted (the logs that need no start).
--- What only serves proofs: First, Pairs, Lined.
+-- The subject: Task, Standing, Cuts, Preimages, Lines (the log as it grows), Unstarted (the logs
+-- that need no start). For the code's own steps: First, Pairs, Lined.
 pub mod Cuts
 pub mod First
 pub mod Lined

@@ -20,7 +20,7 @@ pub record RunsBothWays {F : Type 0} (value : F → ℚ) (task : Task) (line : L
   pub forth_is : IsPreimageOf value task.file task.c task.weights (told_by value line) false line.forth
   pub back_is : IsPreimageOf value task.file task.c task.weights (negated (told_by value line)) false line.back
 
--- the lines of an image behind cuts with these normals: each is a side of them and runs both ways,
+-- the lines of an image after cuts with these normals: each is a side of them and runs both ways,
 -- and the directions are in reduced echelon form
 pub record AreLinesFor {F : Type 0} (value : F → ℚ) (task : Task) (normals : List (List ℚ)) (ls : List (Line F)) : Type 0 where
   pub sides : All (λ line. IsSide task.file.objs normals (told_by value line)) ls

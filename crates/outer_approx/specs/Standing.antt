@@ -37,7 +37,7 @@ pub record IsOpenTrail (task : Task) (trail : List Entry) : Type 0 where
 abbrev pub cuts_of : Task → List Entry → List Inequality
 cuts_of task trail = map inequality (state task.file.objs trail).cuts
 
--- the rows in use behind a trail: row 0 and those of the cuts in use, in their order
+-- the rows in use after a trail: row 0 and those of the cuts in use, in their order
 abbrev pub rows_of_trail : Task → List Entry → List (List ℚ)
 rows_of_trail task trail = rows_in_use task.file.objs (state task.file.objs trail)
 

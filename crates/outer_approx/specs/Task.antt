@@ -22,6 +22,6 @@ pub record IsFitting (holds : ℚ → Bool) (task : Task) : Type 0 where
   pub base : IsBaseDuality task.file task.file.cone task.file.duality task.c task.weights
   pub held : IsHeldDuality holds task.c task.weights inverse
 
--- the setting of a call behind these entries, to which c is known
+-- the setting of a call after these entries, to which c is known
 abbrev pub behind : Task → List Entry → Setting
 behind task trail = record { file = task.file; c = Some task.c; weights = task.weights; trail = trail }

@@ -1,4 +1,4 @@
-//! The end of the log of an image, behind its named facets.
+//! The end of the log of an image, after its named facets.
 ghost use Rattle.std.specs.Prelude.{◌≡◌, ◌≢◌, ◌++◌, [], All, map, OnOk};
 ghost use Rattle.deriv_log.specs.declared.entry.Entry.TheVariants as entry_of;
 ghost use Rattle.log_rules.specs.Live.{preimages};
@@ -23,7 +23,8 @@ fn push_facets(trail: &mut Entries, facets: &[u32]) -> Result<(), NoMemory>
     Ok(())
 }
 
-/// Names the facets of an outer approximation all of whose live generators have pre-images, and ends its log.
+/// Names the facets of an outer approximation all of whose live generators have pre-images, and
+/// ends its log.
 pub fn end_solved<F: Field>(alloc: Global, trail: &mut Entries, dd: &Dd<F>) -> Result<(), NoMemory>
     ghost task: { Task }
     requires outer { IsOuter task trail.old dd.now }

@@ -1,5 +1,5 @@
-//! Benson's outer approximation as a log: how the log begins and grows by cuts and pre-images beside its double description, the start,
-//! the turns, the ends, and the logs that need no start.
+//! Benson's outer approximation as a log: how the log begins and grows by cuts and pre-images
+//! beside its double description, the start, the turns, the ends, and the logs that need no start.
 #![tactic(auto)]
 
 mod ends;

@@ -1,4 +1,5 @@
-//! The log of an outer approximation as it grows by cuts and pre-images beside its double description.
+//! The log of an outer approximation as it grows by cuts and pre-images beside its double
+//! description.
 ghost use Rattle.std.specs.Prelude.{◌≡◌, ◌≤◌, IfOk, map, ◌++◌, ◌∷◌, [], ℕ, List, All, IsTrue, OnOk, OnErr, length};
 ghost use Rattle.lp_form.specs.Sparse.{IsSparseOf};
 ghost use Rattle.outer_approx.specs.Cuts.{said_by, IsCutFor, SaysCut};
@@ -28,7 +29,8 @@ use overflows::{
 use src_sink::{Items, NoMemory};
 use std::alloc::Global;
 
-/// A line of the image, by a direction `d` of it, with what shows that `d` and its negative are directions.
+/// A line of the image, by a direction `d` of it, with what shows that `d` and its negative are
+/// directions.
 #[derive(Debug, Drop)]
 pub struct Line<F: Drop> {
     /// The direction: a number for each objective, of which the first that is not 0 is 1.
@@ -60,7 +62,7 @@ pub fn push_cut_entry<F: Field>(
     entries.push(Entry::Cut { w, gamma, u, v })
 }
 
-/// Appends a cut.
+/// Appends the entry of a cut.
 pub fn push_cut<F: Field>(alloc: Global, trail: &mut Entries, cut: &Cut<F>) -> Result<(), NoMemory>
     ghost task: { Task }
     requires trail { IsOpenTrail task trail.old }
@@ -175,7 +177,8 @@ fn with_cuts<F: Field>(alloc: Global, opening: Entry, cuts: &[Cut<F>]) -> Result
     Ok(trail)
 }
 
-/// The entries of a log that begins with a duality entry, and has these cuts and then these lines, each with the feasible point x.
+/// The entries of a log that begins with a duality entry, and has these cuts and then these lines,
+/// each with the feasible point x.
 pub fn open_trail<F: Field>(
     alloc: Global,
     opening: Entry,

@@ -13,14 +13,14 @@ use lp_form::Cut;
 use src_sink::{Items, NoMemory};
 use std::alloc::Global;
 
-/// Whether a number is 0.
 fn is_zero<F: Field>(x: F) -> bool
     ensures { result ≡ is_zero (F.value x) }
 {
     x.sign() == 0
 }
 
-/// The place of the first entry that is not 0, counted from 1, and one more than there are entries where there is none.
+/// The place of the first entry that is not 0, counted from 1, and one more than there are entries
+/// where there is none.
 fn leading_place<F: Field>(v: &[F]) -> usize
     requires { length v.now ≤ 4294967294 }
     ensures { result ≡ leading_place (map F.value v.now) }

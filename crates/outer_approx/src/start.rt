@@ -90,7 +90,7 @@ fn front_of<F: Field>(
     fractions(alloc, &entries[..places.len()])
 }
 
-/// Those of the generators from 2 on, one behind the other.
+/// Those of the generators from 2 on, one after the other.
 fn directions_of<F: Field>(
     alloc: Global,
     places: &[bool],
@@ -138,9 +138,9 @@ fn push_start<F: Field>(
     })
 }
 
-/// Brings the cuts of a trail into use, which with its lines are as many as there are objectives, and whose normals are independent
-/// without the entries at the places of the lines: the double description of the row `t >= 0` and their rows without these entries,
-/// and the entry `start`.
+/// Brings the cuts of a trail into use, which with its lines are as many as there are objectives,
+/// and whose normals are independent without the entries at the places of the lines: the double
+/// description of the row `t >= 0` and their rows without these entries, and the entry `start`.
 pub fn start_outer<F: Field>(
     alloc: Global,
     places: &[bool],

@@ -58,8 +58,9 @@ fn push_add(alloc: Global, trail: &mut Entries, cut: u32, pairs: &[Pair]) -> Res
     trail.push(Entry::Add { cut, pairs })
 }
 
-/// Brings one more cut into use, where the double description has no entries at the places of lines. After an overflow it stands behind the others and is not in use. After want of memory the double
-/// description may have its row where the trail does not have it in use.
+/// Brings one more cut into use, where the double description has no entries at the places of
+/// lines. After an overflow it stands after the others and is not in use. After want of memory the
+/// double description may have its row where the trail does not have it in use.
 pub fn take<F: Field>(
     alloc: Global,
     places: &[bool],
@@ -92,7 +93,8 @@ pub fn take<F: Field>(
     }
 }
 
-/// Brings one more cut into use, if its addition does not overflow, and answers whether it did: else all is as before.
+/// Brings one more cut into use, if its addition does not overflow, and answers whether it did:
+/// else all is as before.
 pub fn try_take<F: Field>(
     alloc: Global,
     places: &[bool],

@@ -36,8 +36,8 @@ pub fn infeasible_log(alloc: Global, u: Sparse) -> Result<Entries, NoMemory>
     Ok(entries)
 }
 
-/// The log that the image is everything, by its duality entry, a feasible point x, and a direction `ray` with the multipliers m of the
-/// generators of the ordering cone.
+/// The log that the image is everything, by its duality entry, a feasible point x, and a direction
+/// `ray` with the multipliers m of the generators of the ordering cone.
 pub fn whole_log(
     alloc: Global,
     opening: Entry,

@@ -17,7 +17,7 @@ IsStartLeft value rows (description.Elim fault) told = IsEliminationLeft value r
 IsStartLeft value rows (description.Left first second step left) told = Unit {0}
 IsStartLeft value rows description.NoMemory told = told ≡ NoMemory
 
--- .. and that of the addition of a row behind these, at the generators that it tells
+-- .. and that of the addition of a row after these, at the generators that it tells
 abbrev pub IsAdditionLeft : {F : Type 0} → (F → ℚ) → Family → List (List ℚ) → List ℚ → DdFault F → SolveFault → Type 0
 IsAdditionLeft value family before last (description.Left first second step left) told =
     IsLeftAt (Pair family (before ++ last ∷ []) first second step) (in_numbers value left) [] told

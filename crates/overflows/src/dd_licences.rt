@@ -21,7 +21,7 @@ use lin_rows::Rows;
 use src_sink::{Items, NoMemory};
 use std::alloc::Global;
 
-/// The rows of a double description and one behind them, in fractions.
+/// The rows of a double description and one after them, in fractions.
 fn vectors_with<F: Field>(alloc: Global, dd: &Dd<F>, last: &[F]) -> Result<Vectors, NoMemory>
     ensures { IfOk result (λ vectors. vectors ≡ dd.now.rows ++ map F.value last.now ∷ []) }
 {

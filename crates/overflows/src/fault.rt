@@ -8,7 +8,6 @@ use src_sink::NoMemory;
 pub enum SolveFault {
     /// An operation whose exact result is not held, with its licence.
     Left(Licence),
-    /// Want of memory.
     NoMemory,
 }
 

@@ -55,7 +55,7 @@ fn left_at<F: Field>(place: Place, left: Left<F>, trail: Entries) -> SolveFault
     })
 }
 
-/// The fault of the linear program `name`, behind the entries of a trail.
+/// The fault of the linear program `name`, after the entries of a trail.
 pub fn program_fault<F: Field>(
     alloc: Global,
     name: &LpName<F>,
@@ -91,7 +91,7 @@ pub fn program_fault<F: Field>(
     }
 }
 
-/// The fault of an elimination of rows, behind the entries of a trail.
+/// The fault of an elimination of rows, after the entries of a trail.
 pub fn elimination_fault<F: Field>(
     alloc: Global,
     rows: &Rows<F>,
@@ -128,7 +128,7 @@ pub fn elimination_fault<F: Field>(
     }
 }
 
-/// The overflow of a quotient of an entry of a vector, behind the entries of a trail.
+/// The overflow of a quotient of an entry of a vector, after the entries of a trail.
 pub fn scale_fault<F: Field>(
     alloc: Global,
     vector: &[F],
@@ -159,7 +159,7 @@ fn step_number(op: Op) -> u8
     }
 }
 
-/// The overflow of a sum of products, behind the entries of a trail. No memory is taken.
+/// The overflow of a sum of products, after the entries of a trail. No memory is taken.
 pub fn term_fault<F: Field>(alloc: Global, fault: SumFault<F>, trail: Entries) -> SolveFault
     ensures told { result ≡ fault_of.Left (record {
       place = place_of.Elim [] [] 0 fault.place (term_number fault.left.op);

@@ -45,7 +45,7 @@ pub earlier : (rows cols i j i' j' : ℕ) (cells : List Cell) → AreRising rows
 earlier rows cols i j i' j' [] h l e = tt
 earlier rows cols i j i' j' (c ∷ cells) h l e = (placed_earlier rows cols i j i' j' c h.0 l e, h.1)
 
--- ---- blocks: cells in the rows behind one row, up to another
+-- ---- blocks: cells in the rows after one row, up to another
 abbrev pub IsBlock : ℕ → ℕ → ℕ → List Cell → Type 0
 IsBlock cols after to cells = AreRising to cols after cols cells
 

@@ -15,7 +15,7 @@ use Rattle.poly_calc.proofs.Sums.{IsPlaced, AreRising}
 use Rattle.poly_calc.proofs.SideRows.{AreOfWidth, sides_wide}
 use Rattle.poly_calc.proofs.Blocks.{one_not_zero, IsBlock, earlier, block-append, block_cells, row_blocks, sum_row_block}
 
--- a cell behind another one of its row
+-- a cell after another one of its row
 placed_behind : (row cols j k : ℕ) (v : ℚ) → 1 ≤ row → j < k → k ≤ cols → is_zero v ≡ false → IsPlaced row cols row j (cell row k v)
 placed_behind row cols j k v l u h z = record {
   row_behind = omega arith;

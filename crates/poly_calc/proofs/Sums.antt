@@ -25,7 +25,7 @@ pub record IsPlaced (rows cols i j : ℕ) (c : Cell) : Type 0 where
   pub col_high : c.col ≤ cols
   pub not_zero : is_zero c.value ≡ false
 
--- from behind the place (i, j)
+-- all after the place (i, j)
 abbrev pub AreRising : ℕ → ℕ → ℕ → ℕ → List Cell → Type 0
 AreRising rows cols i j [] = Unit {0}
 AreRising rows cols i j (c ∷ cells) = IsPlaced rows cols i j c × AreRising rows cols c.row c.col cells

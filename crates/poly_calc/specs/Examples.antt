@@ -8,6 +8,7 @@ use Rattle.vlp_reader.specs.declared.problem.Problem.{Problem}
 use Rattle.poly_calc.specs.Made.{moved, unit_cells, negated_row, row_cells, sum_row, side_row, weights_row, join_row_bounds, join_col_bounds}
 use Rattle.poly_calc.specs.Sets.{IsInBoth, IsInSum, IsInJoin, IsInMap}
 
+-- -1, 2 and 3
 abbrev pub minus_one : ℚ
 minus_one = neg_ℚ one_ℚ
 
@@ -25,7 +26,7 @@ abbrev pub at_least_zero : Inequality
 at_least_zero = record { normal = one_ℚ ∷ zero_ℚ ∷ minus_one ∷ []; bound = zero_ℚ }
 
 -- ---- parts of matrices
--- a cell moved two rows and one column; a unit matrix behind one row; the negatives of the cells in
+-- a cell moved two rows and one column; a unit matrix after one row; the negatives of the cells in
 -- row 1, two columns further on; the entries of (1, 0, -1) from column 3 on; the first row of
 -- z - x - y in the plane; the row of a side in columns 2 to 4, with its multiplier in column 6, and
 -- that of a side with the bound 0; and, where z, x and y have one entry each, the row of k + l and the
@@ -67,6 +68,7 @@ pub record SetsExample (a b : Problem) : Type 0 where
   pub in_map : IsInMap a (two ∷ [])
   pub not_in_map : IsInMap a (three ∷ []) → ⊥
 
+-- so it is for these two intervals
 abbrev pub IntervalsExample : Type 0
 IntervalsExample =
     (a b : Problem) → IsInterval zero_ℚ one_ℚ a → IsInterval one_ℚ two b → SetsExample a b

@@ -20,7 +20,7 @@ use Rattle.vlp_reader.specs.declared.problem.Problem.{Problem}
 abbrev pub moved : ℕ → ℕ → List Cell → List Cell
 moved rows cols cells = map (λ c. cell (c.row + rows) (c.col + cols) c.value) cells
 
--- a unit matrix of n rows, behind so many rows
+-- a unit matrix of n rows, after so many rows
 abbrev pub unit_cells : ℕ → ℕ → List Cell
 unit_cells rows n = map (λ j. cell (rows + j) j one_ℚ) (numbers_from 1 n)
 
@@ -41,6 +41,7 @@ pub record IsNear (c : Cell) : Type 0 where
   pub col : c.col ≤ 100000
 
 -- ---- what all have in common
+-- a problem of these sizes, entries and bounds, which minimises one objective without entries
 pub record IsMade (made : Problem) (row_count col_count : ℕ) (cells : List Cell)
     (of_rows of_cols : List Bound) : Type 0 where
   pub dir : made.dir ≡ Min
@@ -59,6 +60,7 @@ pub record IsMade (made : Problem) (row_count col_count : ℕ) (cells : List Cel
 abbrev pub meet_cells : Problem → Problem → List Cell
 meet_cells a b = a.a ++ (moved a.rows 0 b.a ++ unit_cells (a.rows + b.rows) b.cols)
 
+-- the problem for what is feasible for both
 abbrev pub IsMeet : Problem → Problem → Problem → Type 0
 IsMeet a b made =
     IsMade made (a.rows + b.rows + b.cols) a.cols (meet_cells a b)
@@ -66,12 +68,15 @@ IsMeet a b made =
     a.col_bounds
 
 -- ---- image: z - P x = 0
+-- row i of this, by objective i of the file
 abbrev pub value_row : Problem → ℕ → List Cell
 value_row a i = cell i i one_ℚ ∷ negated_row i a.objs a.o
 
+-- the entries of its matrix: these rows, and then those of the file
 abbrev pub map_cells : Problem → List Cell
 map_cells a = flat_map (value_row a) (numbers_from 1 a.objs) ++ moved a.objs a.objs a.a
 
+-- the problem for the image of the feasible set under the objectives
 abbrev pub IsMap : Problem → Problem → Type 0
 IsMap a made =
     IsMade made (a.objs + a.rows) (a.objs + a.cols) (map_cells a)
@@ -79,6 +84,7 @@ IsMap a made =
     (replicate a.objs Free ++ a.col_bounds)
 
 -- ---- sum: z - x - y = 0
+-- row i of this, where z, x and y have n entries each
 abbrev pub sum_row : ℕ → ℕ → List Cell
 sum_row n i =
     cell i i one_ℚ
@@ -86,11 +92,13 @@ sum_row n i =
     ∷ cell i (n + n + i) (neg_ℚ one_ℚ)
     ∷ []
 
+-- the entries of its matrix: these rows, and then those of both files
 abbrev pub sum_cells : Problem → Problem → List Cell
 sum_cells a b =
     flat_map (sum_row a.cols) (numbers_from 1 a.cols)
     ++ (moved a.cols a.cols a.a ++ moved (a.cols + a.rows) (a.cols + a.cols) b.a)
 
+-- the problem for the sums of a feasible vector of each
 abbrev pub IsSum : Problem → Problem → Problem → Type 0
 IsSum a b made =
     IsMade made (a.cols + a.rows + b.rows) (a.cols + a.cols + a.cols) (sum_cells a b)
@@ -114,6 +122,7 @@ side_rows row col multiplier (side ∷ more) =
 abbrev pub weights_row : ℕ → List Cell
 weights_row n = cell (n + 1) (n + n + n + 1) one_ℚ ∷ cell (n + 1) (n + n + n + 2) one_ℚ ∷ []
 
+-- the entries of its matrix, where both parts have as many columns
 abbrev pub join_cells : Problem → Problem → List Cell
 join_cells a b =
     flat_map (sum_row a.cols) (numbers_from 1 a.cols)
@@ -129,9 +138,11 @@ join_row_bounds cols first second =
     replicate cols (Fixed zero_ℚ)
     ++ (Fixed one_ℚ ∷ (replicate first (Lower zero_ℚ) ++ replicate second (Lower zero_ℚ)))
 
+-- z, x and y are free, and k and l are at least 0
 abbrev pub join_col_bounds : ℕ → List Bound
 join_col_bounds cols = replicate (cols + cols + cols) Free ++ (Lower zero_ℚ ∷ Lower zero_ℚ ∷ [])
 
+-- the problem for the closed convex hull of both feasible sets
 abbrev pub IsJoin : Problem → Problem → Problem → Type 0
 IsJoin a b made =
     IsMade made (a.cols + 1 + length (sides a) + length (sides b)) (a.cols + a.cols + a.cols + 2)

@@ -29,7 +29,7 @@ pub(crate) fn push_moved(
     Ok(())
 }
 
-/// Appends a unit matrix, behind so many rows.
+/// Appends a unit matrix, after so many rows.
 pub(crate) fn push_units(cells: &mut Items<Cell>, rows: u32, count: u32) -> Result<(), NoMemory>
     requires rows { rows ≤ 100000 }
     requires count { count ≤ 100000 }

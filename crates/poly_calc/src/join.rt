@@ -91,8 +91,8 @@ fn join_bounds(alloc: Global, count: u32, first: u32, second: u32) -> Result<Bou
     Ok(Bounds { rows, cols })
 }
 
-/// A problem whose feasible vectors begin with those of the closed convex hull of both sets, that is
-/// with all means of a feasible vector of each, to which directions of each are added.
+/// A problem whose feasible vectors begin with those of the closed convex hull of both sets, that
+/// is with all means of a feasible vector of each, to which directions of each are added.
 pub fn join_file(alloc: Global, a: &Problem, b: &Problem) -> Result<Problem, NoMemory>
     requires first { HasFileSizes a.now }
     requires second { HasFileSizes b.now }

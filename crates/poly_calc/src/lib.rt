@@ -1,5 +1,6 @@
-//! Sets made of the feasible sets of problems: what is feasible for both, sums, closed convex hulls of
-//! both, and images, each as the projection of a made problem's feasible set on its first columns.
+//! Sets made of the feasible sets of problems: what is feasible for both, sums, closed convex hulls
+//! of both, and images, each as the projection of a made problem's feasible set on its first
+//! columns.
 #![tactic(auto)]
 
 mod cells;

@@ -39,7 +39,7 @@ fn map_matrix(alloc: Global, a: &Problem) -> Result<Items<Cell>, NoMemory>
     Ok(cells)
 }
 
-/// Its bounds.
+/// The bounds of its rows and columns.
 fn map_bounds(alloc: Global, a: &Problem) -> Result<Bounds, NoMemory>
     ensures rows { IfOk result (λ bounds.
         bounds.rows ≡ replicate a.now.objs (bound.Fixed zero_ℚ) ++ a.now.row_bounds) }

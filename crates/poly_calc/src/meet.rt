@@ -23,7 +23,7 @@ fn meet_matrix(alloc: Global, a: &Problem, b: &Problem) -> Result<Items<Cell>, N
     Ok(cells)
 }
 
-/// Its bounds.
+/// The bounds of its rows and columns.
 fn meet_bounds(alloc: Global, a: &Problem, b: &Problem) -> Result<Bounds, NoMemory>
     ensures rows { IfOk result (λ bounds.
         bounds.rows ≡ a.now.row_bounds ++ (b.now.row_bounds ++ b.now.col_bounds)) }

@@ -72,7 +72,7 @@ fn negative(alloc: Global, vector: &[Frac]) -> Result<Vector, NoMemory>
     Ok(turned)
 }
 
-/// Appends the rows of a bound's sides, from row `row` on. The row behind them.
+/// Appends the rows of a bound's sides, from row `row` on. The row after them.
 fn push_bound(
     alloc: Global,
     cells: &mut Items<Cell>,
@@ -194,7 +194,7 @@ fn push_col_sides(
     Ok(next)
 }
 
-/// Appends the rows of a problem's sides. The row behind them.
+/// Appends the rows of a problem's sides. The row after them.
 pub(crate) fn push_sides(
     alloc: Global,
     cells: &mut Items<Cell>,

@@ -65,7 +65,7 @@ fn sum_matrix(alloc: Global, a: &Problem, b: &Problem) -> Result<Items<Cell>, No
     Ok(cells)
 }
 
-/// Its bounds.
+/// The bounds of its rows and columns.
 fn sum_bounds(alloc: Global, a: &Problem, b: &Problem) -> Result<Bounds, NoMemory>
     ensures rows { IfOk result (λ bounds. bounds.rows
         ≡ replicate a.now.cols (bound.Fixed zero_ℚ) ++ (a.now.row_bounds ++ b.now.row_bounds)) }

@@ -68,6 +68,7 @@ pub record IsInQuadrant (v : List ℚ) : Type 0 where
   pub left : zero_ℚ ≤ℚ entry v 1
   pub below : zero_ℚ ≤ℚ entry v 2
 
+-- the inequality y ≥ 0
 abbrev pub lower_side : Inequality
 lower_side = record { normal = zero_ℚ ∷ one_ℚ ∷ []; bound = zero_ℚ }
 

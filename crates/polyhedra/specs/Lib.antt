@@ -1,3 +1,6 @@
+-- The subject: Vectors, Inequality, Cone, Hull, TightSets, DoubleDescription, LiveList, Exactness,
+-- FirstNamed, LowerImage, Image, Sparse. The laws beside them: Linear, Farkas, Duality, Dependence,
+-- Generators, LiveSteps, Negatives. Worked examples: Examples.
 pub mod Cone
 pub mod Dependence
 pub mod DoubleDescription

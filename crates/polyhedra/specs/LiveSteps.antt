@@ -18,6 +18,7 @@ pub record IsStep (rows : List (List ℚ)) (list : LiveList) (row : List ℚ) : 
   pub old_or_new : All (λ g. Contains list.live g ⊎ (first_new list ≤ g.number)) (step rows list row).live
   pub gone : All (λ k. Contains (numbers (step rows list row).live) k → ⊥) (dropped row list.live)
 
+-- each step of a rising list keeps this
 abbrev pub NumbersStay : Type 0
 NumbersStay = (rows : List (List ℚ)) (list : LiveList) (row : List ℚ) → IsRising list → IsStep rows list row
 

@@ -1,5 +1,5 @@
-// What is true of vectors, cones and hulls over the rational numbers. Each function is a law: it does
-// nothing, and its contract is the statement.
+//! What is true of vectors, cones and hulls over the rational numbers. Each function is a law: it
+//! does nothing, and its contract is the statement.
 #![tactic(auto)]
 
 ghost use Rattle.std.specs.Prelude.{List};
@@ -19,8 +19,8 @@ ghost use Rattle.polyhedra.specs.LowerImage.{VerticesAreFacets, OneLowerDirectio
 ghost use Rattle.polyhedra.specs.Negatives.{LowerOfNegatives, OfNegatives};
 ghost use Rattle.polyhedra.specs.Sparse.{ProductOfSparse};
 
-/// A set of vectors, and the directions in which it goes on for ever. A law over a region holds for every set; a
-/// proof that needs it for a set of its own cites the lemma of the same name.
+/// A set of vectors, and the directions in which it goes on for ever. A law over a region holds for
+/// every set; a proof that needs it for a set of its own cites the lemma of the same name.
 pub trait Region {
     ghost members: { List ℚ → Type 0 };
 
@@ -122,12 +122,14 @@ pub fn new_pairs_are_exact()
     ensures { NewPairsAreExact }
 {}
 
-/// One step of double description keeps the description of a cone: the law for any list of the pairs.
+/// One step of double description keeps the description of a cone: the law for any list of the
+/// pairs.
 pub fn one_addition()
     ensures { OneAddition }
 {}
 
-/// One step of double description keeps the description of a cone: the law for the pairs in their order.
+/// One step of double description keeps the description of a cone: the law for the pairs in their
+/// order.
 pub fn addition_describes()
     ensures { AdditionDescribes }
 {}
@@ -217,18 +219,20 @@ pub fn tight_sets_tell_apart()
     ensures { TightSetsTellApart }
 {}
 
-/// Nothing missing, nothing too much, without the facets: the points and directions of a set between an outer and an
-/// inner approximation that meet are its vertices and extreme directions.
+/// Nothing missing, nothing too much, without the facets: the points and directions of a set
+/// between an outer and an inner approximation that meet are its vertices and extreme directions.
 pub fn enclosed_are_represented<R: Region>()
     ensures { EnclosedAreRepresented R.members R.directions }
 {}
 
-/// Nothing missing, nothing too much: what cuts and generators show that meet the conditions on tight sets.
+/// Nothing missing, nothing too much: what cuts and generators show that meet the conditions on
+/// tight sets.
 pub fn exactness<R: Region>()
     ensures { Exactness R.members R.directions }
 {}
 
-/// The image of a polyhedron, widened by a convex cone (the members of the region), is a convex region.
+/// The image of a polyhedron, widened by a convex cone (the members of the region), is a convex
+/// region.
 pub fn image_is_convex<C: Region>()
     ensures { ImageIsConvex C.members }
 {}
@@ -238,7 +242,8 @@ pub fn rising_lists_are_equal<T>()
     ensures { RisingListsAreEqual T }
 {}
 
-/// A set has one list of vertices, one of normed extreme directions, and for each c one of facets, up to order.
+/// A set has one list of vertices, one of normed extreme directions, and for each c one of facets,
+/// up to order.
 pub fn uniqueness<R: Region>()
     ensures { Uniqueness R.members R.directions }
 {}
@@ -283,7 +288,8 @@ pub fn square_example()
     ensures { SquareExample }
 {}
 
-/// The quadrant as a cone, its extreme directions and its interior, and as a region that meets the conditions of exactness.
+/// The quadrant as a cone, its extreme directions and its interior, and as a region that meets the
+/// conditions of exactness.
 pub fn quadrant_example()
     ensures { QuadrantExample }
 {}

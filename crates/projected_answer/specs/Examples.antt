@@ -23,6 +23,7 @@ onward = record { y = n 1 ∷ minus_one ∷ []; pre = at 1 (n 1) ∷ [] }
 abbrev pub side : Facet
 side = record { w = n 0 ∷ n 1 ∷ []; gamma = minus_one; u = []; tight = [] }
 
+-- the answer that lists these
 abbrev pub half_line : Answer
 half_line = Solved (n 1 ∷ n 1 ∷ []) [] (origin ∷ []) (upward ∷ onward ∷ []) (side ∷ [])
 

@@ -13,7 +13,7 @@ use Rattle.projection.specs.Associated.{IsAssociated}
 use Rattle.projected_answer.specs.declared.found.Projection.{Projection}
 use Rattle.projected_answer.specs.declared.found.Projection.TheVariants.{Empty, Found}
 
--- a point or direction, and a line, without the entries behind the first k
+-- a point or direction, and a line, without the entries after the first k
 abbrev pub shortened : ℕ → Gen → Gen
 shortened k g = record { y = take k g.y; pre = g.pre }
 

@@ -11,6 +11,7 @@ use Rattle.projected_answer.specs.declared.found.Projection.TheVariants.{Empty, 
 abbrev pub side_line : Facet → List (List ℕ)
 side_line f = vector_line (codes "h") (f.w ++ f.gamma ∷ [])
 
+-- the name of what is found
 abbrev pub answer_name : Projection → List ℕ
 answer_name (Empty u) = codes "infeasible"
 answer_name (Found lines points directions sides) = codes "solved"
@@ -41,9 +42,11 @@ witness_lines (Found lines points directions sides) =
     ++ map (λ g. sparse_line (codes "x") g.pre) points
     ++ map (λ g. sparse_line (codes "r") g.pre) directions
 
+-- the words of each line
 abbrev pub projection_lines : ℕ → Projection → List (List (List ℕ))
 projection_lines k found =
     head_lines k found ++ set_lines found ++ (codes "witnesses" ∷ []) ∷ witness_lines found
 
+-- the text of a projection
 abbrev pub projection_text : ℕ → Projection → List ℕ
 projection_text k found = flat_map line_text (projection_lines k found)

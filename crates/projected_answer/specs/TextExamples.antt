@@ -14,6 +14,7 @@ triangle = Found []
     ∷ record { w = half ∷ half ∷ []; gamma = n 0; u = []; tight = 1 ∷ 2 ∷ [] }
     ∷ record { w = n 1 ∷ n 0 ∷ []; gamma = n 0; u = at 2 (n 1) ∷ []; tight = 1 ∷ [] } ∷ [])
 
+-- its text
 abbrev pub triangle_text : List (List ℕ)
 triangle_text =
     codes "projection 1" ∷ codes "answer solved" ∷ codes "columns 1" ∷ codes "lines 0"
@@ -28,6 +29,7 @@ line = Found
     (record { y = n 0 ∷ []; pre = [] } ∷ []) []
     (record { w = half ∷ half ∷ []; gamma = n 0; u = []; tight = 1 ∷ [] } ∷ [])
 
+-- its text
 abbrev pub line_text : List (List ℕ)
 line_text =
     codes "projection 1" ∷ codes "answer solved" ∷ codes "columns 1" ∷ codes "lines 1" ∷ codes "l 1"
@@ -38,11 +40,13 @@ line_text =
 abbrev pub empty : Projection
 empty = Empty (at 1 (n 1) ∷ at 3 half ∷ [])
 
+-- its text
 abbrev pub empty_text : List (List ℕ)
 empty_text =
     codes "projection 1" ∷ codes "answer infeasible" ∷ codes "columns 2" ∷ codes "witnesses"
     ∷ codes "u 2 1 1 3 1/2" ∷ []
 
+-- these texts
 pub record WorkedTexts : Type 0 where
   pub triangle_is : map words_text (projection_lines 1 triangle) ≡ triangle_text
   pub line_is : map words_text (projection_lines 1 line) ≡ line_text

@@ -7,8 +7,7 @@ use log_rules::{Facet, Gen, LineGen};
 use src_sink::{Items, NoMemory};
 use std::alloc::Global;
 
-/// The same list.
-pub(crate) fn same<T: Copy>(alloc: Global, list: &Items<T>) -> Result<Items<T>, NoMemory>
+pub(crate) fn copy_list<T: Copy>(alloc: Global, list: &Items<T>) -> Result<Items<T>, NoMemory>
     ensures { IfOk result (λ copy. copy ≡ list.now) }
 {
     let mut copy = Items::new(alloc);
@@ -37,40 +36,40 @@ fn front(alloc: Global, k: u32, vector: &Vector) -> Result<Vector, NoMemory>
     Ok(entries)
 }
 
-/// A point or direction without the entries behind the first k.
+/// A point or direction without the entries after the first k.
 pub(crate) fn short_gen(alloc: Global, k: u32, member: &Gen) -> Result<Gen, NoMemory>
     ensures { IfOk result (λ short. short ≡ shortened k member.now) }
 {
     Ok(Gen {
         y: front(alloc, k, &member.y)?,
-        pre: same(alloc, &member.pre)?,
+        pre: copy_list(alloc, &member.pre)?,
     })
 }
 
-/// A line without the entries behind the first k.
+/// A line without the entries after the first k.
 fn short_line(alloc: Global, k: u32, line: &LineGen) -> Result<LineGen, NoMemory>
     ensures { IfOk result (λ short. short ≡ shortened_line k line.now) }
 {
     Ok(LineGen {
         d: front(alloc, k, &line.d)?,
-        ray: same(alloc, &line.ray)?,
-        back: same(alloc, &line.back)?,
+        ray: copy_list(alloc, &line.ray)?,
+        back: copy_list(alloc, &line.back)?,
     })
 }
 
-/// The same facet.
+/// A copy of a facet.
 fn same_facet(alloc: Global, facet: &Facet) -> Result<Facet, NoMemory>
     ensures { IfOk result (λ copy. copy ≡ facet.now) }
 {
     Ok(Facet {
-        w: same(alloc, &facet.w)?,
+        w: copy_list(alloc, &facet.w)?,
         gamma: facet.gamma,
-        u: same(alloc, &facet.u)?,
-        tight: same(alloc, &facet.tight)?,
+        u: copy_list(alloc, &facet.u)?,
+        tight: copy_list(alloc, &facet.tight)?,
     })
 }
 
-/// All points without the entries behind the first k.
+/// All points without the entries after the first k.
 pub(crate) fn short_gens(alloc: Global, k: u32, members: &[Gen]) -> Result<Items<Gen>, NoMemory>
     ensures { IfOk result (λ short. short ≡ map (shortened k) members.now) }
 {
@@ -81,7 +80,7 @@ pub(crate) fn short_gens(alloc: Global, k: u32, members: &[Gen]) -> Result<Items
     Ok(short)
 }
 
-/// All lines without the entries behind the first k.
+/// All lines without the entries after the first k.
 pub(crate) fn short_lines(
     alloc: Global,
     k: u32,
@@ -96,7 +95,7 @@ pub(crate) fn short_lines(
     Ok(short)
 }
 
-/// The same facets.
+/// A copy of facets.
 pub(crate) fn same_facets(alloc: Global, facets: &[Facet]) -> Result<Items<Facet>, NoMemory>
     ensures { IfOk result (λ copy. copy ≡ facets.now) }
 {

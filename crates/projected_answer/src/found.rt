@@ -13,8 +13,8 @@ pub enum Projection {
     },
     /// The lines, points and directions of the projection, each with its choices, and the facets of
     /// the associated image, of which each is a side: a vector lies in the projection exactly where
-    /// it, followed by minus the sum of its entries, meets all of them. The tight numbers of a facet
-    /// are those of the associated image, whose further directions are numbered too.
+    /// it, followed by minus the sum of its entries, meets all of them. The tight numbers of a
+    /// facet are those of the associated image, whose further directions are numbered too.
     Found {
         lines: Items<LineGen>,
         points: Items<Gen>,

@@ -51,7 +51,7 @@ fn is_level(k: u32, direction: &Gen) -> bool
     begins_with(k, entries, direction.pre.as_slice()) && !begins_with(k, entries, &[])
 }
 
-/// The directions whose entries sum to 0, without the entries behind the first k.
+/// The directions whose entries sum to 0, without the entries after the first k.
 pub(crate) fn short_directions(
     alloc: Global,
     k: u32,

@@ -6,7 +6,6 @@ mod copies;
 mod found;
 mod laws;
 mod levels;
-mod lines;
 mod project;
 mod set;
 mod text;

@@ -2,22 +2,24 @@
 ghost use Rattle.std.specs.Prelude.{IfOk};
 ghost use Rattle.projected_answer.specs.Found.{AnswersAssociated, IsProjectionFrom};
 
-use crate::copies::{same, same_facets, short_gens, short_lines};
+use crate::copies::{copy_list, same_facets, short_gens, short_lines};
 use crate::found::Projection;
 use crate::levels::short_directions;
 use log_rules::Answer;
 use src_sink::NoMemory;
 use std::alloc::Global;
 
-/// The projection of a feasible set on its first k columns, from a right answer to the problem that is
-/// associated with it and with k: its lines, its points and those of its directions whose entries sum
-/// to 0, each without its last entry, and all its facets. No number is calculated.
+/// The projection of a feasible set on its first k columns, from a right answer to the problem that
+/// is associated with it and with k: its lines, its points and those of its directions whose
+/// entries sum to 0, each without its last entry, and all its facets. No number is calculated.
 pub fn project_answer(alloc: Global, k: u32, answer: &Answer) -> Result<Projection, NoMemory>
     requires { AnswersAssociated k answer.now }
     ensures { IfOk result (IsProjectionFrom k answer.now) }
 {
     match answer {
-        Answer::Infeasible { u } => Ok(Projection::Empty { u: same(alloc, u)? }),
+        Answer::Infeasible { u } => Ok(Projection::Empty {
+            u: copy_list(alloc, u)?,
+        }),
         Answer::Whole { .. } => unreachable!(),
         Answer::Solved {
             c: _,

@@ -5,8 +5,8 @@ ghost use Rattle.sol_writer.specs.Lines.{lines_text};
 ghost use Rattle.projected_answer.specs.Text.{answer_name, head_lines, set_lines, witness_lines, projection_text};
 
 use crate::found::Projection;
-use crate::lines::{put_counted, put_sparse_line};
 use crate::set::{put_found, put_shown};
+use sol_writer::{put_counted, put_sparse_line};
 use src_sink::{Bytes, NoMemory};
 use std::alloc::Global;
 
@@ -31,7 +31,7 @@ fn put_head(k: u32, found: &Projection, into: &mut Bytes) -> Result<(), NoMemory
     Ok(())
 }
 
-/// Appends the set.
+/// Appends the lines, points, directions and sides.
 fn put_set(found: &Projection, into: &mut Bytes) -> Result<(), NoMemory>
     ensures { OnOk result (into.new ≡ into.old ++ lines_text (set_lines found.now)) }
 {

@@ -32,7 +32,7 @@ beside i c j h = grind (arith, nat_tests)
 within : (m n i j : ℕ) → 1 ≤ i → i ≤ m → 1 ≤ j → j ≤ n → is_within m n i j ≡ true
 within m n i j a b c d = grind (arith, nat_tests)
 
--- the last row, behind a cell of the same row
+-- the last row, after a cell of the same row
 last_behind : (k n c s m : ℕ) → c < s → s + m ≤ suc n → cells_behind (suc k) n (suc k) c (last_row k s m) ≡ true
 last_behind k n c s zero h u = refl
 last_behind k n c s (suc m) h u =
@@ -41,7 +41,7 @@ last_behind k n c s (suc m) h u =
     (beside (suc k) c s h) (within (suc k) n (suc k) s (omega arith) (omega arith) (omega arith) (omega arith)) minus_one_kept
     (last_behind k n s (suc s) m (omega arith) (omega arith))
 
--- the whole last row, behind one of an earlier row
+-- the whole last row, after one of an earlier row
 last_whole : (k n r c s m : ℕ) → r < suc k → 1 ≤ s → s + m ≤ suc n → cells_behind (suc k) n r c (last_row k s m) ≡ true
 last_whole k n r c s zero h l u = refl
 last_whole k n r c s (suc m) h l u =

@@ -24,6 +24,7 @@ pub record IsInProjectedRecession (file : Problem) (k : ℕ) (d : List ℚ) : Ty
   pub recedes : IsRecession file choice
   pub begins : Begins k choice d
 
+-- an entry of a matrix, by its row and its column
 abbrev pub cell : ℕ → ℕ → ℚ → Cell
 cell row col value = record { row = row; col = col; value = value }
 

@@ -6,6 +6,7 @@ use Rattle.vlp_reader.specs.declared.problem.Bound.TheVariants.{Lower, Upper}
 use Rattle.vlp_reader.specs.declared.problem.Problem.{Problem}
 use Rattle.projection.specs.Associated.{Begins, IsInProjection, cell, associated_cells}
 
+-- the number -1
 abbrev pub minus_one : ℚ
 minus_one = whole (negsuc 0)
 

@@ -22,6 +22,7 @@ pub record AssociatedHas (k : ℕ) (file made : Problem) : Type 0 where
   pub same_sides : sides made ≡ sides file
   pub values : AreAssociated file.cols k (objectives made)
 
+-- so it is for every associated problem
 abbrev pub AssociatedIsAssociated : Type 0
 AssociatedIsAssociated = (k : ℕ) (file made : Problem) → k ≤ file.cols →
     IsAssociated k file made → AssociatedHas k file made
@@ -34,6 +35,7 @@ pub record IsSliceOf (k : ℕ) (file made : Problem) : Type 0 where
   pub directions : (d : List ℚ) → length d ≡ k →
       IsWorkingDirection made (spread d) ↔ IsInProjectedRecession file k d
 
+-- so it is for every associated problem
 abbrev pub ProjectionIsSliceOf : Type 0
 ProjectionIsSliceOf = (k : ℕ) (file made : Problem) → k ≤ file.cols → IsAssociated k file made →
     IsSliceOf k file made
@@ -52,6 +54,7 @@ pub record AreLevel (lines points : List (List ℚ)) : Type 0 where
   pub lines_level : All IsLevel lines
   pub points_level : All IsLevel points
 
+-- so it is where they describe this image exactly
 abbrev pub PointsAreLevel : Type 0
 PointsAreLevel = (k : ℕ) (file made : Problem) (c : List ℚ)
     (lines points directions : List (List ℚ)) (facets : List Inequality) → k ≤ file.cols →
@@ -67,7 +70,7 @@ LevelDirections = (k : ℕ) (file made : Problem) (c : List ℚ)
     (d x : List ℚ) → Contains directions d → IsDirectionPreimage made d x →
     IsLevel d ↔ (Begins k x (take k d) × (take k d ≡ zeros k → ⊥))
 
--- vectors without the entries behind the first k, and those whose entries sum to 0
+-- vectors without the entries after the first k, and those whose entries sum to 0
 abbrev pub fronts : ℕ → List (List ℚ) → List (List ℚ)
 fronts k vs = map (take k) vs
 

@@ -1,5 +1,5 @@
-//! What is true of associated problems. Each function is a law: it does nothing, and its contract is
-//! the statement.
+//! What is true of associated problems. Each function is a law: it does nothing, and its contract
+//! is the statement.
 ghost use Rattle.projection.specs.Examples.{AssociatedExample, ProjectionExample};
 ghost use Rattle.projection.specs.Laws.{AssociatedIsAssociated, LevelDirections, NeverWhole, PointsAreLevel, ProjectionIsCutOut, ProjectionIsHull, ProjectionIsSliceOf};
 

@@ -1,5 +1,5 @@
-//! The projection of a problem's feasible set on its first columns, by the associated problem, whose
-//! image has this projection as a slice.
+//! The projection of a problem's feasible set on its first columns, by the associated problem,
+//! whose image has this projection as a slice.
 #![tactic(auto)]
 
 mod laws;

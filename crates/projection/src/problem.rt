@@ -30,7 +30,7 @@ fn objectives(alloc: Global, k: u32) -> Result<Items<Cell>, NoMemory>
     Ok(cells)
 }
 
-/// The same cells.
+/// A copy of cells.
 fn same_cells(alloc: Global, cells: &Items<Cell>) -> Result<Items<Cell>, NoMemory>
     ensures { IfOk result (λ copy. copy ≡ cells.now) }
 {
@@ -39,7 +39,7 @@ fn same_cells(alloc: Global, cells: &Items<Cell>) -> Result<Items<Cell>, NoMemor
     Ok(copy)
 }
 
-/// The same bounds.
+/// A copy of bounds.
 fn same_bounds(alloc: Global, bounds: &Items<Bound>) -> Result<Items<Bound>, NoMemory>
     ensures { IfOk result (λ copy. copy ≡ bounds.now) }
 {

@@ -33,7 +33,7 @@ use Rattle.recession.proofs.Tail.{all_sides, tail_more, tail_none}
 use Rattle.recession.proofs.Whole.{complement_by_rank, full_rank_without, lines_by_rank}
 
 module _ {F : Type 0} (value : F → ℚ) (task : Task) where
-  -- some cuts with independent normals, and lines that are found behind them, together at most as many as there are objectives
+  -- some cuts with independent normals, and lines that are found after them, together at most as many as there are objectives
   pub record AreGrown (cuts : List (Cut F)) (ls : List (Line F)) : Type 0 where
     pub each : All (IsCutFor value task) cuts
     pub some : 1 ≤ length cuts

@@ -94,7 +94,7 @@ own_log holds task h log e =
     let proved = some_answer task.file log e.log e.base.meet in
     record { log = e.log; meet = e.base.meet; answer = proved.0; gives = proved.1.gives; possible = possible holds task h; base = e.base }
 
--- an overflow behind an open trail, which is that of its licence
+-- an overflow after an open trail, which is that of its licence
 pub licensed : (holds : ℚ → Bool) (task : Task) → IsFitting holds task → (trail : List Entry) (fault : SolveFault) → OnLicence fault (λ licence. IsOpenTrail task trail) →
     Overflows holds (behind task trail) trail fault → OnLicence fault (Licensed holds task.file task.c)
 licensed holds task h trail (Left licence) open_trail (own, overflow) =

@@ -1,4 +1,4 @@
--- The trail behind some cuts, and the licences of calls behind it.
+-- The trail after some cuts, and the licences of calls after it.
 use Rattle.std.proofs.Common.{◌≡◌, ℕ, List, [], ◌∷◌, ◌++◌, map, All, refl, sym, ap, ◌∙◌, subst, append_assoc, Bool}
 use Rattle.std.proofs.lemmas.List.{append-nil, map-append}
 use Rattle.std.proofs.lemmas.List.Elements.{All-head, All-tail}
@@ -21,7 +21,7 @@ use Rattle.outer_approx.specs.Cuts.{IsCutFor, SaysCut}
 use Rattle.outer_approx.specs.Task.{Task, IsFitting, behind}
 use Rattle.recession.specs.Further.{SayCuts, normals_of}
 
--- one more cut has its normal behind the others
+-- one more cut has its normal after the others
 normals-more : (q : ℕ) (trail : List Entry) (w : List ℚ) (gamma : ℚ) (u v : List Spot) →
     trail_normals q (trail ++ line.Cut w gamma u v ∷ []) ≡ trail_normals q trail ++ w ∷ []
 normals-more q trail w gamma u v =
@@ -32,14 +32,14 @@ module _ (holds : ℚ → Bool) (task : Task) (fitting : IsFitting holds task) w
   abbrev start : List Entry
   start = opening task.c task.weights fitting.picks fitting.inverse
 
-  -- the trail of these entries behind the opening
+  -- the trail of these entries after the opening
   abbrev pub trail_of : List Entry → List Entry
   trail_of entries = start ++ entries
 
   pub opens : IsBaseTrail task.file task.c task.weights start
   opens = trail_laws.opened task.file task.c task.weights fitting.picks fitting.inverse fitting.fits fitting.base
 
-  -- an overflow behind such a trail is licensed
+  -- an overflow after such a trail is licensed
   pub licensed : (entries : List Entry) → IsBaseTrail task.file task.c task.weights (trail_of entries) → (fault : SolveFault) →
       Overflows holds (behind task (trail_of entries)) entries fault → OnLicence fault (Licensed holds task.file task.c)
   licensed entries base (Left licence) (same, overflow) =

@@ -1,4 +1,4 @@
--- What is found behind some cuts and lines, fewer than there are objectives: one more cut, whose
+-- What is found after some cuts and lines, fewer than there are objectives: one more cut, whose
 -- normal is independent of theirs, or one more line.
 use Rattle.std.specs.Prelude.{ℕ, ◌≡◌, ◌≢◌, ◌<◌, ◌≤◌, ⊤, List, [], ◌∷◌, map, length, All}
 use Rattle.exact_field.specs.Rational.{ℚ, zero_ℚ}
@@ -44,7 +44,7 @@ pub record IsNextSide (q : ℕ) (normals vs : List (List ℚ)) (d : List ℚ) : 
   pub side : IsSide q normals d
   pub tail : AreTail q normals (d ∷ vs)
 
--- lines that were found behind cuts with these normals
+-- lines that were found after cuts with these normals
 pub record AreFound {F : Type 0} (value : F → ℚ) (task : Task) (normals : List (List ℚ)) (ls : List (LineOf F)) : Type 0 where
   pub both_ways : All (RunsBothWays value task) ls
   pub tail : AreTail task.file.objs normals (map (told_by value) ls)

@@ -27,7 +27,8 @@ pub enum Asked<F: Drop> {
     Reached(Preimage<F>),
 }
 
-/// What an optimum of Benson's program at `v` says: where its value, the last multiplier, is positive a cut, and else a pre-image.
+/// What an optimum of Benson's program at `v` says: where its value, the last multiplier, is
+/// positive a cut, and else a pre-image.
 fn read_off<F: Field>(
     alloc: Global,
     form: &Data<F>,
@@ -60,8 +61,9 @@ fn read_off<F: Field>(
     }
 }
 
-/// Asks at `v`, a point where `t` and else a direction, whether the image has it: a cut, or a pre-image. `c` is the duality vector, and
-/// the weights combine the generators of the ordering cone to it. What is kept of the last program shortens this one.
+/// Asks at `v`, a point where `t` and else a direction, whether the image has it: a cut, or a
+/// pre-image. `c` is the duality vector, and the weights combine the generators of the ordering
+/// cone to it. What is kept of the last program shortens this one.
 pub fn ask<F: Field>(
     alloc: Global,
     form: &Data<F>,

@@ -31,17 +31,17 @@ pub enum First<F: Drop> {
     Whole {
         /// A feasible point.
         x: Items<F>,
-        /// What shows it.
+        /// What shows that the image is everything.
         parts: WholeParts<F>,
     },
-    /// The image is neither.
+    /// The image is neither empty nor everything.
     Cuts {
         /// A feasible point.
         x: Items<F>,
         /// The lines of the image, each with what shows it.
         lines: Items<Line<F>>,
-        /// Cuts, with the lines as many as there are objectives. Without the entries at the places of
-        /// the lines their normals are independent.
+        /// Cuts, with the lines as many as there are objectives. Without the entries at the places
+        /// of the lines their normals are independent.
         cuts: Items<Cut<F>>,
     },
 }
@@ -133,9 +133,10 @@ fn first_of_solvable<F: Field>(
     }
 }
 
-/// How the description of an image begins: whether no point is feasible, whether the image is everything, and else its lines and its
-/// first cuts. `c` is the duality vector, and the weights combine the generators of the ordering cone to it. It costs at most twice as
-/// many linear programs as there are objectives, and keeps of them what shortens the next one.
+/// How the description of an image begins: whether no point is feasible, whether the image is
+/// everything, and else its lines and its first cuts. `c` is the duality vector, and the weights
+/// combine the generators of the ordering cone to it. It costs at most twice as many linear
+/// programs as there are objectives, and keeps of them what shortens the next one.
 pub fn first_cuts<F: Field>(
     alloc: Global,
     form: &Data<F>,

@@ -1,4 +1,4 @@
-//! What is found behind some cuts and lines: one more cut, or one more line.
+//! What is found after some cuts and lines: one more cut, or one more line.
 ghost use Rattle.std.specs.Prelude.{◌≡◌, ◌+◌, ◌<◌, false, [], List, map, length, reverse, All, IfOk, IfErr};
 ghost use Rattle.licence.specs.Preimages.{IsPreimageOf};
 ghost use Rattle.lp_form.specs.declared.shown.Cut.{Cut as CutOf};
@@ -25,16 +25,16 @@ use overflows::SolveFault;
 use src_sink::{Items, NoMemory};
 use std::alloc::Global;
 
-/// What is found behind some cuts and lines.
+/// What is found after some cuts and lines.
 #[derive(Debug, Drop)]
 pub enum Next<F: Drop> {
-    /// One more cut.
+    /// One more cut, whose normal is independent of theirs.
     Cut(Cut<F>),
     /// One more line.
     Line(Line<F>),
 }
 
-/// What is found behind cuts and lines at the negative of a direction `d` that has a pre-image.
+/// What is found after cuts and lines at the negative of a direction `d` that has a pre-image.
 fn opposite<F: Field>(
     alloc: Global,
     form: &Data<F>,
@@ -69,8 +69,8 @@ fn opposite<F: Field>(
     }
 }
 
-/// What is found behind cuts and lines, fewer than there are objectives. The lines stand in the order
-/// in which they were found.
+/// What is found after cuts and lines, fewer than there are objectives. The lines stand in the
+/// order in which they were found.
 fn cut_or_line<F: Field>(
     alloc: Global,
     form: &Data<F>,
@@ -102,8 +102,8 @@ fn cut_or_line<F: Field>(
     }
 }
 
-/// The entries of cuts, one each, in their order: with an overflow of an elimination of their normals
-/// they are its trail.
+/// The entries of cuts, one each, in their order: with an overflow of an elimination of their
+/// normals they are its trail.
 pub fn entries_of<F: Field>(alloc: Global, cuts: &[Cut<F>]) -> Result<Entries, NoMemory>
     ensures { IfOk result (SayCuts F.value cuts.now) }
 {
@@ -114,8 +114,8 @@ pub fn entries_of<F: Field>(alloc: Global, cuts: &[Cut<F>]) -> Result<Entries, N
     Ok(entries)
 }
 
-/// What is found behind cuts and lines, fewer than there are objectives. The lines stand in the order
-/// in which they were found. Where an operation overflows, its trail has the cuts.
+/// What is found after cuts and lines, fewer than there are objectives. The lines stand in the
+/// order in which they were found. Where an operation overflows, its trail has the cuts.
 pub(crate) fn next_of<F: Field>(
     alloc: Global,
     form: &Data<F>,

@@ -1,5 +1,5 @@
-//! How the description of an image begins: its lines and first cuts, or what shows that it has none,
-//! with the log that says so.
+//! How the description of an image begins: its lines and first cuts, or what shows that it has
+//! none, with the log that says so.
 #![tactic(auto)]
 
 mod across;

@@ -31,8 +31,8 @@ pub fn contradiction_log<F: Field>(alloc: Global, u: &[F]) -> Result<Entries, No
     Ok(log)
 }
 
-/// The log that the image is everything, by a feasible point, and by a direction along which the objectives fall by the duality
-/// vector.
+/// The log that the image is everything, by a feasible point, and by a direction along which the
+/// objectives fall by the duality vector.
 pub fn everything_log<F: Field>(
     alloc: Global,
     opening: Entry,

@@ -22,12 +22,12 @@ use Rattle.log_rules.specs.Runs.{Stops}
 use Rattle.log_rules.specs.declared.rule.Rule.TheVariants as rule
 use Rattle.log_rules.specs.declared.stop.Stop.{Stop}
 use Rattle.log_rules.proofs.TightTests.{pairs_are}
-use Rattle.log_tests.proofs.Going.{Passed, Stopped, test-passed}
+use Rattle.entry_checks.proofs.Going.{Passed, Stopped, test-passed}
 use Rattle.frac128.specs.Held.{is_held}
 use Rattle.log_rules.specs.Runs.{steps}
 use Rattle.log_rules.proofs.Failures.{steps-append}
 use Rattle.log_rules.proofs.Kept.{Earlier, find_is}
-use Rattle.log_tests.proofs.StepBounds.{steps-dot, steps-all}
+use Rattle.entry_checks.proofs.StepBounds.{steps-dot, steps-all}
 use Rattle.log_live.specs.Adding.{IsBetween, pair_named}
 use Rattle.log_live.specs.Live.{numbered_of, live_of, HasTightSet}
 use Rattle.log_live.specs.declared.generator.Generator.{Generator}

@@ -18,10 +18,10 @@ use Rattle.log_rules.specs.Events.Event.{test}
 use Rattle.log_rules.specs.Runs.{steps}
 use Rattle.log_rules.specs.declared.rule.Rule.{Rule}
 use Rattle.log_rules.specs.declared.rule.Rule.TheVariants as rule
-use Rattle.log_tests.specs.Parts.{corner_events}
-use Rattle.log_tests.proofs.Going.{first-passed}
-use Rattle.log_tests.proofs.RisingNumbers.{length-numbered, length-pieces, numbered-next}
-use Rattle.log_tests.proofs.StepBounds.{steps-dot, steps-each, steps-all, steps-tested}
+use Rattle.entry_checks.specs.Parts.{corner_events}
+use Rattle.entry_checks.proofs.Going.{first-passed}
+use Rattle.entry_checks.proofs.RisingNumbers.{length-numbered, length-pieces, numbered-next}
+use Rattle.entry_checks.proofs.StepBounds.{steps-dot, steps-each, steps-all, steps-tested}
 use Rattle.log_live.proofs.NewVectors.{same_zero}
 use Rattle.rep_conv.specs.Events.{tight_events, corners_events, generator_events, all_below}
 use Rattle.rep_conv.specs.Rows.{text_rows, row_at}

@@ -29,7 +29,7 @@ use Rattle.log_rules.proofs.PassedTests.{Passed, passed_of, both_pass, last_pass
 use Rattle.log_rules.proofs.HeldTests.{pass_both, pass_last, pass_each, pass_steps, pass_tests, pass_sum, same_passes, all_pass, rising_passes, contains_passes, not_contains_passes, all_numbered, place_cases}
 use Rattle.log_rules.proofs.TightTests.{pairs_are}
 use Rattle.log_rules.proofs.TightHeld.{pairs_pass}
-use Rattle.log_tests.specs.Parts.{corner_events}
+use Rattle.entry_checks.specs.Parts.{corner_events}
 use Rattle.word_lines.specs.declared.part.LogPair.{LogPair}
 use Rattle.rep_conv.specs.Rows.{text_rows, row_at}
 use Rattle.rep_conv.specs.Live.{State, state, rows_in_use}
@@ -63,19 +63,19 @@ none_fails holds n (step o a b ∷ es) h k =
     ∙ none_fails holds (suc n) es h (All-tail (IsHeldStep holds) (step o a b) es k)
 
 -- ---- line
-abbrev is_behind : List ℚ → List ℚ → Bool
-is_behind d e = nat_lt (leading_place e) (leading_place d) && is_zero (entry e (leading_place d))
+abbrev is_after : List ℚ → List ℚ → Bool
+is_after d e = nat_lt (leading_place e) (leading_place d) && is_zero (entry e (leading_place d))
 
 line-meets : (rep : Rep) (s : State) (d : List ℚ) → Passed (line_events rep s.lines d) → MeetsLine rep s d
 line-meets rep s d h =
-    let i = both_true (same_ℚ (leading d) one_ℚ) (list_all (is_behind d) s.lines) h.1.0 in
-    let each : All (λ e. is_behind d e ≡ true) s.lines = AllPass-from_list_all (is_behind d) s.lines i.1 in
+    let i = both_true (same_ℚ (leading d) one_ℚ) (list_all (is_after d) s.lines) h.1.0 in
+    let each : All (λ e. is_after d e ≡ true) s.lines = AllPass-from_list_all (is_after d) s.lines i.1 in
     record {
       lengths = eqb-true (length d) (suc rep.width) h.0;
       scaled = same_number (leading d) one_ℚ i.0;
-      rises = All-weaker (λ e. is_behind d e ≡ true) (λ e. leading_place e < leading_place d)
+      rises = All-weaker (λ e. is_after d e ≡ true) (λ e. leading_place e < leading_place d)
           (λ e p. (Decides-ltb (leading_place e) (leading_place d)).0 (both_true (nat_lt (leading_place e) (leading_place d)) (is_zero (entry e (leading_place d))) p).0) s.lines each;
-      clear = All-weaker (λ e. is_behind d e ≡ true) (λ e. entry e (leading_place d) ≡ zero_ℚ)
+      clear = All-weaker (λ e. is_after d e ≡ true) (λ e. entry e (leading_place d) ≡ zero_ℚ)
           (λ e p. zero_number (entry e (leading_place d)) (both_true (nat_lt (leading_place e) (leading_place d)) (is_zero (entry e (leading_place d))) p).1) s.lines each;
       corner = All-weaker (λ r. is_zero (dot r d) ≡ true) (λ r. IsTight r d) (λ r p. zero_number (dot r d) p) (text_rows rep)
           (each_test (λ r. dot_steps r d) rule.Corner (λ r. is_zero (dot r d)) (text_rows rep) h.1.1);
@@ -85,8 +85,8 @@ line-passes : (rep : Rep) (s : State) (d : List ℚ) → MeetsLine rep s d → P
 line-passes rep s d h = (
   eq-eqb (length d) (suc rep.width) h.lengths,
   (
-    both_hold (same_ℚ (leading d) one_ℚ) (list_all (is_behind d) s.lines) (same_passes (leading d) one_ℚ h.scaled)
-        (true-list_all (is_behind d) s.lines (all_of_members (λ e. is_behind d e ≡ true) s.lines (λ e c.
+    both_hold (same_ℚ (leading d) one_ℚ) (list_all (is_after d) s.lines) (same_passes (leading d) one_ℚ h.scaled)
+        (true-list_all (is_after d) s.lines (all_of_members (λ e. is_after d e ≡ true) s.lines (λ e c.
         both_hold (nat_lt (leading_place e) (leading_place d)) (is_zero (entry e (leading_place d)))
         ((Decides-ltb (leading_place e) (leading_place d)).1 (member_of (λ e. leading_place e < leading_place d) s.lines e h.rises c))
         (zero_passes (entry e (leading_place d)) (member_of (λ e. entry e (leading_place d) ≡ zero_ℚ) s.lines e h.clear c))))),
@@ -294,7 +294,7 @@ entry_passes : (holds : ℚ → Bool) (rep : Rep) (before : List ConvEntry) (e :
 entry_passes holds rep before e h k = none_fails holds 1 (events rep before e) (h.order, kind-passes rep (state rep before) e h.rules) k
 
 -- ---- the log
--- no event of an entry fails, for each of the entries behind those before it
+-- no event of an entry fails, for each of the entries after those before it
 abbrev NoneBehind : (ℚ → Bool) → Rep → List ConvEntry → List ConvEntry → Type 0
 NoneBehind holds rep before entries = (mid : List ConvEntry) (e : ConvEntry) (later : List ConvEntry) → entries ≡ mid ++ e ∷ later →
     first_failure holds 1 (events rep (before ++ mid) e) ≡ None

@@ -7,7 +7,7 @@ use Rattle.exact_field.specs.Vector.{dot}
 use Rattle.polyhedra.specs.LiveList.{Numbered, numbered, starting, tight_set}
 use Rattle.polyhedra.proofs.Order.{not_zero_of_positive}
 use Rattle.upper_image.specs.Spots.{pieces}
-use Rattle.log_tests.proofs.RisingNumbers.{length-pieces}
+use Rattle.entry_checks.proofs.RisingNumbers.{length-pieces}
 use Rattle.log_live.specs.Live.{AreLive, HasTightSet, live_of, numbered_of}
 use Rattle.log_live.specs.Starting.{IsAllBut}
 use Rattle.log_live.specs.declared.generator.Generator.{Generator}

@@ -23,7 +23,7 @@ use Rattle.rep_conv.specs.Giving.{IsGiven, front_at, side_of}
 use Rattle.representations.specs.Lined.{pinned}
 use Rattle.rep_conv.specs.Laws.{Stands, readers}
 use Rattle.rep_conv.specs.Live.{State, state, rows_in_use}
-use Rattle.rep_conv.specs.Progress.{StandsBehind}
+use Rattle.rep_conv.specs.Progress.{StandsAfter}
 use Rattle.rep_conv.specs.declared.progress.Standing.{Standing}
 use Rattle.rep_text.specs.declared.rep.Rep.{Rep}
 use Rattle.rep_text.specs.declared.conv.ConvEntry.{ConvEntry}
@@ -177,7 +177,7 @@ module _ (width : ℕ) (s : State) (lines vs : List (List ℚ)) (h : IsGiven wid
   rows_fit false false rows g = generators_fit width s (subst (λ (ls : List (List ℚ)). All (λ v. length v ≡ suc width) ls) h.lines_are h.lines_wide)
       (subst (λ (us : List (List ℚ)). All (λ v. length v ≡ suc width) us) h.live_are h.wide) rows g
 
--- rows that are listed one kind behind the other
+-- rows that are listed one kind after the other
 pub three_kinds : (r0 r1 r2 r3 : List RepRow) (a b d A B D : List (List ℚ)) → r0 ≡ [] → r1 ≡ r0 ++ as_rows Line a → r2 ≡ r1 ++ as_rows Point b → r3 ≡ r2 ++ as_rows Direction d →
     a ≡ A → b ≡ B → d ≡ D → r3 ≡ as_rows Line A ++ (as_rows Point B ++ as_rows Direction D)
 three_kinds r0 r1 r2 r3 a b d A B D e0 e1 e2 e3 f1 f2 f3 =
@@ -189,7 +189,7 @@ pub two_kinds : (r0 r1 r2 : List RepRow) (a b A B : List (List ℚ)) → r0 ≡ 
 two_kinds r0 r1 r2 a b A B e0 e1 e2 f1 f2 =
     e2 ∙ ap₂ (λ (r : List RepRow) (v : List (List ℚ)). r ++ as_rows Side v) (e1 ∙ ap₂ (λ (r : List RepRow) (v : List (List ℚ)). r ++ as_rows Equal v) e0 f1) f2
 
--- ---- so it is behind all entries
+-- ---- so it is after all entries
 module _ (rep : Rep) (s : State) (started : Bool) (stands : Stands rep s started) (early : started ≡ false → s.list.live ≡ []) where
   vectors_wide : (b : Bool) → started ≡ b → All (λ v. length v ≡ suc rep.width) (vectors s.list.live)
   vectors_wide true e = (stands.begun e).live.described.generators_wide.wide
@@ -216,9 +216,9 @@ pub kept_vectors : (gens : List Generator) → map (λ (g : Generator). g.vector
 kept_vectors [] = refl
 kept_vectors (g ∷ gens) = ap (λ vs. g.vector ∷ vs) (kept_vectors gens)
 
-pub given_behind : (rep : Rep) (entries : List ConvEntry) (standing : Standing) → StandsBehind rep entries standing → (vs : List (List ℚ)) →
+pub given_after : (rep : Rep) (entries : List ConvEntry) (standing : Standing) → StandsAfter rep entries standing → (vs : List (List ℚ)) →
     vs ≡ map (λ (g : Generator). g.vector) standing.generators.items → IsGiven rep.width (state rep entries) standing.lines vs
-given_behind rep entries standing h vs e =
+given_after rep entries standing h vs e =
     let s : State = state rep entries in
     subst (λ (p : List (List ℚ) × List (List ℚ)). IsGiven rep.width s p.0 p.1)
     (λ i. (sym h.holds.keeps.lines i, sym (e ∙ kept_vectors standing.generators.items ∙ ap vectors h.holds.keeps.list.live) i))

@@ -13,7 +13,7 @@ pub mod OneOther
 pub mod EventRules
 pub mod Marked
 pub mod FirstPlaces
-pub mod Behind
+pub mod After
 pub mod Taken
 pub mod GivenRows
 mod Examples

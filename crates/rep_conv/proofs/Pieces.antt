@@ -10,7 +10,7 @@ use Rattle.log_rules.specs.Events.{Event, first_failure}
 use Rattle.std.specs.Prelude.{Result, Ok, Err}
 use Rattle.log_rules.specs.Runs.{Runs, Stops, steps}
 use Rattle.log_rules.specs.declared.stop.Stop.{Stop}
-use Rattle.log_tests.proofs.Going.{Passed, Stopped}
+use Rattle.entry_checks.proofs.Going.{Passed, Stopped}
 
 -- a call went through these events, which are those
 pub came_as : (es fs : List Event) (start now : ℕ) → es ≡ fs → first_failure is_held (suc start) es ≡ None → now ≡ start + steps es → Passed fs start now
@@ -27,7 +27,7 @@ quotients_as z w d e f = ap (λ (q : ℚ). quotients_events q z) f ∙ ap quotie
 pub quotients_made : (z w : List ℚ) (d : ℚ) → z ≡ w → d ≡ magnitude (norming z) → map (λ x. x /ℚ d) z ≡ quotients w
 quotients_made z w d e f = ap (λ (q : ℚ). map (λ x. x /ℚ q) z) f ∙ ap quotients e
 
--- ---- what a call gives behind its events
+-- ---- what a call gives after its events
 pub gives_more : (es : List Event) (now : ℕ) (V W : Type 0) (result : Result (Unit {0}) Stop) → Runs is_held es 0 now (λ _. V) result → (first_failure is_held 1 es ≡ None → V → W) → Runs is_held es 0 now (λ _. W) result
 gives_more es now V W (Ok x) h f = (h.0, h.1, f h.0 h.2)
 gives_more es now V W (Err e) h f = h

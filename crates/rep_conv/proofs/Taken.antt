@@ -6,12 +6,12 @@ use Rattle.log_rules.specs.Events.{Failure, first_failure}
 use Rattle.log_live.proofs.LivePairs.{length-take_to}
 use Rattle.rep_conv.specs.Checked.{IsTaken}
 use Rattle.rep_conv.specs.Events.{conv_failure, events, first_failing}
-use Rattle.rep_conv.specs.Progress.{StandsBehind}
+use Rattle.rep_conv.specs.Progress.{StandsAfter}
 use Rattle.rep_conv.specs.declared.progress.Standing.{Standing}
 use Rattle.rep_text.specs.declared.rep.Rep.{Rep}
 use Rattle.rep_text.specs.declared.conv.ConvEntry.{ConvEntry}
 
-pub none_taken : (rep : Rep) (log : List ConvEntry) (standing : Standing) → StandsBehind rep [] standing → IsTaken rep log 0 standing
+pub none_taken : (rep : Rep) (log : List ConvEntry) (standing : Standing) → StandsAfter rep [] standing → IsTaken rep log 0 standing
 none_taken rep log standing h = record { stands = h; rest = refl }
 
 module _ (rep : Rep) (log : List ConvEntry) (i : ℕ) (standing : Standing) (e : ConvEntry) (h : IsTaken rep log i standing) (inside : i < length log) (is : e ≡ slice_index_or log i e) where
@@ -28,9 +28,9 @@ module _ (rep : Rep) (log : List ConvEntry) (i : ℕ) (standing : Standing) (e :
   ]
   at_entry = h.rest ∙ ap (λ es. first_failing is_held rep (take i log) es) behind
 
-  pub one_taken : (new : Standing) → first_failure is_held 1 (events rep (take i log) e) ≡ None → StandsBehind rep (take i log ++ e ∷ []) new → IsTaken rep log (i + 1) new
+  pub one_taken : (new : Standing) → first_failure is_held 1 (events rep (take i log) e) ≡ None → StandsAfter rep (take i log ++ e ∷ []) new → IsTaken rep log (i + 1) new
   one_taken new none stands = record {
-    stands = subst (λ (es : List ConvEntry). StandsBehind rep es new) (sym before) stands;
+    stands = subst (λ (es : List ConvEntry). StandsAfter rep es new) (sym before) stands;
     rest = at_entry
         ∙ ap (λ (o : Option Failure). elim o [
           | Some f ↦ Some (record { entry = suc (length (take i log)); failure = f })
@@ -53,11 +53,11 @@ module _ (rep : Rep) (log : List ConvEntry) (i : ℕ) (standing : Standing) (e :
   pub fails : (n : ℕ) (f : Failure) → n ≡ i + 1 → first_failure is_held 1 (events rep (take i log) e) ≡ Some f → conv_failure is_held rep log ≡ Some (record { entry = n; failure = f })
   fails n f same some = fails_at f some ∙ ap (λ (k : ℕ). Some (record { entry = k; failure = f })) (sym same)
 
-pub all_taken : (rep : Rep) (log : List ConvEntry) (i : ℕ) (standing : Standing) → i ≡ length log → IsTaken rep log i standing → (conv_failure is_held rep log ≡ None) × StandsBehind rep log standing
+pub all_taken : (rep : Rep) (log : List ConvEntry) (i : ℕ) (standing : Standing) → i ≡ length log → IsTaken rep log i standing → (conv_failure is_held rep log ≡ None) × StandsAfter rep log standing
 all_taken rep log i standing over h =
     let whole : take i log ≡ log = take_all i log (omega (arith, over)) in (
       h.rest ∙ ap (λ (es : List ConvEntry). first_failing is_held rep (take i log) es) (ended i log over),
-      subst (λ (es : List ConvEntry). StandsBehind rep es standing) whole h.stands,
+      subst (λ (es : List ConvEntry). StandsAfter rep es standing) whole h.stands,
     )
   where
     ended : (k : ℕ) (xs : List ConvEntry) → k ≡ length xs → drop k xs ≡ []

@@ -3,7 +3,7 @@ use Rattle.std.specs.Prelude.{◌≡◌, ⊤, ℕ, List, take, drop, Some}
 use Rattle.frac128.specs.Held.{is_held}
 use Rattle.log_rules.specs.Events.Failure.{wrong, left}
 use Rattle.rep_conv.specs.Events.{conv_failure, first_failing}
-use Rattle.rep_conv.specs.Progress.{StandsBehind}
+use Rattle.rep_conv.specs.Progress.{StandsAfter}
 use Rattle.rep_conv.specs.declared.check.ConvRefusal.{ConvRefusal}
 use Rattle.rep_conv.specs.declared.check.ConvRefusal.TheVariants as refusal
 use Rattle.rep_conv.specs.declared.progress.Standing.{Standing}
@@ -18,5 +18,5 @@ IsRefusal rep log refusal.NoMemory = ⊤
 
 -- no event of the first i entries fails
 pub record IsTaken (rep : Rep) (log : List ConvEntry) (i : ℕ) (standing : Standing) : Type 0 where
-  pub stands : StandsBehind rep (take i log) standing
+  pub stands : StandsAfter rep (take i log) standing
   pub rest : conv_failure is_held rep log ≡ first_failing is_held rep (take i log) (drop i log)

@@ -19,6 +19,7 @@ use Rattle.rep_text.specs.declared.conv.ConvEntry.{ConvEntry}
 use Rattle.rep_text.specs.declared.conv.ConvEntry.TheVariants as entry
 
 -- ---- representations
+-- a row of whole numbers
 abbrev pub row : RepKind → List ℤ → RepRow
 row kind xs = record { kind = kind; v = wholes xs }
 
@@ -87,6 +88,7 @@ one_number = record {
   fitting = refl;
 }
 
+-- the point 1
 abbrev pub one_point : Rep
 unfolding whole
 one_point = record {
@@ -110,6 +112,7 @@ half_plane = record {
   fitting = refl;
 }
 
+-- the line (1, 0), the point 0 and the direction (0, 1)
 abbrev pub line_and_way : Rep
 unfolding whole
 line_and_way = record {
@@ -157,6 +160,7 @@ no_number = record {
   fitting = refl;
 }
 
+-- no point
 abbrev pub nothing : Rep
 unfolding whole
 nothing = record {
@@ -226,6 +230,7 @@ pub record RowExamples : Type 0 where
   pub no_rows : text_rows no_point ≡ []
 
 -- ---- logs
+-- the rows 0 to 2 of the triangle, with their generators
 abbrev pub triangle_start : List ConvEntry
 triangle_start =
     entry.Conv 1
@@ -236,13 +241,16 @@ triangle_start =
 abbrev pub triangle_added : List LogPair → List ConvEntry
 triangle_added pairs = triangle_start ++ entry.Add 3 pairs ∷ []
 
+-- the log of the triangle
 abbrev pub triangle_log : List ConvEntry
 triangle_log = triangle_added (pair 1 2 ∷ pair 1 3 ∷ []) ++ entry.End ∷ []
 
+-- the same, and then the redundant row with these pairs
 abbrev pub redundant_log : List LogPair → List ConvEntry
 redundant_log pairs =
     triangle_added (pair 1 2 ∷ pair 1 3 ∷ []) ++ entry.Add 4 pairs ∷ entry.End ∷ []
 
+-- the log of the corners
 abbrev pub corners_log : List ConvEntry
 corners_log =
     entry.Conv 1
@@ -250,10 +258,12 @@ corners_log =
     (wholes (negsuc 0 ∷ negsuc 0 ∷ negsuc 0 ∷ pos 0 ∷ pos 1 ∷ pos 0 ∷ pos 1 ∷ pos 0 ∷ pos 0 ∷ []))
     ∷ entry.End ∷ []
 
+-- the rows 0 and 1 of z = 1, with their generators
 abbrev pub number_start : List ConvEntry
 number_start =
     entry.Conv 1 ∷ entry.Start (0 ∷ 1 ∷ []) (wholes (pos 1 ∷ pos 1 ∷ pos 1 ∷ pos 0 ∷ [])) ∷ []
 
+-- the log of z = 1
 abbrev pub number_log : List ConvEntry
 number_log = number_start ++ entry.Add 2 [] ∷ entry.End ∷ []
 
@@ -263,22 +273,27 @@ started_log lines rows gens =
     entry.Conv 1 ∷ map (λ d. entry.Line (wholes d)) lines
     ++ entry.Start rows (wholes gens) ∷ entry.End ∷ []
 
+-- the log of the half plane
 abbrev pub half_plane_log : List ConvEntry
 half_plane_log = started_log ((pos 1 ∷ pos 0 ∷ pos 0 ∷ []) ∷ []) (0 ∷ 1 ∷ [])
     (pos 0 ∷ pos 0 ∷ pos 1 ∷ pos 0 ∷ pos 1 ∷ pos 0 ∷ [])
 
+-- two vectors at which the row (1, 2, -1) of the point is 0
 abbrev pub first_line : List ℤ
 first_line = pos 1 ∷ pos 0 ∷ pos 1 ∷ []
 
 abbrev pub second_line : List ℤ
 second_line = pos 0 ∷ pos 1 ∷ pos 2 ∷ []
 
+-- with these lines, and the one generator of row 0
 abbrev pub point_log : List (List ℤ) → List ℤ → List ConvEntry
 point_log lines gens = started_log lines (0 ∷ []) gens
 
+-- the log of the point (1, 2)
 abbrev pub equations_log : List ConvEntry
 equations_log = point_log (first_line ∷ second_line ∷ []) (pos 0 ∷ pos 0 ∷ negsuc 0 ∷ [])
 
+-- a log without a row
 abbrev pub no_rows_log : List ConvEntry
 no_rows_log = entry.Conv 1 ∷ entry.End ∷ []
 
@@ -304,7 +319,7 @@ pub record AddedLogs : Type 0 where
 
 -- lines in falling order, one too few, one at which a row is not 0, and one that does not begin with
 -- 1; a generator that is not reduced, not normed, and of the other sign; another version, no `conv`,
--- no `start`, a line behind the start, and a line where there are no rows; and a product that is not
+-- no `start`, a line after the start, and a line where there are no rows; and a product that is not
 -- held
 pub record StartedLogs : Type 0 where
   pub lines_fall : Fails plane_point
@@ -345,6 +360,7 @@ pub record WholeLogs : Type 0 where
   pub to_nothing : ConvertsTo no_number number_log nothing
   pub from_nothing : ConvertsTo no_point no_rows_log nothing_meets_it
 
+-- all of these
 pub record ConversionExamples : Type 0 where
   pub rows : RowExamples
   pub added : AddedLogs

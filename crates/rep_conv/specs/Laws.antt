@@ -35,7 +35,7 @@ pub record GeneratorsStand (rep : Rep) (s : State) : Type 0 where
   pub live : IsLive (suc rep.width) (pinned (readers rep s) (rows_in_use rep s)) s.list
   pub exist : All (λ k. k < length (text_rows rep)) s.used
 
--- the lines always, and the generators behind a `start`
+-- the lines always, and the generators after a `start`
 pub record Stands (rep : Rep) (s : State) (started : Bool) : Type 0 where
   pub lines : LinesStand rep s.lines
   pub begun : started ≡ true → GeneratorsStand rep s

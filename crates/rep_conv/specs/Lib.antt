@@ -1,3 +1,6 @@
+-- The subject: Sets and Rows (representations), Live, Meets and Events (the rules of logs),
+-- Converted, Laws, Checked (what the check says). Worked examples: Examples. For the code's own
+-- steps: Starting, Adding, Progress, Giving.
 pub mod Sets
 pub mod Rows
 pub mod Live

@@ -15,6 +15,7 @@ pub record State : Type 0 where
   pub used : List ℕ
   pub list : LiveList
 
+-- what stands before any entry
 abbrev pub nothing : State
 nothing = record { lines = []; used = []; list = starting 1 [] }
 
@@ -32,5 +33,6 @@ after rep s (Add row _) =
     record s { used = s.used ++ row ∷ []; list = step (rows_in_use rep s) s.list (row_at rep row) }
 after rep s _ = s
 
+-- what stands after some entries
 abbrev pub state : Rep → List ConvEntry → State
 state rep entries = fold (after rep) nothing entries

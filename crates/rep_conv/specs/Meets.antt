@@ -1,4 +1,4 @@
--- What an entry of a conversion must meet behind the entries before it: rule by rule, over exact
+-- What an entry of a conversion must meet after the entries before it: rule by rule, over exact
 -- numbers, in no order.
 use Rattle.std.specs.Prelude.{◌≡◌, ◌≢◌, ℕ, suc, ◌+◌, ◌*◌, ◌<◌, ◌==◌, Bool, true, false, not, ◌&&◌, IsTrue, List, [], ◌∷◌, ◌++◌, map, length, All, AllPairs, Contains, slice_index_or}
 use Rattle.std.specs.List.{list_any}
@@ -22,10 +22,11 @@ abbrev pub is_start : ConvEntry → Bool
 is_start (Start _ _) = true
 is_start _ = false
 
+-- and whether one of these is
 abbrev pub has_start : List ConvEntry → Bool
 has_start before = list_any is_start before
 
--- an entry that stands behind a `start` alone
+-- an entry that stands after a `start` alone
 abbrev pub needs_start : ConvEntry → Bool
 needs_start (Add _ _) = true
 needs_start _ = false
@@ -34,6 +35,7 @@ needs_start _ = false
 abbrev pub has_begun : List ConvEntry → Bool
 has_begun before = not (length before == 0)
 
+-- whether an entry may stand after these, where there are rows or none
 abbrev pub in_order : Bool → List ConvEntry → ConvEntry → Bool
 in_order some before (Conv n) = not (has_begun before)
 in_order some before (Line d) = some && has_begun before && not (has_start before)
@@ -77,6 +79,7 @@ abbrev pub MeetsEnd : Rep → State → Type 0
 MeetsEnd rep s = (k : ℕ) → k < length (text_rows rep) → Contains s.used k
 
 -- ---- all kinds
+-- the rules of each kind of entry
 abbrev pub MeetsKind : Rep → State → ConvEntry → Type 0
 MeetsKind rep s (Conv n) = n ≡ 1
 MeetsKind rep s (Line d) = MeetsLine rep s d
@@ -84,11 +87,12 @@ MeetsKind rep s (Start rows gens) = MeetsStart rep s rows gens
 MeetsKind rep s (Add row pairs) = MeetsAdd rep s row pairs
 MeetsKind rep s End = MeetsEnd rep s
 
+-- an entry stands in order, and meets the rules of its kind
 pub record Meets (rep : Rep) (before : List ConvEntry) (e : ConvEntry) : Type 0 where
   pub order : IsTrue (in_order (has_rows rep) before e)
   pub rules : MeetsKind rep (state rep before) e
 
--- each entry meets its rules behind those before it
+-- each entry meets its rules after those before it
 abbrev pub AllMeet : Rep → List ConvEntry → Type 0
 AllMeet rep entries = (before : List ConvEntry) (e : ConvEntry) (after : List ConvEntry) →
     entries ≡ before ++ e ∷ after → Meets rep before e

@@ -1,4 +1,4 @@
--- What the checker of a conversion keeps of what stands behind some entries.
+-- What the checker of a conversion keeps of what stands after some entries.
 use Rattle.std.specs.Prelude.{◌≡◌, ◌≤◌, false, List, [], length}
 use Rattle.log_live.specs.Live.{AreLive}
 use Rattle.rep_conv.specs.Laws.{Stands}
@@ -24,8 +24,8 @@ pub record Holds (rep : Rep) (s : State) (standing : Standing) : Type 0 where
   pub keeps : Keeps rep s standing
   pub stands : Stands rep s standing.started
 
--- so it is behind these entries; before a `start` there are no generators
-pub record StandsBehind (rep : Rep) (before : List ConvEntry) (standing : Standing) : Type 0 where
+-- so it is after these entries; before a `start` there are no generators
+pub record StandsAfter (rep : Rep) (before : List ConvEntry) (standing : Standing) : Type 0 where
   pub holds : Holds rep (state rep before) standing
   pub started : standing.started ≡ has_start before
   pub early : standing.started ≡ false → (state rep before).list.live ≡ []

@@ -19,6 +19,7 @@ side_row row = homogenised (normal_of row) (neg_ℚ (bound_of row))
 abbrev pub both_signs : List ℚ → List (List ℚ)
 both_signs r = r ∷ negated r ∷ []
 
+-- the rows of one inequality or equation, of a line, a point or a direction
 abbrev pub rows_of_kind : RepKind → RepRow → List (List ℚ)
 rows_of_kind Side row = side_row row ∷ []
 rows_of_kind Equal row = both_signs (side_row row)
@@ -26,6 +27,7 @@ rows_of_kind Line row = both_signs (homogenised row.v zero_ℚ)
 rows_of_kind Point row = homogenised row.v (neg_ℚ one_ℚ) ∷ []
 rows_of_kind Direction row = homogenised row.v zero_ℚ ∷ []
 
+-- those of all, in their order
 abbrev pub rows_from : Rep → List (List ℚ)
 rows_from rep = flat_map (λ row. rows_of_kind row.kind row) rep.rows
 
@@ -33,6 +35,8 @@ rows_from rep = flat_map (λ row. rows_of_kind row.kind row) rep.rows
 abbrev pub has_point : Rep → Bool
 has_point rep = list_any (λ row. is_kind Point row.kind) rep.rows
 
+-- these of points, directions and lines, and none without a point; of inequalities and equations
+-- that of t ≥ 0 first
 abbrev pub rows_under : Bool → Rep → List (List ℚ)
 rows_under true rep = if has_point rep then rows_from rep else []
 rows_under false rep = level rep.width ∷ rows_from rep
@@ -42,6 +46,7 @@ rows_under false rep = level rep.width ∷ rows_from rep
 abbrev pub text_rows : Rep → List (List ℚ)
 text_rows rep = rows_under rep.gens rep
 
+-- row number k
 abbrev pub row_at : Rep → ℕ → List ℚ
 row_at rep k = slice_index_or (text_rows rep) k []
 

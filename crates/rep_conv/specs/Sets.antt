@@ -39,6 +39,7 @@ pub record MeetsAllRows (rep : Rep) (z : List ℚ) : Type 0 where
   pub wide : length z ≡ rep.width
   pub meets : All (λ row. MeetsRow z row row.kind) rep.rows
 
+-- the set by points, directions and lines, or by inequalities and equations
 abbrev pub IsInSet : Bool → Rep → List ℚ → Type 0
 IsInSet true rep z =
     IsInHull rep.width (vectors_of Point rep) (vectors_of Direction rep) (vectors_of Line rep) z

@@ -6,7 +6,7 @@ ghost use Rattle.frac128.specs.Held.{is_held};
 ghost use Rattle.log_rules.specs.Events.{dot_steps, meeting_point, same_pairs};
 ghost use Rattle.log_rules.specs.Events.Event.{test};
 ghost use Rattle.log_rules.specs.Live.{required_pairs};
-ghost use Rattle.log_rules.specs.Runs.{Runs, steps};
+ghost use Rattle.log_rules.specs.Runs.{Runs, RunsAll, steps};
 ghost use Rattle.log_rules.specs.declared.rule.Rule.TheVariants as rule;
 ghost use Rattle.log_live.specs.Adding.{AreNew, IsBetween, pair_named};
 ghost use Rattle.log_live.specs.Live.{live_of};
@@ -15,15 +15,15 @@ ghost use Rattle.polyhedra.specs.LiveList.{LivePair, live_pairs};
 ghost use Rattle.rep_conv.specs.Adding.{AreAtRow, IsChange, between_steps, quotients, values_at};
 ghost use Rattle.rep_conv.specs.Events.{added_events, pair_of};
 
-use crate::start::norming;
+use crate::start::norming_entry;
+use entry_checks::{Steps, magnitude, pass};
 use exact_field::Field;
 use frac128::{Frac, Vector};
 use log_live::{
     Generator, append, append_generator, common_and_next, divided, has_pairs, meeting, no_rows,
-    number_behind, place_of,
+    number_after, place_of,
 };
 use log_rules::{Rule, Stop};
-use log_tests::{Steps, magnitude, pass};
 use src_sink::{Items, NoMemory};
 use std::alloc::Global;
 use word_lines::LogPair;
@@ -33,7 +33,7 @@ use word_lines::LogPair;
 pub struct Change {
     /// The values of the row at the live generators.
     pub values: Items<Frac>,
-    /// The new generators.
+    /// The new generators, one for each pair.
     pub made: Vec<Generator>,
     /// The number that the next new one gets.
     pub next: u32,
@@ -123,7 +123,7 @@ fn new_vector(
     let k = counter.div(at_plus, at_minus.neg())?;
     let sum = meeting(alloc, counter, k, plus, minus)?;
     let z = sum.as_slice();
-    let by = magnitude(norming(z));
+    let by = magnitude(norming_entry(z));
     divided(alloc, counter, by, z)
 }
 
@@ -190,14 +190,14 @@ fn new_generators(
 {
     let mut made = Vec::new(alloc);
     for i in 0..pairs.len() {
-        let number = number_behind(next, i)?;
+        let number = number_after(next, i)?;
         let generator = new_generator(alloc, counter, generators, values, pairs[i], number)?;
         append_generator(&mut made, generator)?;
     }
     Ok(made)
 }
 
-/// What an `add` entry changes, by its events behind the test of its number: the values of the row,
+/// What an `add` entry changes, by its events after the test of its number: the values of the row,
 /// the test of the pairs, and the new generators. The cost is at the worst that of the opposite
 /// pairs times the generators times the words of a tight set.
 pub fn change_at(
@@ -210,8 +210,7 @@ pub fn change_at(
     requires at_row { (width : ℕ) × (rows : List (List ℚ))
         × AreAtRow width rows row.now generators.now }
     ensures { (width : ℕ) (rows : List (List ℚ)) → AreAtRow width rows row.now generators.now
-        → Runs is_held (added_events rows (live_of generators.now) row.now pairs.now) 0
-        (steps (added_events rows (live_of generators.now) row.now pairs.now))
+        → RunsAll is_held (added_events rows (live_of generators.now) row.now pairs.now)
         (IsChange rows row.now generators.now pairs.now next) result }
 {
     let mut counter = Steps { taken: 0 };
@@ -219,10 +218,10 @@ pub fn change_at(
     let at_row = values.as_slice();
     test_pairs(alloc, generators, at_row, pairs)?;
     let made = new_generators(alloc, &mut counter, generators, at_row, pairs, next)?;
-    let behind = number_behind(next, pairs.len())?;
+    let after = number_after(next, pairs.len())?;
     Ok(Change {
         values,
         made,
-        next: behind,
+        next: after,
     })
 }

@@ -5,13 +5,13 @@ ghost use Rattle.log_rules.specs.Runs.{Stops};
 ghost use Rattle.rep_conv.specs.Checked.{IsRefusal, IsTaken};
 ghost use Rattle.rep_conv.specs.Converted.{Gives, IsOther};
 ghost use Rattle.rep_conv.specs.Events.{conv_failure, events};
-ghost use Rattle.rep_conv.specs.Progress.{StandsBehind};
+ghost use Rattle.rep_conv.specs.Progress.{StandsAfter};
 ghost use Rattle.rep_text.specs.declared.conv.ConvEntry.{ConvEntry};
 ghost use Rattle.rep_text.specs.declared.conv.ConvEntry.TheVariants.{End};
 ghost use Rattle.rep_conv.specs.declared.progress.Standing.{Standing};
 ghost use Rattle.rep_text.specs.declared.rep.Rep.{Rep};
 
-use crate::giving::other_behind;
+use crate::giving::other_rep_after;
 use crate::progress::Standing;
 use exact_field::Left;
 use frac128::Frac;
@@ -82,12 +82,12 @@ fn take_at(
     }
 }
 
-/// Goes through all entries of a log: the tests and steps of each in their order. What stands behind
+/// Goes through all entries of a log: the tests and steps of each in their order. What stands after
 /// them is right where none fails; else it is told which is the first. The cost is that of the
 /// entries one by one.
 pub fn check_entries(alloc: Global, rep: &Rep, log: &[ConvEntry]) -> Result<Standing, ConvRefusal>
     ensures ok { IfOk result (λ standing. (conv_failure is_held rep.now log.now ≡ None)
-        × StandsBehind rep.now log.now standing) }
+        × StandsAfter rep.now log.now standing) }
     ensures err { IfErr result (IsRefusal rep.now log.now) }
 {
     let mut standing = Standing::new(alloc, rep)?;
@@ -107,6 +107,6 @@ pub fn check_conv(alloc: Global, rep: &Rep, log: &ConvLog) -> Result<Rep, ConvRe
     ensures err { IfErr result (IsRefusal rep.now log.now) }
 {
     let standing = check_entries(alloc, rep, log.as_slice())?;
-    let found = other_behind(alloc, rep, &standing)?;
+    let found = other_rep_after(alloc, rep, &standing)?;
     Ok(found)
 }

@@ -27,8 +27,7 @@ pub fn set_of(alloc: Global, bound: u32, numbers: &[u32]) -> Result<Marks, NoMem
     Ok(marks)
 }
 
-/// A copy of a vector.
-pub fn copied(alloc: Global, v: &[Frac]) -> Result<Vector, NoMemory>
+pub fn copy_vector(alloc: Global, v: &[Frac]) -> Result<Vector, NoMemory>
     ensures { IfOk result (λ copy. copy ≡ v.now) }
 {
     let mut copy = Items::new(alloc);
@@ -36,8 +35,8 @@ pub fn copied(alloc: Global, v: &[Frac]) -> Result<Vector, NoMemory>
     Ok(copy)
 }
 
-/// The first generator of this place, counted from 0: of `count` rows that of its place alone is not
-/// tight at it.
+/// The first generator of this place, counted from 0: of `count` rows that of its place alone is
+/// not tight at it.
 fn first_generator(
     alloc: Global,
     count: u32,
@@ -49,7 +48,7 @@ fn first_generator(
 {
     Ok(Generator {
         number: place + 1,
-        vector: copied(alloc, entries)?,
+        vector: copy_vector(alloc, entries)?,
         tight: all_but(alloc, count, place)?,
         pre: None,
     })

@@ -1,4 +1,4 @@
-//! The other representation, from what stands behind the log of a conversion.
+//! The other representation, from what stands after the log of a conversion.
 ghost use Rattle.std.specs.Prelude.{◌≡◌, ◌≢◌, ◌-◌, ◌<◌, ◌++◌, ℕ, List, All, AllPairs, IfOk, OnOk, length, map, take};
 ghost use Rattle.std.specs.Cmp.Lexicographic.{slice_cmp};
 ghost use Rattle.std.specs.List.{flat_map, list_all};
@@ -9,11 +9,11 @@ ghost use Rattle.log_rules.specs.Proves.{IsSorting};
 ghost use Rattle.rep_conv.specs.Converted.{Gives, GivesGenerators, GivesInequalities, GivesRows, as_rows, at_height, nothing_meets, with_normal};
 ghost use Rattle.rep_conv.specs.Giving.{IsGiven, front_at, side_of};
 ghost use Rattle.rep_conv.specs.Live.{State, state};
-ghost use Rattle.rep_conv.specs.Progress.{StandsBehind};
+ghost use Rattle.rep_conv.specs.Progress.{StandsAfter};
 ghost use Rattle.rep_conv.specs.Rows.{has_rows};
 ghost use Rattle.rep_text.specs.declared.conv.ConvEntry.{ConvEntry};
 
-use crate::firsts::copied;
+use crate::firsts::copy_vector;
 use crate::progress::Standing;
 use crate::rows::level;
 use frac128::{Frac, Vector, Vectors, is_zero};
@@ -31,7 +31,7 @@ fn order_vectors(a: &Vector, b: &Vector) -> Ordering
 }
 
 /// Vectors in rising order, where no two are equal. A sort costs n log n comparisons.
-fn sorted(vectors: Vectors) -> Vectors
+fn sort_vectors(vectors: Vectors) -> Vectors
     ensures { AllPairs (λ a b. a ≢ b) vectors → IsSorting (λ v. v) vectors result }
 {
     let mut list = vectors.into_vec();
@@ -48,7 +48,7 @@ fn push_at(alloc: Global, t: Frac, v: &[Frac], list: &mut Vectors) -> Result<(),
     if v[last] != t {
         return Ok(());
     }
-    list.push(copied(alloc, &v[..last])?)?;
+    list.push(copy_vector(alloc, &v[..last])?)?;
     Ok(())
 }
 
@@ -80,7 +80,7 @@ fn push_side(alloc: Global, v: &[Frac], list: &mut Vectors) -> Result<(), NoMemo
     if is_flat(v) {
         return Ok(());
     }
-    list.push(copied(alloc, v)?)?;
+    list.push(copy_vector(alloc, v)?)?;
     Ok(())
 }
 
@@ -101,7 +101,7 @@ fn front(alloc: Global, v: &[Frac]) -> Result<Vector, NoMemory>
     requires { 0 < length v.now }
     ensures { IfOk result (λ entries. entries ≡ take (length v.now - 1) v.now) }
 {
-    copied(alloc, &v[..v.len() - 1])
+    copy_vector(alloc, &v[..v.len() - 1])
 }
 
 /// The vectors without their last entries.
@@ -126,7 +126,7 @@ fn push_as(
     ensures { OnOk result (rows.new ≡ rows.old ++ as_rows kind vectors.now) }
 {
     for vector in vectors {
-        let v = copied(alloc, vector.as_slice())?;
+        let v = copy_vector(alloc, vector.as_slice())?;
         rows.push(RepRow { kind, v })?;
     }
     Ok(())
@@ -141,7 +141,7 @@ fn heights(alloc: Global, t: Frac, generators: &[Vector]) -> Result<Vectors, NoM
         → IfOk result (IsSorting (λ v. v) (at_height width t s)) }
 {
     let found = found_at(alloc, t, generators)?;
-    Ok(sorted(found))
+    Ok(sort_vectors(found))
 }
 
 /// The inequalities whose normal is not 0, in rising order.
@@ -153,7 +153,7 @@ fn sides(alloc: Global, generators: &[Vector]) -> Result<Vectors, NoMemory>
         → IfOk result (IsSorting (λ v. v) (with_normal width s)) }
 {
     let found = found_sides(alloc, generators)?;
-    Ok(sorted(found))
+    Ok(sort_vectors(found))
 }
 
 /// The rows of lines, points and directions, the last two in rising order; none without a point.
@@ -197,7 +197,7 @@ fn inequality_rows(
 }
 
 /// The inequality that nothing meets.
-fn nothing(alloc: Global, width: u32) -> Result<Items<RepRow>, NoMemory>
+fn impossible_rows(alloc: Global, width: u32) -> Result<Items<RepRow>, NoMemory>
     ensures { IfOk result (λ rows. rows ≡ nothing_meets width) }
 {
     let mut rows = Items::new(alloc);
@@ -227,14 +227,14 @@ fn other_rows(
         return generator_rows(alloc, lines, generators);
     }
     if !some {
-        return nothing(alloc, width);
+        return impossible_rows(alloc, width);
     }
     inequality_rows(alloc, lines, generators)
 }
 
-/// The other representation, by whether there are rows, and by the lines and the vectors of the live
-/// generators that stand behind all entries. The cost is that of two sorts.
-pub fn other(
+/// The other representation, by whether there are rows, and by the lines and the vectors of the
+/// live generators that stand after all entries. The cost is that of two sorts.
+pub fn other_rep(
     alloc: Global,
     rep: &Rep,
     some: bool,
@@ -262,20 +262,20 @@ fn vectors_of(alloc: Global, generators: &[Generator]) -> Result<Vectors, NoMemo
 {
     let mut list = Items::new(alloc);
     for generator in generators {
-        list.push(copied(alloc, generator.vector.as_slice())?)?;
+        list.push(copy_vector(alloc, generator.vector.as_slice())?)?;
     }
     Ok(list)
 }
 
-/// The other representation, by what stands behind all entries.
-pub fn other_behind(alloc: Global, rep: &Rep, standing: &Standing) -> Result<Rep, NoMemory>
-    requires { (entries : List ConvEntry) × StandsBehind rep.now entries standing.now }
-    ensures { (entries : List ConvEntry) → StandsBehind rep.now entries standing.now
+/// The other representation, by what stands after all entries.
+pub fn other_rep_after(alloc: Global, rep: &Rep, standing: &Standing) -> Result<Rep, NoMemory>
+    requires { (entries : List ConvEntry) × StandsAfter rep.now entries standing.now }
+    ensures { (entries : List ConvEntry) → StandsAfter rep.now entries standing.now
         → IfOk result (Gives rep.now entries) }
 {
     let some = standing.rows.len() != 0;
     let generators = vectors_of(alloc, standing.generators.as_slice())?;
-    other(
+    other_rep(
         alloc,
         rep,
         some,

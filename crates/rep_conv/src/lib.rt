@@ -1,5 +1,5 @@
-//! The two representations of a polyhedron, by inequalities and by points, directions and lines: how
-//! double description turns one into the other, and the log of it.
+//! The two representations of a polyhedron, by inequalities and by points, directions and lines:
+//! how double description turns one into the other, and the log of it.
 #![tactic(auto)]
 
 mod adding;
@@ -15,7 +15,7 @@ mod start;
 pub use adding::{Change, change_at};
 pub use check::{ConvRefusal, check_conv, check_entries};
 pub use firsts::{first_generators, set_of};
-pub use giving::other;
+pub use giving::other_rep;
 pub use laws::{
     conversion_examples, conversion_is_right, conversion_keeps_set, events_are_rules, one_other,
     rules_keep_description,

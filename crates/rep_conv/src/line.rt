@@ -3,13 +3,13 @@ ghost use Rattle.std.specs.Prelude.{◌≡◌, ⊤, ◌+◌, ◌^◌, ◌<◌, �
 ghost use Rattle.std.specs.List.{flat_map};
 ghost use Rattle.frac128.specs.Held.{is_held};
 ghost use Rattle.log_rules.specs.Events.Event.{test};
-ghost use Rattle.log_rules.specs.Runs.{Runs, steps};
+ghost use Rattle.log_rules.specs.Runs.{Runs, RunsAll, steps};
 ghost use Rattle.rep_conv.specs.Events.{line_events, tight_events};
 ghost use Rattle.rep_conv.specs.Rows.{text_rows};
 
+use entry_checks::{Steps, goes_on, pass};
 use frac128::{Frac, Vector, is_zero};
 use log_rules::{Rule, Stop};
-use log_tests::{Steps, goes_on, pass};
 use rep_text::Rep;
 
 /// Two tests, one after the other.
@@ -47,13 +47,12 @@ fn are_tight(counter: &mut Steps, d: &[Frac], rows: &[Vector]) -> Result<(), Sto
     Ok(())
 }
 
-/// The tests of a `line` entry behind these lines: `d` goes on their reduced echelon form, and each
+/// The tests of a `line` entry after these lines: `d` goes on their reduced echelon form, and each
 /// row is 0 at it. It costs the entries of the rows and of the lines.
 pub fn check_line(rep: &Rep, rows: &[Vector], lines: &[Vector], d: &[Frac]) -> Result<(), Stop>
     requires rows { rows.now ≡ text_rows rep.now }
     requires few { length rows.now ≤ 4294967294 }
-    ensures { Runs is_held (line_events rep.now lines.now d.now) 0
-        (steps (line_events rep.now lines.now d.now)) (λ _. ⊤) result }
+    ensures { RunsAll is_held (line_events rep.now lines.now d.now) (λ _. ⊤) result }
 {
     let width = rep.width as usize + 1;
     pass_both(

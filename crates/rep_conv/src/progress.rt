@@ -1,38 +1,38 @@
-//! What stands behind some entries of a conversion.
+//! What stands after some entries of a conversion.
 ghost use Rattle.std.specs.Prelude.{◌≡◌, ◌≤◌, ◌<◌, ◌++◌, ◌∷◌, ◌&&◌, ◌||◌, [], ℕ, List, Bool, not, nat_lt, true, slice_set, IfOk, OnOk, length};
 ghost use Rattle.exact_field.specs.Rational.{ℚ};
 ghost use Rattle.std.specs.List.{list_all, range_with_len};
 ghost use Rattle.incid_sets.specs.Marks.{has};
 ghost use Rattle.frac128.specs.Held.{is_held};
 ghost use Rattle.log_rules.specs.Live.{contains};
-ghost use Rattle.log_rules.specs.Runs.{Runs, steps};
+ghost use Rattle.log_rules.specs.Runs.{RunsAll};
 ghost use Rattle.log_live.specs.Adding.{kept_of};
 ghost use Rattle.rep_conv.specs.Adding.{values_at};
 ghost use Rattle.rep_conv.specs.Events.{add_events, all_used as are_all_used, events, kind_events, line_events, start_events};
 ghost use Rattle.rep_conv.specs.Live.{State, after};
 ghost use Rattle.rep_conv.specs.Meets.{MeetsStart, has_start, in_order as is_in_order, is_start, needs_start};
 ghost use Rattle.rep_conv.specs.Rows.{text_rows as rows_of};
-ghost use Rattle.rep_conv.specs.Progress.{Holds, Keeps, StandsBehind};
+ghost use Rattle.rep_conv.specs.Progress.{Holds, Keeps, StandsAfter};
 ghost use Rattle.rep_text.specs.declared.conv.ConvEntry.{ConvEntry};
 ghost use Rattle.rep_text.specs.declared.conv.ConvEntry.TheVariants.{Add, Line, Start};
 
 use crate::adding::{Change, change_at};
-use crate::firsts::{copied, first_generators, set_of};
+use crate::firsts::{copy_vector, first_generators, set_of};
 use crate::line::check_line;
 use crate::rows::text_rows;
 use crate::start::check_start;
+use entry_checks::pass;
 use frac128::{Frac, Vectors};
 use incid_sets::Marks;
 use log_live::{Generator, keep_all};
 use log_rules::{Rule, Stop};
-use log_tests::pass;
 use rep_text::{ConvEntry, Rep};
 use src_sink::{Items, NoMemory};
 use std::alloc::Global;
 use std::mem::replace;
 use word_lines::LogPair;
 
-/// What stands behind some entries of a conversion.
+/// What stands after some entries of a conversion.
 #[derive(Debug, Drop)]
 pub struct Standing {
     /// The rows of the representation.
@@ -40,15 +40,16 @@ pub struct Standing {
     /// Whether there was a `start`.
     pub started: bool,
     pub lines: Vectors,
-    /// The rows in use.
+    /// The numbers of the rows in use.
     pub in_use: Marks,
-    /// The live generators by rising numbers, each with the set of the rows in use that are 0 at it.
+    /// The live generators by rising numbers, each with the set of the rows in use that are 0 at
+    /// it.
     pub generators: Vec<Generator>,
     /// The number that the next new generator gets.
     pub next: u32,
 }
 
-/// Whether an entry may stand behind so many, where there are rows or not, and was a `start` or not.
+/// Whether an entry may stand after so many, where there are rows or not, and was a `start` or not.
 fn in_order(some: bool, number: usize, started: bool, entry: &ConvEntry) -> bool
     ensures { (before : List ConvEntry) → length before ≡ number → has_start before ≡ started
         → result ≡ is_in_order some before entry.now }
@@ -71,7 +72,7 @@ fn has_all(marks: &Marks) -> bool
 impl Standing {
     /// What stands before all entries.
     pub fn new(alloc: Global, rep: &Rep) -> Result<Standing, NoMemory>
-        ensures { IfOk result (StandsBehind rep.now []) }
+        ensures { IfOk result (StandsAfter rep.now []) }
     {
         let rows = text_rows(alloc, rep)?;
         if rows.len() > 4294967294 {
@@ -88,21 +89,19 @@ impl Standing {
         })
     }
 
-    /// Lists a line.
     fn push_line(&mut self, alloc: Global, d: &[Frac]) -> Result<(), NoMemory>
         ensures { OnOk result
             (self.new ≡ record self.old { lines = self.old.lines ++ d.now ∷ [] }) }
     {
-        self.lines.push(copied(alloc, d)?)?;
+        self.lines.push(copy_vector(alloc, d)?)?;
         Ok(())
     }
 
-    /// A `line` entry behind the test of its order.
+    /// A `line` entry after the test of its order.
     fn take_line(&mut self, alloc: Global, rep: &Rep, d: &[Frac]) -> Result<(), Stop>
         requires { (s : State) × Keeps rep.now s self.old }
         ensures { (s : State) → Keeps rep.now s self.old
-            → Runs is_held (line_events rep.now s.lines d.now) 0
-            (steps (line_events rep.now s.lines d.now))
+            → RunsAll is_held (line_events rep.now s.lines d.now)
             (λ _. Keeps rep.now (after rep.now s (Line d.now)) self.new
             × (self.new.started ≡ self.old.started)) result }
     {
@@ -136,7 +135,7 @@ impl Standing {
         Ok(())
     }
 
-    /// A `start` entry behind the test of its order.
+    /// A `start` entry after the test of its order.
     fn take_start(
         &mut self,
         alloc: Global,
@@ -146,8 +145,7 @@ impl Standing {
     ) -> Result<(), Stop>
         requires { (s : State) × Keeps rep.now s self.old }
         ensures { (s : State) → Keeps rep.now s self.old
-            → Runs is_held (start_events rep.now s.lines named.now gens.now) 0
-            (steps (start_events rep.now s.lines named.now gens.now))
+            → RunsAll is_held (start_events rep.now s.lines named.now gens.now)
             (λ _. Keeps rep.now (after rep.now s (Start named.now gens.now)) self.new
             × (self.new.started ≡ true)) result }
     {
@@ -172,8 +170,8 @@ impl Standing {
         (row as usize) < self.rows.len() && !self.in_use.has(row)
     }
 
-    /// Brings a row into use: drops the generators at which it is negative, gives the others the row,
-    /// and lists the new ones.
+    /// Brings a row into use: drops the generators at which it is negative, gives the others the
+    /// row, and lists the new ones.
     fn grow(&mut self, alloc: Global, row: u32, change: Change) -> Result<(), NoMemory>
         requires values { length change.values ≡ length self.old.generators.items }
         requires few { length change.values ≤ 4294967294 }
@@ -197,7 +195,7 @@ impl Standing {
         Ok(())
     }
 
-    /// An `add` entry behind the test of its order.
+    /// An `add` entry after the test of its order.
     fn take_add(
         &mut self,
         alloc: Global,
@@ -207,8 +205,7 @@ impl Standing {
     ) -> Result<(), Stop>
         requires { (s : State) × Holds rep.now s self.old × (self.old.started ≡ true) }
         ensures { (s : State) → Holds rep.now s self.old → self.old.started ≡ true
-            → Runs is_held (add_events rep.now s row pairs.now) 0
-            (steps (add_events rep.now s row pairs.now))
+            → RunsAll is_held (add_events rep.now s row pairs.now)
             (λ _. Keeps rep.now (after rep.now s (Add row pairs.now)) self.new
             × (self.new.started ≡ true)) result }
     {
@@ -235,14 +232,13 @@ impl Standing {
         has_all(&self.in_use)
     }
 
-    /// An entry behind the test of its order.
+    /// An entry after the test of its order.
     fn take_kind(&mut self, alloc: Global, rep: &Rep, entry: &ConvEntry) -> Result<(), Stop>
         requires { (s : State) × Holds rep.now s self.old
             × (needs_start entry.now ≡ true → self.old.started ≡ true) }
         ensures { (s : State) → Holds rep.now s self.old
             → (needs_start entry.now ≡ true → self.old.started ≡ true)
-            → Runs is_held (kind_events rep.now s entry.now) 0
-            (steps (kind_events rep.now s entry.now))
+            → RunsAll is_held (kind_events rep.now s entry.now)
             (λ _. Keeps rep.now (after rep.now s entry.now) self.new
             × (self.new.started ≡ (self.old.started || is_start entry.now))) result }
     {
@@ -257,7 +253,7 @@ impl Standing {
         }
     }
 
-    /// Goes through an entry behind so many.
+    /// Goes through an entry after so many.
     pub fn take(
         &mut self,
         alloc: Global,
@@ -265,13 +261,12 @@ impl Standing {
         number: usize,
         entry: &ConvEntry,
     ) -> Result<(), Stop>
-        requires { (before : List ConvEntry) × StandsBehind rep.now before self.old
+        requires { (before : List ConvEntry) × StandsAfter rep.now before self.old
             × (length before ≡ number) }
-        ensures { (before : List ConvEntry) → StandsBehind rep.now before self.old
+        ensures { (before : List ConvEntry) → StandsAfter rep.now before self.old
             → length before ≡ number
-            → Runs is_held (events rep.now before entry.now) 0
-            (steps (events rep.now before entry.now))
-            (λ _. StandsBehind rep.now (before ++ entry.now ∷ []) self.new) result }
+            → RunsAll is_held (events rep.now before entry.now)
+            (λ _. StandsAfter rep.now (before ++ entry.now ∷ []) self.new) result }
     {
         pass(
             Rule::Order,

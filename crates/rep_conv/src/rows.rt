@@ -17,7 +17,7 @@ use src_sink::{Items, NoMemory};
 use std::alloc::Global;
 
 /// The negative of a vector.
-fn negated(alloc: Global, v: &[Frac]) -> Result<Vector, NoMemory>
+fn negate(alloc: Global, v: &[Frac]) -> Result<Vector, NoMemory>
     ensures { IfOk result (λ opposite. opposite ≡ negative_of v.now) }
 {
     let mut opposite = Items::new(alloc);
@@ -53,7 +53,7 @@ pub fn level(alloc: Global, width: u32) -> Result<Vector, NoMemory>
 fn push_both(alloc: Global, row: Vector, rows: &mut Vectors) -> Result<(), NoMemory>
     ensures { OnOk result (rows.new ≡ rows.old ++ both_signs row) }
 {
-    let opposite = negated(alloc, row.as_slice())?;
+    let opposite = negate(alloc, row.as_slice())?;
     rows.push(row)?;
     rows.push(opposite)?;
     Ok(())

@@ -3,16 +3,16 @@ ghost use Rattle.std.specs.Prelude.{◌≡◌, ⊤, ◌+◌, ◌*◌, ◌^◌, �
 ghost use Rattle.std.specs.List.{flat_map, enumerate_from};
 ghost use Rattle.frac128.specs.Held.{is_held};
 ghost use Rattle.log_rules.specs.Events.{rises as numbers_rise};
-ghost use Rattle.log_rules.specs.Runs.{Runs, steps};
+ghost use Rattle.log_rules.specs.Runs.{Runs, RunsAll, steps};
 ghost use Rattle.polyhedra.specs.DoubleDescription.{norming as norming_of};
 ghost use Rattle.rep_conv.specs.Events.{all_below as numbers_below, corners_events, generator_events, is_first as is_first_of, start_events};
 ghost use Rattle.rep_conv.specs.Rows.{text_rows};
 ghost use Rattle.upper_image.specs.Spots.{pieces};
 
 use crate::line::pass_both;
+use entry_checks::{Steps, is_reduced, leading_entry, magnitude, meets_direction, pass, rises};
 use frac128::{Frac, Vector, is_zero};
 use log_rules::{Rule, Stop};
-use log_tests::{Steps, is_reduced, leading, magnitude, meets_direction, pass, rises};
 use rep_text::Rep;
 
 /// Whether each number is less than `bound`.
@@ -23,21 +23,25 @@ fn all_below(bound: usize, numbers: &[u32]) -> bool
 }
 
 /// The entry that norms a vector: the last one or, where that is 0, the first that is not.
-pub fn norming(v: &[Frac]) -> Frac
+pub fn norming_entry(v: &[Frac]) -> Frac
     ensures { result ≡ norming_of v.now }
 {
     if v.is_empty() {
         return Frac::from(0);
     }
     let last = v[v.len() - 1];
-    if is_zero(last) { leading(v) } else { last }
+    if is_zero(last) {
+        leading_entry(v)
+    } else {
+        last
+    }
 }
 
 /// Whether a vector is reduced and normed.
 fn is_first(lines: &[Vector], v: &[Frac]) -> bool
     ensures { result ≡ is_first_of lines.now v.now }
 {
-    is_reduced(lines, v) && magnitude(norming(v)) == Frac::from(1)
+    is_reduced(lines, v) && magnitude(norming_entry(v)) == Frac::from(1)
 }
 
 /// The tests that the named rows are 0 at a generator, but that of its number, which is positive.
@@ -132,7 +136,7 @@ fn are_picks(bound: usize, named: &[u32]) -> bool
     rises(named) && all_below(bound, named)
 }
 
-/// The tests of a `start` entry behind these lines. They cost the square of the number of its rows
+/// The tests of a `start` entry after these lines. They cost the square of the number of its rows
 /// times their width.
 pub fn check_start(
     rep: &Rep,
@@ -142,8 +146,7 @@ pub fn check_start(
     gens: &[Frac],
 ) -> Result<(), Stop>
     requires rows { rows.now ≡ text_rows rep.now }
-    ensures { Runs is_held (start_events rep.now lines.now named.now gens.now) 0
-        (steps (start_events rep.now lines.now named.now gens.now)) (λ _. ⊤) result }
+    ensures { RunsAll is_held (start_events rep.now lines.now named.now gens.now) (λ _. ⊤) result }
 {
     let places = rep.width as usize + 1;
     pass_both(

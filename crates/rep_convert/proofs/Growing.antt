@@ -34,7 +34,7 @@ parted {X} (y ∷ xs) x (b ∷ before) e after h =
       | inr p ↦ inr (ap₂ (λ (d : X) (ds : List X). d ∷ ds) first p.0, p.1)
     ]
 
--- what holds of each entry behind those before it
+-- what holds of each entry after those before it
 abbrev pub Each : (List ConvEntry → ConvEntry → Type 0) → List ConvEntry → Type 0
 Each P log = (before : List ConvEntry) (e : ConvEntry) (after : List ConvEntry) → log ≡ before ++ e ∷ after → P before e
 

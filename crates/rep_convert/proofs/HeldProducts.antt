@@ -14,7 +14,7 @@ use Rattle.log_rules.specs.Events.Event.{step}
 use Rattle.log_rules.proofs.PassedTests.{zero_number, zero_passes}
 use Rattle.rep_conv.specs.Events.{IsHeldStep}
 
--- each product at a place where neither vector is 0 is held, and each sum behind a total
+-- each product at a place where neither vector is 0 is held, and each sum after a total
 abbrev AreHeldBehind : (ℚ → Bool) → ℚ → List ℚ → List ℚ → Type 0
 AreHeldBehind holds total xs ys = (j : ℕ) → j < length xs → (slice_index_or xs j zero_ℚ ≡ zero_ℚ → ⊥) → (slice_index_or ys j zero_ℚ ≡ zero_ℚ → ⊥) →
     IsTrue (holds (slice_index_or xs j zero_ℚ *ℚ slice_index_or ys j zero_ℚ)) × IsTrue (holds (total +ℚ dot (take (suc j) xs) (take (suc j) ys)))
@@ -32,7 +32,7 @@ sum_held holds total [] ys same h = All-nil (IsHeldStep holds)
 sum_held holds total (x ∷ xs) [] same h = absurd (omega (arith, same))
 sum_held holds total (x ∷ xs) (y ∷ ys) same h = go (is_zero x || is_zero y) refl (λ t k. sum_held holds t xs ys (shorter x y xs ys same) k)
   where
-    -- the rest behind the total with this product
+    -- the rest after the total with this product
     rest : AreHeldBehind holds (total +ℚ x *ℚ y) xs ys
     rest j l u v =
         let held = h (suc j) (omega (arith, l)) u v in

@@ -36,7 +36,7 @@ use Rattle.rep_convert.proofs.HeldProducts.{product_held}
 abbrev pub lines_log : List (List ℚ) → List ConvEntry
 lines_log lines = Conv 1 ∷ map Line lines
 
--- ---- what stands behind them
+-- ---- what stands after them
 lines_from : (rep : Rep) (s : State) (lines : List (List ℚ)) → fold (after rep) s (map Line lines) ≡ record s { lines = s.lines ++ lines }
 lines_from rep s [] = ap (λ (ls : List (List ℚ)). record s { lines = ls }) (sym (append-nil s.lines))
 lines_from rep s (d ∷ lines) = lines_from rep (record s { lines = s.lines ++ d ∷ [] }) lines
@@ -60,7 +60,7 @@ before_pairs R (x ∷ done) d rest h = All-cons (λ e. R e d) x done
 
 module _ (rep : Rep) (some : has_rows rep ≡ true) (lines : List (List ℚ)) (are : AreLinesOf rep lines)
     (held : All (λ r. All (λ d. AreHeld is_held r d (length r)) lines) (text_rows rep)) where
-  -- ---- one line behind those before it
+  -- ---- one line after those before it
   module _ (done : List (List ℚ)) (d : List ℚ) (rest : List (List ℚ)) (split : lines ≡ done ++ d ∷ rest) where
     listed : Contains lines d
     listed = subst (λ (ls : List (List ℚ)). Contains ls d) (sym split) (Contains-append_right done (d ∷ rest) d (Contains-here d rest d refl))

@@ -1,10 +1,17 @@
 -- The order of further rows as it is listed, and as it is gone through.
-use Rattle.std.proofs.Common.{◌≡◌, ◌≢◌, ℕ, ◌+◌, ◌<◌, ◌≤◌, List, [], ◌∷◌, ◌++◌, length, take, All, Contains, sym, ap, ◌∙◌, subst, arith, inl, inr, slice_index_or, append_assoc}
+use Rattle.std.proofs.Common.{◌≡◌, ◌≢◌, ℕ, ◌+◌, ◌<◌, ◌≤◌, List, [], ◌∷◌, ◌++◌, length, take, All, AllPairs, Contains, Result, Ok, Err, eqb-true, eq-eqb, sym, ap, ◌∙◌, subst, arith, inl, inr, slice_index_or, append_assoc}
+use Rattle.std.specs.Bool.{Decides}
+use Rattle.std.specs.List.Sorted.{IsPermutation}
+use Rattle.std.specs.Prelude.{◌==◌, OnOk}
 use Rattle.std.proofs.lemmas.Bool.{cases_eq}
+use Rattle.std.proofs.lemmas.List.Sorted.{All-permutation, Contains-permutation}
+use Rattle.std.proofs.lemmas.Map.Keys.{IsDistinct-IsPermutation}
+use Rattle.std.proofs.lemmas.Map.Made.{AllPairs-from_IsDistinct, IsDistinct-from_AllPairs}
 use Rattle.std.proofs.lemmas.List.{get_or_default, get_or-take, length-take, take_all, take_more}
 use Rattle.std.proofs.lemmas.List.Elements.{All-nil, All-push, All-weaker, Contains-append_cases, Contains-append_left, Contains-append_right, Contains-push}
 use Rattle.polyhedra.proofs.Members.{member_of, pairs-append, pairs-cons, pairs-nil}
 use Rattle.polyhedra.proofs.Lists.{Contains-cases, Contains-nil}
+use Rattle.polyhedra.proofs.Tests.{same_tests}
 use Rattle.rep_convert.specs.Order.{IsOrder}
 
 -- ---- as it is listed
@@ -16,7 +23,7 @@ order_none used = record {
   all = λ k l. absurd (omega (arith, l));
 }
 
-weaker : (k : ℕ) (order : List ℕ) → All (λ j. j < k) order → All (λ j. j < k + 1) order
+pub weaker : (k : ℕ) (order : List ℕ) → All (λ j. j < k) order → All (λ j. j < k + 1) order
 weaker k order h = All-weaker (λ j. j < k) (λ j. j < k + 1) (λ j l. omega (arith, l)) order h
 
 pub order_skip : (k : ℕ) (used order : List ℕ) → IsOrder k used order → Contains used k → IsOrder (k + 1) used order
@@ -50,6 +57,40 @@ order_more k used order new h free is = subst (IsOrder (k + 1) used) (sym is) (r
   where
     only : (a b : ℕ) → Contains (a ∷ []) b → a ≡ b
     only a b c = elim (Contains-cases a [] b c) [ inl e ↦ e | inr n ↦ absurd (Contains-nil b n) ]
+
+-- ---- in another order
+decides : (a b : ℕ) → Decides (a == b) (a ≡ b)
+decides a b = (eqb-true a b, eq-eqb a b)
+
+pub order_permuted : (n : ℕ) (used order new : List ℕ) → IsPermutation order new → IsOrder n used order → IsOrder n used new
+order_permuted n used order new p h = record {
+  exist = All-permutation (λ k. k < n) order new p h.exist;
+  unused = All-permutation (λ k. Contains used k → ⊥) order new p h.unused;
+  once = AllPairs-from_IsDistinct decides new (IsDistinct-IsPermutation (λ (a b : ℕ). a == b) either order new p (IsDistinct-from_AllPairs decides order h.once));
+  all = λ k l. elim (h.all k l) [
+    | inl a ↦ inl a
+    | inr b ↦ inr (Contains-permutation order new k p b)
+  ];
+}
+  where
+    either : (a b : ℕ) → (a == b) ≡ (b == a)
+    either a b = same_tests (a == b) (b == a) (λ e. eq-eqb b a (sym (eqb-true a b e))) (λ e. eq-eqb a b (sym (eqb-true b a e)))
+
+-- ---- rising numbers
+pub rises_more : (k : ℕ) (xs new : List ℕ) → AllPairs (λ i j. i < j) xs → All (λ j. j < k) xs → new ≡ xs ++ k ∷ [] →
+    AllPairs (λ i j. i < j) new × All (λ j. j < k + 1) new
+rises_more k xs new rise below is = subst (λ (ys : List ℕ). AllPairs (λ i j. i < j) ys × All (λ j. j < k + 1) ys) (sym is) (
+  pairs-append (λ i j. i < j) xs (k ∷ []) rise (pairs-cons (λ i j. i < j) k [] (All-nil (λ j. k < j)) (pairs-nil (λ i j. i < j)))
+      (λ i j c d. subst (λ (b : ℕ). i < b) (only_one k j d) (member_of (λ a. a < k) xs i below c)),
+  All-push (λ j. j < k + 1) xs k (weaker k xs below) (omega arith),
+)
+  where
+    only_one : (a b : ℕ) → Contains (a ∷ []) b → a ≡ b
+    only_one a b c = elim (Contains-cases a [] b c) [ inl e ↦ e | inr n ↦ absurd (Contains-nil b n) ]
+
+pub on_ok : {T E : Type 0} (r : Result T E) (P Q : Type 0) → (P → Q) → OnOk r P → OnOk r Q
+on_ok (Ok x) P Q f h = f h
+on_ok (Err e) P Q f h = tt
 
 -- ---- as it is gone through
 module _ (n : ℕ) (used order : List ℕ) (h : IsOrder n used order) (i : ℕ) (inside : i < length order) (number : ℕ) (is : number ≡ slice_index_or order i 0)

@@ -27,7 +27,7 @@ inside zero j = inr (omega arith)
 inside (suc n) zero = inl (omega arith)
 inside (suc n) (suc j) = elim (inside n j) [ inl h ↦ inl (omega (arith, h)) | inr h ↦ inr (omega (arith, h)) ]
 
--- the marks from a place on: none, or the one there and those behind it
+-- the marks from a place on: none, or the one there and those after it
 rest_of : (bs : List Bool) (k : ℕ) →
     ((slice_index_or bs k false ≡ false) × (drop k bs ≡ []) × (drop (k + 1) bs ≡ [])) ⊎ (drop k bs ≡ slice_index_or bs k false ∷ drop (k + 1) bs)
 rest_of bs k = go (inside (length bs) k)

@@ -30,7 +30,7 @@ use Rattle.log_rules.specs.Events.{Event, dot_steps, rises}
 use Rattle.log_rules.specs.Events.Event.{test}
 use Rattle.log_rules.specs.declared.rule.Rule.TheVariants as rule
 use Rattle.log_rules.proofs.HeldTests.{all_numbered}
-use Rattle.log_tests.specs.Parts.{corner_events}
+use Rattle.entry_checks.specs.Parts.{corner_events}
 use Rattle.word_lines.specs.Grammar.{is_formed}
 use Rattle.licence.specs.Operands.{IsMadeOver}
 use Rattle.licence.proofs.Making.{generator_laws}
@@ -188,7 +188,7 @@ module _ (rep : Rep) (some : has_rows rep ≡ true) (lines : List (List ℚ)) (a
       (flat_held (generator_events rep s.lines picks) (enumerate_from 1 (pieces (length picks) (suc rep.width) (joined gens)))
       (λ g d. generator_held s g (subst (λ (vs : List (List ℚ)). Contains vs g.1) parts (numbered_listed (pieces (length picks) (suc rep.width) (joined gens)) [] g d))))))
 
-  -- ---- what stands behind it
+  -- ---- what stands after it
   abbrev log : List ConvEntry
   log = lines_log lines ++ Start picks (joined gens) ∷ []
 

@@ -1,5 +1,5 @@
 -- The rows that a conversion starts with.
-use Rattle.std.proofs.Common.{◌≡◌, ℕ, zero, suc, ◌-◌, ◌<◌, ◌≤◌, ◌==◌, not, true, List, [], ◌∷◌, map, length, All, Contains, slice_index_or, refl, sym, ap, ap₂, ◌∙◌, subst, arith}
+use Rattle.std.proofs.Common.{◌≡◌, ℕ, zero, suc, ◌-◌, ◌<◌, ◌≤◌, ◌==◌, not, true, List, [], ◌∷◌, map, length, All, AllPairs, Contains, slice_index_or, refl, sym, ap, ap₂, ◌∙◌, subst, arith}
 use Rattle.std.proofs.lemmas.List.{get_or-map, length-map, map-id}
 use Rattle.std.proofs.lemmas.List.Elements.{All-head, All-map, All-tail, All-weaker, Contains-get_or}
 use Rattle.exact_field.specs.Rational.{ℚ, one_ℚ}
@@ -91,6 +91,45 @@ module _ (rep : Rep) (lines : List (List ℚ)) (are : AreLinesOf rep lines) wher
         (All-weaker (λ k. k < length (text_rows rep)) (λ k. Contains (rows_without rep lines) (W (row_at rep k)))
         (λ k l. Contains-map W (text_rows rep) (row_at rep k) (row_listed k l)) picks h));
   }
+
+  -- ---- independent rows among some of the rows
+  module _ (first : List ℕ) (rise : AllPairs (λ j k. j < k) first) (exist : All (λ k. k < length (text_rows rep)) first) where
+    abbrev some_of : List (List ℚ)
+    some_of = map (λ k. slice_index_or (rows_without rep lines) k []) first
+
+    abbrev number_at : ℕ → ℕ
+    number_at i = slice_index_or first (i - 1) 0
+
+    some_many : length some_of ≡ length first
+    some_many = length-map first (λ k. slice_index_or (rows_without rep lines) k [])
+
+    named_at : (ks : List ℕ) → All (λ i. 1 ≤ i) ks → All (λ i. i ≤ length some_of) ks →
+        map (row_of some_of) ks ≡ map (λ k. slice_index_or (rows_without rep lines) k []) (map number_at ks)
+    named_at [] low high = refl
+    named_at (k ∷ ks) low high =
+        let one : 1 ≤ k = All-head (λ i. 1 ≤ i) k ks low in
+        let end : k ≤ length some_of = All-head (λ i. i ≤ length some_of) k ks high in
+        ap₂ (λ (r : List ℚ) (rs : List (List ℚ)). r ∷ rs)
+        (get_or-map (λ j. slice_index_or (rows_without rep lines) j []) first (k - 1) 0 [] (omega (arith, one, end, some_many)))
+        (named_at ks (All-tail (λ i. 1 ≤ i) k ks low) (All-tail (λ i. i ≤ length some_of) k ks high))
+
+    pub starts_among : (numbers : List ℕ) → AreIndependent n some_of numbers → AreStarts rep lines (map number_at numbers)
+    starts_among numbers h = record {
+      many = length-map numbers number_at ∙ h.many;
+      rise = pairs-map (λ j k. j < k) number_at numbers (pairs-weaker (λ i k. i < k) (λ i k. number_at i < number_at k) numbers
+          (λ i k c d l.
+          let low = member_of (λ j. 1 ≤ j) numbers i h.from_one c in
+          let high = member_of (λ j. j ≤ length some_of) numbers k h.to_end d in
+          rise (i - 1) (k - 1) 0 (omega (arith, l, low)) (omega (arith, l, low, high, some_many))) h.rising);
+      exist = listed;
+      rank = subst (HasFullRank n) (named_at numbers h.from_one h.to_end ∙ picked_is (map number_at numbers) listed) h.rank;
+    }
+      where
+        listed : All (λ k. k < length (text_rows rep)) (map number_at numbers)
+        listed = All-map (λ k. k < length (text_rows rep)) number_at numbers (all_of_members (λ i. number_at i < length (text_rows rep)) numbers (λ i c.
+            let low = member_of (λ j. 1 ≤ j) numbers i h.from_one c in
+            let high = member_of (λ j. j ≤ length some_of) numbers i h.to_end c in
+            exist (i - 1) 0 (omega (arith, low, high, some_many))))
 
   -- ---- independent rows
   module _ (some : has_rows rep ≡ true) where

@@ -18,6 +18,7 @@ use Rattle.rep_text.specs.declared.rep.RepKind.TheVariants.{Side}
 use Rattle.rep_conv.specs.Examples.{row}
 use Rattle.rep_convert.specs.Licensed.{IsConvLicensed}
 
+-- the whole number k
 abbrev pub n : ℕ → ℚ
 n k = whole (pos k)
 
@@ -56,17 +57,19 @@ abbrev pub IsLicensedWith : ℕ → Place → Operation ℚ → List Entry → T
 IsLicensedWith k place left trail =
     IsConvLicensed (all_but k) segment (record { place = place; left = left; trail = trail })
 
--- the addition of a row behind the first two, at the value of the first generator
+-- the addition of a row after the first two, at the value of the first generator
 abbrev pub adding : List ℚ → Place
 adding last = Pair RowsOfRep (first ∷ second ∷ last ∷ []) 1 0 1
 
+-- 6 times 1
 abbrev pub six : Operation ℚ
 six = operation Mul (n 6) (n 1)
 
+-- operations that are licensed for the segment's conversion, and others
 pub record LicenceExamples : Type 0 where
   -- the value of the third row at (0, 1) begins with 6 times 1
   pub value : IsLicensedWith 6 (adding third) six []
-  -- where 6 is held, behind an entry, for rows of another family, at another place, and for a row
+  -- where 6 is held, after an entry, for rows of another family, at another place, and for a row
   -- that the segment does not have, it is no licence
   pub held : IsLicensedWith 7 (adding third) six [] → ⊥
   pub behind : IsLicensedWith 6 (adding third) six (Version 1 ∷ []) → ⊥

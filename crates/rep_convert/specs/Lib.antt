@@ -1,4 +1,5 @@
--- The subject: Lines, Licensed, Standing; Examples. What only serves proofs: Started, Order, Pairs.
+-- The subject: Lines, Licensed, Standing. Worked examples: Examples. For the code's own steps:
+-- Started, Order, Pairs.
 pub mod Lines
 pub mod Licensed
 pub mod Standing

@@ -1,4 +1,5 @@
-//! The begin of a conversion: its lines, the rows that it starts with, and their double description.
+//! The begin of a conversion: its lines, the rows that it starts with, and their double
+//! description.
 ghost use Rattle.std.specs.Prelude.{◌≡◌, ◌<◌, All, IfErr, IfOk, length};
 ghost use Rattle.frac128.specs.Held.{is_held};
 ghost use Rattle.lin_rows.specs.Sums.{AreHeld};

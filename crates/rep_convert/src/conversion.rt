@@ -10,7 +10,7 @@ use crate::begin::{Begun, begin};
 use crate::ends::finish;
 use crate::fault::{ConvFault, Converted};
 use frac128::Vectors;
-use rep_conv::{other, text_rows};
+use rep_conv::{other_rep, text_rows};
 use rep_text::{ConvEntry, ConvLog, Rep};
 use src_sink::{Items, NoMemory};
 use std::alloc::Global;
@@ -32,14 +32,14 @@ fn without_rows(alloc: Global, rep: &Rep) -> Result<Converted, NoMemory>
 {
     let log = empty_log(alloc)?;
     let none: Vectors = Items::new(alloc);
-    let found = other(alloc, rep, false, none.as_slice(), none.as_slice())?;
+    let found = other_rep(alloc, rep, false, none.as_slice(), none.as_slice())?;
     Ok(Converted { rep: found, log })
 }
 
-/// Converts a representation of a polyhedron into the other one by double description, with a log of
-/// it that `check_conv` of `rep_conv` accepts. Where an operation's exact result is not held, it is
-/// told with its licence. The cost is that of one elimination of all rows, and of a step of double
-/// description for each.
+/// Converts a representation of a polyhedron into the other one by double description, with a log
+/// of it that `check_conv` of `rep_conv` accepts. Where an operation's exact result is not held, it
+/// is told with its licence. The cost is that of one elimination of all rows, and of a step of
+/// double description for each.
 pub fn convert(alloc: Global, rep: &Rep) -> Result<Converted, ConvFault>
     ensures ok { IfOk result (IsConversion rep.now) }
     ensures left { IfErr result (IsConvLeft is_held rep.now) }

@@ -1,43 +1,20 @@
 //! The end of a conversion: further rows, and what is read off.
-ghost use Rattle.std.specs.Prelude.{◌≡◌, ◌+◌, ◌<◌, IfErr, IfOk, OnOk, length};
+ghost use Rattle.std.specs.Prelude.{◌≡◌, ◌<◌, IfErr, IfOk, length};
 ghost use Rattle.frac128.specs.Held.{is_held};
 ghost use Rattle.rep_conv.specs.Live.{state};
 ghost use Rattle.rep_conv.specs.Rows.{text_rows};
 ghost use Rattle.rep_convert.specs.Licensed.{IsConvLeft};
-ghost use Rattle.rep_convert.specs.Order.{IsOrder};
 ghost use Rattle.rep_convert.specs.Standing.{IsConversion, StandsAt, line_places};
 
 use crate::begin::Begun;
 use crate::fault::ConvFault;
+use crate::order::order_of;
 use crate::start::filled_generators;
 use crate::turn::take_all;
 use frac128::Vectors;
-use rep_conv::other;
+use rep_conv::other_rep;
 use rep_text::{ConvEntry, Rep};
-use src_sink::{Items, NoMemory};
 use std::alloc::Global;
-
-/// Lists a number, unless it is in use.
-fn push_unused(order: &mut Items<u32>, used: &[u32], k: u32) -> Result<(), NoMemory>
-    requires { IsOrder k used.now order.old }
-    ensures { OnOk result (IsOrder (k + 1) used.now order.new) }
-{
-    if used.contains(&k) {
-        return Ok(());
-    }
-    order.push(k)
-}
-
-/// The order in which the rows that are not in use come into use: by rising numbers.
-fn order_of(alloc: Global, count: u32, used: &[u32]) -> Result<Items<u32>, NoMemory>
-    ensures { IfOk result (IsOrder count used.now) }
-{
-    let mut order = Items::new(alloc);
-    for k in 0..count {
-        push_unused(&mut order, used, k)?;
-    }
-    Ok(order)
-}
 
 /// Brings all further rows into use, ends the log, and reads off the other representation.
 pub(crate) fn finish(
@@ -56,7 +33,8 @@ pub(crate) fn finish(
         (λ found. IsConversion rep.now (record { rep = found; log = begun.new.log })) }
     ensures left { IfErr result (IsConvLeft is_held rep.now) }
 {
-    let order = order_of(alloc, rows.len() as u32, begun.picks.as_slice())?;
+    let count = rows.len() as u32;
+    let order = order_of(alloc, count, rows.as_slice(), begun.picks.as_slice())?;
     let places = begun.places.as_slice();
     take_all(
         alloc,
@@ -69,7 +47,7 @@ pub(crate) fn finish(
     )?;
     let generators = filled_generators(alloc, places, &begun.dd)?;
     begun.log.push(ConvEntry::End)?;
-    let found = other(
+    let found = other_rep(
         alloc,
         rep,
         true,

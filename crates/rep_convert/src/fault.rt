@@ -16,7 +16,6 @@ pub struct Converted {
 pub enum ConvFault {
     /// An operation whose exact result is not held, with its licence.
     Left(Licence),
-    /// Want of memory.
     NoMemory,
 }
 

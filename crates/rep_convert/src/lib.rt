@@ -1,5 +1,5 @@
-//! The conversion of one representation of a polyhedron into the other by double description, with a
-//! log of it that is accepted.
+//! The conversion of one representation of a polyhedron into the other by double description, with
+//! a log of it that is accepted.
 #![tactic(auto)]
 
 mod begin;
@@ -10,6 +10,7 @@ mod laws;
 mod licences;
 mod lines;
 mod log;
+mod order;
 mod places;
 mod products;
 mod start;

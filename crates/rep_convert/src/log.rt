@@ -36,7 +36,7 @@ pub(crate) fn lines_log(alloc: Global, lines: &[Vector]) -> Result<ConvLog, NoMe
     Ok(log)
 }
 
-/// Vectors, one behind the other.
+/// Vectors, one after the other.
 fn joined(alloc: Global, vectors: &[Vector]) -> Result<Vector, NoMemory>
     ensures { IfOk result (λ list. list ≡ flat_map (λ v. v) vectors.now) }
 {

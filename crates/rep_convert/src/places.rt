@@ -7,7 +7,7 @@ use frac128::{Frac, Vector, is_zero};
 use src_sink::{Items, NoMemory};
 use std::alloc::Global;
 
-/// The place of the first entry that is not 0, and the one behind the last where there is none.
+/// The place of the first entry that is not 0, and the one after the last where there is none.
 fn leading_place(v: &[Frac]) -> usize
     requires { length v.now ≤ 4294967294 }
     ensures { result ≡ leading_place v.now }

@@ -1,5 +1,5 @@
 //! The rows that a conversion starts with, and their double description.
-ghost use Rattle.std.specs.Prelude.{◌≡◌, ◌+◌, ◌-◌, ◌<◌, ◌≤◌, [], suc, All, IfErr, IfOk, length, map, slice_index_or};
+ghost use Rattle.std.specs.Prelude.{◌≡◌, ◌+◌, ◌-◌, ◌<◌, ◌≤◌, [], suc, All, AllPairs, IfErr, IfOk, IfSome, OnOk, length, map, slice_index_or};
 ghost use Rattle.frac128.specs.Held.{is_held};
 ghost use Rattle.lineality.specs.Without.{open_count, with_zeros, without};
 ghost use Rattle.polyhedra.specs.LiveList.{vectors};
@@ -11,6 +11,7 @@ ghost use Rattle.double_descr.specs.Starting.{IsStart};
 
 use crate::fault::ConvFault;
 use crate::licences::row_left;
+use crate::order::order_of;
 use crate::places::{filled, open_places, row_without};
 use crate::products::try_products;
 use double_descr::{Dd, DdFault};
@@ -57,8 +58,74 @@ fn from_zero(alloc: Global, numbers: &[u32]) -> Result<Items<u32>, NoMemory>
     Ok(list)
 }
 
+/// Lists a number, if it stands in another list.
+fn push_listed(found: &mut Items<u32>, list: &[u32], k: u32) -> Result<(), NoMemory>
+    requires rise { AllPairs (λ i j. i < j) found.old }
+    requires exist { All (λ j. j < k) found.old }
+    ensures rise { OnOk result (AllPairs (λ i j. i < j) found.new) }
+    ensures exist { OnOk result (All (λ j. j < k + 1) found.new) }
+{
+    if !list.contains(&k) {
+        return Ok(());
+    }
+    found.push(k)
+}
+
+/// Which of the numbers below the bound stand in a list, rising.
+fn rising_of(alloc: Global, count: u32, list: &[u32]) -> Result<Items<u32>, NoMemory>
+    ensures rise { IfOk result (λ found. AllPairs (λ i j. i < j) found) }
+    ensures exist { IfOk result (λ found. All (λ j. j < count) found) }
+{
+    let mut found = Items::new(alloc);
+    for k in 0..count {
+        push_listed(&mut found, list, k)?;
+    }
+    Ok(found)
+}
+
+/// The elements of a list at these places, from 1.
+fn at_places(alloc: Global, list: &[u32], places: &[u32]) -> Result<Items<u32>, NoMemory>
+    requires low { All (λ i. 1 ≤ i) places.now }
+    requires high { All (λ i. i ≤ length list.now) places.now }
+    ensures { IfOk result (λ out. out ≡ map (λ i. slice_index_or list.now (i - 1) 0) places.now) }
+{
+    let mut out = Items::new(alloc);
+    for i in 0..places.len() {
+        out.push(list[places[i] as usize - 1])?;
+    }
+    Ok(out)
+}
+
+/// The numbers of the rows of a start among the first so many of an order, where these have enough
+/// and their elimination meets no overflow. Its cost is that of an elimination of so many rows.
+fn early_numbers(
+    alloc: Global,
+    rep: &Rep,
+    lines: &[Vector],
+    short: &Rows<Frac>,
+    order: &[u32],
+    most: usize,
+) -> Result<Option<Items<u32>>, NoMemory>
+    requires lines { AreLinesOf rep.now lines.now }
+    requires width { short.now.width ≡ width_without rep.now lines.now }
+    requires rows { short.now.list ≡ rows_without rep.now lines.now }
+    ensures starts { IfOk result (λ found. IfSome found (AreStarts rep.now lines.now)) }
+{
+    let first = match order.get(..most) {
+        Some(first) => rising_of(alloc, short.count(), first)?,
+        None => return Ok(None),
+    };
+    let rows = picked_rows(alloc, short, first.as_slice())?;
+    match independent(alloc, &rows, rows.width()) {
+        Ok(Indep::Basis(places)) => {
+            Ok(Some(at_places(alloc, first.as_slice(), places.as_slice())?))
+        }
+        _ => Ok(None),
+    }
+}
+
 /// The numbers of the rows of the start, from 0. The cost is that of an elimination of the rows.
-fn start_numbers(
+fn all_numbers(
     alloc: Global,
     rep: &Rep,
     lines: &[Vector],
@@ -76,6 +143,32 @@ fn start_numbers(
         Ok(Indep::Orthogonal(_)) => unreachable!(),
         Err(fault) => Err(row_left(alloc, short, fault)),
     }
+}
+
+/// The numbers of the rows of the start, from 0: where they can be found there, among the first of an
+/// order, and else among all rows.
+fn start_numbers(
+    alloc: Global,
+    rep: &Rep,
+    lines: &[Vector],
+    short: &Rows<Frac>,
+    order: &[u32],
+) -> Result<Items<u32>, ConvFault>
+    requires lines { AreLinesOf rep.now lines.now }
+    requires some { 0 < length (text_rows rep.now) }
+    requires width { short.now.width ≡ width_without rep.now lines.now }
+    requires rows { short.now.list ≡ rows_without rep.now lines.now }
+    ensures starts { IfOk result (AreStarts rep.now lines.now) }
+    ensures left { IfErr result (IsConvLeft is_held rep.now) }
+{
+    let width = short.width() as usize;
+    for times in [1, 2, 4, 8] {
+        let found = early_numbers(alloc, rep, lines, short, order, times * width)?;
+        if let Some(picks) = found {
+            return Ok(picks);
+        }
+    }
+    all_numbers(alloc, rep, lines, short)
 }
 
 /// The rows of these numbers, from 0, in the order of the numbers.
@@ -175,7 +268,7 @@ fn tried_generators(
     Ok(gens)
 }
 
-/// Starts a conversion behind its lines.
+/// Starts a conversion after its lines.
 pub(crate) fn start(
     alloc: Global,
     rep: &Rep,
@@ -192,7 +285,8 @@ pub(crate) fn start(
     ensures left { IfErr result (IsConvLeft is_held rep.now) }
 {
     let short = short_rows(alloc, places, rows)?;
-    let picks = start_numbers(alloc, rep, lines, &short)?;
+    let order = order_of(alloc, short.count(), rows, &[])?;
+    let picks = start_numbers(alloc, rep, lines, &short, order.as_slice())?;
     let dd = described(alloc, rep, lines, &short, picks.as_slice())?;
     let gens = tried_generators(alloc, rep, lines, places, rows, picks.as_slice(), &dd)?;
     Ok(Started { picks, gens, dd })

@@ -60,8 +60,8 @@ fn push_add(alloc: Global, log: &mut ConvLog, row: u32, pairs: &[Pair]) -> Resul
     log.push(ConvEntry::Add { row, pairs })
 }
 
-/// Brings the row of this number into use, where the double description has no entries at the places
-/// of lines. After an overflow the log is as before.
+/// Brings the row of this number into use, where the double description has no entries at the
+/// places of lines. After an overflow the log is as before.
 pub(crate) fn take(
     alloc: Global,
     rep: &Rep,

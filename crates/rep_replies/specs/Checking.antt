@@ -71,6 +71,7 @@ pub record Reconverted (rep : Rep) (bytes : List ℕ) (r : Reply) : Type 0 where
 abbrev pub RefusesLog : Rep → List ℕ → Reply → Type 0
 RefusesLog rep bytes r = IsNoLog bytes r ⊎ (FailsAt rep bytes r ⊎ StopsAt rep bytes r)
 
+-- what `reconv` replies of a representation and the bytes of a log
 abbrev pub ReconvVerdict : Rep → List ℕ → Reply → Type 0
 ReconvVerdict rep bytes r = Reconverted rep bytes r ⊎ RefusesLog rep bytes r
 

@@ -47,13 +47,16 @@ pub record IsOtherKind (gens : Bool) (rep : Rep) (r : Reply) : Type 0 where
   pub status : r.status ≡ RepFault 1 BadLine
   pub told : TellsFault r
 
--- whether points, directions and lines are wanted, or inequalities and equations
+-- what is replied where points, directions and lines are to be turned, or inequalities and
+-- equations
 abbrev pub TurnVerdict : Bool → Bool → Rep → Reply → Type 0
 TurnVerdict gens logs rep r = Turns gens logs rep r ⊎ IsOtherKind gens rep r
 
+-- what `vertices` replies, which turns inequalities and equations
 abbrev pub VerticesVerdict : Bool → Rep → Reply → Type 0
 VerticesVerdict logs rep r = TurnVerdict false logs rep r
 
+-- what `facets` replies, which turns points, directions and lines
 abbrev pub FacetsVerdict : Bool → Rep → Reply → Type 0
 FacetsVerdict logs rep r = TurnVerdict true logs rep r
 

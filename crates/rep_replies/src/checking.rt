@@ -70,7 +70,8 @@ fn checked_reply(alloc: Global, rep: &Rep, log: &ConvLog) -> Result<Reply, NoMem
     }
 }
 
-/// Checks the log of a conversion, which has this text, and writes the representation that it gives.
+/// Checks the log of a conversion, which has this text, and writes the representation that it
+/// gives.
 ///
 /// The entries of the log are kept, and no text beside them.
 pub fn reconv_reply(alloc: Global, rep: &Rep, bytes: Bytes) -> Result<Reply, NoMemory>

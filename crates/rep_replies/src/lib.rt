@@ -1,5 +1,5 @@
-//! What is replied of a representation of a polyhedron: the other one of the same set, with a log of
-//! the conversion or without, or what the check of such a log gives.
+//! What is replied of a representation of a polyhedron: the other one of the same set, with a log
+//! of the conversion or without, or what the check of such a log gives.
 #![tactic(auto)]
 
 mod checking;

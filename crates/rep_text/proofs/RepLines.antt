@@ -1,4 +1,4 @@
--- The lines of a representation that were read, and what is known behind them.
+-- The lines of a representation that were read, and what is known after them.
 use Rattle.std.proofs.Common.{◌≡◌, refl, ℕ, suc, ◌+◌, ◌-◌, ◌<◌, ◌≤◌, true, false, not, ◌||◌, nat_le, eqb, ◌==◌, Bool, List, [], ◌∷◌, ◌++◌, length, map, arith, ap, sym, ◌∙◌, subst, codes, decimal, None, Some, Option, if◌then◌else◌, Ok, append_assoc, inl, inr, ne_eqb, length-append}
 use Rattle.std.specs.List.{list_all, list_any, slice_split, join_with_byte, flat_map}
 use Rattle.std.specs.Option.{option_or}

@@ -91,7 +91,7 @@ row_taken head name old new kind v named h =
     let k = kind_read head.gens name kind named in
     (and_from (kind_fits head.gens kind) _ k.0 (eq-eqb (length v) (row_length head.width kind) h.0), h.1, k.1, h.2 ∙ ap (λ ws. ws ++ new) (one_each frac_text v))
 
--- the words that are left behind it
+-- the words that are left after it
 taken_behind : (head : Head) (name : List ℕ) (old new : Words) (row : Option RepRow) → TakesRow head name old new (Ok row) → behind_row head.gens head.width name old ≡ Ok new
 taken_behind head name old new (Some row) h =
     (λ i. behind_row head.gens head.width (h.2 i) (h.3 i)) ∙ row_behind head.gens head.width row new h.0 h.1

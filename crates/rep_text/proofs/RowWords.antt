@@ -123,7 +123,7 @@ named_kind false Line h = cc
 named_kind false Point h = cc
 named_kind false Direction h = cc
 
--- they leave what stands behind them
+-- they leave what stands after them
 pub row_behind : (gens : Bool) (width : ℕ) (row : RepRow) (rest : Words) → row_fits gens width row ≡ true → row_held row ≡ true → behind_row gens width (kind_name row.kind) (map frac_text row.v ++ rest) ≡ Ok rest
 row_behind gens width row rest h k =
     let p = and_parts (kind_fits gens row.kind) (length row.v == row_length width row.kind) h in
@@ -155,7 +155,7 @@ head_passes gens width h =
     ap (λ b. left_over (cond b (word width_fault (decimal width ∷ [])) (Err BadLine))) (head_known gens)
     ∙ ap left_over (word_passes width_fault (decimal width) [] (width_passes width h))
 
--- ---- the tests behind a first line
+-- ---- the tests after a first line
 
 gens_named : (gens : Bool) → same_word (head_name gens) (codes "gens") ≡ gens
 gens_named true = refl

@@ -17,7 +17,7 @@ one_passes lines h = pass_more rep_test lines 0 (none_pass lines) h
 two_pass : (lines : List TextLine) → fault_at rep_test lines 1 ≡ None → fault_at rep_test lines 2 ≡ None → Pass rep_test lines 2
 two_pass lines h k = pass_more rep_test lines 1 (one_passes lines h) k
 
--- all lines pass, and none stands behind them
+-- all lines pass, and none stands after them
 all_pass : (lines : List TextLine) (n : ℕ) → length lines ≡ n → Pass rep_test lines n → fault_at rep_test lines 0 ≡ None → (i : ℕ) → fault_at rep_test lines i ≡ None
 all_pass lines n count h first zero = first
 all_pass lines n count h first (suc i) =

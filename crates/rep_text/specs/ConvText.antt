@@ -17,7 +17,7 @@ conv_name (Start rows gens) = codes "start"
 conv_name (Add row ps) = codes "add"
 conv_name End = codes "end"
 
--- what stands behind it, in order
+-- what stands after it, in order
 abbrev pub conv_parts : ConvEntry → List Part
 conv_parts (Conv n) = natural n ∷ []
 conv_parts (Line d) = vector d ∷ []
@@ -25,11 +25,12 @@ conv_parts (Start rows gens) = naturals rows ∷ vector gens ∷ []
 conv_parts (Add row ps) = natural row ∷ pairs ps ∷ []
 conv_parts End = []
 
+-- whether an entry ends a log
 abbrev pub is_conv_end : ConvEntry → Bool
 is_conv_end End = true
 is_conv_end _ = false
 
--- what stands behind the first word of a line; other first words have no line
+-- what stands after the first word of a line; other first words have no line
 abbrev pub conv_forms : Forms
 conv_forms name =
     if same_word name (codes "conv") then Some (form.natural ∷ [])
@@ -39,6 +40,7 @@ conv_forms name =
     else if same_word name (codes "end") then Some []
     else None
 
+-- no name is empty,
 pub some_name : (e : ConvEntry) → IsTrue (nat_lt 0 (length (conv_name e)))
 some_name (Conv n) = refl
 some_name (Line d) = refl
@@ -46,6 +48,7 @@ some_name (Start rows gens) = refl
 some_name (Add row ps) = refl
 some_name End = refl
 
+-- its bytes are above `,`,
 pub letters : (e : ConvEntry) → IsTrue (list_all (nat_lt 44) (conv_name e))
 letters (Conv n) = refl
 letters (Line d) = refl
@@ -53,6 +56,7 @@ letters (Start rows gens) = refl
 letters (Add row ps) = refl
 letters End = refl
 
+-- only an entry that ends a log has the name `end`,
 pub end_name : (e : ConvEntry) → same_word (conv_name e) (codes "end") ≡ is_conv_end e
 end_name (Conv n) = refl
 end_name (Line d) = refl
@@ -60,6 +64,7 @@ end_name (Start rows gens) = refl
 end_name (Add row ps) = refl
 end_name End = refl
 
+-- and the forms after a name are those of its entry's parts
 pub forms_known : (e : ConvEntry) → conv_forms (conv_name e) ≡ Some (map form_of (conv_parts e))
 forms_known (Conv n) = refl
 forms_known (Line d) = refl
@@ -67,6 +72,7 @@ forms_known (Start rows gens) = refl
 forms_known (Add row ps) = refl
 forms_known End = refl
 
+-- the entries of logs of conversions as lines of words
 abbrev pub conv_grammar : Grammar ConvEntry
 conv_grammar = record {
   name_of = conv_name;

@@ -10,6 +10,7 @@ use Rattle.rep_text.specs.RepFault.{RepFirstFault, rep_test}
 abbrev pub Fails : List ℕ → ℕ → LogKind → Type 0
 Fails text line kind = RepFirstFault text (record { line = line; kind = kind })
 
+-- texts with their first fault, by its line and kind, and three without a fault
 pub record RepExamples : Type 0 where
   -- the empty text
   pub empty : Fails (codes "") 1 NoEnd

@@ -21,6 +21,7 @@ row_length width Side = suc width
 row_length width Equal = suc width
 row_length width _ = width
 
+-- the row's kind belongs there, and it has as many numbers as one of its kind
 abbrev pub row_fits : Bool → ℕ → RepRow → Bool
 row_fits gens width row = kind_fits gens row.kind && length row.v == row_length width row.kind
 

@@ -1,4 +1,5 @@
--- The subject: Fits, RepText, RepFault, ConvText. The statements of the laws: Laws. Worked texts: Examples. For the code: RepReading.
+-- The subject: Fits, RepText, RepFault, ConvText. The statements of the laws: Laws. Worked
+-- examples: Examples. For the code's own steps: RepReading.
 pub mod Fits
 pub mod RepText
 pub mod RepFault

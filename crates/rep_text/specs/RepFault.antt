@@ -19,13 +19,15 @@ use Rattle.rep_text.specs.declared.rep.RepKind.TheVariants.{Side, Equal, Line, P
 abbrev pub width_fault : List ℕ → Option LogKind
 width_fault w = option_or (natural_fault w) (if nat_le 1 (digits_value 10 w) && nat_le (digits_value 10 w) 19 then None else Some OutOfRange)
 
+-- whether a word is the first of a first line
 abbrev pub is_head : List ℕ → Bool
 is_head name = same_word name (codes "sides") || same_word name (codes "gens")
 
--- the words that are left behind the first line's, or the first test that fails
+-- the words that are left after the first line's, or the first test that fails
 abbrev pub behind_head : List ℕ → List (List ℕ) → Left
 behind_head name words = if is_head name then word width_fault words else Err BadLine
 
+-- the first test that the words of the first line fail
 abbrev pub head_fault : List (List ℕ) → Option LogKind
 head_fault [] = Some BadLine
 head_fault (name ∷ words) = left_over (behind_head name words)
@@ -48,36 +50,40 @@ abbrev pub behind_kind : ℕ → Option RepKind → List (List ℕ) → Left
 behind_kind width None words = Err BadLine
 behind_kind width (Some kind) words = times (word number_fault) (row_length width kind) words
 
--- what stands behind the first word of a row or of the end, under a first line of this kind and width
+-- what stands after the first word of a row or of the end, under a first line of this kind and width
 abbrev pub behind_row : Bool → ℕ → List ℕ → List (List ℕ) → Left
 behind_row gens width name words = if same_word name (codes "end") then Ok words else behind_kind width (kind_named gens name) words
 
+-- the first test that the words of another line fail
 abbrev pub row_fault : Bool → ℕ → List (List ℕ) → Option LogKind
 row_fault gens width [] = Some BadLine
 row_fault gens width (name ∷ words) = left_over (behind_row gens width name words)
 
+-- the words of a line, cut at each blank
 abbrev pub words_in : TextLine → List (List ℕ)
 words_in line = slice_split (λ b. b == 32) line.text
 
--- a line behind a first line of these words
+-- a line after a first line of these words
 abbrev pub row_under : List (List ℕ) → List (List ℕ) → Option LogKind
 row_under (head ∷ width ∷ _) words = row_fault (same_word head (codes "gens")) (digits_value 10 width) words
 row_under _ words = Some BadLine
 
--- the first line, or one behind it
+-- the first line, or one after it
 abbrev pub fault_behind : List TextLine → List (List ℕ) → Option LogKind
 fault_behind [] words = head_fault words
 fault_behind (first ∷ _) words = row_under (words_in first) words
 
+-- the same where no word may be empty
 abbrev pub words_fault : List TextLine → List (List ℕ) → Option LogKind
 words_fault before words = if list_any (λ w. length w == 0) words then Some BadLine else fault_behind before words
 
--- the first test that a line fails, behind the lines before it; the first is that it is none behind the 10,000th
+-- the first test that a line fails, after the lines before it; the first is that it is none after the 10,000th
 abbrev pub rep_test : LineTest
 rep_test before line =
     if nat_le 10000 (length before) then Some OutOfRange
     else if list_any is_end_line before || not line.whole then Some BadLine
     else words_fault before (words_in line)
 
+-- the first fault of the text of a representation
 abbrev pub RepFirstFault : List ℕ → LogFault → Type 0
 RepFirstFault bytes f = FirstFault rep_test bytes f

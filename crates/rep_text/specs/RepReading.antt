@@ -17,6 +17,7 @@ use Rattle.rep_text.specs.declared.fault.RepEnd.{RepEnd}
 use Rattle.rep_text.specs.declared.fault.RepEnd.TheVariants.{Fault, NoMemory}
 use Rattle.rep_text.specs.declared.rep.RepRow.{RepRow}
 
+-- a width is from 1 to 19
 abbrev pub is_width : ℕ → Bool
 is_width n = nat_le 1 n && nat_le n 19
 
@@ -53,7 +54,7 @@ abbrev pub rep_end_at : ℕ → Stop → RepEnd
 rep_end_at number (stop.Fault k) = Fault number k
 rep_end_at number stop.NoMemory = NoMemory
 
--- the next row or the end was read from a line behind so many
+-- the next row or the end was read from a line after so many
 abbrev pub ReadsLine : Head → ℕ → Bool → Bool → List ℕ → Option RepRow → Type 0
 ReadsLine head before ended whole text row = (place_fault before ended whole ≡ None) × ReadsRow head text (Ok row)
 
@@ -63,7 +64,7 @@ RefusesLine head before ended whole text (Fault line kind) =
     (line ≡ before + 1) × (option_or (place_fault before ended whole) (checked (row_fault head.gens head.width) text) ≡ Some kind)
 RefusesLine head before ended whole text NoMemory = Unit {0}
 
--- a row more, or the end, behind what was read
+-- a row more, or the end, after what was read
 abbrev pub with_line : Reading → Option RepRow → Reading
 with_line s (Some row) = record { head = s.head; rows = s.rows ++ row ∷ []; before = s.before + 1; ended = s.ended }
 with_line s None = record { head = s.head; rows = s.rows; before = s.before + 1; ended = true }

@@ -9,6 +9,7 @@ use Rattle.rep_text.specs.declared.rep.RepKind.{RepKind}
 use Rattle.rep_text.specs.declared.rep.RepKind.TheVariants.{Side, Equal, Line, Point, Direction}
 use Rattle.rep_text.specs.declared.rep.RepRow.{RepRow}
 
+-- the word for points, directions and lines, and that for inequalities and equations
 abbrev pub head_name : Bool → List ℕ
 head_name true = codes "gens"
 head_name false = codes "sides"
@@ -17,6 +18,7 @@ head_name false = codes "sides"
 abbrev pub head_words : Bool → ℕ → List (List ℕ)
 head_words gens width = head_name gens ∷ decimal width ∷ []
 
+-- the first word of a row's line
 abbrev pub kind_name : RepKind → List ℕ
 kind_name Side = codes "h"
 kind_name Equal = codes "e"
@@ -28,6 +30,7 @@ kind_name Direction = codes "0"
 abbrev pub row_words : RepRow → List (List ℕ)
 row_words row = kind_name row.kind ∷ map frac_text row.v
 
+-- the words of the last line
 abbrev pub end_words : List (List ℕ)
 end_words = codes "end" ∷ []
 
@@ -35,6 +38,7 @@ end_words = codes "end" ∷ []
 abbrev pub rep_lines : Rep → List (List (List ℕ))
 rep_lines rep = head_words rep.gens rep.width ∷ (map row_words rep.rows ++ end_words ∷ [])
 
+-- the text of a representation
 abbrev pub rep_text : Rep → List ℕ
 rep_text rep = flat_map line_text (rep_lines rep)
 

@@ -9,8 +9,8 @@ use src_sink::{Bytes, MOST_ITEMS, NoMemory};
 use std::alloc::Global;
 use word_lines::{LogEnd, print_entries, read_entries};
 
-/// The entries of the log of a conversion with this text, or its first fault. Lines are read one at a
-/// time, up to the first that has a fault.
+/// The entries of the log of a conversion with this text, or its first fault. Lines are read one at
+/// a time, up to the first that has a fault.
 pub fn read_conv(alloc: Global, bytes: &[u8]) -> Result<ConvLog, LogEnd>
     requires { length bytes.now ≤ MOST_ITEMS }
     ensures ok { IfOk result (IsTextOf conv_grammar bytes.now) }

@@ -6,7 +6,8 @@ use src_sink::NoMemory as WantOfMemory;
 use thiserror::Error;
 use word_lines::{LogKind, Stop};
 
-/// Why a text gave no representation: its first fault and the fault's line, from 1, or want of memory.
+/// Why a text gave no representation: its first fault and the fault's line, from 1, or want of
+/// memory.
 #[derive(Clone, Copy, Debug, PartialEq, Eq, Error)]
 pub enum RepEnd {
     #[error("line {line}: {kind:?}")]

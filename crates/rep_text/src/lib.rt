@@ -1,4 +1,5 @@
-//! The texts of the two representations of a polyhedron and of the logs of conversions between them.
+//! The texts of the two representations of a polyhedron and of the logs of conversions between
+//! them.
 #![tactic(auto)]
 
 mod conv;

@@ -16,7 +16,7 @@ use word_lines::{Item, LogKind, Stop, Words, has_empty_word, is_word, take_items
 /// The most lines of a text.
 const MOST_LINES: u32 = 10_000;
 
-/// What the first line says: whether points, directions and lines stand behind it, and their width.
+/// What the first line says: whether points, directions and lines stand after it, and their width.
 #[derive(Clone, Copy)]
 pub(crate) struct Head {
     pub gens: bool,
@@ -155,7 +155,7 @@ fn read_row(alloc: Global, head: Head, text: &[u8]) -> Result<Option<RepRow>, St
     }
 }
 
-/// Whether a line may stand behind so many.
+/// Whether a line may stand after so many.
 fn may_stand(before: u32, ended: bool, whole: bool) -> Result<(), LogKind>
     ensures { MatchResult result (λ _. place_fault before ended whole ≡ None)
         (λ kind. place_fault before ended whole ≡ Some kind) }
@@ -169,8 +169,8 @@ fn may_stand(before: u32, ended: bool, whole: bool) -> Result<(), LogKind>
     }
 }
 
-/// What was read of a text, so many lines: the first line, the rows, and whether an `end` line stands behind
-/// them.
+/// What was read of a text, so many lines: the first line, the rows, and whether an `end` line
+/// stands after them.
 #[derive(Drop)]
 pub(crate) struct Reading {
     pub head: Head,
@@ -233,8 +233,8 @@ fn read_first(alloc: Global, text: &[u8], whole: bool) -> Result<Reading, RepEnd
     }
 }
 
-/// The representation of this text, or its first fault. Lines are read one at a time, up to the first
-/// that has a fault; there are at most 10,000.
+/// The representation of this text, or its first fault. Lines are read one at a time, up to the
+/// first that has a fault; there are at most 10,000.
 pub fn read_rep(alloc: Global, bytes: &[u8]) -> Result<Rep, RepEnd>
     ensures ok { IfOk result (IsRepText bytes.now) }
     ensures refused { IfErr result (RefusesRep bytes.now) }

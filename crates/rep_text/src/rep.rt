@@ -9,15 +9,15 @@ use src_sink::Items;
 /// What a row says.
 #[derive(Clone, Copy, Debug, PartialEq, Eq)]
 pub enum RepKind {
-    /// The inequality `h.z >= gamma`, with gamma behind h.
+    /// The inequality `h.z >= gamma`, with gamma after h.
     Side,
-    /// The equation `h.z = gamma`, with gamma behind h.
+    /// The equation `h.z = gamma`, with gamma after h.
     Equal,
-    /// A line.
+    /// A direction in which the polyhedron goes on both ways.
     Line,
-    /// A point.
+    /// A member of the polyhedron.
     Point,
-    /// A direction.
+    /// A direction in which the polyhedron goes on.
     Direction,
 }
 

@@ -111,7 +111,7 @@ module _ (n : ℕ) (Set Directions : List ℚ → Type 0) (c : List ℚ) (cuts :
         positive = record { row = g.0; listed = g.1; positive = subst (λ (x : ℚ). zero_ℚ <ℚ x) (dot_comm (row_of f) g.0) g.2 };
       }
 
-  -- behind each row in use stands one
+  -- after each row in use stands one
   behind : (r e : List ℚ) → Contains (rows_of n cuts) e → LiesIn gens r e → IsTaken r
   behind r e k l = go (Contains-cases (level n) (map row_of cuts) e k)
     where

@@ -27,7 +27,7 @@ AreReaders (r ∷ readers) (l ∷ lines) =
     (dot r l ≡ one_ℚ) × All (λ k. dot r k ≡ zero_ℚ) lines × All (λ s. IsTight s l) readers
     × AreReaders readers lines
 
--- the vector with 1 behind so many zeros and before so many
+-- the vector with 1 after so many zeros and before so many
 abbrev pub unit_at : ℕ → ℕ → List ℚ
 unit_at before behind = zeros before ++ one_ℚ ∷ zeros behind
 
@@ -42,6 +42,7 @@ pub record ArePlacesReaders (n : ℕ) (lines : List (List ℚ)) : Type 0 where
   pub reads : AreReaders (places_of n lines) lines
   pub reduced : (v : List ℚ) → IsReduced lines v ↔ All (λ r. IsTight r v) (places_of n lines)
 
+-- so it is for lines in reduced echelon form
 abbrev pub PlacesAreReaders : Type 0
 PlacesAreReaders = (n : ℕ) (lines : List (List ℚ)) → AreEchelon n lines → ArePlacesReaders n lines
 

@@ -42,6 +42,7 @@ pub record NoneIsTooMuch (n : ℕ) (points directions lines : List (List ℚ)) :
       ((y : List ℚ) → IsInHull n points directions lines y →
       IsInHull n points directions others y) → ⊥
 
+-- so it is where these are the generators and lines of a cone of rows over (y, t)
 abbrev pub HullIsNeeded : Type 0
 HullIsNeeded = (n : ℕ) (readers rows gens points directions lines : List (List ℚ)) →
     AreSidesOf n readers rows gens points directions lines →

@@ -59,7 +59,7 @@ pub fn dropped_are_units()
     ensures { DroppedAreUnits }
 {}
 
-/// The slice of a hull.
+/// The slice of a hull is the hull of the points and directions that lie in it, and of the lines.
 pub fn slice_of_hull()
     ensures { SliceOfHull }
 {}
@@ -74,12 +74,12 @@ pub fn pinned_start()
     ensures { PinnedStart }
 {}
 
-/// A step beside lines.
+/// Beside lines a step on reduced generators is the same.
 pub fn pinned_step()
     ensures { PinnedStep }
 {}
 
-/// A cone with lines.
+/// A cone with lines is spanned by its generators and lines.
 pub fn lined_cone()
     ensures { LinedCone }
 {}

@@ -11,7 +11,7 @@ use Rattle.vlp_reader.proofs.BuiltCells.{cell_at, row_cells, built_cells, built_
 use Rattle.sample_file.specs.Draws.{state_after, draw}
 use Rattle.sample_file.specs.Drawn.{drawn, drawn_row, HasDraws}
 
--- ---- draws behind draws
+-- ---- draws after draws
 state_more : (number k : ℕ) (j : ℕ) → state_after (state_after number k) j ≡ state_after number (k + j)
 state_more number k zero = ap (state_after number) (omega arith)
 state_more number k (suc j) =

@@ -30,7 +30,7 @@ other_place m n i j h = grind (arith, nat_tests)
 before_twice : (i j m n row col : ℕ) → place_before i j m n ≡ true → place_before m n row col ≡ true → place_before i j row col ≡ true
 before_twice i j m n row col h k = grind (arith, nat_tests)
 
--- what holds of each entry behind a place holds of the value of each cell
+-- what holds of each entry after a place holds of the value of each cell
 pub each_value : (P : ℚ → Type 0) (rows cols i j : ℕ) (cells : List Cell) → cells_behind rows cols i j cells ≡ true →
     ((row col : ℕ) → is_within rows cols row col ≡ true → place_before i j row col ≡ true → P (coefficient cells row col)) →
     All P (map (λ c. c.value) cells)

@@ -10,7 +10,7 @@ use Rattle.sample_file.specs.Draws.{state_after, draw}
 abbrev pub drawn : (row col : ℕ) → ℚ → List Cell
 drawn row col value = if is_zero value then [] else record { row = row; col = col; value = value } ∷ []
 
--- the cells of a row's first columns, from the draws behind a state
+-- the cells of a row's first columns, from the draws after a state
 abbrev pub drawn_row : (state row cols : ℕ) → List Cell
 drawn_row state row zero = []
 drawn_row state row (suc cols) = drawn_row state row cols ++ drawn row (suc cols) (whole (draw (state_after state (suc cols))))

@@ -26,6 +26,7 @@ summary_lines number points directions facets =
     ∷ (codes "facets" ∷ decimal facets ∷ [])
     ∷ []
 
+-- the text of a summary
 abbrev pub summary_text : (number points directions facets : ℕ) → List ℕ
 summary_text number points directions facets = flat_map line_text (summary_lines number points directions facets)
 

@@ -5,7 +5,7 @@ ghost use Rattle.sample_file.specs.Draws.{draw as draw_at};
 
 use frac128::Frac;
 
-/// The state behind another.
+/// The state after another.
 pub(crate) fn next_state(state: u32) -> u32
     ensures { result ≡ (state * 1103515245 + 12345) % 2 ^ 31 }
 {

@@ -33,7 +33,7 @@ fn put_entry(row: u32, col: u32, value: Frac, into: &mut Items<Cell>) -> Result<
     into.push(Cell { row, col, value })
 }
 
-/// Appends the entries of an objective, from the draws behind a state, and gives the last state.
+/// Appends the entries of an objective, from the draws after a state, and gives the last state.
 fn put_objective(row: u32, cols: u32, state: u32, into: &mut Items<Cell>) -> Result<u32, NoMemory>
     ensures state { IfOk result (λ s. s ≡ state_after state cols) }
     ensures cells { OnOk result (into.new ≡ into.old ++ drawn_row state row cols) }
@@ -68,7 +68,8 @@ fn unit_bounds(alloc: Global, cols: u32) -> Result<Items<Bound>, NoMemory>
     Ok(bounds)
 }
 
-/// The sample file of a number: 3 objectives of 8 to 24 columns, whose entries are drawn from -9 to 9.
+/// The sample file of a number: 3 objectives of 8 to 24 columns, whose entries are drawn from -9 to
+/// 9.
 pub fn sample_file(alloc: Global, number: u32) -> Result<Problem, NoMemory>
     ensures { IfOk result (IsSample number) }
 {
@@ -90,7 +91,7 @@ pub fn sample_file(alloc: Global, number: u32) -> Result<Problem, NoMemory>
 }
 
 /// The text of a sample file.
-fn printed(alloc: Global, file: &Problem) -> Result<Bytes, NoMemory>
+fn print_file(alloc: Global, file: &Problem) -> Result<Bytes, NoMemory>
     requires { (number : ℕ) × IsSample number file.now }
     ensures { IfOk result (λ text. text ≡ problem_text file.now) }
 {
@@ -106,5 +107,5 @@ pub fn sample_text(alloc: Global, number: u32) -> Result<Bytes, NoMemory>
     ensures { IfOk result (IsSampleText number) }
 {
     let file = sample_file(alloc, number)?;
-    printed(alloc, &file)
+    print_file(alloc, &file)
 }

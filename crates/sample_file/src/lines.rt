@@ -1,25 +1,14 @@
 //! What is told of the answer of a sample file.
-ghost use Rattle.std.specs.Prelude.{◌≡◌, ◌++◌, ◌∷◌, [], decimal, IfOk, OnOk, length};
-ghost use Rattle.src_sink.specs.Texts.{line_text};
+ghost use Rattle.std.specs.Prelude.{◌≡◌, IfOk};
 ghost use Rattle.sample_file.specs.Summary.{IsSolved, Sums, summary_text};
 
 use log_rules::Answer;
-use sol_writer::put_natural;
+use sol_writer::put_counted;
 use src_sink::{Bytes, NoMemory};
 use std::alloc::Global;
 
-/// Appends the line of a name and a count.
-fn put_count(name: &[u8], count: usize, into: &mut Bytes) -> Result<(), NoMemory>
-    ensures { OnOk result (into.new ≡ into.old ++ line_text (name.now ∷ decimal count ∷ [])) }
-{
-    into.append(name)?;
-    put_natural(count, into)?;
-    into.push(b'\n')?;
-    Ok(())
-}
-
 /// The lines of a number and of how many points, directions and facets there are.
-fn counted(
+fn lines_of_counts(
     alloc: Global,
     number: u32,
     points: usize,
@@ -29,11 +18,11 @@ fn counted(
     ensures { IfOk result (λ text. text ≡ summary_text number points directions facets) }
 {
     let mut text = Bytes::new(alloc);
-    put_count(b"sample", number as usize, &mut text)?;
+    put_counted(b"sample", number as usize, &mut text)?;
     text.append(b"answer solved\n")?;
-    put_count(b"points", points, &mut text)?;
-    put_count(b"directions", directions, &mut text)?;
-    put_count(b"facets", facets, &mut text)?;
+    put_counted(b"points", points, &mut text)?;
+    put_counted(b"directions", directions, &mut text)?;
+    put_counted(b"facets", facets, &mut text)?;
     Ok(text)
 }
 
@@ -49,7 +38,7 @@ pub fn summary(alloc: Global, number: u32, answer: &Answer) -> Result<Bytes, NoM
             directions,
             facets,
             ..
-        } => counted(alloc, number, points.len(), directions.len(), facets.len()),
+        } => lines_of_counts(alloc, number, points.len(), directions.len(), facets.len()),
         _ => unreachable!(),
     }
 }

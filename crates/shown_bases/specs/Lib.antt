@@ -1,3 +1,4 @@
+-- The subject: Orders, then Laws. Worked examples: Examples.
 pub mod Examples
 pub mod Laws
 pub mod Orders

@@ -78,7 +78,7 @@ pub rises-negatives : (n low : ℕ) (es : List Entry) → Rises n low es → Ris
 rises-negatives n low [] h = tt
 rises-negatives n low (e ∷ es) h = (h.0, h.1, rises-negatives n e.place es h.2)
 
--- ---- numbers at places behind others
+-- ---- numbers at places after others
 single_other : (place : ℕ) (x : ℚ) (k : ℕ) → place ≢ k → single place x k ≡ zero_ℚ
 single_other place x k o = ap (λ b. shown b x) (not_same place k o)
 
@@ -124,7 +124,7 @@ placed-at base (x ∷ xs) (suc i) =
     (ap (placed (suc base) xs) same ∙ placed-at (suc base) xs i)
     ∙ zero-add_ℚ (slice_index_or xs i zero_ℚ)
 
--- ---- lines that grow
+-- ---- sparse rows that grow
 pub longer_none : (n top : ℕ) (es : List Entry) → Rises n 0 es → last_place 0 es ≤ top →
     IsLonger n top (placed top []) es es
 longer_none n top es h l =

@@ -19,17 +19,17 @@ use Rattle.lp_form.specs.declared.data.Data.{Data}
 abbrev pub single : ℕ → ℚ → ℕ → ℚ
 single place x k = if nat_eq place k then x else zero_ℚ
 
--- the numbers of a list in the equations behind `base`
+-- the numbers of a list in the equations after `base`
 abbrev pub placed : ℕ → List ℚ → ℕ → ℚ
 placed base [] k = zero_ℚ
 placed base (x ∷ xs) k = single (suc base) x k +ℚ placed (suc base) xs k
 
--- a line has these numbers, and no others
+-- a sparse row has these numbers, and no others
 pub record IsLineWith (n : ℕ) (f : ℕ → ℚ) (es : List Entry) : Type 0 where
   pub rises : Rises n 0 es
   pub sums : (k : ℕ) → sum_at es k ≡ f k
 
--- a line gets these numbers in addition, and ends at the place `top` or before it
+-- a sparse row gets these numbers in addition, and ends at the place `top` or before it
 pub record IsLonger (n top : ℕ) (f : ℕ → ℚ) (old new : List Entry) : Type 0 where
   pub rises : Rises n 0 new
   pub last : last_place 0 new ≤ top
@@ -52,7 +52,7 @@ member cols Orthant i k = single (cols + i) one_ℚ k
 member cols (Gens vectors) i k = placed cols (column_of vectors i) k
 member cols (Dual vectors) i k = single (cols + i) one_ℚ k
 
--- what unknown d behind w has in them
+-- what unknown d after w has in them
 abbrev pub behind : ℕ → Cone → ℕ → ℕ → ℚ
 behind cols Orthant d k = single (cols + d) (neg_ℚ one_ℚ) k
 behind cols (Gens vectors) d k = single (cols + d) (neg_ℚ one_ℚ) k
@@ -74,7 +74,7 @@ weight_entry value form c i k =
 abbrev pub across : {F : Type 0} → (F → ℚ) → ℕ → List (List (Cell F)) → List ℚ
 across value k columns = map (λ cells. sum_at (entries value cells) k) columns
 
--- what the unknowns of w have in equation k, and those behind it
+-- what the unknowns of w have in equation k, and those after it
 abbrev pub weight_row : {F : Type 0} → (F → ℚ) → Data F → List F → ℕ → List ℚ
 weight_row value form c k = listed (length form.p) (λ i. weight_entry value form c i k)
 

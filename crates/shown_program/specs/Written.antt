@@ -10,7 +10,7 @@ use Rattle.lp_form.specs.declared.data.Data.{Data}
 use Rattle.shown_program.specs.Entries.{across, behind_row, benson_equations, unit_entries, weight_row}
 use Rattle.shown_program.specs.declared.columns.Columns.{Columns}
 
--- the columns of the two lists of w, and those behind
+-- the columns of the two lists of w, and those after them
 pub record AreOthers {F : Type 0} (value : F → ℚ) (form : Data F) (c : List F)
     (others : List (List (Cell F))) : Type 0 where
   pub numbers : (k : ℕ) → across value k others

@@ -9,7 +9,8 @@ use lin_rows::cells::Cell;
 use lp_form::SideOf;
 use src_sink::Items;
 
-/// A linear program in equations by its columns, of which each keeps only its entries that are not 0.
+/// A linear program in equations by its columns, of which each keeps only its entries that are not
+/// 0.
 #[derive(Drop)]
 pub(crate) struct Columns<'a, F: Drop> {
     /// The first unknowns have the vectors of these sides.
@@ -48,7 +49,7 @@ impl<'a, F: Field> Columns<'a, F> {
         }
     }
 
-    /// Column `k`: those of the unknowns, and behind them the artificial ones.
+    /// Column `k`: those of the unknowns, and after them the artificial ones.
     pub(crate) fn column(&self, k: usize) -> &[Cell<F>]
         requires low { 1 ≤ k }
         requires high { k ≤ length self.now.cost + length self.now.right }

@@ -10,8 +10,9 @@ pub struct Pair {
 }
 
 /// An order in which the columns of a basis are seen to be independent: columns that leave one
-/// equation each, then as many that leave equations together, and columns that leave one each again.
-/// A column leaves equations if it has no entries but in them and in those that were left before.
+/// equation each, then as many that leave equations together, and columns that leave one each
+/// again. A column leaves equations if it has no entries but in them and in those that were left
+/// before.
 #[derive(Debug, Drop)]
 pub struct Order {
     /// The first columns, each with the equation that it leaves.
@@ -20,15 +21,15 @@ pub struct Order {
     pub vectors: Items<u32>,
     /// These equations, in rising order.
     pub places: Items<u32>,
-    /// The last columns.
+    /// The last columns, each with the equation that it leaves.
     pub back: Items<Pair>,
 }
 
-/// A guess of an optimum.
+/// A guess of an optimum, of which nothing is promised.
 #[derive(Debug, Drop)]
 pub struct Guess<F: Drop> {
     /// The columns of a basis, as many as there are equations: from 1 those of the unknowns, and
-    /// behind them one artificial column for each equation.
+    /// after them one artificial column for each equation.
     pub columns: Items<u32>,
     /// A value for each of the columns.
     pub x: Items<F>,

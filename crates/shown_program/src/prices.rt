@@ -33,8 +33,8 @@ fn is_short<F: Field>(price: F, cost: F, owed: bool) -> bool
     if owed { is_below(price, cost) } else { false }
 }
 
-/// Whether the multipliers make up for the cost of a column exactly: none where the column is that of
-/// an unknown whose cost is greater, or where a number is not held.
+/// Whether the multipliers make up for the cost of a column exactly: none where the column is that
+/// of an unknown whose cost is greater, or where a number is not held.
 fn is_tight<F: Field>(program: &Columns<'_, F>, y: &[F], k: usize) -> Option<bool>
     requires low { 1 ≤ k }
     requires high { k ≤ length program.now.cost + length program.now.right }

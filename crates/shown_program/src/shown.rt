@@ -28,7 +28,7 @@ fn is_number(k: usize, most: usize) -> bool
     k >= 1 && k <= most
 }
 
-/// Whether all are so.
+/// Whether each is from 1 to `most`.
 fn are_numbers(columns: &[u32], most: usize) -> bool
     ensures low { IsTrue result → All (λ c. 1 ≤ c) columns.now }
     ensures high { IsTrue result → All (λ c. c ≤ most) columns.now }
@@ -85,7 +85,6 @@ fn passes<F: Field>(
     is_shown(alloc, program, columns, &guess.order)
 }
 
-/// A copy of a list.
 fn copied<T: Copy>(alloc: Global, list: &[T]) -> Result<Items<T>, NoMemory>
     ensures { IfOk result (λ copy. copy ≡ list.now) }
 {
@@ -122,10 +121,10 @@ fn optimum_at<F: Field>(
     Ok(Some(Optimum { x, dual, basis }))
 }
 
-/// The optimum that a guess shows for a named program, whose columns are not written into one table.
-/// There is none where a test fails, or a number is not held that a test calculates; and none for the
-/// programs of a weight and of the cone, which are not tested. `c` is the duality vector, which only
-/// `Benson` uses.
+/// The optimum that a guess shows for a named program, whose columns are not written into one
+/// table. There is none where a test fails, or a number is not held that a test calculates; and
+/// none for the programs of a weight and of the cone, which are not tested. `c` is the duality
+/// vector, which only `Benson` uses.
 ///
 /// The cost is linear in the entries of the columns that are not 0, but for the columns that leave
 /// equations together: these are eliminated.

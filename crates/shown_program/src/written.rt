@@ -48,7 +48,7 @@ fn push_kept<F: Field>(list: &mut Items<Cell<F>>, at: u32, value: F) -> Result<(
     list.push(Cell { at, value })
 }
 
-/// Appends the numbers of a list at the places behind `base`.
+/// Appends the numbers of a list at the places after `base`.
 fn push_list<F: Field>(list: &mut Items<Cell<F>>, base: u32, numbers: &[F]) -> Result<(), NoMemory>
     requires { base + length numbers.now < 4294967296 }
     ensures { (n : ℕ) → Rises n 0 (entries F.value list.old)
@@ -74,7 +74,7 @@ fn cone_equations<F: Field>(form: &Data<F>) -> u32
     }
 }
 
-/// How many unknowns it has behind w.
+/// How many unknowns it has after w.
 fn cone_unknowns<F: Field>(form: &Data<F>) -> u32
     ensures count { result ≡ dual_unknowns (length form.now.p) (cone_of F.value form.now.cone) }
     ensures bound { result ≤ 100000 }
@@ -174,7 +174,7 @@ fn single_column<F: Field>(alloc: Global, place: u32, value: F) -> Result<Items<
     Ok(list)
 }
 
-/// A column with the numbers of a list at the places behind `base`.
+/// A column with the numbers of a list at the places after `base`.
 fn list_column<F: Field>(
     alloc: Global,
     base: u32,
@@ -189,7 +189,7 @@ fn list_column<F: Field>(
     Ok(list)
 }
 
-/// The column of unknown `d` behind w.
+/// The column of unknown `d` after w.
 fn behind_column<F: Field>(
     alloc: Global,
     form: &Data<F>,
@@ -209,7 +209,7 @@ fn behind_column<F: Field>(
     }
 }
 
-/// Appends the columns of the unknowns behind w.
+/// Appends the columns of the unknowns after w.
 fn push_behind<F: Field>(
     alloc: Global,
     list: &mut Items<Items<Cell<F>>>,
@@ -267,7 +267,7 @@ fn units<F: Field>(alloc: Global, right: &[F]) -> Result<Items<Cell<F>>, NoMemor
     Ok(units)
 }
 
-/// The program of these columns behind those of the sides.
+/// The program of these columns after those of the sides.
 fn assembled<'a, F: Field>(
     alloc: Global,
     form: &'a Data<F>,

@@ -440,7 +440,7 @@ nested k a b c d e w x =
 nested_four : {X : Type 0} (k a b c : List X) → ((k ++ a) ++ b) ++ c ≡ k ++ (a ++ (b ++ c))
 nested_four k a b c = append_assoc (k ++ a) b c ∙ append_assoc k a (b ++ c)
 
--- the lines of a solution behind that of c
+-- the lines of a solution after that of c
 abbrev solution_lines : Problem → List LineGen → List Gen → List Gen → List Facet → List Words
 solution_lines f ls points directions facets =
     line_lines ls
@@ -485,7 +485,7 @@ same_solution f g c c' ls ls' points points' directions directions' facets facet
     tail_of : (v w : Words) (r s : List Words) → v ∷ r ≡ w ∷ s → r ≡ s
     tail_of v w r s e = cc
 
--- they are what stands behind its first four lines
+-- they are what stands after its first four lines
 solution_from : (f : Problem) (c : List ℚ) (ls : List LineGen) (points directions : List Gen) (facets : List Facet) →
     drop 4 (report_lines f (Solved c ls points directions facets)) ≡ solution_lines f ls points directions facets
 solution_from f c ls points directions facets =

@@ -21,12 +21,15 @@ is_short_list good xs = is_short (length xs) && list_all good xs
 abbrev pub is_held_sparse : List Spot → Bool
 is_held_sparse u = is_short_list is_formed_spot u
 
+-- the numbers of a line are written,
 abbrev pub is_held_line : LineGen → Bool
 is_held_line l = list_all is_held l.d && (is_held_sparse l.ray && is_held_sparse l.back)
 
+-- those of a point or direction,
 abbrev pub is_held_gen : Gen → Bool
 is_held_gen g = list_all is_held g.y && is_held_sparse g.pre
 
+-- and those of a facet
 abbrev pub is_held_facet : Facet → Bool
 is_held_facet f =
     list_all is_held f.w

@@ -1,3 +1,5 @@
+-- The subject: Solving (what a solution is, and why there may be none), Replies, Accepted, Agree,
+-- Own. For the code's own steps: Ends.
 pub mod Ends
 pub mod Own
 pub mod Solving

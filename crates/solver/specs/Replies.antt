@@ -52,6 +52,7 @@ pub record Overflowed (file : Problem) (r : Reply) : Type 0 where
   pub licensed : LicensedAnyhow is_held file licence
   pub told : TellsFault r
 
+-- there is no answer: the ordering cone is refused, or an overflow is licensed
 abbrev pub Unsolved : Problem → Reply → Type 0
 Unsolved file r = ConeRefused file r ⊎ Overflowed file r
 

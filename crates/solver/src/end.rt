@@ -13,14 +13,13 @@ pub struct Solution {
     pub answer: Answer,
 }
 
-/// Why there is none.
+/// Why a problem has no solution here.
 #[derive(Debug, Drop)]
 pub enum SolveEnd {
     /// The first fault of the ordering cone.
     Cone(ConeFault),
     /// An operation whose exact result is not held, with its licence.
     Left(Licence),
-    /// Want of memory.
     NoMemory,
 }
 

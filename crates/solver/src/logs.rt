@@ -28,7 +28,7 @@ fn copy_duality<F: Field>(alloc: Global, duality: &Duality<F>) -> Result<Duality
     c.append(duality.c.as_slice())?;
     let mut weights = Items::new(alloc);
     weights.append(duality.weights.as_slice())?;
-    let entry = duality.entry.copied(alloc)?;
+    let entry = duality.entry.copy(alloc)?;
     Ok(Duality { c, weights, entry })
 }
 

@@ -18,7 +18,7 @@ module _ (p : ℕ → Bool) (text : List ℕ) where
   rest_whole : (n : ℕ) → take (length text - n) (drop n text) ≡ drop n text
   rest_whole n = take_all _ (drop n text) (grind (arith, common_steps))
 
-  -- the piece before the byte, and the pieces of what stands behind it
+  -- the piece before the byte, and the pieces of what stands after it
   pub cut_there : (at : ℕ) → position p text ≡ Some at → slice_split p text ≡ take at text ∷ slice_split p (take (length text - (at + 1)) (drop (at + 1) text))
   cut_there at e =
       let first = position-Some p text at 0 e in
@@ -43,7 +43,7 @@ module _ (p : ℕ → Bool) (text : List ℕ) where
   pub uncut : position p text ≡ None → slice_split p text ≡ text ∷ []
   uncut e = slice_split_none p text (lacks e)
 
--- a text is what stands before the first place of a byte, the byte, and what stands behind it
+-- a text is what stands before the first place of a byte, the byte, and what stands after it
 pub parts_at : (byte : ℕ) (text : List ℕ) (at : ℕ) → position (λ b. b == byte) text ≡ Some at → text ≡ take at text ++ byte ∷ drop (at + 1) text
 parts_at byte text at e =
     let first = position-Some (λ b. b == byte) text at 0 e in

@@ -9,7 +9,7 @@ use Rattle.src_sink.specs.Reading.{LacksLineFeed}
 abbrev pub torn_line : List ℕ → TextLine
 torn_line text = record { text = text; whole = false }
 
--- the lines behind one that ends with a line feed
+-- the lines after one that ends with a line feed
 pub lines_more : (piece : List ℕ) (pieces : List (List ℕ)) → 0 < length pieces → lines_between (piece ∷ pieces) ≡ record { text = piece; whole = true } ∷ lines_between pieces
 lines_more piece [] h = absurd (omega arith)
 lines_more piece (next ∷ pieces) h = refl
@@ -17,7 +17,7 @@ lines_more piece (next ∷ pieces) h = refl
 some_pieces : (bytes : List ℕ) → 0 < length (slice_split (λ b. b == 10) bytes)
 some_pieces bytes = omega (arith, length-slice_split (λ b. b == 10) bytes)
 
--- a line that ends with a line feed, and what stands behind it
+-- a line that ends with a line feed, and what stands after it
 pub first_line : (bytes piece rest : List ℕ) → slice_split (λ b. b == 10) bytes ≡ piece ∷ slice_split (λ b. b == 10) rest → lines_of bytes ≡ record { text = piece; whole = true } ∷ lines_of rest
 first_line bytes piece rest e = ap lines_between e ∙ lines_more piece (slice_split (λ b. b == 10) rest) (some_pieces rest)
 

@@ -25,6 +25,7 @@ pub record Takes (before after : Reading) (left left' : Option (List ℕ)) (fron
   pub none_behind : before.ended ≡ true → (front ≡ []) × (after.ended ≡ true) × (left' ≡ left)
   pub at_end : before.ended ≡ false → after.ended ≡ true → IsAtEnd left'
 
+-- no byte of a line is a line feed
 abbrev pub LacksLineFeed : List ℕ → Type 0
 LacksLineFeed line = All (λ b. (b == 10) ≡ false) line
 

@@ -11,7 +11,7 @@ words_text words = join_with_byte 32 words
 abbrev pub line_text : List (List ℕ) → List ℕ
 line_text words = words_text words ++ 10 ∷ []
 
--- the pieces of what stands behind a byte at which a text was cut, where something may stand there
+-- the pieces of what stands after a byte at which a text was cut, where something may stand there
 abbrev pub pieces_behind : ℕ → Option (Bor (List ℕ)) → List (List ℕ)
 pieces_behind byte None = []
 pieces_behind byte (Some rest) = slice_split (λ b. b == byte) rest.now
@@ -21,7 +21,7 @@ pub record TextLine : Type 0 where
   pub text : List ℕ
   pub whole : Bool
 
--- the lines of pieces that stood between line feeds; behind the last line feed only where it is not empty
+-- the lines of pieces that stood between line feeds; after the last line feed only where it is not empty
 abbrev pub lines_between : List (List ℕ) → List TextLine
 lines_between [] = []
 lines_between (piece ∷ []) = if length piece == 0 then [] else record { text = piece; whole = false } ∷ []

@@ -27,8 +27,8 @@ impl<T: Drop> From<AllocFailed<T>> for NoMemory {
     }
 }
 
-/// A list that keeps its allocator. A growth past `MOST_ITEMS` is refused, as one for which there is
-/// no memory.
+/// A list that keeps its allocator. A growth past `MOST_ITEMS` is refused, as one for which there
+/// is no memory.
 #[derive(Debug, Drop)]
 pub struct Items<T> {
     list: Vec<T>,

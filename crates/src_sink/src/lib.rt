@@ -1,7 +1,7 @@
 //! Bytes in and out, and lists that never end the program for want of memory.
 //!
-//! Whatever takes memory here answers `NoMemory` where there is none, and leaves what it was given as
-//! it was.
+//! Whatever takes memory here answers `NoMemory` where there is none, and leaves what it was given
+//! as it was.
 #![tactic(auto)]
 
 mod edge;

@@ -17,7 +17,7 @@ use std::mem;
 pub enum LineEnd {
     /// Its line feed stood.
     Whole,
-    /// The source ended without one, behind at least one byte.
+    /// The source ended without one, after at least one byte.
     Torn,
     /// There is no line: no bytes are to come.
     End,
@@ -124,8 +124,8 @@ impl Intake {
         Ok(true)
     }
 
-    /// Appends what is left of the piece to `line`, up to a line feed, which goes with it. Whether it
-    /// stood.
+    /// Appends what is left of the piece to `line`, up to a line feed, which goes with it. Whether
+    /// it stood.
     fn give(&mut self, line: &mut Bytes) -> Result<bool, NoMemory>
         ensures ok { IfOk result (λ whole. GivesPart whole self.old self.new line.old line.new) }
         ensures err { OnErr result ((self.new ≡ self.old) × (line.new ≡ line.old)) }
@@ -217,12 +217,12 @@ impl Lines {
         }
     }
 
-    /// Puts the next line, without its line feed, into `line` in place of what that held, and answers
-    /// how it ended: `LineEnd::End` where there is none, and then `line` is empty. Each call is to be
-    /// given the same source.
+    /// Puts the next line, without its line feed, into `line` in place of what that held, and
+    /// answers how it ended: `LineEnd::End` where there is none, and then `line` is empty. Each
+    /// call is to be given the same source.
     ///
-    /// `ReadEnd::TooLong` comes as soon as more than the limit were taken since `new`. After a `ReadEnd`
-    /// `line` is as before, and no further call may follow.
+    /// `ReadEnd::TooLong` comes as soon as more than the limit were taken since `new`. After a
+    /// `ReadEnd` `line` is as before, and no further call may follow.
     pub fn next<S: Source>(&mut self, src: &mut S, line: &mut Bytes) -> Result<LineEnd, ReadEnd>
         requires { self.old.failed ≡ false }
         ensures count { S.faults src.old ≤ S.faults src.new }

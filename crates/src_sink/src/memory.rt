@@ -37,8 +37,8 @@ impl Model for MemSource {
 }
 
 impl MemSource {
-    /// A source of `contents` that gives at most `most` bytes a call, and of whose calls exactly those
-    /// fail whose numbers, counted from 1, stand in `fails`.
+    /// A source of `contents` that gives at most `most` bytes a call, and of whose calls exactly
+    /// those fail whose numbers, counted from 1, stand in `fails`.
     pub fn new(contents: Bytes, most: usize, fails: Items<u64>) -> MemSource
         requires { 0 < most }
         ensures { result
@@ -125,8 +125,8 @@ impl Model for MemSink {
 }
 
 impl MemSink {
-    /// A sink that holds nothing yet and takes at most `most` bytes a call and `room` bytes in all. Its
-    /// calls whose numbers, counted from 1, stand in `fails` fail.
+    /// A sink that holds nothing yet and takes at most `most` bytes a call and `room` bytes in all.
+    /// Its calls whose numbers, counted from 1, stand in `fails` fail.
     pub fn new(
         alloc: Global,
         room: usize,

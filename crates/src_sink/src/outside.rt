@@ -14,8 +14,8 @@ pub trait Source {
     // How many calls failed.
     ghost faults: { Self → ℕ };
 
-    /// Puts the next bytes at the front of `buf`, and answers how many they are. What follows them in
-    /// `buf` may be anything. For a `buf` that is not empty, 0 is the end of input.
+    /// Puts the next bytes at the front of `buf`, and answers how many they are. What follows them
+    /// in `buf` may be anything. For a `buf` that is not empty, 0 is the end of input.
     fn read(&mut self, buf: &mut [u8]) -> Result<usize, Failed>
         ensures count { NeverFalls (faults self.old) (faults self.new) }
 

@@ -12,8 +12,8 @@ pub fn place_of(text: &[u8], byte: u8) -> Option<usize>
     memchr(byte, text)
 }
 
-/// The piece of a text before the first of this byte, and what stands behind that byte where there is
-/// one. It takes no memory, and looks at the piece alone.
+/// The piece of a text before the first of this byte, and what stands after that byte where there
+/// is one. It takes no memory, and looks at the piece alone.
 pub fn first_piece(text: &[u8], byte: u8) -> (&[u8], Option<&[u8]>)
     ensures pieces { slice_split (λ b. b == byte) text.now
         ≡ result.0.now ∷ pieces_behind byte result.1 }

@@ -3,6 +3,7 @@ use Rattle.std.specs.Prelude.{ℕ}
 use Rattle.statuses.specs.declared.status.Status.{Status}
 use Rattle.statuses.specs.declared.status.Status.TheVariants.{Done, Words, FileFault, ConeFault, Left, NoMemory, ReadFault, WriteFault, Refused, TooLong, Columns, SecondFile, EmptyPart, Sizes, RepFault, WeighLeft, Weights}
 
+-- the code with which the program ends
 abbrev pub code_of : Status → ℕ
 code_of Done = 0
 code_of Words = 2

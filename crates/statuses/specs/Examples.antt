@@ -31,6 +31,7 @@ turned = record { op = Mul; a = whole (negsuc 2); b = fraction (pos 1) 4 }
 abbrev pub difference : Left Frac
 difference = record { op = Sub; a = fraction (pos 1) 4; b = whole (negsuc 2) }
 
+-- lines of statuses, beside near ones
 pub record Examples : Type 0 where
   pub columns : fault_text (Columns 2 1) ≡ codes "fault 12 2 1\n"
   pub columns_turned : bytes_eq (fault_text (Columns 1 2)) (codes "fault 12 2 1\n") ≡ false

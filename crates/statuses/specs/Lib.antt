@@ -1,4 +1,4 @@
--- The subject: Codes; Names and Text (the lines of faults); Replies, with Examples.
+-- The subject: Codes; Names and Text (the lines of faults); Replies. Worked examples: Examples.
 pub mod Codes
 pub mod Names
 pub mod Text

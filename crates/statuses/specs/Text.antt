@@ -87,11 +87,12 @@ abbrev pub weigh_text : ℕ → Left Frac → List ℕ
 weigh_text item l = line_text (codes "fault" ∷ codes "17" ∷ decimal item ∷ operation_words l)
 
 -- ---- a part of a join
--- the fault line of a part without a feasible vector, and the multipliers that show it
+-- the word for a part of a join
 abbrev pub part_name : Bool → List ℕ
 part_name false = codes "first"
 part_name true = codes "second"
 
+-- the fault line of a part without a feasible vector, and the multipliers that show it
 abbrev pub empty_part_text : Bool → List Spot → List ℕ
 empty_part_text second u =
     line_text (codes "fault" ∷ codes "14" ∷ part_name second ∷ part_words (sparse u))

@@ -2,11 +2,12 @@
 ghost use Rattle.std.specs.Prelude.{◌≡◌, IfOk};
 ghost use Rattle.statuses.specs.Text.{shown_text, cone_fault_text, empty_part_text, part_name};
 
-use crate::words::{put_sparse, put_vector, put_word};
+use crate::words::put_word;
 use cone_rules::ConeFault;
 use frac128::{Frac, Spot};
 use src_sink::{Bytes, NoMemory};
 use std::alloc::Global;
+use word_lines::{put_sparse, put_vector};
 
 /// The fault line of a fault with this name, and what shows it.
 fn shown_line(alloc: Global, name: &[u8], w: &[Frac], m: &[Spot]) -> Result<Bytes, NoMemory>
@@ -39,7 +40,6 @@ pub(crate) fn cone_fault_line(alloc: Global, fault: &ConeFault) -> Result<Bytes,
     }
 }
 
-/// The name of a part.
 fn part_name(second: bool) -> &'static [u8]
     ensures { result.now ≡ part_name second }
 {

@@ -4,13 +4,14 @@ ghost use Rattle.word_lines.specs.Printing.{spaced};
 ghost use Rattle.statuses.specs.Names.{operation_name, family_name};
 ghost use Rattle.statuses.specs.Text.{operation_words, place_words, basis_words, licence_text, weigh_text};
 
-use crate::words::{put_list, put_named, put_word};
+use crate::words::{put_named, put_word};
 use deriv_log::{Family, Licence, Place};
 use exact_field::{Left, Op};
 use frac128::Frac;
 use sol_writer::{put_natural, put_number};
 use src_sink::{Bytes, NoMemory};
 use std::alloc::Global;
+use word_lines::put_naturals;
 
 /// The name of an operation.
 fn operation_name(op: Op) -> &'static [u8]
@@ -100,16 +101,16 @@ fn put_basis(place: &Place, into: &mut Bytes) -> Result<(), NoMemory>
     ensures { OnOk result (into.new ≡ into.old ++ spaced (basis_words place.now)) }
 {
     match place {
-        Place::Pivot { basis, .. } => put_list(basis.as_slice(), into),
-        Place::Elim { basis, .. } => put_list(basis.as_slice(), into),
+        Place::Pivot { basis, .. } => put_naturals(basis.as_slice(), into),
+        Place::Elim { basis, .. } => put_naturals(basis.as_slice(), into),
         Place::Pair { .. } | Place::Exchange { .. } | Place::Scale { .. } | Place::Step { .. } => {
             Ok(())
         }
     }
 }
 
-/// The fault line of a licence: the place, the operation with its operands, and the basis where the place has one. The
-/// trail and the vectors of the place are not told.
+/// The fault line of a licence: the place, the operation with its operands, and the basis where the
+/// place has one. The trail and the vectors of the place are not told.
 pub fn licence_line(alloc: Global, licence: &Licence) -> Result<Bytes, NoMemory>
     ensures { IfOk result (λ text. text ≡ licence_text licence.now) }
 {

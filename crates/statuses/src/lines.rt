@@ -44,8 +44,8 @@ pub(crate) fn wrong_line(alloc: Global, entry: u32, rule: Rule) -> Result<Bytes,
     Ok(bytes)
 }
 
-/// The fault line of a source with more bytes than the limit: that of the log, or of the problem, and the bytes that
-/// were taken.
+/// The fault line of a source with more bytes than the limit: that of the log, or of the problem,
+/// and the bytes that were taken.
 pub(crate) fn too_long_line(alloc: Global, log: bool, read: u64) -> Result<Bytes, NoMemory>
     ensures { IfOk result (λ text. text ≡ too_long_text log read) }
 {
@@ -105,7 +105,6 @@ pub(crate) fn rep_fault_line(alloc: Global, line: u32, kind: LogKind) -> Result<
     Ok(bytes)
 }
 
-/// The bytes of a text.
 fn bytes_of(alloc: Global, text: &str) -> Result<Bytes, NoMemory>
     ensures { IfOk result (λ bytes. bytes ≡ text.now) }
 {

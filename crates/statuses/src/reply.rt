@@ -35,8 +35,8 @@ pub fn refused_reply(alloc: Global, why: LogRefusal) -> Result<Reply, NoMemory>
     fault_reply(alloc, Status::Refused(why))
 }
 
-/// The reply where a step of the check of an entry has an exact result that is not held. No entry was
-/// made.
+/// The reply where a step of the check of an entry has an exact result that is not held. No entry
+/// was made.
 pub fn step_reply(alloc: Global, entry: u32, step: u64, left: Left<Frac>) -> Result<Reply, NoMemory>
     ensures { IfOk result (TellsStatus (Status.Left (step_licence entry step left))) }
 {

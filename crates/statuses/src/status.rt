@@ -46,14 +46,14 @@ pub enum Status {
     Columns { asked: u32, cols: u32 },
     /// The second problem's text is refused.
     SecondFile(FileFault),
-    /// The first or the second part of a join has no feasible vector, which these multipliers of its
-    /// sides show (Farkas).
+    /// The first or the second part of a join has no feasible vector, which these multipliers of
+    /// its sides show (Farkas).
     EmptyPart { second: bool, u: Sparse },
-    /// There are more than 19 columns, or the two problems differ in their number; of an image, more
-    /// than 19 objectives, told twice.
+    /// There are more than 19 columns, or the two problems differ in their number; of an image,
+    /// more than 19 objectives, told twice.
     Sizes { first: u32, second: u32 },
-    /// The representation's text is refused: its first fault, or that of the first line of a text that
-    /// reads but is of the other kind.
+    /// The representation's text is refused: its first fault, or that of the first line of a text
+    /// that reads but is of the other kind.
     RepFault { line: u32, kind: LogKind },
     /// A product of the weights with a line, a direction or a point has an operation whose exact
     /// result is not held; these are numbered from 1 through the three lists.

@@ -13,7 +13,7 @@ use Rattle.polyhedra.proofs.Order.{lt_irrefl, le_of_difference}
 use Rattle.polyhedra.proofs.Lists.{wide-nil, wide-cons, wide-head, wide-tail}
 use Rattle.polyhedra.proofs.Linear.{dot_comm, dot-nil, dot-scaled_left, dot-plus_left, dot-combination_left, dot-zeros, length-combination, length-scaled, length-zeros, same_wide, length-plus}
 
--- each row, and behind it its negative
+-- each row, and after it its negative
 abbrev pub with_negatives : List (List ℚ) → List (List ℚ)
 with_negatives [] = []
 with_negatives (a ∷ rows) = a ∷ (scaled (neg_ℚ one_ℚ) a ∷ with_negatives rows)

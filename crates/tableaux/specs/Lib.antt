@@ -1,3 +1,5 @@
+-- The subject: Table, Dictionary, Simplex, Lex, Phases, Elimination, Exchange, Chosen, Optimum, in
+-- this order, most with their laws; the others are in Laws. Worked examples: Examples.
 pub mod Chosen
 pub mod Dictionary
 pub mod Elimination

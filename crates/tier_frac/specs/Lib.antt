@@ -1,2 +1,3 @@
+-- The subject: Size, then Form.
 pub mod Form
 pub mod Size

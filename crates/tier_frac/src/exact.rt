@@ -1,4 +1,5 @@
-//! Numbers in lowest terms as operations on words give them, before it is known which size holds them.
+//! Numbers in lowest terms as operations on words give them, before it is known which size holds
+//! them.
 
 ghost use Rattle.std.specs.Prelude.{◌≡◌, ◌*◌, ◌<◌, unsigned_abs};
 ghost use Rattle.std.specs.Int.{IsGcd};
@@ -87,7 +88,6 @@ impl Exact {
         Exact::of(negative, num, den)
     }
 
-    /// A fraction.
     pub(crate) fn of_frac(value: Frac) -> Exact
         ensures { result ≡ value }
     {

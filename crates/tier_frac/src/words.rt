@@ -1,4 +1,5 @@
-//! Fractions whose parts fit into words: their sums, products, quotients and order by word arithmetic.
+//! Fractions whose parts fit into words: their sums, products, quotients and order by word
+//! arithmetic.
 
 ghost use Rattle.std.specs.Prelude.{◌≡◌, ◌≢◌, ◌-◌, ◌<◌, ◌≤◌, ◌^◌, pos, ◌+ℤ◌, ◌*ℤ◌, unsigned_abs, IsTrue, IfSome};
 ghost use Rattle.std.specs.Int.{IsGcd};
@@ -61,7 +62,6 @@ fn sum_of_products(a: i64, x: u64, c: i64, y: u64) -> i128
 }
 
 impl Words {
-    /// A whole number.
     pub(crate) fn whole(v: i64) -> Words
         ensures value { result ≡ whole v }
         ensures small { IsTrue (is_small result) }
@@ -90,7 +90,6 @@ impl Words {
         self.num
     }
 
-    /// The denominator.
     pub(crate) fn den(self) -> u64
         ensures part { result ≡ self.den }
         ensures small { IsTrue (is_small self) }
@@ -153,7 +152,6 @@ impl Words {
         Exact::of(sum < 0, num, den)
     }
 
-    /// The sum.
     pub(crate) fn plus(self, other: Words) -> Exact
         ensures { result ≡ self +ℚ other }
     {
@@ -164,7 +162,6 @@ impl Words {
         }
     }
 
-    /// The product.
     pub(crate) fn times(self, other: Words) -> Exact
         ensures { result ≡ self *ℚ other }
     {
@@ -192,7 +189,8 @@ impl Words {
         self.num == other.num && self.den == other.den
     }
 
-    /// The order: of the numerators where the denominators are equal, and else of the products across.
+    /// The order: of the numerators where the denominators are equal, and else of the products
+    /// across.
     pub(crate) fn compare(self, other: Words) -> Ordering
         ensures { result ≡ cmp_ℚ self other }
     {

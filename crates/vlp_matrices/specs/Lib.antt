@@ -1,1 +1,2 @@
-pub mod Sheets
+-- The subject: Matrices.
+pub mod Matrices

@@ -1,7 +1,8 @@
-//! The sides and the objectives of a problem as matrices, by rows and by columns, with their entries that are not 0 alone.
+//! The sides and the objectives of a problem as matrices, by rows and by columns, with their
+//! entries that are not 0 alone.
 #![tactic(auto)]
 
+mod matrices;
 mod matrix;
-mod sheet;
 
-pub use sheet::{Matrix, Sheet};
+pub use matrices::{Matrices, Matrix};

@@ -1,6 +1,6 @@
 //! Matrices by their cells, and by the sparse vectors of their rows or columns.
 ghost use Rattle.std.specs.Prelude.{◌≡◌, ℕ, suc, ◌+◌, ◌<◌, ◌≤◌, replicate, map, length, All, IfOk, OnOk, List, [], ◌∷◌, ◌++◌};
-ghost use Rattle.vlp_matrices.specs.Sheets.{key_of, spot_of, spots_in, row_cells, cells_from, turned_spot, unit_spots};
+ghost use Rattle.vlp_matrices.specs.Matrices.{key_of, spot_of, spots_in, row_cells, cells_from, turned_spot, unit_spots};
 ghost use Rattle.upper_image.specs.UpperImage.{signed};
 ghost use Rattle.vlp_reader.specs.Sides.{numbers_from};
 
@@ -22,7 +22,7 @@ fn empty_lists(alloc: Global, count: u32) -> Result<Vec<Sparse>, NoMemory>
 }
 
 /// A number in working coordinates: its negative where the problem maximises.
-fn signed(dir: Dir, value: Frac) -> Frac
+fn turn_number(dir: Dir, value: Frac) -> Frac
     ensures { result ≡ signed dir value }
 {
     match dir {
@@ -51,12 +51,12 @@ fn spot_of(axis: Axis, dir: Dir, cell: &Cell) -> Spot
     };
     Spot {
         at,
-        value: signed(dir, cell.value),
+        value: turn_number(dir, cell.value),
     }
 }
 
-/// The rows, or the columns, of a matrix by its cells, in working coordinates. It costs the cells and the number of
-/// rows or columns.
+/// The rows, or the columns, of a matrix by its cells, in working coordinates. It costs the cells
+/// and the number of rows or columns.
 pub fn spots_by(
     alloc: Global,
     axis: Axis,
@@ -107,20 +107,20 @@ pub fn cells_of(alloc: Global, rows: &[Sparse]) -> Result<Items<Cell>, NoMemory>
 }
 
 /// A copy of a sparse vector, times -1 where `dir` says so.
-fn turned(alloc: Global, dir: Dir, spots: &[Spot]) -> Result<Sparse, NoMemory>
+fn turn_vector(alloc: Global, dir: Dir, spots: &[Spot]) -> Result<Sparse, NoMemory>
     ensures { IfOk result (λ v. v ≡ map (turned_spot dir) spots.now) }
 {
     let mut copy = Items::new(alloc);
     for spot in spots {
         copy.push(Spot {
             at: spot.at,
-            value: signed(dir, spot.value),
+            value: turn_number(dir, spot.value),
         })?;
     }
     Ok(copy)
 }
 
-/// The unit vectors.
+/// The first `count` unit vectors, each as a sparse vector.
 pub fn units(alloc: Global, count: u32) -> Result<Vec<Sparse>, NoMemory>
     ensures { IfOk result (λ lists. lists.items ≡ map unit_spots (numbers_from 1 count)) }
 {
@@ -144,7 +144,7 @@ pub struct Sides {
 }
 
 impl Sides {
-    ghost use Rattle.vlp_matrices.specs.Sheets.{side_spots, side_values, all_side_spots};
+    ghost use Rattle.vlp_matrices.specs.Matrices.{side_spots, side_values, all_side_spots};
     ghost use Rattle.std.specs.List.{flat_map};
 
     /// Appends an inequality "at least" or, turned round, one "at most".
@@ -159,9 +159,9 @@ impl Sides {
             (self.new.normals ≡ self.old.normals ++ map (turned_spot dir) vector.now ∷ []) }
         ensures bounds { OnOk result (self.new.bounds ≡ self.old.bounds ++ signed dir bound ∷ []) }
     {
-        let normal = turned(alloc, dir, vector)?;
+        let normal = turn_vector(alloc, dir, vector)?;
         self.normals.push(normal)?;
-        self.bounds.push(signed(dir, bound))
+        self.bounds.push(turn_number(dir, bound))
     }
 
     /// Appends those of one bound, the lower one first.

@@ -24,7 +24,7 @@ clashes (Entry m i j number) (Entry n k l value) = same_matrix m n && (i == k &&
 clashes (Limit axis n bound) (Limit other k limit) = same_axis axis other && n == k
 clashes _ _ = false
 
--- whether each statement has a place of its own behind those before it
+-- whether each statement has a place of its own after those before it
 abbrev pub apart : List Statement → List Statement → Bool
 apart earlier [] = true
 apart earlier (s ∷ ss) = not (list_any (clashes s) earlier) && apart (earlier ++ s ∷ []) ss
@@ -56,7 +56,7 @@ entry_fresh m i j number earlier h = none_given (given_entry m i j) (clashes (En
 pub bound_fresh : (axis : Axis) (n : ℕ) (bound : Result Bound FileKind) (earlier : List Statement) → list_any (clashes (Limit axis n bound)) earlier ≡ false → first_given (given_bound axis n) earlier ≡ None
 bound_fresh axis n bound earlier h = none_given (given_bound axis n) (clashes (Limit axis n bound)) (λ t k. bound_free axis n bound t k) earlier h
 
--- ---- lists behind lists
+-- ---- lists after lists
 apart-append : (earlier xs ys : List Statement) → apart earlier (xs ++ ys) ≡ (apart earlier xs && apart (earlier ++ xs) ys)
 apart-append earlier [] ys = ap (λ (l : List Statement). apart l ys) (sym (append-nil earlier))
 apart-append earlier (x ∷ xs) ys =

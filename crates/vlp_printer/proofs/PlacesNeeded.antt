@@ -1,4 +1,4 @@
--- How many places behind the point a number needs.
+-- How many places after the point a number needs.
 use Rattle.std.proofs.Common.{◌≡◌, ℕ, suc, ◌+◌, ◌-◌, ◌*◌, ◌<◌, ◌≤◌, ◌^◌, ◌%◌, ◌==◌, arith, ap, sym, ◌∙◌, true, false, None, Some}
 use Rattle.std.proofs.Math.Nat.{pow-suc}
 use Rattle.std.proofs.lemmas.Bool.{cond-true, cond-false, ne_eqb}

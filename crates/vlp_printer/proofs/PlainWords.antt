@@ -22,7 +22,7 @@ all_weaker p q weaker (x ∷ xs) h =
     let parts = and_parts (p x) (list_all p xs) h in
     and_from (q x) (list_all q xs) (weaker x parts.0) (all_weaker p q weaker xs parts.1)
 
--- behind a piece in which no byte passes
+-- after a piece in which no byte passes
 cut_behind : (p : ℕ → Bool) (piece : List ℕ) (b : ℕ) (rest : List ℕ) → list_all (λ c. not (p c)) piece ≡ true → p b ≡ true → slice_split p (piece ++ b ∷ rest) ≡ piece ∷ slice_split p rest
 cut_behind p [] b rest h k = slice_split-cons_yes p b rest k
 cut_behind p (c ∷ piece) b rest h k =

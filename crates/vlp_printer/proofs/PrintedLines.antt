@@ -95,14 +95,14 @@ number_printed q h =
     ∙ and_from _ _ (list_all-append prints (signed_decimal m) (codes "e-") ∙ and_from _ _ word.print refl) (digits_print (decimal k) (all_digits k (omega arith))))))
 
 -- ---- lines
--- words of a line that say s, whose tests behind the sizes are those of s
+-- words of a line that say s, whose tests after the sizes are those of s
 pub record Line (words : List (List ℕ)) (s : Statement) : Type 0 where
   pub printed : list_all is_printed words ≡ true
   pub few : length words ≤ 12
   pub says : words_statement words ≡ s
   pub tests : (earlier : List Statement) (sizes : Sizes) → first_given given_sizes earlier ≡ Some sizes → words_fault earlier words ≡ statement_fault earlier sizes s
 
--- the letters of kinds of lines behind the sizes
+-- the letters of kinds of lines after the sizes
 abbrev is_further : ℕ → Bool
 is_further b = not (b == 99) && (is_kind b && (not (b == 112) && prints b))
 
@@ -148,7 +148,7 @@ vector_line i j q h k some d =
     ∙ ap (λ (s : Statement). Some s) (cond-false (j == 0) (Entry Duality i 1 (Ok q)) (Entry ConeVectors i j (Ok q)) (ne_eqb j 0 (λ e. absurd (omega arith)))))
     (entry_words i j q h k d) (omega arith)
 
--- the letter of an axis, and the words of bounds behind it
+-- the letter of an axis, and the words of bounds after it
 abbrev pub axis_letter : Axis → ℕ
 axis_letter Row = 105
 axis_letter Column = 106

@@ -241,7 +241,7 @@ bounds_said problem axis bounds size most d =
     (limit_line axis k b some (omega arith) (all_at (λ (c : Bound). list_all is_decimal (bound_numbers c)) bounds (k - 1) Unsaid d (omega arith)))
     (and_from _ _ (lt-ltb 0 k (omega arith)) (le-leb k (axis_length (printed_sizes problem) axis) (omega arith)))))
 
--- ---- what stands behind the problem line
+-- ---- what stands after the problem line
 abbrev pub body_text : Problem → List ℕ
 body_text problem =
     cells_text (codes "a") problem.a ++ (cells_text (codes "o") problem.o

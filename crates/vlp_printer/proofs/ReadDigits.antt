@@ -160,7 +160,7 @@ parts_back word text ds negative exponent sign unsigned front digits power =
     ∙ ap (λ (m : List ℕ). number_from negative (ds ++ m) (length m) exponent) (after_all is_point ds other)
     ∙ ap (λ (m : List ℕ). number_from negative m 0 exponent) (append-nil ds)
 
--- a word of digits, alone or with an exponent behind it
+-- a word of digits, alone or with an exponent after it
 pub front_alone : (ds : List ℕ) → all_ascii_digits ds ≡ true → before_first is_e ds ≡ ds
 front_alone ds h = before_all is_e ds (no_letter ds h)
 

@@ -10,7 +10,7 @@ abbrev pub places_from : (den k n : ℕ) → Option ℕ
 places_from den k zero = None
 places_from den k (suc n) = if 10 ^ k % den == 0 then Some k else places_from den (k + 1) n
 
--- the least number of places behind the point that a number needs, where 36 are enough
+-- the least number of places after the point that a number needs, where 36 are enough
 abbrev pub places : ℚ → Option ℕ
 places q = places_from q.den 0 37
 
@@ -22,6 +22,7 @@ mantissa q k = q.num *ℤ pos (10 ^ k / q.den)
 abbrev pub is_short : ℤ → Bool
 is_short m = nat_lt (unsigned_abs m) (10 ^ 36) || unsigned_abs m % 10 == 0 && nat_lt (unsigned_abs m) (10 ^ 37)
 
+-- a number with so many places, where its whole number is short enough
 abbrev pub decimal_at : ℚ → Option ℕ → Option Decimal
 decimal_at q None = None
 decimal_at q (Some k) = if is_short (mantissa q k) then Some (record { mantissa = mantissa q k; places = k }) else None
@@ -30,6 +31,7 @@ decimal_at q (Some k) = if is_short (mantissa q k) then Some (record { mantissa 
 abbrev pub decimal_of : ℚ → Option Decimal
 decimal_of q = if is_held q then decimal_at q (places q) else None
 
+-- whether a number has such a form
 abbrev pub is_decimal : ℚ → Bool
 is_decimal q = is_some (decimal_of q)
 

@@ -8,6 +8,7 @@ use Rattle.vlp_printer.specs.Decimal.{is_decimal, number_text}
 use Rattle.vlp_reader.specs.Values.{printed_numbers}
 use Rattle.vlp_printer.specs.Printing.{HasWord, IsWithinLimits, problem_text}
 
+-- what is printed reads back, number by number and as a whole
 pub record PrintingLaws : Type 0 where
   -- a number with a decimal form is the value of its word, and one without is the value of none
   pub word : (q : ℚ) → is_decimal q ≡ true → number_of (number_text q) ≡ Ok q

@@ -25,6 +25,7 @@ use Rattle.vlp_printer.specs.declared.fault.PrintFault.{PrintFault}
 use Rattle.vlp_printer.specs.declared.fault.PrintFault.TheVariants.{NotDecimal, NoMemory}
 
 -- ---- the lines
+-- whether the objectives are minimised or maximised
 abbrev pub direction_word : Dir → List ℕ
 direction_word Min = codes "min"
 direction_word Max = codes "max"
@@ -33,6 +34,7 @@ direction_word Max = codes "max"
 abbrev pub entry_count : List (List ℚ) → ℕ
 entry_count vectors = sum_by (λ v. count_by (λ q. not (is_zero q)) v) vectors
 
+-- what the `p` line says of the ordering cone: nothing of the orthant
 abbrev pub cone_words : Cone → List (List ℕ)
 cone_words Orthant = []
 cone_words (Gens vectors) = codes "cone" ∷ decimal (length vectors) ∷ decimal (entry_count vectors) ∷ []
@@ -44,6 +46,7 @@ printed_cone Orthant = None
 printed_cone (Gens vectors) = Some (record { dual = false; vectors = length vectors; entries = entry_count vectors })
 printed_cone (Dual vectors) = Some (record { dual = true; vectors = length vectors; entries = entry_count vectors })
 
+-- the sizes that the `p` line of a problem says
 abbrev pub printed_sizes : Problem → Sizes
 printed_sizes problem =
     record {
@@ -56,6 +59,7 @@ printed_sizes problem =
       cone = printed_cone problem.cone;
     }
 
+-- the words of the `p` line
 abbrev pub heading_words : Problem → List (List ℕ)
 heading_words problem =
     codes "p" ∷ codes "vlp" ∷ direction_word problem.dir ∷ decimal problem.rows ∷ decimal problem.cols ∷ decimal (length problem.a)
@@ -65,6 +69,7 @@ heading_words problem =
 abbrev pub entry_line : List ℕ → ℕ → ℕ → ℚ → List ℕ
 entry_line letter i j q = line_text (letter ∷ decimal i ∷ decimal j ∷ number_text q ∷ [])
 
+-- the lines of all entries of a matrix
 abbrev pub cells_text : List ℕ → List Cell → List ℕ
 cells_text letter cells = flat_map (λ c. entry_line letter c.row c.col c.value) cells
 
@@ -80,6 +85,7 @@ vector_entry i j q = if is_zero q then [] else entry_line (codes "k") i j q
 abbrev pub vector_text : ℕ → List ℚ → List ℕ
 vector_text j v = flat_map (λ i. vector_entry i j (entry v i)) (numbers_from 1 (length v))
 
+-- the lines of all cone vectors
 abbrev pub vectors_text : List (List ℚ) → List ℕ
 vectors_text vectors = flat_map (λ j. vector_text j (slice_index_or vectors (j - 1) [])) (numbers_from 1 (length vectors))
 
@@ -96,13 +102,15 @@ bound_words (Fixed value) = codes "s" ∷ number_text value ∷ []
 abbrev pub bound_line : List ℕ → ℕ → Bound → List ℕ
 bound_line letter k bound = if is_unsaid bound then [] else line_text (letter ∷ decimal k ∷ bound_words bound)
 
+-- the lines of the bounds of all rows, or of all columns
 abbrev pub bounds_text : List ℕ → List Bound → List ℕ
 bounds_text letter bounds = flat_map (λ k. bound_line letter k (slice_index_or bounds (k - 1) Unsaid)) (numbers_from 1 (length bounds))
 
--- words, each behind a blank
+-- words, each after a blank
 abbrev pub behind : List (List ℕ) → List ℕ
 behind words = flat_map (λ w. 32 ∷ w) words
 
+-- the text of a problem
 abbrev pub problem_text : Problem → List ℕ
 problem_text problem =
     line_text (heading_words problem)

@@ -23,7 +23,7 @@ fn is_short(mantissa: i128) -> bool
         || size % 10 == 0 && size < 10_000_000_000_000_000_000_000_000_000_000_000_000
 }
 
-/// The least number of places behind the point that a number needs, where 36 are enough.
+/// The least number of places after the point that a number needs, where 36 are enough.
 fn places(number: Frac) -> Option<u32>
     ensures value { result ≡ places_of number }
     ensures bound { IfSome result (λ k. k ≤ 36) }

@@ -176,7 +176,7 @@ fn put_bounds(letter: u8, bounds: &Items<Bound>, into: &mut Bytes) -> Result<(),
 }
 
 /// How many entries of a vector are not 0.
-fn nonzero(vector: &Vector) -> usize
+fn count_nonzero(vector: &Vector) -> usize
     ensures value { result ≡ count_by (λ q. not (is_zero q)) vector.now }
     ensures bound { result ≤ length vector.now }
 {
@@ -195,7 +195,7 @@ fn entry_total(vectors: &Vectors) -> u128
 {
     let mut total: u128 = 0;
     for vector in vectors.as_slice() {
-        total += nonzero(vector) as u128;
+        total += count_nonzero(vector) as u128;
     }
     total
 }
@@ -259,12 +259,10 @@ fn put_cone_vectors(cone: &Cone, into: &mut Bytes) -> Result<(), NoMemory>
     }
 }
 
-/// The text of a problem as a vlp file: the problem line, the entries of B and of P by row and then
-/// column, those of the duality vector and of the cone vectors, the bounds of rows and of columns, and an
-/// `e` line. A number that is not whole is printed as `MeK`, with a whole M and a K below 0. Within the
-/// limits of `read_vlp` the text reads back as the same problem. `NotDecimal` names the first number, in
-/// this order, that no word of a file has as its value. The time is linear in the size of the problem, and
-/// each number takes at most 37 divisions, twice.
+/// The text of a problem as a vlp file. A number that is not whole is printed as `MeK`, with a
+/// whole M and a K below 0. Within the limits of `read_vlp` the text reads back as the same
+/// problem. `NotDecimal` names the first number, in the order of the text, that no word of a file
+/// has as its value. The time is linear in the size of the problem.
 pub fn print_vlp(alloc: Global, problem: &Problem) -> Result<Bytes, PrintFault>
     ensures { MatchResult result (Prints problem.now) (RefusesText problem.now) }
 {

@@ -79,7 +79,7 @@ value_after-push n (d ∷ ds) c = value_after-push (n * 10 + digit_value d) ds c
 pub value_after_more : (n : ℕ) (ds : List ℕ) (i : ℕ) → i < length ds → digits_value_after 10 n (take (i + 1) ds) ≡ digits_value_after 10 n (take i ds) * 10 + digit_value (get_or ds i 0)
 value_after_more n ds i lt = ap (digits_value_after 10 n) (take_more ds i 0 lt) ∙ value_after-push n (take i ds) (get_or ds i 0)
 
--- the digits of one text behind those of another
+-- the digits of one text after those of another
 pub value-append : (n : ℕ) (xs ys : List ℕ) → digits_value_after 10 n (xs ++ ys) ≡ digits_value_after 10 (digits_value_after 10 n xs) ys
 value-append n [] ys = refl
 value-append n (x ∷ xs) ys = value-append (n * 10 + digit_value x) xs ys

@@ -62,7 +62,7 @@ too_early earlier line first rest short words no_comment kind has no_p =
     ∙ ap (λ o. kind_fault earlier o (letter first) rest) (silent_gives given_sizes refl earlier has)
     ∙ cond-false (letter first == 112) (formed (sizes_of rest) sizes_fault) (Some NoProblem) (ne_eqb (letter first) 112 no_p)
 
--- behind them
+-- after them
 pub second_line : (draft : Draft) (earlier : List Statement) (line first : List ℕ) (rest : List (List ℕ)) → length line ≤ 4096 → words_of line ≡ first ∷ rest → (letter first ≡ 99 → ⊥) → is_kind (letter first) ≡ true
     → Has draft earlier → letter first ≡ 112 → line_fault earlier line ≡ Some Twice
 second_line draft earlier line first rest short words no_comment kind has p =

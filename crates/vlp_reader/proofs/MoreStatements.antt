@@ -1,4 +1,4 @@
--- What statements give when one more stands behind them.
+-- What statements give when one more stands after them.
 use Rattle.std.proofs.Common.{◌≡◌, refl, ◌+◌, Bool, true, false, ◌&&◌, if◌then◌else◌, List, [], ◌∷◌, ◌++◌, count_by, Option, None, Some, zero-add, arith, ap, ◌∙◌}
 use Rattle.std.specs.List.{list_all}
 use Rattle.std.specs.Option.{option_or}

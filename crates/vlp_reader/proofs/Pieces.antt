@@ -17,7 +17,7 @@ flat_map-one {A = A} f xs x = flat_map-append f xs (x ∷ []) ∙ ap (λ (l : Li
 pub flat_map_take : {X A : Type 0} (f : X → List A) (xs : List X) (i : ℕ) (x : X) → i < length xs → x ≡ get_or xs i x → flat_map f (take (i + 1) xs) ≡ flat_map f (take i xs) ++ f x
 flat_map_take {X = X} {A = A} f xs i x h e = ap (flat_map f) (take_more xs i x h) ∙ flat_map-one f (take i xs) (get_or xs i x) ∙ ap (λ (y : X). flat_map f (take i xs) ++ f y) (sym e)
 
--- the element at i, what is before it and what is behind it
+-- the element at i, what is before it and what is after it
 flat_map_at : {X A : Type 0} (f : X → List A) (xs : List X) (i : ℕ) (x : X) → i < length xs → x ≡ get_or xs i x → flat_map f xs ≡ flat_map f (take i xs) ++ (f x ++ flat_map f (drop (suc i) xs))
 flat_map_at {X = X} {A = A} f xs i x h e =
     ap (flat_map f) (sym (take-append-drop i xs)) ∙ flat_map-append f (take i xs) (drop i xs)

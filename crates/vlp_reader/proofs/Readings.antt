@@ -143,7 +143,7 @@ come_end bytes rest next line number old new result h split takes closing =
     (ap (λ n. n + 1) h.count ∙ sym (length-push h.done line) ∙ sym (cond-true (list_any ends all) (length all) (length all + 1) (any-push h.done line h.unended ∙ sym takes.end)))
     (closing (map statement_on all) (subst (λ (l : List Statement). HasRead new l) (sym (map-push h.done line)) takes.has))
 
--- behind the last line
+-- after the last line
 pub come_last : (bytes rest : List ℕ) (number : ℕ) (draft : Option Draft) (result : Result Problem LineEnd) → HasCome bytes rest number draft → lines_of rest ≡ []
     → ((statements : List Statement) → HasRead draft statements → ClosesOr statements result)
     → MatchResult result (Reads bytes) (λ end. EndsReading bytes (end_at (number + 1) end))

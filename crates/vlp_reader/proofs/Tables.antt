@@ -62,7 +62,7 @@ zero_is q h =
 abbrev pub AllWithinSizes : ℕ → ℕ → Values → Type 0
 AllWithinSizes rows cols es = AllByRecursion (λ e. is_within rows cols e.0.0 e.0.1 ≡ true) es
 
--- and stands behind a place
+-- and stands after a place
 abbrev pub AllBehind : ℕ → ℕ → Values → Type 0
 AllBehind i j es = AllByRecursion (λ e. place_cmp (i, j) e.0 ≡ Less) es
 
@@ -104,7 +104,7 @@ are_cells_of rows cols es s h =
     let within : AllWithinSizes rows cols es = within_entries rows cols es h in
     all_cells rows cols 0 0 es s (from_within rows cols es within) within
 
--- nothing is at a place that all stand behind
+-- nothing is at a place that all stand after
 none_at : (i j : ℕ) (es : Values) → AllBehind i j es → lookup (is_at (place_cmp (i, j))) es ≡ None
 none_at i j [] b = refl
 none_at i j (e ∷ es) b = cond-false (is_eq (place_cmp (i, j) e.0)) (Some e.1) (lookup (is_at (place_cmp (i, j))) es) (ap is_eq b.0) ∙ none_at i j es b.1

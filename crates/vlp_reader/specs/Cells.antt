@@ -8,7 +8,7 @@ use Rattle.vlp_reader.specs.declared.problem.Cell.{Cell}
 abbrev pub place_before : (row col next_row next_col : ℕ) → Bool
 place_before row col next_row next_col = nat_lt row next_row || row == next_row && nat_lt col next_col
 
--- whether cells rise by place, from behind one
+-- whether cells rise by place, all after one
 abbrev pub rises_behind : (row col : ℕ) → List Cell → Bool
 rises_behind row col [] = true
 rises_behind row col (c ∷ cells) = place_before row col c.row c.col && rises_behind c.row c.col cells
@@ -17,7 +17,7 @@ rises_behind row col (c ∷ cells) = place_before row col c.row c.col && rises_b
 abbrev pub is_within : (rows cols row col : ℕ) → Bool
 is_within rows cols row col = nat_lt 0 row && (nat_le row rows && (nat_lt 0 col && nat_le col cols))
 
--- whether cells lie within the sizes, rise from behind a place, and are not 0
+-- whether cells lie within the sizes, rise after a place, and are not 0
 abbrev pub cells_behind : (rows cols row col : ℕ) → List Cell → Bool
 cells_behind rows cols row col [] = true
 cells_behind rows cols row col (c ∷ cells) =

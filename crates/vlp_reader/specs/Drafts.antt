@@ -20,12 +20,14 @@ use Rattle.vlp_reader.specs.declared.statement.Statement.{Statement}
 use Rattle.vlp_reader.specs.declared.statement.Statement.TheVariants.{Silent, Heading}
 use Rattle.vlp_reader.specs.declared.table.Table.{Table}
 
+-- the table of a matrix,
 abbrev pub table_of : Draft → Matrix → Table
 table_of draft Constraints = draft.a
 table_of draft Objectives = draft.o
 table_of draft ConeVectors = draft.vectors
 table_of draft Duality = draft.duality
 
+-- and the bounds of each row or column, where some were given
 abbrev pub bounds_of : Draft → Axis → List (Option Bound)
 bounds_of draft Row = draft.row_bounds.items
 bounds_of draft Column = draft.col_bounds.items
@@ -58,11 +60,12 @@ pub record SameButBounds (axis : Axis) (old new : Draft) : Type 0 where
   pub tables : (n : Matrix) → table_of new n ≡ table_of old n
   pub bounds : (other : Axis) → same_axis other axis ≡ false → bounds_of new other ≡ bounds_of old other
 
+-- a statement that says nothing
 abbrev pub is_silent : Statement → Bool
 is_silent Silent = true
 is_silent _ = false
 
--- a draft is begun by a line of these words, behind lines that say nothing
+-- a draft is begun by a line of these words, after lines that say nothing
 pub record Begins (words : List (List ℕ)) (draft : Draft) : Type 0 where
   pub passes : formed (sizes_of words) sizes_fault ≡ None
   pub sizes : sizes_of words ≡ Some draft.sizes

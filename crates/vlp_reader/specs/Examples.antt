@@ -14,6 +14,7 @@ use Rattle.vlp_reader.specs.declared.statement.Matrix.TheVariants.{Constraints, 
 use Rattle.vlp_reader.specs.declared.statement.Statement.{Statement}
 use Rattle.vlp_reader.specs.declared.statement.Statement.TheVariants.{Silent, Heading, Entry, Limit, End}
 
+-- words with the number that they mean, or the first test that they fail
 pub record NumberExamples : Type 0 where
   pub half : number_of (codes ".5") ≡ Ok (fraction (pos 1) 2)
   pub five : number_of (codes "5.") ≡ Ok (whole (pos 5))
@@ -35,6 +36,7 @@ pub record NumberExamples : Type 0 where
   pub natural_wide : natural (codes "99999999999") ≡ Some 4294967295
   pub natural_signed : natural (codes "+7") ≡ None
 
+-- the lines of a text, the words of a line, and what lines say
 pub record LineExamples : Type 0 where
   pub lines : lines_of (codes "a" ++ 13 ∷ 13 ∷ 10 ∷ 10 ∷ codes "b") ≡ (97 ∷ 13 ∷ []) ∷ [] ∷ codes "b" ∷ []
   pub whole_lines : lines_of (codes "a" ++ 10 ∷ []) ≡ codes "a" ∷ []
@@ -108,7 +110,7 @@ counted = codes "p vlp min 1 1 1 1 0" ∷ codes "a 1 1 0" ∷ []
 abbrev pub with_cone : List ℕ → List (List ℕ)
 with_cone number = (codes "p vlp min 1 1 0 1 0 cone 1 " ++ number) ∷ codes "k 1 0 1" ∷ codes "k 1 1 1" ∷ []
 
--- the lines that are looked at, and the tests behind the last one
+-- the lines that are looked at, and the tests after the last one
 pub record ClosingExamples : Type 0 where
   pub first_end : looked_at (codes "a" ∷ codes "e x" ∷ codes "e" ∷ []) ≡ codes "a" ∷ codes "e x" ∷ []
   pub nothing : fault_behind [] ≡ Some NoProblem
@@ -121,6 +123,7 @@ pub record ClosingExamples : Type 0 where
   pub without_duality : fault_behind (with_cone (codes "1")) ≡ None
   pub other_count : fault_behind (with_cone (codes "0")) ≡ Some CountWrong
 
+-- all of these
 pub record Examples : Type 0 where
   pub numbers : NumberExamples
   pub lines : LineExamples

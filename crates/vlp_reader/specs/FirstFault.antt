@@ -10,6 +10,7 @@ use Rattle.vlp_reader.specs.declared.sizes.Sizes.{Sizes}
 use Rattle.vlp_reader.specs.declared.statement.Statement.{Statement}
 use Rattle.vlp_reader.specs.declared.statement.Statement.TheVariants.{End}
 
+-- whether a statement ends the file
 abbrev pub is_end : Statement → Bool
 is_end End = true
 is_end _ = false
@@ -27,7 +28,7 @@ looked_at (line ∷ lines) = line ∷ (if ends line then [] else looked_at lines
 abbrev pub file_lines : List ℕ → List (List ℕ)
 file_lines bytes = looked_at (lines_of bytes)
 
--- the first test that line n fails, counted from 0, behind the lines before it
+-- the first test that line n fails, counted from 0, after the lines before it
 abbrev pub fault_at : List (List ℕ) → ℕ → Option FileKind
 fault_at lines n = line_fault (map statement_on (take n lines)) (slice_index_or lines n [])
 
@@ -35,11 +36,11 @@ fault_at lines n = line_fault (map statement_on (take n lines)) (slice_index_or 
 abbrev pub Passes : List (List ℕ) → ℕ → Type 0
 Passes lines n = (k : ℕ) → k < n → fault_at lines k ≡ None
 
--- the first of the tests behind the last line that lines fail
+-- the first of the tests after the last line that lines fail
 abbrev pub fault_behind : List (List ℕ) → Option FileKind
 fault_behind lines = closing_fault (first_given given_sizes (map statement_on lines)) (map statement_on lines)
 
--- the number of the line that the tests behind the last line name: that of the `e` line, or one more than the last
+-- the number of the line that the tests after the last line name: that of the `e` line, or one more than the last
 abbrev pub closing_line : List (List ℕ) → ℕ
 closing_line lines = if list_any ends lines then length lines else length lines + 1
 
@@ -51,7 +52,7 @@ pub record FailsOnLine (lines : List (List ℕ)) (line : ℕ) (kind : FileKind) 
   pub before : Passes lines place
   pub fails : fault_at lines place ≡ Some kind
 
--- no line has a fault, and this is the first test behind the last line that fails
+-- no line has a fault, and this is the first test after the last line that fails
 pub record FailsBehind (lines : List (List ℕ)) (line : ℕ) (kind : FileKind) : Type 0 where
   pub pass : Passes lines (length lines)
   pub fails : fault_behind lines ≡ Some kind
@@ -61,7 +62,7 @@ pub record FailsBehind (lines : List (List ℕ)) (line : ℕ) (kind : FileKind) 
 abbrev pub FirstFault : List ℕ → ℕ → FileKind → Type 0
 FirstFault bytes line kind = FailsOnLine (file_lines bytes) line kind ⊎ FailsBehind (file_lines bytes) line kind
 
--- no line of these fails a test, and neither do they behind the last
+-- no line of these fails a test, and neither do they after the last
 pub record HasNoFault (lines : List (List ℕ)) : Type 0 where
   pub pass : Passes lines (length lines)
   pub closed : fault_behind lines ≡ None

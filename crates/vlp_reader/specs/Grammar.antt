@@ -1,4 +1,4 @@
--- The grammar of files: the first test that a line fails, the tests behind the last line, and the problem
+-- The grammar of files: the first test that a line fails, the tests after the last line, and the problem
 -- that the lines give.
 use Rattle.std.specs.Prelude.{◌≡◌, ℕ, ◌+◌, ◌==◌, Bool, true, false, not, ◌&&◌, ◌||◌, nat_lt, nat_le, if◌then◌else◌, List, [], ◌∷◌, length, map, count_by, Option, None, Some, is_some, unwrap_or, Result, Ok, Err}
 use Rattle.std.specs.Option.{option_or}
@@ -30,6 +30,7 @@ abbrev pub first_given : {A : Type 0} → (Statement → Option A) → List Stat
 first_given f [] = None
 first_given f (s ∷ statements) = option_or (f s) (first_given f statements)
 
+-- whether two matrices are one
 abbrev pub same_matrix : Matrix → Matrix → Bool
 same_matrix Constraints Constraints = true
 same_matrix Objectives Objectives = true
@@ -37,6 +38,7 @@ same_matrix ConeVectors ConeVectors = true
 same_matrix Duality Duality = true
 same_matrix _ _ = false
 
+-- whether both are rows, or both columns
 abbrev pub same_axis : Axis → Axis → Bool
 same_axis Row Row = true
 same_axis Column Column = true
@@ -47,6 +49,7 @@ abbrev pub given_sizes : Statement → Option Sizes
 given_sizes (Heading s) = Some s
 given_sizes _ = None
 
+-- the number that a word means, and 0 where it means none
 abbrev pub number_value : Result ℚ FileKind → ℚ
 number_value (Ok q) = q
 number_value (Err kind) = zero_ℚ
@@ -56,6 +59,7 @@ abbrev pub given_entry : Matrix → ℕ → ℕ → Statement → Option ℚ
 given_entry m i j (Entry n row col number) = if same_matrix m n && (i == row && j == col) then Some (number_value number) else None
 given_entry m i j _ = None
 
+-- the bounds that words mean, and none where a number among them is wrong
 abbrev pub bound_value : Result Bound FileKind → Bound
 bound_value (Ok b) = b
 bound_value (Err kind) = Unsaid
@@ -89,6 +93,7 @@ abbrev pub cone_entries : Option ConeSizes → ℕ
 cone_entries None = 0
 cone_entries (Some c) = c.entries
 
+-- a cone that the file gives has at least one vector
 abbrev pub some_vector : Option ConeSizes → Bool
 some_vector None = true
 some_vector (Some c) = nat_lt 0 c.vectors
@@ -103,6 +108,7 @@ are_within_limits s =
     nat_le s.rows 1000 && (nat_le s.cols 1000 && (nat_le s.objs 20 && (nat_le (cone_count s.cone) 64
     && nat_le (s.entries + s.obj_entries + cone_entries s.cone) 100000)))
 
+-- the tests of the sizes
 abbrev pub sizes_fault : Sizes → Option FileKind
 sizes_fault s = option_or (must (are_positive s) OutOfRange) (must (are_within_limits s) LimitPassed)
 
@@ -134,7 +140,7 @@ abbrev pub limit_fault : (count n : ℕ) → Result Bound FileKind → Option Bo
 limit_fault count n bound before =
     option_or (must (nat_lt 0 n && nat_le n count) OutOfRange) (option_or (wrong bound) (must (not (is_some before)) Twice))
 
--- the tests of a statement behind these, under the sizes
+-- the tests of a statement after these, under the sizes
 abbrev pub statement_fault : List Statement → Sizes → Statement → Option FileKind
 statement_fault earlier s (Entry m i j number) =
     entry_fault (matrix_rows s m) (matrix_cols s m) i j number (first_given (given_entry m i j) earlier)
@@ -157,6 +163,7 @@ kind_fault earlier None kind words = if kind == byte "p" then formed (sizes_of w
 kind_fault earlier (Some s) kind words =
     if kind == byte "p" then Some Twice else formed (statement_of kind words) (statement_fault earlier s)
 
+-- the first test that the words of a line fail; a blank line and a comment fail none
 abbrev pub words_fault : List Statement → List (List ℕ) → Option FileKind
 words_fault earlier [] = None
 words_fault earlier (first ∷ words) =
@@ -168,7 +175,7 @@ words_fault earlier (first ∷ words) =
 abbrev pub line_fault : List Statement → List ℕ → Option FileKind
 line_fault earlier line = if nat_lt 4096 (length line) then Some LineLong else words_fault earlier (words_of line)
 
--- ---- the tests behind the last line
+-- ---- the tests after the last line
 -- whether as many entries of the cone are given as the sizes say, those of the duality vector counted with them or not
 abbrev pub cone_counts : Option ConeSizes → List Statement → Bool
 cone_counts None statements = true
@@ -176,11 +183,13 @@ cone_counts (Some c) statements =
     c.entries == count_by (gives_entry ConeVectors) statements
     || c.entries == count_by (gives_entry ConeVectors) statements + count_by (gives_entry Duality) statements
 
+-- whether as many entries of each matrix are given as the sizes say
 abbrev pub counts_fit : Sizes → List Statement → Bool
 counts_fit s statements =
     s.entries == count_by (gives_entry Constraints) statements
     && (s.obj_entries == count_by (gives_entry Objectives) statements && cone_counts s.cone statements)
 
+-- the tests after the last line: the sizes are given, and the numbers of entries are right
 abbrev pub closing_fault : Option Sizes → List Statement → Option FileKind
 closing_fault None statements = Some NoProblem
 closing_fault (Some s) statements = must (counts_fit s statements) CountWrong
@@ -198,6 +207,8 @@ bound_at statements axis k = unwrap_or (first_given (given_bound axis k) stateme
 abbrev pub column_of : List Statement → Matrix → ℕ → ℕ → List ℚ
 column_of statements m rows j = map (λ i. value_at statements m i j) (numbers_from 1 rows)
 
+-- the ordering cone, by the vectors that the statements give; the orthant where the sizes tell of
+-- none
 abbrev pub cone_of : List Statement → ℕ → Option ConeSizes → Cone
 cone_of statements objs None = Orthant
 cone_of statements objs (Some c) =

@@ -1,5 +1,6 @@
--- The subject: Cells, Cones, Values, Sides (a problem); Lines, Number, Statements, Grammar, FirstFault (the grammar of files), with Laws and Examples; Faults.
--- What only serves proofs: Ends, Tables, Drafts, Places, Reading.
+-- The subject: Cells, Cones, Values, Sides (a problem); Lines, Number, Statements, Grammar,
+-- FirstFault (the grammar of files), with Laws and Examples; Faults. What only serves proofs: Ends,
+-- Tables, Drafts, Places, Reading, FileSizes.
 pub mod Cells
 pub mod Cones
 pub mod Drafts

@@ -2,6 +2,7 @@
 use Rattle.std.specs.Prelude.{ℕ, ◌-◌, ◌==◌, Bool, ◌||◌, nat_lt, if◌then◌else◌, List, [], ◌∷◌, length, map, filter, take, slice_index}
 use Rattle.std.specs.List.{slice_split}
 
+-- the line feed
 abbrev pub is_line_feed : ℕ → Bool
 is_line_feed b = b == 10
 
@@ -9,7 +10,7 @@ is_line_feed b = b == 10
 abbrev pub is_blank : ℕ → Bool
 is_blank b = b == 32 || b == 9
 
--- the pieces between line feeds; behind the last line feed only where it is not empty
+-- the pieces between line feeds; after the last line feed only where it is not empty
 abbrev pub whole_pieces : List (List ℕ) → List (List ℕ)
 whole_pieces [] = []
 whole_pieces (piece ∷ []) = if length piece == 0 then [] else piece ∷ []

@@ -23,12 +23,15 @@ natural_value word = min (digits_value 10 word) 4294967295
 abbrev pub natural : List ℕ → Option ℕ
 natural word = if is_natural word then Some (natural_value word) else None
 
+-- the letter before an exponent,
 abbrev pub is_e : ℕ → Bool
 is_e b = b == byte "e" || b == byte "E"
 
+-- the decimal point,
 abbrev pub is_point : ℕ → Bool
 is_point b = b == byte "."
 
+-- and the digit 0
 abbrev pub is_nought : ℕ → Bool
 is_nought b = b == byte "0"
 
@@ -36,7 +39,7 @@ is_nought b = b == byte "0"
 abbrev pub mantissa : List ℕ → List ℕ
 mantissa word = before_first is_e (without_leading_sign word)
 
--- the digits behind the point
+-- the digits after the point
 abbrev pub decimals : List ℕ → List ℕ
 decimals word = after_first is_point (mantissa word)
 
@@ -44,17 +47,19 @@ decimals word = after_first is_point (mantissa word)
 abbrev pub mantissa_digits : List ℕ → List ℕ
 mantissa_digits word = before_first is_point (mantissa word) ++ decimals word
 
--- the exponent of a text without a sign: what stands behind the first `e`, or 0 without one
+-- the exponent of a text without a sign: what stands after the first `e`, or 0 without one
 abbrev pub exponent_of : List ℕ → Option ℤ
 exponent_of text =
     if list_any is_e text
     then option_map (signed (starts_with_minus (after_first is_e text))) (natural (without_leading_sign (after_first is_e text)))
     else Some (pos 0)
 
+-- digits from the first that is not 0 on
 abbrev pub without_leading_zeros : List ℕ → List ℕ
 without_leading_zeros [] = []
 without_leading_zeros (d ∷ digits) = if is_nought d then without_leading_zeros digits else d ∷ digits
 
+-- digits up to the last that is not 0
 abbrev pub without_trailing_zeros : List ℕ → List ℕ
 without_trailing_zeros [] = []
 without_trailing_zeros (d ∷ digits) = if list_all is_nought (d ∷ digits) then [] else d ∷ without_trailing_zeros digits
@@ -63,7 +68,7 @@ without_trailing_zeros (d ∷ digits) = if list_all is_nought (d ∷ digits) the
 abbrev pub significant : List ℕ → List ℕ
 significant digits = without_trailing_zeros (without_leading_zeros digits)
 
--- the power of ten of the significant digits: the exponent, less the digits behind the point, and more by the zeros taken off
+-- the power of ten of the significant digits: the exponent, less the digits after the point, and more by the zeros taken off
 -- at the end
 abbrev pub power : (digits : List ℕ) (places : ℕ) (exponent : ℤ) → ℤ
 power digits places exponent = exponent -ℤ pos places +ℤ pos (length (without_leading_zeros digits) - length (significant digits))
@@ -73,6 +78,7 @@ abbrev pub scaled : ℤ → ℤ → ℚ
 scaled m (pos k) = whole (m *ℤ pos (10 ^ k))
 scaled m (negsuc k) = fraction m (10 ^ (k + 1))
 
+-- powers of ten from -36 to 36
 abbrev pub in_range : ℤ → Bool
 in_range power = int_le (negsuc 35) power && int_le power (pos 36)
 
@@ -88,7 +94,7 @@ number_at negative digits power =
     else if not (in_range power) then Err NumberWide
     else held_number (scaled (signed negative (digits_value 10 digits)) power)
 
--- the number of a mantissa's digits, of which so many stand behind the point, with an exponent
+-- the number of a mantissa's digits, of which so many stand after the point, with an exponent
 abbrev pub number_from : (negative : Bool) (digits : List ℕ) (places : ℕ) → Option ℤ → Result ℚ FileKind
 number_from negative digits places None = Err BadNumber
 number_from negative digits places (Some exponent) =

@@ -16,25 +16,26 @@ use Rattle.vlp_reader.specs.declared.sizes.Sizes.{Sizes}
 use Rattle.vlp_reader.specs.declared.statement.Statement.{Statement}
 use Rattle.vlp_reader.specs.declared.statement.Statement.TheVariants.{Silent}
 
--- what taking the words of a line behind the sizes does
+-- what taking the words of a line after the sizes does
 pub record TakesWords (kind : ℕ) (words : List (List ℕ)) (earlier : List Statement) (old new : Draft) (ended : Bool) : Type 0 where
   pub passes : formed (statement_of kind words) (statement_fault earlier old.sizes) ≡ None
   pub has : Has new (earlier ++ unwrap_or (statement_of kind words) Silent ∷ [])
   pub end : ended ≡ is_end (unwrap_or (statement_of kind words) Silent)
 
--- what taking a line does, behind lines that say these statements
+-- what taking a line does, after lines that say these statements
 pub record TakesLine (line : List ℕ) (earlier : List Statement) (new : Option Draft) (ended : Bool) : Type 0 where
   pub passes : line_fault earlier line ≡ None
   pub has : HasRead new (earlier ++ statement_on line ∷ [])
   pub end : ended ≡ ends line
 
--- statements give this problem, and pass the tests behind the last line
+-- statements give this problem, and pass the tests after the last line
 pub record Closes (statements : List Statement) (problem : Problem) : Type 0 where
   pub passes : closing_fault (first_given given_sizes statements) statements ≡ None
   pub sizes : Sizes
   pub given : first_given given_sizes statements ≡ Some sizes
   pub gives : Gives statements sizes problem
 
+-- the problem that the statements give, or the first test after the last line that they fail
 abbrev pub ClosesOr : List Statement → Result Problem LineEnd → Type 0
 ClosesOr statements result = MatchResult result (Closes statements) (ComesFrom (closing_fault (first_given given_sizes statements) statements))
 

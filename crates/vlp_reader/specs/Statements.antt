@@ -19,6 +19,7 @@ use Rattle.vlp_reader.specs.declared.statement.Axis.TheVariants.{Row, Column}
 use Rattle.vlp_reader.specs.declared.statement.Statement.{Statement}
 use Rattle.vlp_reader.specs.declared.statement.Statement.TheVariants.{Silent, Heading, Entry, Limit, End}
 
+-- `min` or `max`
 abbrev pub direction : List ℕ → Option Dir
 direction word = if bytes_eq word (codes "min") then Some Min else if bytes_eq word (codes "max") then Some Max else None
 
@@ -26,6 +27,7 @@ direction word = if bytes_eq word (codes "min") then Some Min else if bytes_eq w
 abbrev pub cone_word : List ℕ → Option Bool
 cone_word word = if bytes_eq word (codes "cone") then Some false else if bytes_eq word (codes "dualcone") then Some true else None
 
+-- the sizes of a cone, where each of its words could be read
 abbrev pub cone_from : Option Bool → Option ℕ → Option ℕ → Option (Option ConeSizes)
 cone_from (Some dual) (Some vectors) (Some entries) = Some (Some (record { dual = dual; vectors = vectors; entries = entries }))
 cone_from _ _ _ = None
@@ -36,6 +38,7 @@ cone_sizes [] = Some None
 cone_sizes (kind ∷ vectors ∷ entries ∷ []) = cone_from (cone_word kind) (natural vectors) (natural entries)
 cone_sizes _ = None
 
+-- the sizes, where each of their words could be read
 abbrev pub sizes_from : Option Dir → Option ℕ → Option ℕ → Option ℕ → Option ℕ → Option ℕ → Option (Option ConeSizes) → Option Sizes
 sizes_from (Some dir) (Some rows) (Some cols) (Some entries) (Some objs) (Some obj_entries) (Some cone) =
     Some (record { dir = dir; rows = rows; cols = cols; entries = entries; objs = objs; obj_entries = obj_entries; cone = cone })
@@ -49,6 +52,7 @@ sizes_of (vlp ∷ dir ∷ rows ∷ cols ∷ entries ∷ objs ∷ obj_entries ∷
     else None
 sizes_of _ = None
 
+-- an entry, where both numbers of its place could be read
 abbrev pub entry_from : Matrix → Option ℕ → Option ℕ → Result ℚ FileKind → Option Statement
 entry_from m (Some i) (Some j) number = Some (Entry m i j number)
 entry_from m _ _ number = None
@@ -82,13 +86,14 @@ single_bound type v =
     else if type == byte "s" then Some (bound_by Fixed v)
     else None
 
--- a type of bounds, and the words behind it: none for `f`, one for `l`, `u` and `s`, two for `d`
+-- a type of bounds, and the words after it: none for `f`, one for `l`, `u` and `s`, two for `d`
 abbrev pub bound_of : ℕ → List (List ℕ) → Option (Result Bound FileKind)
 bound_of type [] = if type == byte "f" then Some (Ok Free) else None
 bound_of type (v ∷ []) = single_bound type (number_of v)
 bound_of type (v ∷ w ∷ []) = if type == byte "d" then Some (double_bound (number_of v) (number_of w)) else None
 bound_of type _ = None
 
+-- bounds, where the number of the row or column and the words of the bounds could be read
 abbrev pub limit_from : Axis → Option ℕ → Option (Result Bound FileKind) → Option Statement
 limit_from axis (Some n) (Some bound) = Some (Limit axis n bound)
 limit_from axis _ _ = None
@@ -98,7 +103,7 @@ abbrev pub limit_of : Axis → List (List ℕ) → Option Statement
 limit_of axis (n ∷ type ∷ values) = limit_from axis (natural n) (bound_of (letter type) values)
 limit_of axis _ = None
 
--- what the words behind a first word of this letter say, or that they have not the form of its kind
+-- what the words after a first word of this letter say, or that they have not the form of its kind
 abbrev pub statement_of : ℕ → List (List ℕ) → Option Statement
 statement_of kind words =
     if kind == byte "p" then option_map Heading (sizes_of words)
@@ -110,6 +115,7 @@ statement_of kind words =
     else if kind == byte "e" then Some End
     else None
 
+-- what the words of a line say
 abbrev pub words_statement : List (List ℕ) → Statement
 words_statement [] = Silent
 words_statement (first ∷ words) = unwrap_or (statement_of (letter first) words) Silent

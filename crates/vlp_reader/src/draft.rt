@@ -106,7 +106,7 @@ impl Draft {
         }
     }
 
-    /// Takes what the next line says, behind the sizes.
+    /// Takes what the next line says, after the sizes.
     pub(crate) fn take(&mut self, statement: Statement) -> Result<(), LineEnd>
         ensures { (earlier : List Statement) → Has self.old earlier → MatchResult result
             (λ _. (statement_fault earlier self.old.sizes statement ≡ None)
@@ -147,7 +147,7 @@ impl Draft {
         self.cone_fits()
     }
 
-    /// The ordering cone.
+    /// The ordering cone that was given.
     fn cone(&self, alloc: Global) -> Result<Cone, NoMemory>
         ensures { IfOk result (λ cone. cone ≡ draft_cone self.now self.now.sizes.cone) }
     {

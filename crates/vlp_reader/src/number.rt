@@ -12,7 +12,7 @@ use exact_field::Field;
 use frac128::Frac;
 
 /// A text without one sign at its front.
-fn unsigned(text: &[u8]) -> &[u8]
+fn without_sign(text: &[u8]) -> &[u8]
     ensures { result.now ≡ without_leading_sign text.now }
 {
     match text {
@@ -50,15 +50,15 @@ fn without_trailing_zeros(digits: &[u8]) -> &[u8]
     &digits[..end]
 }
 
-/// The digits before and behind a point.
+/// The digits before and after a point.
 #[derive(Clone, Copy)]
 struct Mantissa<'a> {
     whole: &'a [u8],
     decimals: &'a [u8],
 }
 
-/// The number that digits write behind those of `start`, or the greatest that fits.
-fn extended(start: u128, digits: &[u8]) -> u128
+/// The number that digits write after those of `start`, or the greatest that fits.
+fn extend(start: u128, digits: &[u8]) -> u128
     requires { IsTrue (all_ascii_digits digits.now) }
     ensures { result ≡ min (digits_value_after 10 start digits.now) (2 ^ 128 - 1) }
 {
@@ -153,7 +153,7 @@ impl<'a> Mantissa<'a> {
             ≡ pos (digits_value 10 (self.entry.whole.now ++ self.entry.decimals.now)) }
         ensures bound { unsigned_abs result < 10 ^ 36 }
     {
-        extended(extended(0, self.whole), self.decimals) as i128
+        extend(extend(0, self.whole), self.decimals) as i128
     }
 }
 
@@ -167,19 +167,18 @@ fn exponent(text: &[u8]) -> Option<i128>
         return Some(0);
     }
     let behind = &text[at + 1..];
-    let size = i128::from(natural(unsigned(behind))?);
-    Some(signed(is_negative(behind), size))
+    let size = i128::from(natural(without_sign(behind))?);
+    Some(with_sign(is_negative(behind), size))
 }
 
 /// A number with a sign.
-fn signed(negative: bool, number: i128) -> i128
+fn with_sign(negative: bool, number: i128) -> i128
     requires { unsigned_abs number < 10 ^ 36 }
     ensures { result ≡ (if negative then neg_ℤ number else number) }
 {
     if negative { -number } else { number }
 }
 
-/// A power of ten.
 fn power_of_ten(exponent: u32) -> i128
     requires { exponent ≤ 36 }
     ensures value { result ≡ pos (10 ^ exponent) }
@@ -188,7 +187,7 @@ fn power_of_ten(exponent: u32) -> i128
 }
 
 /// A fraction, where it is held.
-fn over(num: i128, den: i128) -> Result<Frac, FileKind>
+fn held_fraction(num: i128, den: i128) -> Result<Frac, FileKind>
     requires { pos 0 <ℤ den }
     ensures { result ≡ held_number (fraction num (unsigned_abs den)) }
 {
@@ -199,16 +198,16 @@ fn over(num: i128, den: i128) -> Result<Frac, FileKind>
 }
 
 /// A whole number times a power of ten, where it is held.
-fn scaled(digits: i128, power: i128) -> Result<Frac, FileKind>
+fn scale_digits(digits: i128, power: i128) -> Result<Frac, FileKind>
     requires { unsigned_abs power ≤ 36 }
     ensures { result ≡ held_number (scaled_number digits power) }
 {
     let scale = power_of_ten(power.unsigned_abs() as u32);
     if power < 0 {
-        return over(digits, scale);
+        return held_fraction(digits, scale);
     }
     match digits.checked_mul(scale) {
-        Some(whole) => over(whole, 1),
+        Some(whole) => held_fraction(whole, 1),
         None => Err(FileKind::NumberWide),
     }
 }
@@ -228,7 +227,7 @@ fn number_at(negative: bool, digits: Mantissa, power: i128) -> Result<Frac, File
     if power < -36 || 36 < power {
         return Err(FileKind::NumberWide);
     }
-    scaled(signed(negative, digits.value()), power)
+    scale_digits(with_sign(negative, digits.value()), power)
 }
 
 /// The number of the digits of a mantissa with an exponent.
@@ -252,7 +251,7 @@ fn number_from(negative: bool, digits: Mantissa, exponent: i128) -> Result<Frac,
 pub(crate) fn number(word: &[u8]) -> Result<Frac, FileKind>
     ensures { result ≡ number_of word.now }
 {
-    let text = unsigned(word);
+    let text = without_sign(word);
     let Some(exponent) = exponent(text) else {
         return Err(FileKind::BadNumber);
     };

@@ -13,8 +13,8 @@ pub enum Dir {
     Max,
 }
 
-/// The bounds of a row's product or of a column's variable. `Unsaid` is that of a row or column that
-/// the file gives none; it is free, as `Free` is.
+/// The bounds of a row's product or of a column's variable. `Unsaid` is that of a row or column
+/// that the file gives none; it is free, as `Free` is.
 #[derive(Clone, Copy, Debug, PartialEq, Eq)]
 pub enum Bound {
     Unsaid,
@@ -26,7 +26,7 @@ pub enum Bound {
     Fixed(Frac),
 }
 
-/// The ordering cone.
+/// The ordering cone, by vectors with an entry for each objective.
 #[derive(Debug, PartialEq, Eq, Drop)]
 pub enum Cone {
     /// All vectors without a negative entry.
@@ -50,11 +50,11 @@ pub struct Cell {
 #[derive(Debug, PartialEq, Eq, Drop)]
 pub struct Problem {
     pub dir: Dir,
-    /// The rows of B.
+    /// How many rows B has.
     pub rows: u32,
-    /// The variables.
+    /// How many variables there are: the columns of B and P.
     pub cols: u32,
-    /// The rows of P.
+    /// How many objectives there are: the rows of P.
     pub objs: u32,
     /// The entries of B, in rising order of row and column.
     pub a: Items<Cell>,

@@ -43,7 +43,7 @@ fn begin(alloc: Global, words: &[u8]) -> Result<Draft, LineEnd>
     Ok(Draft::new(alloc, sizes)?)
 }
 
-/// Takes a line of a kind behind the sizes, and answers whether it is an `e` line.
+/// Takes a line of a kind after the sizes, and answers whether it is an `e` line.
 fn take_words(draft: &mut Draft, kind: u8, words: &[u8]) -> Result<bool, LineEnd>
     ensures { (earlier : List Statement) → Has draft.old earlier
         → MatchResult result (TakesWords kind (words_of words.now) earlier draft.old draft.new)
@@ -105,7 +105,7 @@ fn close(alloc: Global, draft: Option<Draft>) -> Result<Problem, LineEnd>
 }
 
 /// What closing gave, on this line.
-fn ended(line: u32, closed: Result<Problem, LineEnd>) -> Result<Problem, VlpEnd>
+fn end_reading(line: u32, closed: Result<Problem, LineEnd>) -> Result<Problem, VlpEnd>
     ensures { MatchResult closed (λ problem. result ≡ Ok problem)
         (λ end. result ≡ Err (end_at line end)) }
 {
@@ -127,10 +127,10 @@ pub fn read_vlp(alloc: Global, bytes: &[u8]) -> Result<Problem, VlpEnd>
         rest = next;
         number += 1;
         match take_line(alloc, &mut draft, line) {
-            Ok(true) => return ended(number, close(alloc, draft)),
+            Ok(true) => return end_reading(number, close(alloc, draft)),
             Ok(false) => {}
             Err(end) => return Err(VlpEnd::at(number, end)),
         }
     }
-    ended(number + 1, close(alloc, draft))
+    end_reading(number + 1, close(alloc, draft))
 }

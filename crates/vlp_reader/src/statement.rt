@@ -26,11 +26,11 @@ pub enum Axis {
     Column,
 }
 
-/// What the words of a line say. Where a word should be a number, this is its value, or what is wrong
-/// with it.
+/// What the words of a line say. Where a word should be a number, this is its value, or what is
+/// wrong with it.
 #[derive(Clone, Copy, Debug)]
 pub enum Statement {
-    /// Nothing.
+    /// Nothing, as a blank line or a comment.
     Silent,
     /// The sizes of the problem.
     Heading(Sizes),
@@ -61,7 +61,7 @@ fn two_bounds(low: Result<Frac, FileKind>, high: Result<Frac, FileKind>) -> Resu
     Ok(Bound::Double(low?, high?))
 }
 
-/// The bounds of a type with the words behind it.
+/// The bounds of a type with the words after it.
 fn bounds(kind: u8, words: &[u8]) -> Option<Result<Bound, FileKind>>
     ensures { result ≡ bound_of kind (words_of words.now) }
 {
@@ -119,7 +119,7 @@ impl Statement {
         Some(Statement::Limit(axis, natural(at)?, bounds(letter(kind), rest)?))
     }
 
-    /// What the words behind a first word of this letter say, where they have the form of its kind.
+    /// What the words after a first word of this letter say, where they have the form of its kind.
     pub(crate) fn read(kind: u8, words: &[u8]) -> Option<Statement>
         ensures { result ≡ statement_of kind (words_of words.now) }
     {

@@ -29,7 +29,7 @@ fn without_return(piece: &[u8]) -> &[u8]
     }
 }
 
-/// The first line, and what stands behind it.
+/// The first line, and what stands after it.
 pub(crate) fn next_line(text: &[u8]) -> Option<(&[u8], &[u8])>
     ensures { MatchOption result (lines_of text.now ≡ []) (λ p. (lines_of text.now
         ≡ p.0.now ∷ lines_of p.1.now) × (length p.1.now < length text.now)) }
@@ -57,7 +57,7 @@ fn without_blanks(text: &[u8]) -> &[u8]
     rest
 }
 
-/// The first word, and what stands behind it.
+/// The first word, and what stands after it.
 pub(crate) fn next_word(text: &[u8]) -> Option<(&[u8], &[u8])>
     ensures { MatchOption result (words_of text.now ≡ [])
         (λ p. words_of text.now ≡ p.0.now ∷ words_of p.1.now) }

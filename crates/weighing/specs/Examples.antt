@@ -47,6 +47,7 @@ steep = record { w = half ∷ half ∷ []; gamma = n 0; u = []; tight = 1 ∷ 3 
 abbrev pub facets : List Facet
 facets = low ∷ between ∷ steep ∷ []
 
+-- the answer that lists them
 abbrev pub image : Answer
 image = Solved (n 1 ∷ n 1 ∷ []) [] ends (upward ∷ onward ∷ []) facets
 
@@ -81,14 +82,17 @@ sets_text =
     ∷ codes "1 0 4" ∷ codes "n 2 1 2" ∷ codes "facets 3" ∷ codes "f 0 1 4" ∷ codes "f 1/4 3/4 3"
     ∷ codes "f 1/2 1/2 0" ∷ []
 
+-- for the weights (1/4, 3/4), which are least at both vertices
 abbrev pub both_text : List (List ℕ)
 both_text =
     codes "weigh 1" ∷ codes "answer solved" ∷ codes "value 3" ∷ codes "points 2" ∷ codes "1 -6 6"
     ∷ codes "1 0 4" ∷ []
 
+-- for weights that go down along (-1, 1)
 abbrev pub down_text : List (List ℕ)
 down_text = codes "weigh 1" ∷ codes "answer unbounded" ∷ codes "0 -1 1" ∷ []
 
+-- these texts, and that of an image without points
 pub record WorkedTexts : Type 0 where
   pub sets : map words_text (weights_lines image) ≡ sets_text
   pub both : map words_text (weighed_lines image (Least (n 3) (1 ∷ 2 ∷ []))) ≡ both_text

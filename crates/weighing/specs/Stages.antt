@@ -19,16 +19,19 @@ use Rattle.weighing.specs.declared.weighed.Weighed.{Weighed}
 use Rattle.weighing.specs.declared.weighed.Weighed.TheVariants.{Empty, Whole, Unbounded, Least}
 
 -- ---- what is multiplied with the weights
+-- a line, a direction or a point
 pub data Item : Type 0 where
   line : (d : List ℚ) → Item
   direction : (d : List ℚ) → Item
   point : (y : List ℚ) → Item
 
+-- its vector
 abbrev pub vector_of : Item → List ℚ
 vector_of (line d) = d
 vector_of (direction d) = d
 vector_of (point y) = y
 
+-- the lines of an answer, its directions and its points, as items
 abbrev pub line_items : List LineGen → List Item
 line_items ls = map (λ l. line l.d) ls
 
@@ -55,6 +58,7 @@ GoesOn dir w (line d) = dot w d ≡ zero_ℚ
 GoesOn dir w (direction d) = zero_ℚ ≤ℚ signed dir (dot w d)
 GoesOn dir w (point y) = Unit {0}
 
+-- the product with an item is calculated, and the weighing goes on
 pub record IsPassed (dir : Dir) (w : List ℚ) (item : Item) : Type 0 where
   pub taken : IsTaken w (vector_of item)
   pub on : GoesOn dir w item
@@ -75,6 +79,7 @@ IsWay (line l) d = (d ≡ l) ⊎ (d ≡ negated l)
 IsWay (direction e) d = d ≡ e
 IsWay (point y) d = ⊥
 
+-- the weighing ends at an item whose product goes down, along d
 pub record EndsDown (dir : Dir) (w : List ℚ) (items : List Item) (d : List ℚ) : Type 0 where
   pub number : ℕ
   pub item : Item
@@ -100,6 +105,8 @@ pub record EndsLeast (dir : Dir) (w : List ℚ) (items : List Item) (points : Li
   pub some : listed ≡ [] → ⊥
 
 -- ---- what a weighing answers
+-- nothing is feasible, the image is everything, the value goes down along d, or it is least at
+-- these points
 abbrev pub IsWeighedFrom : Problem → Answer → List ℚ → Weighed → Type 0
 IsWeighedFrom file (Infeasible u) w Empty = Unit {0}
 IsWeighedFrom file (WholeImage c x ray) w Whole = Unit {0}

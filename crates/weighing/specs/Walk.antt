@@ -56,6 +56,7 @@ pub record AreAllWide (n : ℕ) (ls : List LineGen) (directions points : List Ge
 abbrev pub cone_items : List Gen → List Gen → List Item
 cone_items directions points = direction_items directions ++ point_items points
 
+-- the lines, then the directions, then the points
 abbrev pub all_items : List LineGen → List Gen → List Gen → List Item
 all_items ls directions points = line_items ls ++ cone_items directions points
 

@@ -1,38 +1,12 @@
 //! Single lines of the texts.
-ghost use Rattle.std.specs.Prelude.{◌≡◌, ◌++◌, ◌∷◌, [], codes, decimal, OnOk};
+ghost use Rattle.std.specs.Prelude.{◌≡◌, ◌++◌, ◌∷◌, [], codes, OnOk};
 ghost use Rattle.frac128.specs.Text.{frac_text};
-ghost use Rattle.log_rules.specs.Report.{facet_line, vector_line};
 ghost use Rattle.src_sink.specs.Texts.{line_text};
 ghost use Rattle.weighing.specs.Text.{answer_line, numbers_line};
 
 use frac128::Frac;
-use log_rules::Facet;
-use sol_writer::{put_entries, put_natural, put_naturals, put_number};
+use sol_writer::{put_natural, put_naturals, put_number};
 use src_sink::{Bytes, NoMemory};
-
-/// Appends the line of a first word and the entries of a vector.
-pub(crate) fn put_vector_line(
-    first: &[u8],
-    vector: &[Frac],
-    into: &mut Bytes,
-) -> Result<(), NoMemory>
-    ensures { OnOk result (into.new ≡ into.old ++ line_text (vector_line first.now vector.now)) }
-{
-    into.append(first)?;
-    put_entries(vector, into)?;
-    into.push(b'\n')?;
-    Ok(())
-}
-
-/// Appends the line of a name and a number.
-pub(crate) fn put_counted(name: &[u8], count: usize, into: &mut Bytes) -> Result<(), NoMemory>
-    ensures { OnOk result (into.new ≡ into.old ++ line_text (name.now ∷ decimal count ∷ [])) }
-{
-    into.append(name)?;
-    put_natural(count, into)?;
-    into.push(b'\n')?;
-    Ok(())
-}
 
 /// Appends the line of facets by their numbers.
 pub(crate) fn put_numbers(numbers: &[u32], into: &mut Bytes) -> Result<(), NoMemory>
@@ -41,17 +15,6 @@ pub(crate) fn put_numbers(numbers: &[u32], into: &mut Bytes) -> Result<(), NoMem
     into.push(b'n')?;
     put_natural(numbers.len(), into)?;
     put_naturals(numbers, into)?;
-    into.push(b'\n')?;
-    Ok(())
-}
-
-/// Appends the line of a facet.
-pub(crate) fn put_facet(facet: &Facet, into: &mut Bytes) -> Result<(), NoMemory>
-    ensures { OnOk result (into.new ≡ into.old ++ line_text (facet_line facet.now)) }
-{
-    into.push(b'f')?;
-    put_entries(facet.w.as_slice(), into)?;
-    put_number(facet.gamma, into)?;
     into.push(b'\n')?;
     Ok(())
 }

@@ -33,7 +33,8 @@ fn lists_with(alloc: Global, lists: &Items<Items<u32>>, number: u32) -> Result<I
 }
 
 /// For each point, by its number from 1 on, the numbers of the lists that hold it: where a list
-/// holds the numbers of the points at which a facet is tight, the facets that are tight at the point.
+/// holds the numbers of the points at which a facet is tight, the facets that are tight at the
+/// point.
 pub fn weight_sets(
     alloc: Global,
     tight: &Items<Items<u32>>,

@@ -1,18 +1,19 @@
 //! The text of the facets that are told of points, and that of a weighing.
 ghost use Rattle.std.specs.Prelude.{◌≡◌, ◌≤◌, ◌++◌, [], List, length, map, codes, IfOk, OnOk};
 ghost use Rattle.std.specs.List.{flat_map};
-ghost use Rattle.log_rules.specs.Report.{answer_name, facet_line, section, vector_line};
+ghost use Rattle.log_rules.specs.Report.{answer_name, vector_line};
 ghost use Rattle.sol_writer.specs.Lines.{lines_text};
 ghost use Rattle.src_sink.specs.Texts.{line_text};
 ghost use Rattle.weighing.specs.Text.{found_lines, image_lines, points_of, sets_lines, solution_lines, weighed_text, weights_text};
 ghost use Rattle.weighing.specs.Weighing.{point_at};
 ghost use Rattle.weighing.specs.declared.weighed.Weighed.TheVariants.{Least, Unbounded};
 
-use crate::lines::{put_answer, put_counted, put_facet, put_numbers, put_value, put_vector_line};
+use crate::lines::{put_answer, put_numbers, put_value};
 use crate::sets::weight_sets;
 use crate::weighed::Weighed;
 use frac128::Frac;
 use log_rules::{Answer, Facet, Gen};
+use sol_writer::{put_counted, put_facet_lines, put_vector_line};
 use src_sink::{Bytes, Items, NoMemory};
 use std::alloc::Global;
 
@@ -52,17 +53,6 @@ fn put_sets(points: &[Gen], sets: &[Items<u32>], into: &mut Bytes) -> Result<(),
     Ok(())
 }
 
-/// Appends the line of each facet.
-fn put_facets(facets: &[Facet], into: &mut Bytes) -> Result<(), NoMemory>
-    ensures { OnOk result
-        (into.new ≡ into.old ++ flat_map (λ f. line_text (facet_line f)) facets.now) }
-{
-    for facet in facets {
-        put_facet(facet, into)?;
-    }
-    Ok(())
-}
-
 /// Appends the points with the facets that are told of them, and the facets.
 fn put_image(
     alloc: Global,
@@ -78,7 +68,7 @@ fn put_image(
     put_counted(b"points", points.len(), into)?;
     put_sets(points, sets.as_slice(), into)?;
     put_counted(b"facets", facets.len(), into)?;
-    put_facets(facets, into)?;
+    put_facet_lines(facets, into)?;
     Ok(())
 }
 

@@ -1,5 +1,5 @@
-//! The products of weights with the lines and the directions of an answer, up to the first that ends
-//! the work.
+//! The products of weights with the lines and the directions of an answer, up to the first that
+//! ends the work.
 ghost use Rattle.std.specs.Prelude.{◌≡◌, ◌≤◌, ◌+◌, ◌↔◌, List, All, length, map, IfErr, IfOk, IsTrue};
 ghost use Rattle.exact_field.specs.Rational.{zero_ℚ, ◌<ℚ◌};
 ghost use Rattle.exact_field.specs.Vector.{dot};
@@ -54,14 +54,13 @@ fn is_down(direction: Dir, value: Frac) -> bool
     is_below(working_number(direction, value), Frac::zero())
 }
 
-/// Whether a number is 0.
 fn is_zero(value: Frac) -> bool
     ensures { IsTrue result ↔ (value ≡ zero_ℚ) }
 {
     value == Frac::zero()
 }
 
-/// The same vector.
+/// A copy of a vector.
 fn copy_of(alloc: Global, v: &[Frac]) -> Result<Vector, NoMemory>
     ensures { IfOk result (λ copy. copy ≡ v.now) }
 {
@@ -114,8 +113,8 @@ pub(crate) fn walk_lines(
     Ok(None)
 }
 
-/// The first direction whose product with the weights goes down, if there is one. So many items come
-/// before the directions.
+/// The first direction whose product with the weights goes down, if there is one. So many items
+/// come before the directions.
 pub(crate) fn walk_directions(
     alloc: Global,
     direction: Dir,

@@ -17,7 +17,7 @@ pub enum Weighed {
     Least { value: Frac, points: Items<u32> },
 }
 
-/// Why nothing is told.
+/// Why what is least is not told.
 #[derive(Debug, Drop)]
 pub enum WeighEnd {
     /// The product with this item has an operation whose exact result is not held. The lines, the

@@ -19,8 +19,8 @@ fn boxed_limit(limit: Option<Ratio>, otherwise: i128) -> Option<Ratio> {
     }
 }
 
-/// The bounds of the program from whose optimum the costs' signs are seen to be right: those that are
-/// there are 0, and the others -1 and 1.
+/// The bounds of the program from whose optimum the costs' signs are seen to be right: those that
+/// are there are 0, and the others -1 and 1.
 pub(crate) fn boxed(alloc: Global, limits: &[Limits]) -> Result<Vec<Limits>, Stop> {
     let mut boxes = Vec::new(alloc);
     for limit in limits {

@@ -76,8 +76,8 @@ fn better_of(list: &[Candidate], best: Option<usize>, k: usize) -> Option<usize>
     }
 }
 
-/// Whether a variable outside the basis can move so that the row's variable comes nearer to its bound,
-/// by the entry of the row.
+/// Whether a variable outside the basis can move so that the row's variable comes nearer to its
+/// bound, by the entry of the row.
 fn can_enter(variable: &Variable, entry: i128, below: bool) -> bool {
     if entry == 0 {
         return false;
@@ -91,8 +91,8 @@ fn can_enter(variable: &Variable, entry: i128, below: bool) -> bool {
     }
 }
 
-/// How far the row's variable still is beyond its bound once a variable went to its other bound: none
-/// where it has none, or goes too far.
+/// How far the row's variable still is beyond its bound once a variable went to its other bound:
+/// none where it has none, or goes too far.
 fn after_flip(variable: Variable, size: u128, far: i128) -> Result<Option<i128>, Stop> {
     let (Some(low), Some(high)) = (variable.low, variable.high) else {
         return Ok(None);
@@ -178,8 +178,8 @@ impl Solver {
         Ok(list)
     }
 
-    /// The variable with the least ratio that brings the row's variable to its bound; those before it
-    /// change to their other bounds. There is none where no variable moves it the right way.
+    /// The variable with the least ratio that brings the row's variable to its bound; those before
+    /// it change to their other bounds. There is none where no variable moves it the right way.
     pub(crate) fn entering(&self, leaving: Leaving) -> Result<Entering, Stop> {
         let mut list = self.candidates(leaving.below)?;
         let mut far = leaving.far;

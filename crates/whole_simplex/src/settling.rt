@@ -39,8 +39,8 @@ fn place_outside(low: Option<i128>, high: Option<i128>, cost: i128) -> (Place, i
     }
 }
 
-/// A variable with these bounds: outside the basis it goes to one, and of two to that which its cost
-/// asks for.
+/// A variable with these bounds: outside the basis it goes to one, and of two to that which its
+/// cost asks for.
 fn settled(place: Place, low: Option<i128>, high: Option<i128>, cost: i128) -> Variable {
     let (place, at) = if place == Place::Basic {
         (place, 0)
@@ -99,7 +99,8 @@ fn product(one: &[i128], other: &[i128]) -> Result<i128, Stop> {
 }
 
 impl Solver {
-    /// Puts the variables outside the basis to their bounds, and calculates the values of the others.
+    /// Puts the variables outside the basis to their bounds, and calculates the values of the
+    /// others.
     pub(crate) fn settle(&mut self, limits: &[Limits]) -> Result<(), Stop> {
         let mut unit = 1;
         for limit in limits {

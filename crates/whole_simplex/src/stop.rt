@@ -8,7 +8,6 @@ use std::alloc::{AllocError, AllocFailed};
 pub enum Stop {
     /// It declines: a number is too long, there are too many steps, or there is no optimum.
     Declined,
-    /// Want of memory.
     NoMemory,
 }
 

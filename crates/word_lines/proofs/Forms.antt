@@ -1,4 +1,4 @@
--- The words of a part pass its tests and leave what stands behind them, and words that pass the tests of a
+-- The words of a part pass its tests and leave what stands after them, and words that pass the tests of a
 -- form begin with those of a part.
 use Rattle.std.proofs.Common.{◌≡◌, refl, ℕ, zero, suc, ◌^◌, ◌<◌, true, false, not, ◌&&◌, ◌||◌, nat_lt, cond, Bool, List, [], ◌∷◌, ◌++◌, length, map, arith, ap, sym, ◌∙◌, decimal, codes, None, Some, Option, if◌then◌else◌, Ok, Err, append_assoc}
 use Rattle.std.specs.List.{list_all, flat_map}
@@ -75,7 +75,7 @@ module _ {X : Type 0} (r : Reads X) where
         first.2 ∙ ap (λ ws. r.words_of first.0 ++ ws) more.3 ∙ sym (append_assoc (r.words_of first.0) (flat_map r.words_of more.0) rest),
       )
 
--- behind a count
+-- after a count
 
 pub counted_passes : (items : ℕ → Words → Left) (n : ℕ) (words rest : Words) → n < 2 ^ 32 → items n words ≡ Ok rest → counted items (decimal n ∷ words) ≡ Ok rest
 counted_passes items n words rest low h =
@@ -245,7 +245,7 @@ kind_read w h = first (same_word w (codes "infeasible")) refl h
     first true e k = (Infeasible, same_word-true w (codes "infeasible") e)
     first false e k = second (same_word w (codes "whole")) refl k
 
--- the words of a part pass the tests of its form, and leave what stands behind them
+-- the words of a part pass the tests of its form, and leave what stands after them
 pub part_passes : (p : Part) (rest : Words) → is_formed_part p ≡ true → behind (form_of p) (part_words p ++ rest) ≡ Ok rest
 unfolding reads_numbers reads_naturals reads_pairs
 part_passes (natural n) rest h = word_passes natural_fault (decimal n) rest (natural_passes n (ltb-true n (2 ^ 32) h))

@@ -20,7 +20,7 @@ use Rattle.word_lines.specs.declared.fault.LogKind.TheVariants.{BadNumber, Numbe
 use Rattle.word_lines.proofs.Cutting.{Lacks, slice_split-join, digits_lack}
 use Rattle.word_lines.proofs.Numerals.{same_word-true, positive_text, decimal_numeral, value_of_decimal, decimal_zero, decimal_leads}
 
--- what stands behind a numerator
+-- what stands after a numerator
 abbrev pub den_text : ℕ → List ℕ
 den_text d = if d == 1 then [] else 47 ∷ decimal d
 

@@ -60,7 +60,7 @@ module _ {E : Type 0} (g : Grammar E) where
       ap (λ o. behind_name o old) known ∙ ap (behind_all (map form_of ps ++ f ∷ fs)) front.text ∙ behind_front ps (f ∷ fs) now front.formed ∙ ap (λ l. and_then l (behind_all fs)) h
   entry_fails name old now new ps f fs NoMemory known front h = tt
 
-  -- the first part that fails, behind those that were taken
+  -- the first part that fails, after those that were taken
   pub fails : {old now : Words} {ps : List Part} (name : List ℕ) (new : Words) (f : Form) (fs : List Form) (s : Stop) (r : Result E Stop) → g.forms_of name ≡ Some (map form_of ps ++ f ∷ fs) → Front old ps now → Fails f now s → IsErr r × IsErrAnd r (λ t. t ≡ s) → TakesEntry g name old new r
   fails {old} {now} {ps} name new f fs s r known front h from =
       subst (λ t. TakesEntry g name old new t) (sym (handed_on r s from)) (entry_fails name old now new ps f fs s known front h)

@@ -16,7 +16,7 @@ use Rattle.word_lines.specs.declared.fault.LogEnd.TheVariants.{Fault, NoMemory}
 use Rattle.word_lines.specs.declared.fault.LogFault.{LogFault}
 use Rattle.word_lines.proofs.Lines.{whole_line, IsReadTo, read_next, read_fault}
 
--- the next line, and those behind it
+-- the next line, and those after it
 pub next_lines : (rest line : List ℕ) (behind : Option (Bor (List ℕ))) → 0 < length rest → slice_split (λ b. b == 10) rest ≡ line ∷ pieces_behind 10 behind → lines_of rest ≡ record { text = line; whole = is_some behind } ∷ lines_of (text_behind behind)
 next_lines rest line None some cut = last_line rest line cut some
 next_lines rest line (Some more) some cut = first_line rest line more.now cut

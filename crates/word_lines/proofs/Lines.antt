@@ -1,4 +1,4 @@
--- The lines of a text, and what is known behind those that were read.
+-- The lines of a text, and what is known after those that were read.
 use Rattle.std.proofs.Common.{◌≡◌, refl, ℕ, ◌+◌, ◌-◌, true, false, not, ◌&&◌, ◌||◌, eqb, ◌==◌, Bool, List, [], ◌∷◌, ◌++◌, length, map, take, arith, ap, sym, ◌∙◌, subst, codes, None, Some, if◌then◌else◌, append_assoc, inl, inr, ne_eqb, ⊎_elim, slice_get, length-append}
 use Rattle.std.specs.List.{list_all, list_any, slice_split, join_with_byte}
 use Rattle.std.proofs.lemmas.Bool.{and_parts, and_from, false≢true, cases_lt}
@@ -16,12 +16,12 @@ use Rattle.word_lines.specs.declared.fault.LogKind.{LogKind}
 use Rattle.word_lines.specs.declared.fault.LogKind.TheVariants.{NoEnd}
 use Rattle.word_lines.proofs.Entries.{cut_entry, entry_lacks, line_passes}
 
--- the item behind those that are done
+-- the item after those that are done
 pub item_behind : {X : Type 0} (xs : List X) (x : X) (ys : List X) → slice_get (xs ++ x ∷ ys) (length xs) ≡ Some x
 item_behind [] x ys = refl
 item_behind (z ∷ xs) x ys = item_behind xs x ys
 
--- the first test that the next line fails, behind those that are done
+-- the first test that the next line fails, after those that are done
 pub next_fault : (test : LineTest) (done : List TextLine) (l : TextLine) (rest : List TextLine) → fault_at test (done ++ l ∷ rest) (length done + 1) ≡ test done l
 next_fault test done l rest =
     let back : length done + 1 - 1 ≡ length done = omega arith in

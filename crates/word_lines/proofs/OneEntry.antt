@@ -22,7 +22,7 @@ same_short m n h k e =
     let low_other = ltb-true n (2 ^ 32) k in
     decimal_injective m n (omega arith) (omega arith) e
 
--- items of which the words tell which they are, whatever stands behind
+-- items of which the words tell which they are, whatever stands after them
 abbrev pub Told : {X : Type 0} → (X → Words) → (X → Bool) → Type 0
 Told {X} words_of good = (x y : X) (r s : Words) → good x ≡ true → good y ≡ true → words_of x ++ r ≡ words_of y ++ s → (x ≡ y) × (r ≡ s)
 
@@ -71,7 +71,7 @@ same_kind NoVertex _ e = cc
 same_kind Solved Solved e = refl
 same_kind Solved _ e = cc
 
--- lists behind their counts
+-- lists after their counts
 pub told_list : {X : Type 0} (words_of : X → Words) (good : X → Bool) → Told words_of good → (xs ys : List X) (r s : Words) → is_short (length xs) ≡ true → is_short (length ys) ≡ true → list_all good xs ≡ true → list_all good ys ≡ true → decimal (length xs) ∷ (flat_map words_of xs ++ r) ≡ decimal (length ys) ∷ (flat_map words_of ys ++ s) → (xs ≡ ys) × (r ≡ s)
 told_list words_of good told xs ys r s n m h k e = told_each words_of good told xs ys r s (same_short (length xs) (length ys) n m cc) h k cc
 

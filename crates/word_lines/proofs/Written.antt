@@ -81,7 +81,7 @@ is_kind (sparse v) e = cc
 is_kind (pairs v) e = cc
 is_kind (kind v) e = (v, refl)
 
--- the first of some parts, and those behind it
+-- the first of some parts, and those after it
 pub more_parts : (f : Form) (fs : List Form) (ps : List Part) → f ∷ fs ≡ map form_of ps → (p : Part) × (rest : List Part) × (ps ≡ p ∷ rest) × (form_of p ≡ f) × (fs ≡ map form_of rest)
 more_parts f fs [] e = cc
 more_parts f fs (p ∷ ps) e = (p, ps, refl, cc, cc)

@@ -1,4 +1,4 @@
--- The entries of a text of lines: the words of each, which entry ends the text, and which parts stand behind a first word.
+-- The entries of a text of lines: the words of each, which entry ends the text, and which parts stand after a first word.
 use Rattle.std.specs.Prelude.{◌≡◌, ℕ, Bool, false, not, ◌&&◌, nat_lt, List, [], ◌∷◌, length, map, codes, Some, IsTrue}
 use Rattle.std.specs.List.{flat_map, list_all}
 use Rattle.src_sink.specs.Texts.{words_text, line_text}
@@ -6,7 +6,7 @@ use Rattle.word_lines.specs.LineFault.{Forms, form_of}
 use Rattle.word_lines.specs.Numerals.{same_word}
 use Rattle.word_lines.specs.Parts.{Part, part_words, is_formed_part}
 
--- entries that are written by a name of bytes above `,` and parts behind it; `end` is the name of those that end a text
+-- entries that are written by a name of bytes above `,` and parts after it; `end` is the name of those that end a text
 pub record Grammar (E : Type 0) : Type 0 where
   pub name_of : E → List ℕ
   pub parts_of : E → List Part

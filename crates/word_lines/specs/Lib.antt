@@ -1,4 +1,5 @@
--- The subject: Parts, Numerals, LineFault, Grammar, FirstFault, Names. The statement of the law: Laws. For the code: Taking, Printing.
+-- The subject: Parts, Numerals, LineFault, Grammar, FirstFault, Names. The statement of the law:
+-- Laws. For the code's own steps: Taking, Printing.
 pub mod Names
 pub mod Numerals
 pub mod Parts

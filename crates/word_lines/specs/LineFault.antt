@@ -1,4 +1,4 @@
--- The grammar of a line: which parts stand behind its first word, and the first test that it fails. Words
+-- The grammar of a line: which parts stand after its first word, and the first test that it fails. Words
 -- are tested from left to right.
 use Rattle.std.specs.Prelude.{ℕ, zero, suc, ◌==◌, Bool, not, ◌||◌, nat_lt, if◌then◌else◌, List, [], ◌∷◌, length, codes, Option, None, Some, Result, Ok, Err}
 use Rattle.std.specs.List.{list_any, slice_split}
@@ -20,6 +20,7 @@ pub data Form : Type 0 where
   pairs : Form
   kind : Form
 
+-- the form of a given part
 abbrev pub form_of : Part → Form
 form_of (part.natural n) = natural
 form_of (part.number q) = number
@@ -29,16 +30,16 @@ form_of (part.sparse u) = sparse
 form_of (part.pairs ps) = pairs
 form_of (part.kind k) = kind
 
--- the words that are left behind a part, or the first test that fails
+-- the words that are left after a part, or the first test that fails
 abbrev pub Left : Type 0
 Left = Result (List (List ℕ)) LogKind
 
--- the words behind one that passes its test
+-- the words after one that passes its test
 abbrev pub unless : Option LogKind → Left → Left
 unless None left = left
 unless (Some k) left = Err k
 
--- a part behind what is left
+-- a part after what is left
 abbrev pub and_then : Left → (List (List ℕ) → Left) → Left
 and_then (Ok words) next = next words
 and_then (Err k) next = Err k
@@ -53,7 +54,7 @@ abbrev pub times : (List (List ℕ) → Left) → ℕ → List (List ℕ) → Le
 times behind zero words = Ok words
 times behind (suc n) words = and_then (behind words) (times behind n)
 
--- parts of one form, behind their count
+-- parts of one form, after their count
 abbrev pub counted : (ℕ → List (List ℕ) → Left) → List (List ℕ) → Left
 counted items [] = Err BadLine
 counted items (w ∷ words) = unless (natural_fault w) (items (digits_value 10 w) words)
@@ -72,6 +73,7 @@ spots last zero words = Ok words
 spots last (suc n) [] = Err BadLine
 spots last (suc n) (at ∷ words) = unless (place_fault last at) (and_then (word value_fault words) (spots (digits_value 10 at) n))
 
+-- the word of an end must be one of the four kinds
 abbrev pub kind_fault : List ℕ → Option LogKind
 kind_fault w =
     if same_word w (codes "infeasible") || (same_word w (codes "whole") || (same_word w (codes "novertex") || same_word w (codes "solved")))
@@ -81,7 +83,7 @@ kind_fault w =
 abbrev pub pair : List (List ℕ) → Left
 pair words = and_then (word natural_fault words) (word natural_fault)
 
--- the words behind a part of a form
+-- the words after a part of a form
 abbrev pub behind : Form → List (List ℕ) → Left
 behind natural words = word natural_fault words
 behind number words = word number_fault words
@@ -91,11 +93,12 @@ behind sparse words = counted (spots 0) words
 behind pairs words = counted (times pair) words
 behind kind words = word kind_fault words
 
+-- the words that are left after parts of these forms, in their order
 abbrev pub behind_all : List Form → List (List ℕ) → Left
 behind_all [] words = Ok words
 behind_all (form ∷ forms) words = and_then (behind form words) (behind_all forms)
 
--- the parts behind a first word, if it has a line
+-- the parts after a first word, if it has a line
 abbrev pub behind_name : Option (List Form) → List (List ℕ) → Left
 behind_name None words = Err BadLine
 behind_name (Some forms) words = behind_all forms words
@@ -106,7 +109,7 @@ left_over (Ok []) = None
 left_over (Ok (w ∷ words)) = Some BadLine
 left_over (Err k) = Some k
 
--- the parts that stand behind each first word; other first words have no line
+-- the parts that stand after each first word; other first words have no line
 abbrev pub Forms : Type 0
 Forms = List ℕ → Option (List Form)
 

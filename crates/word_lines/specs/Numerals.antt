@@ -43,6 +43,7 @@ abbrev pub numerator : List (List ℕ) → ℕ
 numerator (num ∷ _) = digits_value 10 num
 numerator [] = 0
 
+-- the denominator, and 1 where none is written
 abbrev pub denominator : List (List ℕ) → ℕ
 denominator (num ∷ den ∷ _) = digits_value 10 den
 denominator _ = 1

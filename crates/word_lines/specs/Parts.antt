@@ -30,17 +30,18 @@ spot_words s = decimal s.at ∷ frac_text s.value ∷ []
 abbrev pub pair_words : LogPair → List (List ℕ)
 pair_words p = decimal p.plus ∷ decimal p.minus ∷ []
 
--- a sparse vector's places and values, behind their count
+-- a sparse vector's places and values, after their count
 abbrev pub sparse_words : List Spot → List (List ℕ)
 sparse_words u = decimal (length u) ∷ flat_map spot_words u
 
+-- the word of each kind of end
 abbrev pub end_word : EndKind → List ℕ
 end_word Infeasible = codes "infeasible"
 end_word WholeEnd = codes "whole"
 end_word NoVertex = codes "novertex"
 end_word Solved = codes "solved"
 
--- the words of a part; a list stands behind its count
+-- the words of a part; a list stands after its count
 abbrev pub part_words : Part → List (List ℕ)
 part_words (natural n) = decimal n ∷ []
 part_words (number q) = frac_text q ∷ []

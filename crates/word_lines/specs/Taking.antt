@@ -26,7 +26,7 @@ TakesItems words_of good step count old new (Ok xs) = (length xs ≡ count) × (
 TakesItems words_of good step count old new (Err (stop.Fault k)) = times step count old ≡ Err k
 TakesItems words_of good step count old new (Err stop.NoMemory) = Unit {0}
 
--- and of items behind their count
+-- and of items after their count
 abbrev pub TakesList : {X : Type 0} → (X → List (List ℕ)) → (X → Bool) → (List (List ℕ) → Left) → List (List ℕ) → List (List ℕ) → Result (List X) Stop → Type 0
 TakesList words_of good step old new (Ok xs) = (is_short (length xs) ≡ true) × (list_all good xs ≡ true) × (old ≡ decimal (length xs) ∷ (flat_map words_of xs ++ new))
 TakesList words_of good step old new (Err (stop.Fault k)) = counted (times step) old ≡ Err k
@@ -82,7 +82,7 @@ abbrev pub RefusesText : {E : Type 0} → Grammar E → List ℕ → LogEnd → 
 RefusesText g bytes (Fault f) = FirstFault (line_test g.forms_of) bytes f
 RefusesText g bytes NoMemory = Unit {0}
 
--- what stands behind a line feed, where there may be one
+-- what stands after a line feed, where there may be one
 abbrev pub text_behind : Option (Bor (List ℕ)) → List ℕ
 text_behind None = []
 text_behind (Some rest) = rest.now

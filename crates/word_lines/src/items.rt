@@ -142,7 +142,7 @@ pub fn take_items<T: Item>(alloc: Global, count: u32, words: &mut Words) -> Resu
     Ok(items)
 }
 
-/// Items behind their count.
+/// Items after their count.
 pub fn take_list<T: Item>(alloc: Global, words: &mut Words) -> Result<Items<T>, Stop>
     ensures { TakesList T.words_of T.is_good T.step words.old words.new result }
 {
@@ -169,7 +169,7 @@ pub fn put_items<T: Printed>(items: &[T], into: &mut Bytes) -> Result<(), NoMemo
     Ok(())
 }
 
-/// Appends items behind their count.
+/// Appends items after their count.
 pub fn put_list<T: Printed>(items: &[T], into: &mut Bytes) -> Result<(), NoMemory>
     ensures { OnOk result (into.new
         ≡ into.old ++ spaced (decimal (length items.now) ∷ flat_map T.words_of items.now)) }

@@ -1,5 +1,5 @@
-//! Texts of lines in words: the words of numbers, the parts of a line, the entries of a text by their forms, and
-//! the first fault of a text.
+//! Texts of lines in words: the words of numbers, the parts of a line, the entries of a text by
+//! their forms, and the first fault of a text.
 #![tactic(auto)]
 
 mod fault;

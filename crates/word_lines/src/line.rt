@@ -44,9 +44,9 @@ fn line_entry<E: LineEntry>(alloc: Global, text: &[u8]) -> Result<E, Stop>
     }
 }
 
-/// The entry of a line of a text, given the line's number, its text without the line feed, whether that
-/// line feed stood, and whether an `end` line stands before it. A fault names this number and the first
-/// test that the line fails.
+/// The entry of a line of a text, given the line's number, its text without the line feed, whether
+/// that line feed stood, and whether an `end` line stands before it. A fault names this number and
+/// the first test that the line fails.
 pub fn read_line<E: LineEntry>(
     alloc: Global,
     number: u32,
@@ -66,7 +66,7 @@ pub fn read_line<E: LineEntry>(
     }
 }
 
-/// Puts the line of an entry behind a text, with its line feed.
+/// Puts the line of an entry after a text, with its line feed.
 pub fn print_line<E: LineEntry>(entry: &E, into: &mut Bytes) -> Result<(), NoMemory>
     ensures { OnOk result (into.new ≡ into.old ++ line_text (entry_words E.grammar entry.now)) }
 {

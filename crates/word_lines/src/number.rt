@@ -34,8 +34,9 @@ fn value(digits: &[u8]) -> Option<u128>
     Some(value)
 }
 
-/// The number of a word of digits that does not begin with `0`, or `LIMIT` where it is not below that.
-fn positive(word: &[u8]) -> Option<u128>
+/// The number of a word of digits that does not begin with `0`, or `LIMIT` where it is not below
+/// that.
+fn positive_number(word: &[u8]) -> Option<u128>
     ensures { MatchOption result (is_positive_numeral word.now ≡ false) (λ v. (is_positive_numeral
         word.now
         ≡ true) × (v ≡ min (digits_value 10 word.now) (2 ^ 120))) }
@@ -54,7 +55,7 @@ pub fn natural(word: &[u8]) -> Result<u32, LogKind>
     if is_word(word, b"0") {
         return Ok(0);
     }
-    let Some(value) = positive(word) else {
+    let Some(value) = positive_number(word) else {
         return Err(LogKind::BadNumber);
     };
     match u32::try_from(value) {
@@ -76,7 +77,7 @@ fn whole_number(num: &[u8]) -> Option<Quotient>
         num.now
         ≡ true) × (q.num ≡ min (digits_value 10 num.now) (2 ^ 120)) × (q.den ≡ 1)) }
 {
-    let num = positive(num)?;
+    let num = positive_number(num)?;
     Some(Quotient { num, den: 1 })
 }
 
@@ -87,7 +88,7 @@ fn quotient_of(num: &[u8], den: &[u8]) -> Option<Quotient>
         × (q.num ≡ min (numerator pieces) (2 ^ 120))
         × (q.den ≡ min (denominator pieces) (2 ^ 120))) }
 {
-    match (positive(num), positive(den)) {
+    match (positive_number(num), positive_number(den)) {
         (Some(num), Some(den)) if den > 1 => Some(Quotient { num, den }),
         _ => None,
     }
@@ -120,7 +121,7 @@ fn signed_number(negative: bool, size: u128) -> i128
 }
 
 /// The number of this numerator and denominator, where these are in lowest terms.
-fn lowest(num: i128, den: i128) -> Option<Frac>
+fn lowest_fraction(num: i128, den: i128) -> Option<Frac>
     requires num_small { unsigned_abs num < 2 ^ 120 }
     requires den_small { unsigned_abs den < 2 ^ 120 }
     requires positive { pos 0 <ℤ den }
@@ -141,10 +142,10 @@ fn in_lowest_terms(negative: bool, num: u128, den: u128) -> Option<Frac>
     ensures { MatchOption result ((gcd num den == 1) ≡ false)
         (λ q. ((gcd num den == 1) ≡ true) × (q.num ≡ signed negative num) × (q.den ≡ den)) }
 {
-    lowest(signed_number(negative, num), signed_number(false, den))
+    lowest_fraction(signed_number(negative, num), signed_number(false, den))
 }
 
-/// Whether a word begins with a minus, and what stands behind that.
+/// Whether a word begins with a minus, and what stands after that.
 fn signed_word(word: &[u8]) -> (bool, &[u8])
     ensures sign { result.0 ≡ starts_with_minus word.now }
     ensures rest { result.1.now
@@ -157,8 +158,8 @@ fn signed_word(word: &[u8]) -> (bool, &[u8])
     }
 }
 
-/// The fraction that a word writes, whole or as `NUMERATOR/DENOMINATOR` in lowest terms. Its parts have
-/// a magnitude below 2^120 (`NumberWide`); any other word is a `BadNumber`.
+/// The fraction that a word writes, whole or as `NUMERATOR/DENOMINATOR` in lowest terms. Its parts
+/// have a magnitude below 2^120 (`NumberWide`); any other word is a `BadNumber`.
 pub fn fraction(word: &[u8]) -> Result<Frac, LogKind>
     ensures { MatchResult result (λ q. IsTrue (is_held q) × (word.now ≡ frac_text q))
         (λ kind. number_fault word.now ≡ Some kind) }

@@ -1,4 +1,5 @@
-//! The parts of an entry, read from the words of its line. Each stands first and is taken, or its first word that fails is told.
+//! The parts of an entry, read from the words of its line. Each stands first and is taken, or its
+//! first word that fails is told.
 ghost use Rattle.std.specs.Prelude.{◌≡◌, ◌∷◌, [], ◌&&◌, not, nat_lt, decimal, Some, true, MatchOption, MatchResult};
 ghost use Rattle.frac128.specs.Held.{is_held};
 ghost use Rattle.frac128.specs.Sparse.{is_zero};
@@ -19,42 +20,42 @@ use frac128::{Frac, Sparse, Spot, Vector};
 use src_sink::Items;
 use std::alloc::Global;
 
-/// A natural number.
+/// Takes the word of a natural number.
 pub fn take_natural(words: &mut Words) -> Result<u32, Stop>
     ensures { Takes part.natural form.natural words.old words.new result }
 {
     u32::take(words)
 }
 
-/// A fraction.
+/// Takes the word of a fraction.
 pub fn take_number(words: &mut Words) -> Result<Frac, Stop>
     ensures { Takes part.number form.number words.old words.new result }
 {
     Frac::take(words)
 }
 
-/// A vector behind its count.
+/// A vector after its count.
 pub fn take_vector(alloc: Global, words: &mut Words) -> Result<Vector, Stop>
     ensures { Takes part.vector form.vector words.old words.new result }
 {
     take_list(alloc, words)
 }
 
-/// Natural numbers behind their count.
+/// Natural numbers after their count.
 pub fn take_naturals(alloc: Global, words: &mut Words) -> Result<Items<u32>, Stop>
     ensures { Takes part.naturals form.naturals words.old words.new result }
 {
     take_list(alloc, words)
 }
 
-/// Pairs behind their count.
+/// Pairs after their count.
 pub fn take_pairs(alloc: Global, words: &mut Words) -> Result<Items<LogPair>, Stop>
     ensures { Takes part.pairs form.pairs words.old words.new result }
 {
     take_list(alloc, words)
 }
 
-/// The kind of an end.
+/// Takes the word of an end.
 pub fn take_kind(words: &mut Words) -> Result<EndKind, Stop>
     ensures { Takes part.kind form.kind words.old words.new result }
 {
@@ -84,7 +85,7 @@ fn kind_of(word: &[u8]) -> Option<EndKind>
     }
 }
 
-/// A place above `last`.
+/// Takes a place, which is above `last`.
 fn take_place(last: u32, words: &mut Words) -> Result<u32, Stop>
     ensures { TakesItem (λ n. decimal n ∷ []) (λ n. is_short n && nat_lt last n)
         (one_word (place_fault last)) words.old words.new result }
@@ -98,7 +99,7 @@ fn take_place(last: u32, words: &mut Words) -> Result<u32, Stop>
 }
 
 /// The number of a word that is not `0`.
-fn nonzero(word: &[u8]) -> Result<Frac, LogKind>
+fn nonzero_number(word: &[u8]) -> Result<Frac, LogKind>
     ensures { MatchResult result
         (λ q. (is_held q ≡ true) × (not (is_zero q) ≡ true) × (word.now ≡ frac_text q))
         (λ kind. value_fault word.now ≡ Some kind) }
@@ -109,13 +110,13 @@ fn nonzero(word: &[u8]) -> Result<Frac, LogKind>
     fraction(word)
 }
 
-/// A number other than 0.
+/// Takes a number, which is not 0.
 fn take_value(words: &mut Words) -> Result<Frac, Stop>
     ensures { TakesItem (λ q. frac_text q ∷ []) (λ q. is_held q && not (is_zero q))
         (one_word value_fault) words.old words.new result }
 {
     match words.next() {
-        Some(word) => Ok(nonzero(word)?),
+        Some(word) => Ok(nonzero_number(word)?),
         None => Err(Stop::Fault(LogKind::BadLine)),
     }
 }
@@ -143,7 +144,7 @@ fn take_spots(alloc: Global, count: u32, words: &mut Words) -> Result<Sparse, St
     Ok(spots)
 }
 
-/// A sparse vector behind its count.
+/// A sparse vector after its count.
 pub fn take_sparse(alloc: Global, words: &mut Words) -> Result<Sparse, Stop>
     ensures { Takes part.sparse form.sparse words.old words.new result }
 {

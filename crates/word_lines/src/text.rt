@@ -8,7 +8,7 @@ use crate::line::{LineEntry, print_line, read_line};
 use src_sink::{Bytes, Items, MOST_ITEMS, NoMemory, first_piece};
 use std::alloc::Global;
 
-/// What stands behind a line, where its line feed stood; else nothing.
+/// What stands after a line, where its line feed stood; else nothing.
 pub fn text_behind(behind: Option<&[u8]>) -> &[u8]
     ensures { result.now ≡ text_behind behind.entry }
 {
@@ -18,8 +18,8 @@ pub fn text_behind(behind: Option<&[u8]>) -> &[u8]
     }
 }
 
-/// The entries of this text, or its first fault. Lines are read one at a time, up to the first that has a
-/// fault.
+/// The entries of this text, or its first fault. Lines are read one at a time, up to the first that
+/// has a fault.
 pub fn read_entries<E: LineEntry>(alloc: Global, bytes: &[u8]) -> Result<Items<E>, LogEnd>
     requires { length bytes.now ≤ MOST_ITEMS }
     ensures ok { IfOk result (IsTextOf E.grammar bytes.now) }

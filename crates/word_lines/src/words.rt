@@ -29,7 +29,7 @@ impl<'a> Words<'a> {
         Words { rest: Some(line) }
     }
 
-    /// The next word.
+    /// Takes the next word; `None` where none is left.
     pub fn next(&mut self) -> Option<&'a [u8]>
         ensures { MatchOption result ((self.old ≡ []) × (self.new ≡ []))
             (λ word. self.old ≡ word.now ∷ self.new) }
@@ -44,8 +44,8 @@ impl<'a> Words<'a> {
         }
     }
 
-    /// Room for so many items of `each` words, where so many words are left; else no room is wanted, since a
-    /// word will be missing.
+    /// Room for so many items of `each` words, where so many words are left; else no room is
+    /// wanted, since a word will be missing.
     pub(crate) fn room(&self, count: u32, each: usize) -> usize
         requires { 0 < each }
     {

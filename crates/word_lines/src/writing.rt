@@ -25,7 +25,7 @@ pub fn put_number(value: Frac, into: &mut Bytes) -> Result<(), NoMemory>
     Ok(())
 }
 
-/// Appends a vector behind its count.
+/// Appends a vector after its count.
 pub fn put_vector(value: &[Frac], into: &mut Bytes) -> Result<(), NoMemory>
     ensures { OnOk result (into.new ≡ into.old ++ spaced (part_words (part.vector value.now))) }
 {
@@ -33,7 +33,7 @@ pub fn put_vector(value: &[Frac], into: &mut Bytes) -> Result<(), NoMemory>
     Ok(())
 }
 
-/// Appends natural numbers behind their count.
+/// Appends natural numbers after their count.
 pub fn put_naturals(value: &[u32], into: &mut Bytes) -> Result<(), NoMemory>
     ensures { OnOk result (into.new ≡ into.old ++ spaced (part_words (part.naturals value.now))) }
 {
@@ -41,7 +41,7 @@ pub fn put_naturals(value: &[u32], into: &mut Bytes) -> Result<(), NoMemory>
     Ok(())
 }
 
-/// Appends a sparse vector behind its count.
+/// Appends a sparse vector after its count.
 pub fn put_sparse(value: &[Spot], into: &mut Bytes) -> Result<(), NoMemory>
     ensures { OnOk result (into.new ≡ into.old ++ spaced (part_words (part.sparse value.now))) }
 {
@@ -49,7 +49,7 @@ pub fn put_sparse(value: &[Spot], into: &mut Bytes) -> Result<(), NoMemory>
     Ok(())
 }
 
-/// Appends pairs behind their count.
+/// Appends pairs after their count.
 pub fn put_pairs(value: &[LogPair], into: &mut Bytes) -> Result<(), NoMemory>
     ensures { OnOk result (into.new ≡ into.old ++ spaced (part_words (part.pairs value.now))) }
 {

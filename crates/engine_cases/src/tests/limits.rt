@@ -7,7 +7,8 @@ use std::alloc::Global;
 use std::test::Fail;
 use vlp_reader::{Problem, read_vlp};
 
-/// A file whose sides contradict each other: x is at most 0 by its row, and at least 1 by its column.
+/// A file whose sides contradict each other: x is at most 0 by its row, and at least 1 by its
+/// column.
 const FILE: &str = "p vlp min 1 1 1 1 1\na 1 1 1\no 1 1 1\ni 1 u 0\nj 1 l 1\ne\n";
 
 /// Multipliers that show it.

@@ -1,4 +1,5 @@
-//! Lines and texts of what no small run has: an overflow at each kind of place, and a number that no file has.
+//! Lines and texts of what no small run has: an overflow at each kind of place, and a number that
+//! no file has.
 
 use deriv_log::{Family, Licence, Place, Program};
 use exact_field::{Left, Op};

@@ -1,4 +1,5 @@
-//! Files whose logs over `Tiny`, by either engine, prove the answers of `solve`, and files whose logs are given up.
+//! Files whose logs over `Tiny`, by either engine, prove the answers of `solve`, and files whose
+//! logs are given up.
 use cert_check::check;
 use deriv_log::{Family, Place, Program};
 use exact_field::{Field, Left, Op};
@@ -131,8 +132,8 @@ fn solved(alloc: Global, problem: &Problem) -> Result<Bytes, Fail> {
     Ok(report(alloc, problem, &solution.answer)?)
 }
 
-/// Where the log of a file over `Tiny`, that of `solve` or the one over the facets, is given up, at operands that overflow there;
-/// none where the log proves the answer that `solve` has.
+/// Where the log of a file over `Tiny`, that of `solve` or the one over the facets, is given up, at
+/// operands that overflow there; none where the log proves the answer that `solve` has.
 fn met(
     rt: &impl Abort,
     alloc: Global,

@@ -66,8 +66,8 @@ impl Frac {
         self.num.unsigned_abs() < SHORT && self.den < SHORT
     }
 
-    /// The sum: with g the greatest common divisor of the denominators, t = a (d / g) + c (b / g) and k that of t and g,
-    /// it is t / k over (b / g) (d / k).
+    /// The sum: with g the greatest common divisor of the denominators, t = a (d / g) + c (b / g)
+    /// and k that of t and g, it is t / k over (b / g) (d / k).
     fn short_sum(self, other: Frac) -> Frac
         requires short { IsShort self }
         requires other_short { IsShort other }
@@ -146,7 +146,7 @@ impl Frac {
         Some(Frac::signed(opposite(self.num, other.num), num, den))
     }
 
-    /// The reciprocal.
+    /// The reciprocal, with the sign in the numerator.
     pub fn reciprocal(self) -> Frac
         requires { self ≢ zero_ℚ }
         ensures { result ≡ inverse_ℚ self }

@@ -139,7 +139,8 @@ impl Sum {
     }
 }
 
-/// The product of two vectors of one width, where each product of two entries and each sum of those so far is short.
+/// The product of two vectors of one width, where each product of two entries and each sum of those
+/// so far is short.
 pub(super) fn dot(row: &[Frac], vector: &[Frac]) -> Option<Frac>
     requires { length row.now ≡ length vector.now }
     ensures { IsShortDot (λ q. q) is_held row.now vector.now result }

@@ -17,5 +17,5 @@ returns-else-is_second c =
     let q = c.args.problem.now.objs in
     let all = c.args.entries.now in
     let first = ap is_version_2 (sym c.as_slice.ensures.items) ∙ sym c.if-is_second.ensures in
-    told c.upgraded_text.result (IsWholeText q all) (λ text. IsTextOf text (upgraded q all)) (λ text w. text_of_first q all text c.requires.log first w)
-    c.upgraded_text.ensures
+    told c.make_upgrade_text.result (IsWholeText q all) (λ text. IsTextOf text (upgraded q all)) (λ text w. text_of_first q all text c.requires.log first w)
+    c.make_upgrade_text.ensures

@@ -1,4 +1,5 @@
-//! Operations with the answers of another implementation of exact fractions, and how fractions are made.
+//! Operations with the answers of another implementation of exact fractions, and how fractions are
+//! made.
 
 use super::rows::{COUNT, ROWS};
 use exact_field::{Field, Left, Op};
@@ -16,7 +17,8 @@ fn numbers(line: &str) -> Option<[i128; 7]> {
     Some(numbers)
 }
 
-/// The numerator and the denominator of what two numbers make, or what a line has where they make none.
+/// The numerator and the denominator of what two numbers make, or what a line has where they make
+/// none.
 fn made(num: i128, den: i128) -> (i128, i128) {
     match Frac::new(num, den) {
         Ok(x) => (x.num(), x.den()),
@@ -55,7 +57,8 @@ fn op(operation: i128) -> Op {
     }
 }
 
-/// The numerator and the denominator of an answer, and 0 over 0 where it is not held and the operands are told.
+/// The numerator and the denominator of an answer, and 0 over 0 where it is not held and the
+/// operands are told.
 fn told<F: Field>(operation: i128, a: F, b: F) -> Option<(i128, i128)> {
     match answer(operation, a, b)? {
         Ok(x) => Some((x.num(), x.den())),
@@ -90,7 +93,8 @@ fn answers_are_those_of_another_implementation(rt: HostRuntime) {
     }
 }
 
-/// Whether a number comes back from the size that it has, and is kept in words exactly where both parts fit.
+/// Whether a number comes back from the size that it has, and is kept in words exactly where both
+/// parts fit.
 fn is_kept(num: i128, den: i128, is_small: bool) -> bool {
     match Frac::of(num, den) {
         Some(x) => {

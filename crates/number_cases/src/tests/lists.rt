@@ -1,4 +1,5 @@
-//! Calls that take memory, with memory enough: lists, sets of numbers, and the canonical text of fractions.
+//! Calls that take memory, with memory enough: lists, sets of numbers, and the canonical text of
+//! fractions.
 
 use frac128::{Frac, put_frac};
 use incid_sets::Marks;

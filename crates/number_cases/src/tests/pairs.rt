@@ -41,7 +41,8 @@ fn is_exact(answer: Result<Tiny, Left<Tiny>>, n: i64, d: i64) -> bool {
     }
 }
 
-/// A sum, a difference, a product or a quotient of a / b and c / d, with a denominator that is 0 for a quotient by 0 alone.
+/// A sum, a difference, a product or a quotient of a / b and c / d, with a denominator that is 0
+/// for a quotient by 0 alone.
 fn exact(operation: i128, a: i64, b: i64, c: i64, d: i64) -> (i64, i64) {
     let (left, right) = (a.wrapping_mul(d), c.wrapping_mul(b));
     let den = b.wrapping_mul(d);

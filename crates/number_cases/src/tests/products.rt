@@ -6,7 +6,8 @@ use src_sink::Items;
 use std::alloc::Global;
 use tier_frac::Tier;
 
-/// Each line: two vectors and their product by Python's `fractions`, or `none` where the short way gives no answer.
+/// Each line: two vectors and their product by Python's `fractions`, or `none` where the short way
+/// gives no answer.
 const ROWS: &str = "\
 ;;0/1
 1/1;1/1;1/1

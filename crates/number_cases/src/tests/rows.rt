@@ -1,9 +1,9 @@
 //! Operations on fractions with the answers of Python's `fractions`.
 
-/// Each line: the operation (0 sum, 1 difference, 2 product, 3 quotient, 4 order, 5 the number that the first two
-/// words make), two operands, and the answer in lowest terms: 0 over 0 where a part has more than 120 bits, and for the
-/// order -1, 0 or 1 over 1. What is made is 0 over 0 where the denominator is 0, and 1 over 0 where a part has more
-/// than 120 bits.
+/// Each line: the operation (0 sum, 1 difference, 2 product, 3 quotient, 4 order, 5 the number that
+/// the first two words make), two operands, and the answer in lowest terms: 0 over 0 where a part
+/// has more than 120 bits, and for the order -1, 0 or 1 over 1. What is made is 0 over 0 where the
+/// denominator is 0, and 1 over 0 where a part has more than 120 bits.
 pub const ROWS: &str = "\
 0 1520961009873 2982937236424 -1400525206433 3163331210766 313974308262629117 4675745169282910728
 0 -5 21 73 88 1093 1848

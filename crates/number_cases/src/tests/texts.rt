@@ -4,8 +4,8 @@ use rep_text::{RepEnd, print_conv, print_rep, read_conv, read_rep};
 use std::test::Fail;
 use word_lines::{LogEnd, LogFault, LogKind};
 
-/// A triangle by its sides and by its corners, a point by two equations, a line beside a point and a
-/// direction, and the empty set.
+/// A triangle by its sides and by its corners, a point by two equations, a line beside a point and
+/// a direction, and the empty set.
 const REPS: [&str; 5] = [
     "sides 2\nh 1 0 0\nh 0 1 0\nh -1 -1 -1\nend\n",
     "gens 2\n1 0 0\n1 0 1\n1 1 0\nend\n",

@@ -17,16 +17,16 @@ use overflows::SolveFault;
 use src_sink::{Bytes, NoMemory};
 use std::alloc::Global;
 
-/// Over fractions. `start` and `live` tell how many rows there are, and of each live generator its number, its entries and the
-/// rows that are 0 there; `add` tells what changes, and the facets.
+/// Over fractions. `start` and `live` tell how many rows there are, and of each live generator its
+/// number, its entries and the rows that are 0 there; `add` tells what changes, and the facets.
 const HELD: &str = "\
 start; 0 0 1, 1/2 1/2 0, 0 1 -4; rows 3: 1 -4 4 1 at 1 2, 2 1 0 0 at 0 2, 3 -1 1 0 at 0 1,.
 add; 1/4 3/4 -3; dropped 1 pairs 2 1 3 1 next 4 facets 1 2 3.
 live; ; rows 4: 2 1 0 0 at 0 2, 3 -1 1 0 at 0 1, 4 0 4 1 at 2 3, 5 -6 6 1 at 1 3,.
 gens; 2 1, 1 2; gens 2 -1, -1/2 1,.";
 
-/// Over tiny numbers: each step of a start and of an addition, cubes and cross-polytopes, of which `more` tells how many live
-/// generators they have, and rows that change nothing or leave nothing.
+/// Over tiny numbers: each step of a start and of an addition, cubes and cross-polytopes, of which
+/// `more` tells how many live generators they have, and rows that change nothing or leave nothing.
 const TINY: &str = "\
 start; 0 0 10, 1 -20 0, 0 1 -10; left 0 1 1 div 20 1/10 basis.
 start; 0 0 1/20, 1 -20 0, 0 1 -10; left 1 3 2 mul -10 20 basis 0 0 0.

@@ -1,4 +1,5 @@
-//! Geometric duality: couplings, and the rows of points and directions, with a duality vector of ones.
+//! Geometric duality: couplings, and the rows of points and directions, with a duality vector of
+//! ones.
 
 use super::texts::{begins, numbers, put_left, put_numbers, put_places, sum_text};
 use exact_field::Field;

@@ -1,5 +1,6 @@
-//! Linear programs: the three ends, ties, equations that repeat or contradict each other, hints, one program after another, and
-//! each step that can overflow. A line has the call, the coefficients row by row, the right sides and the cost.
+//! Linear programs: the three ends, ties, equations that repeat or contradict each other, hints,
+//! one program after another, and each step that can overflow. A line has the call, the
+//! coefficients row by row, the right sides and the cost.
 
 use super::texts::{begins, numbers, places, put_fault, put_numbers, put_places};
 use exact_field::Field;
@@ -9,7 +10,8 @@ use lin_rows::{RowFault, System};
 use src_sink::{Bytes, Items, NoMemory};
 use std::alloc::Global;
 
-/// Over fractions. Lines 4 to 6 are programs of Beale, Kuhn, and Marshall and Suurballe, with rows and cost in whole numbers.
+/// Over fractions. Lines 4 to 6 are programs of Beale, Kuhn, and Marshall and Suurballe, with rows
+/// and cost in whole numbers.
 const ENDS: &str = "\
 anew; 1 1 1; 2; 1 0 0; optimal 2 0 0 dual 1 basis 1
 anew; 1; -1; 0; infeasible
@@ -35,8 +37,9 @@ next; 1 1 1; 1; 0 1 0; optimal 0 1 0 dual 1 basis 2
 next; 1 -1; 0; 1 0; unbounded 1 1
 next; 1 -1; 0; -1 0; optimal 0 0 dual -1 basis 1";
 
-/// Over tiny numbers. Of the first two the second begins anew, since twice an entry of the last dictionary is not held. In the last
-/// but two the first cost row is -116/15 at an artificial column. In the last two the hint overflows, and the program does not.
+/// Over tiny numbers. Of the first two the second begins anew, since twice an entry of the last
+/// dictionary is not held. In the last but two the first cost row is -116/15 at an artificial
+/// column. In the last two the hint overflows, and the program does not.
 const STEPS: &str = "\
 next; 1 30 0 0 1 3; 31 1; 0 1 0; optimal 1 1 0 dual
 next; 1 30 0 0 1 3; 31 1; 2 30 -100; optimal 1 1 0 dual

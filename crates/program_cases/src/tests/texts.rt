@@ -101,7 +101,8 @@ pub fn put_left<F: Field>(text: &mut Bytes, left: &Left<F>) -> Result<(), NoMemo
     put_number(text, left.b)
 }
 
-/// Appends where an elimination was given up: the row, the column, the step, the operation and the basis.
+/// Appends where an elimination was given up: the row, the column, the step, the operation and the
+/// basis.
 pub fn put_fault<F: Field>(text: &mut Bytes, fault: &RowFault<F>) -> Result<(), NoMemory> {
     match fault {
         RowFault::Left {

@@ -15,19 +15,19 @@ pub at-requires-clause-most : goal.at-requires-clause-most
 at-requires-clause-most c =
     (is_number c.has.result c.args.share _ c.has.ensures (c.in_ok-pass.ensures 0).0).1
 
-pub certify_ray-requires-clause-sheet : goal.certify_ray-requires-clause-sheet
-certify_ray-requires-clause-sheet c = c.requires.may.1.knows.sheet
+pub certify-requires-clause-matrices : goal.certify-requires-clause-matrices
+certify-requires-clause-matrices c = c.requires.may.1.knows.matrices
 
-pub certify_ray-requires-clause-preimage : goal.certify_ray-requires-clause-preimage
-certify_ray-requires-clause-preimage c =
+pub certify-requires-clause-preimage : goal.certify-requires-clause-preimage
+certify-requires-clause-preimage c =
     subst IsSparse (sym c.as_slice-x.ensures.items) c.at.ensures.sparse
 
-pub certify_ray-requires-clause-multipliers : goal.certify_ray-requires-clause-multipliers
-certify_ray-requires-clause-multipliers c =
+pub certify-requires-clause-multipliers : goal.certify-requires-clause-multipliers
+certify-requires-clause-multipliers c =
     subst IsSparse (sym c.as_slice.ensures.items) c.requires.multipliers
 
-pub certify_ray-requires-clause-standing : goal.certify_ray-requires-clause-standing
-certify_ray-requires-clause-standing c = let from = c.requires.may in (plain from.0, from.1.stands)
+pub certify-requires-clause-standing : goal.certify-requires-clause-standing
+certify-requires-clause-standing c = let from = c.requires.may in (plain from.0, from.1.stands)
 
 pub returns-in_err-pass : goal.returns-in_err-pass
 returns-in_err-pass c = λ before may.
@@ -46,11 +46,11 @@ returns c = λ before may.
     let same = c.as_slice-x.ensures.items ∙ c.at.ensures.value
     ∙ ap (λ vs. shared vs c.args.share) may.knows.shares in
     took_sharing file before (RayOf c.args.generator c.args.share c.args.m.now) p c.args.share
-    c.certify_ray.new.self c.certify_ray.result refl refl refl
+    c.certify.new.self c.certify.result refl refl refl
     c.has.result
     (there c.has.result c.args.share before c.args.known.now.shares c.has.ensures may.knows.shares)
     (c.in_ok-pass.ensures 0).0
-    (took_as file before e p c.certify_ray.new.self c.certify_ray.result
+    (took_as file before e p c.certify.new.self c.certify.result
     (λ i. Ray c.args.generator (same i) (c.as_slice.ensures.items i))
-    (took_plainly file before e (e ∷ []) c.certify_ray.new.self c.certify_ray.result refl
-    (c.certify_ray.ensures (plain before) may.stands)))
+    (took_plainly file before e (e ∷ []) c.certify.new.self c.certify.result refl
+    (c.certify.ensures (plain before) may.stands)))

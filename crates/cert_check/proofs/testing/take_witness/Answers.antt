@@ -5,23 +5,23 @@ use Rattle.log_versions.specs.Plain.{plain}
 use Rattle.cert_check.proofs.OneEntry.{sparse_at, took, took_as, took_plainly, kind_as}
 use Rattle.cert_check.proofs.testing.take_witness.Goals as goal
 
-pub certify_point-requires-clause-sheet : goal.certify_point-requires-clause-sheet
-certify_point-requires-clause-sheet c = c.requires.may.1.knows.sheet
+pub certify-requires-clause-matrices : goal.certify-requires-clause-matrices
+certify-requires-clause-matrices c = c.requires.may.1.knows.matrices
 
-pub certify_point-requires-clause-preimage : goal.certify_point-requires-clause-preimage
-certify_point-requires-clause-preimage c =
+pub certify-requires-clause-preimage : goal.certify-requires-clause-preimage
+certify-requires-clause-preimage c =
     subst IsSparse (sym c.as_slice-in-Point.ensures.items)
     (sparse_at c.args.entry.now (Point c.in-Point.generator c.in-Point.x c.in-Point.m) c.in-Point.is
     c.requires.formed 1 (omega arith) c.in-Point.x refl)
 
-pub certify_point-requires-clause-multipliers : goal.certify_point-requires-clause-multipliers
-certify_point-requires-clause-multipliers c =
+pub certify-requires-clause-multipliers : goal.certify-requires-clause-multipliers
+certify-requires-clause-multipliers c =
     subst IsSparse (sym c.as_slice-in-Point-2.ensures.items)
     (sparse_at c.args.entry.now (Point c.in-Point.generator c.in-Point.x c.in-Point.m) c.in-Point.is
     c.requires.formed 2 (omega arith) c.in-Point.m refl)
 
-pub certify_point-requires-clause-standing : goal.certify_point-requires-clause-standing
-certify_point-requires-clause-standing c =
+pub certify-requires-clause-standing : goal.certify-requires-clause-standing
+certify-requires-clause-standing c =
     let from = c.requires.may in (
       plain from.0,
       (kind_as c.args.problem.now from.0 c.args.entry.now
@@ -29,23 +29,23 @@ certify_point-requires-clause-standing c =
           c.in-Point.is from.1).stands,
     )
 
-pub certify_ray-requires-clause-sheet : goal.certify_ray-requires-clause-sheet
-certify_ray-requires-clause-sheet c = c.requires.may.1.knows.sheet
+pub certify-requires-in-Ray-clause-matrices : goal.certify-requires-in-Ray-clause-matrices
+certify-requires-in-Ray-clause-matrices c = c.requires.may.1.knows.matrices
 
-pub certify_ray-requires-clause-preimage : goal.certify_ray-requires-clause-preimage
-certify_ray-requires-clause-preimage c =
+pub certify-requires-in-Ray-clause-preimage : goal.certify-requires-in-Ray-clause-preimage
+certify-requires-in-Ray-clause-preimage c =
     subst IsSparse (sym c.as_slice-in-Ray.ensures.items)
     (sparse_at c.args.entry.now (Ray c.in-Ray.generator c.in-Ray.x c.in-Ray.m) c.in-Ray.is
     c.requires.formed 1 (omega arith) c.in-Ray.x refl)
 
-pub certify_ray-requires-clause-multipliers : goal.certify_ray-requires-clause-multipliers
-certify_ray-requires-clause-multipliers c =
+pub certify-requires-in-Ray-clause-multipliers : goal.certify-requires-in-Ray-clause-multipliers
+certify-requires-in-Ray-clause-multipliers c =
     subst IsSparse (sym c.as_slice-in-Ray-2.ensures.items)
     (sparse_at c.args.entry.now (Ray c.in-Ray.generator c.in-Ray.x c.in-Ray.m) c.in-Ray.is
     c.requires.formed 2 (omega arith) c.in-Ray.m refl)
 
-pub certify_ray-requires-clause-standing : goal.certify_ray-requires-clause-standing
-certify_ray-requires-clause-standing c =
+pub certify-requires-in-Ray-clause-standing : goal.certify-requires-in-Ray-clause-standing
+certify-requires-in-Ray-clause-standing c =
     let from = c.requires.may in (
       plain from.0,
       (kind_as c.args.problem.now from.0 c.args.entry.now
@@ -73,11 +73,11 @@ returns-in-Point c = λ before may.
     let here = kind_as file before c.args.entry.now
     (Point c.in-Point.generator c.in-Point.x c.in-Point.m) c.args.known.now c.args.solving.now
     c.in-Point.is may in
-    took_as file before e c.args.entry.now c.certify_point.new.self c.certify_point.result
+    took_as file before e c.args.entry.now c.certify.new.self c.certify.result
     ((λ i. Point c.in-Point.generator (c.as_slice-in-Point.ensures.items i)
     (c.as_slice-in-Point-2.ensures.items i)) ∙ sym c.in-Point.is)
-    (took_plainly file before e (e ∷ []) c.certify_point.new.self c.certify_point.result refl
-    (c.certify_point.ensures (plain before) here.stands))
+    (took_plainly file before e (e ∷ []) c.certify.new.self c.certify.result refl
+    (c.certify.ensures (plain before) here.stands))
 
 pub returns-in-Ray : goal.returns-in-Ray
 returns-in-Ray c = λ before may.
@@ -85,11 +85,11 @@ returns-in-Ray c = λ before may.
     let e = Ray c.in-Ray.generator c.as_slice-in-Ray.result.now c.as_slice-in-Ray-2.result.now in
     let here = kind_as file before c.args.entry.now (Ray c.in-Ray.generator c.in-Ray.x c.in-Ray.m)
     c.args.known.now c.args.solving.now c.in-Ray.is may in
-    took_as file before e c.args.entry.now c.certify_ray.new.self c.certify_ray.result
+    took_as file before e c.args.entry.now c.certify-in-Ray.new.self c.certify-in-Ray.result
     ((λ i. Ray c.in-Ray.generator (c.as_slice-in-Ray.ensures.items i)
     (c.as_slice-in-Ray-2.ensures.items i)) ∙ sym c.in-Ray.is)
-    (took_plainly file before e (e ∷ []) c.certify_ray.new.self c.certify_ray.result refl
-    (c.certify_ray.ensures (plain before) here.stands))
+    (took_plainly file before e (e ∷ []) c.certify-in-Ray.new.self c.certify-in-Ray.result refl
+    (c.certify-in-Ray.ensures (plain before) here.stands))
 
 pub returns-in-Farkas : goal.returns-in-Farkas
 returns-in-Farkas c = λ before may.

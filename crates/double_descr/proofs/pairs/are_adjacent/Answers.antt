@@ -1,14 +1,8 @@
-use Rattle.std.proofs.Common.{◌≡◌, ◌-◌, length, sym, arith, inl, inr}
+use Rattle.std.proofs.Common.{sym, arith, inl, inr}
 use Rattle.polyhedra.proofs.Members.{member_of}
 use Rattle.double_descr.specs.State.{HasTightSet}
 use Rattle.double_descr.proofs.pairs.are_adjacent.Goals as goal
-use Rattle.double_descr.proofs.Covering.{few_are_no_pair, one_more_is_a_pair}
-
-pub returns-then-count-least : goal.returns-then-count-least
-returns-then-count-least g c = λ n rows two m.
-    let least : c.saturating_sub-least.result ≡ length c.args.plus.now.vector.items - 2 = omega (arith, c.saturating_sub-least.ensures, c.len.ensures, c.args.plus.now.vector.ok) in
-    sym (few_are_no_pair g.F.Field.value n rows c.args.generators.now c.args.plus.now c.args.minus.now c.args.common.now two m
-    (omega (arith, least, c.count-count.ensures, c.if-count-least.true)))
+use Rattle.double_descr.proofs.Covering.{one_more_is_a_pair}
 
 pub returns-then-has_one_more : goal.returns-then-has_one_more
 returns-then-has_one_more g c = λ n rows two m.

@@ -18,14 +18,14 @@ least_hints-requires c =
           (passes_add r.0 r.1 r.2 r.3 c.args.entry.now r.4 checker r.5 r.6 c.in-Add.cut c.in-Add.pairs c.in-Add.is),
     )
 
-pub hinted-requires : goal.hinted-requires
-hinted-requires c =
+pub add_with_hints-requires : goal.add_with_hints-requires
+add_with_hints-requires c =
     let r = c.requires.next in
     subst (λ (ps : List LogPair). is_formed (Add c.in-Add.cut ps) ≡ true) (sym c.as_slice-in-Add.ensures.items)
     (ap is_formed (sym c.in-Add.is) ∙ formed_next r.0 r.1 r.2 r.3 c.args.entry.now r.4 c.args.checker.now r.5 r.6)
 
-pub returns-in_ok-hinted-in-Add : goal.returns-in_ok-hinted-in-Add
-returns-in_ok-hinted-in-Add c file all before vectors after repeats n =
+pub returns-in_ok-add_with_hints-in-Add : goal.returns-in_ok-add_with_hints-in-Add
+returns-in_ok-add_with_hints-in-Add c file all before vectors after repeats n =
     let e = c.args.entry.now in
     let checker = c.args.checker.now in
     let cut = c.in-Add.cut in
@@ -33,10 +33,10 @@ returns-in_ok-hinted-in-Add c file all before vectors after repeats n =
     let hints = c.in_ok-hints-in-Add.hints in
     let passes = passes_add file all before vectors e after checker repeats n cut ps c.in-Add.is in
     let listed = c.as_slice.ensures.items in
-    hinted_step file all before vectors e after checker repeats n cut ps hints c.in_ok-hinted-in-Add.field-0 c.in-Add.is
+    hinted_step file all before vectors e after checker repeats n cut ps hints c.in_ok-add_with_hints-in-Add.field-0 c.in-Add.is
     (c.in_ok-hints-in-Add.ensures file before (subst (λ (l : List LogPair). PassesAdd file before cut l checker) (sym listed) passes)
     ∙ ap (hints_at file.objs (plain before) cut) listed)
-    (c.in_ok-hinted-in-Add.ensures.is ∙ ap (λ (l : List LogPair). AddHints cut l hints) c.as_slice-in-Add.ensures.items) c.in_ok-hinted-in-Add.ensures.formed
+    (c.in_ok-add_with_hints-in-Add.ensures.is ∙ ap (λ (l : List LogPair). AddHints cut l hints) c.as_slice-in-Add.ensures.items) c.in_ok-add_with_hints-in-Add.ensures.formed
 
 pub returns-in_default : goal.returns-in_default
 returns-in_default c file all before vectors after repeats n =

@@ -10,4 +10,4 @@ returns c =
     (then_lines (section (codes "directions") (λ g. vector_line (codes "0") g.y) c.args.directions.now)
     (then_lines (section (codes "points") (λ g. vector_line (codes "1") g.y) c.args.points.now)
     (first_lines (section (codes "lines") (λ l. vector_line (codes "l") l.d) c.args.lines.now) c.in_ok-put_lines.ensures)
-    c.in_ok-put_members.ensures) c.in_ok-put_members-2.ensures) c.in_ok-put_sides.ensures).text
+    c.in_ok-put_generators.ensures) c.in_ok-put_generators-2.ensures) c.in_ok-put_sides.ensures).text

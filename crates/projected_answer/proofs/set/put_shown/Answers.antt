@@ -9,4 +9,4 @@ returns c =
     let ls = c.args.lines.now in
     let ways = first_lines (flat_map (λ l. sparse_line (codes "r") l.ray ∷ sparse_line (codes "r") l.back ∷ []) ls) (c.in_ok-put_ways.ensures ∙ ap (λ r. c.args.into.now ++ r) (ways-text ls)) in
     (then_each (λ g. sparse_line (codes "r") g.pre) c.args.directions.now
-    (then_each (λ g. sparse_line (codes "x") g.pre) c.args.points.now ways c.in_ok-put_choices.ensures) c.in_ok-put_choices-2.ensures).text
+    (then_each (λ g. sparse_line (codes "x") g.pre) c.args.points.now ways c.in_ok-put_preimages.ensures) c.in_ok-put_preimages-2.ensures).text

@@ -4,7 +4,7 @@ use Rattle.log_rules.specs.Events.{dot_steps, same_pairs}
 use Rattle.log_rules.specs.Events.Event.{test}
 use Rattle.log_rules.specs.Live.{required_pairs}
 use Rattle.log_rules.specs.declared.rule.Rule.TheVariants as rule
-use Rattle.log_tests.proofs.Going.{Passed, Stopped, passed-then, stopped-after, stopped-behind, stopped-in}
+use Rattle.entry_checks.proofs.Going.{Passed, Stopped, passed-then, stopped-after, stopped-later, stopped-in}
 use Rattle.log_live.specs.Live.{live_of}
 use Rattle.log_live.specs.declared.generator.Generator.{Generator}
 use Rattle.rep_conv.specs.Adding.{values_at}
@@ -43,7 +43,7 @@ returns-in_err-test_pairs c width rows a =
     let came : Passed (flat_map (λ (g : Generator). dot_steps c.args.row.now g.vector) G) 0 c.values_of.new.counter.taken = record { none = c.in_ok-values.ensures.0; count = c.in_ok-values.ensures.1 } in
     let here : Stopped (T ∷ []) c.values_of.new.counter.taken c.in_err-test_pairs.field-0.0 =
     record { at = c.in_err-test_pairs.ensures width rows c.args.row.now c.values_of.new.counter.taken a values } in
-    let stopped = as_added_stop rows c.args.row.now G c.args.pairs.now c.in_err-test_pairs.field-0.0 (stopped-behind came (stopped-in P here)) in
+    let stopped = as_added_stop rows c.args.row.now G c.args.pairs.now c.in_err-test_pairs.field-0.0 (stopped-later came (stopped-in P here)) in
     search (stopped, rules)
 
 pub new_generators-requires-clause-pairs : goal.new_generators-requires-clause-pairs
@@ -70,11 +70,11 @@ returns-in_err-made c width rows a =
     record { none = fine.0; count = fine.1 } in
     let here : Stopped (flat_map (pair_of c.args.row.now (live_of G)) c.args.pairs.now) c.values_of.new.counter.taken c.in_err-made.field-0.0 =
     record { at = c.in_err-made.ensures width rows c.args.row.now a values (paired rows c.args.row.now G c.args.pairs.now c.values_of.new.counter.taken fine.0) } in
-    let stopped = as_added_stop rows c.args.row.now G c.args.pairs.now c.in_err-made.field-0.0 (stopped-behind came (stopped-behind tested here)) in
+    let stopped = as_added_stop rows c.args.row.now G c.args.pairs.now c.in_err-made.field-0.0 (stopped-later came (stopped-later tested here)) in
     search (stopped, rules)
 
-pub returns-in_err-behind : goal.returns-in_err-behind
-returns-in_err-behind c width rows a =
+pub returns-in_err-after : goal.returns-in_err-after
+returns-in_err-after c width rows a =
     let G = c.args.generators.now in
     let values : c.as_slice-at_row.result.now ≡ values_at c.args.row.now G = c.as_slice-at_row.ensures.items ∙ c.in_ok-values.ensures.2 in
     let came : Passed (flat_map (λ (g : Generator). dot_steps c.args.row.now g.vector) G) 0 c.values_of.new.counter.taken = record { none = c.in_ok-values.ensures.0; count = c.in_ok-values.ensures.1 } in
@@ -83,8 +83,8 @@ returns-in_err-behind c width rows a =
     record { none = fine.0; count = fine.1 } in
     let made = c.in_ok-made.ensures width rows c.args.row.now a values (paired rows c.args.row.now G c.args.pairs.now c.values_of.new.counter.taken fine.0) in
     let through : Passed (flat_map (pair_of c.args.row.now (live_of G)) c.args.pairs.now) c.values_of.new.counter.taken c.new_generators.new.counter.taken = record { none = made.0; count = made.1 } in
-    let none : Stopped [] c.new_generators.new.counter.taken c.in_err-behind.field-0.0 = record { at = c.in_err-behind.ensures.runs c.new_generators.new.counter.taken } in
-    let stopped = as_added_stop rows c.args.row.now G c.args.pairs.now c.in_err-behind.field-0.0 (stopped-after (passed-then came (passed-then tested through)) none) in
+    let none : Stopped [] c.new_generators.new.counter.taken c.in_err-after.field-0.0 = record { at = c.in_err-after.ensures.runs c.new_generators.new.counter.taken } in
+    let stopped = as_added_stop rows c.args.row.now G c.args.pairs.now c.in_err-after.field-0.0 (stopped-after (passed-then came (passed-then tested through)) none) in
     search (stopped, rules)
 
 pub returns : goal.returns
@@ -101,5 +101,5 @@ returns c width rows a =
     let whole : Passed (added_events rows (live_of G) c.args.row.now c.args.pairs.now) 0 c.new_generators.new.counter.taken = as_added rows c.args.row.now G c.args.pairs.now _ (passed-then came (passed-then tested through)) in (
       whole.none,
       omega arith,
-      record { values = c.in_ok-values.ensures.2; made = made.2; paired = asked; next_is = (c.in_ok-behind.ensures.runs 0).2 },
+      record { values = c.in_ok-values.ensures.2; made = made.2; paired = asked; next_is = (c.in_ok-after.ensures.runs 0).2 },
     )

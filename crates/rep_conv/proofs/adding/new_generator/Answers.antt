@@ -5,7 +5,7 @@ use Rattle.polyhedra.specs.DoubleDescription.{norming}
 use Rattle.log_rules.specs.Events.{Event, meeting_point}
 use Rattle.rep_conv.specs.Events.{pair_of}
 use Rattle.log_rules.specs.Runs.{Stops}
-use Rattle.log_tests.proofs.Going.{Passed, Stopped, stopped-after}
+use Rattle.entry_checks.proofs.Going.{Passed, Stopped, stopped-after}
 use Rattle.rep_conv.specs.Adding.{between_steps, quotients}
 use Rattle.log_live.specs.Live.{live_of, numbered_of}
 use Rattle.log_live.specs.declared.generator.Generator.{Generator}

@@ -1,7 +1,7 @@
 use Rattle.std.proofs.Common.{rules, ◌≡◌, ◌+◌, ◌*◌, [], Contains, arith, length, slice_index_or}
 use Rattle.polyhedra.specs.LiveList.{live_pairs}
 use Rattle.rep_conv.specs.Events.{pair_of}
-use Rattle.log_tests.proofs.Going.{Passed, Stopped, at-end, at-more, at-start, at-stop, stopped-after, stopped-in}
+use Rattle.entry_checks.proofs.Going.{Passed, Stopped, at-end, at-more, at-start, at-stop, stopped-after, stopped-in}
 use Rattle.std.proofs.lemmas.List.{get_or_default}
 use Rattle.log_live.specs.Live.{live_of}
 use Rattle.rep_conv.proofs.Between.{few_of_pair}

@@ -3,7 +3,7 @@ use Rattle.exact_field.specs.Rational.{ℚ}
 use Rattle.polyhedra.specs.LiveList.{live_pairs}
 use Rattle.rep_conv.specs.Events.{pair_of}
 use Rattle.log_rules.specs.Live.{required_pairs}
-use Rattle.log_tests.proofs.Going.{IsAt}
+use Rattle.entry_checks.proofs.Going.{IsAt}
 use Rattle.rep_conv.specs.Adding.{AreAtRow, values_at}
 use Rattle.log_live.specs.Live.{live_of}
 use Rattle.log_live.proofs.LivePairs.{AreMadeTo}

@@ -5,7 +5,7 @@ use Rattle.frac128.specs.Held.{is_held}
 use Rattle.log_rules.specs.Events.{Event, meeting_point, meeting_steps}
 use Rattle.log_rules.specs.Events.Event.{step}
 use Rattle.log_rules.specs.Runs.{Runs, steps}
-use Rattle.log_tests.proofs.Going.{Passed, Stopped, stopped-in, stopped-behind, Ran, ran-behind, room-in, room-behind}
+use Rattle.entry_checks.proofs.Going.{Passed, Stopped, stopped-in, stopped-later, Ran, ran-after, room-in, room-after}
 use Rattle.polyhedra.specs.DoubleDescription.{magnitude, norming}
 use Rattle.polyhedra.proofs.Norming.{magnitude-positive}
 use Rattle.polyhedra.proofs.Order.{not_zero_of_positive}
@@ -39,7 +39,7 @@ meeting-requires-clause-room c =
     came_as _ _ _ _ (ap (λ (d : ℚ). step op.Div c.args.at_plus d ∷ []) c.neg.ensures) c.in_ok-k.ensures.0 c.in_ok-k.ensures.1 in
     subst (λ (q : ℚ). c.div.new.self.taken + steps (meeting_steps q c.args.plus.now c.args.minus.now) < 9223372036854775808) (sym k_is)
     (room-in (meeting_steps k c.args.plus.now c.args.minus.now) (quotient_steps z) c.div.new.self.taken _
-    (room-behind (meeting_steps k c.args.plus.now c.args.minus.now ++ quotient_steps z) _ came c.requires.room))
+    (room-after (meeting_steps k c.args.plus.now c.args.minus.now ++ quotient_steps z) _ came c.requires.room))
 
 pub returns-in_err-sum : goal.returns-in_err-sum
 returns-in_err-sum c =
@@ -50,7 +50,7 @@ returns-in_err-sum c =
     came_as _ _ _ _ (ap (λ (d : ℚ). step op.Div c.args.at_plus d ∷ []) c.neg.ensures) c.in_ok-k.ensures.0 c.in_ok-k.ensures.1 in
     let here : Stopped (meeting_steps k c.args.plus.now c.args.minus.now) c.div.new.self.taken c.in_err-sum.field-0.0 =
     stopped_as _ _ _ _ (ap (λ (q : ℚ). meeting_steps q c.args.plus.now c.args.minus.now) k_is) c.in_err-sum.ensures in
-    let stopped = (stopped-behind came (stopped-in (quotient_steps z) here)).at in
+    let stopped = (stopped-later came (stopped-in (quotient_steps z) here)).at in
     search (stopped, rules)
 
 pub divided-requires-clause-divisor : goal.divided-requires-clause-divisor
@@ -59,7 +59,7 @@ divided-requires-clause-divisor c e =
     let z_is = c.as_slice-z.ensures.items ∙ c.in_ok-sum.ensures.2 ∙ ap (λ (q : ℚ). meeting_point q c.args.plus.now c.args.minus.now) k_is in
     not_zero_of_positive (magnitude (norming c.as_slice-z.result.now))
     (magnitude-positive (norming c.as_slice-z.result.now) (λ none. c.requires.not_zero (sym (ap norming z_is) ∙ none)))
-    (ap magnitude (sym c.norming.ensures) ∙ sym c.magnitude-by.ensures ∙ e)
+    (ap magnitude (sym c.norming_entry.ensures) ∙ sym c.magnitude-by.ensures ∙ e)
 
 pub divided-requires-clause-room : goal.divided-requires-clause-room
 divided-requires-clause-room c =
@@ -67,14 +67,14 @@ divided-requires-clause-room c =
     let z = meeting_point k c.args.plus.now c.args.minus.now in
     let k_is = c.in_ok-k.ensures.2 ∙ ap (λ (d : ℚ). c.args.at_plus /ℚ d) c.neg.ensures in
     let z_is = c.as_slice-z.ensures.items ∙ c.in_ok-sum.ensures.2 ∙ ap (λ (q : ℚ). meeting_point q c.args.plus.now c.args.minus.now) k_is in
-    let by_is = c.magnitude-by.ensures ∙ ap magnitude c.norming.ensures in
+    let by_is = c.magnitude-by.ensures ∙ ap magnitude c.norming_entry.ensures in
     let came : Passed (step op.Div c.args.at_plus (neg_ℚ c.args.at_minus) ∷ []) c.args.counter.now.taken c.div.new.self.taken =
     came_as _ _ _ _ (ap (λ (d : ℚ). step op.Div c.args.at_plus d ∷ []) c.neg.ensures) c.in_ok-k.ensures.0 c.in_ok-k.ensures.1 in
     let met : Passed (meeting_steps k c.args.plus.now c.args.minus.now) c.div.new.self.taken c.meeting.new.counter.taken =
     came_as _ _ _ _ (ap (λ (q : ℚ). meeting_steps q c.args.plus.now c.args.minus.now) k_is) c.in_ok-sum.ensures.0 c.in_ok-sum.ensures.1 in
     subst (λ (es : List Event). c.meeting.new.counter.taken + steps es < 9223372036854775808)
     (sym (quotients_as _ _ _ z_is by_is))
-    (room-behind (quotient_steps z) _ met (room-behind (meeting_steps k c.args.plus.now c.args.minus.now ++ quotient_steps z) _ came c.requires.room))
+    (room-after (quotient_steps z) _ met (room-after (meeting_steps k c.args.plus.now c.args.minus.now ++ quotient_steps z) _ came c.requires.room))
 
 pub returns : goal.returns
 returns c =
@@ -82,7 +82,7 @@ returns c =
     let z = meeting_point k c.args.plus.now c.args.minus.now in
     let k_is = c.in_ok-k.ensures.2 ∙ ap (λ (d : ℚ). c.args.at_plus /ℚ d) c.neg.ensures in
     let z_is = c.as_slice-z.ensures.items ∙ c.in_ok-sum.ensures.2 ∙ ap (λ (q : ℚ). meeting_point q c.args.plus.now c.args.minus.now) k_is in
-    let by_is = c.magnitude-by.ensures ∙ ap magnitude c.norming.ensures in
+    let by_is = c.magnitude-by.ensures ∙ ap magnitude c.norming_entry.ensures in
     let came : Passed (step op.Div c.args.at_plus (neg_ℚ c.args.at_minus) ∷ []) c.args.counter.now.taken c.div.new.self.taken =
     came_as _ _ _ _ (ap (λ (d : ℚ). step op.Div c.args.at_plus d ∷ []) c.neg.ensures) c.in_ok-k.ensures.0 c.in_ok-k.ensures.1 in
     let met : Passed (meeting_steps k c.args.plus.now c.args.minus.now) c.div.new.self.taken c.meeting.new.counter.taken =
@@ -94,4 +94,4 @@ returns c =
           (subst (λ (w : List ℚ). Runs {X = List ℚ} is_held (quotients_events c.magnitude-by.result c.as_slice-z.result.now) c.meeting.new.counter.taken c.divided.new.counter.taken (λ v. v ≡ w) c.divided.result)
           (quotients_made _ _ _ z_is by_is) c.divided.ensures);
     } in
-    (ran-behind came (ran-behind met last)).runs
+    (ran-after came (ran-after met last)).runs

@@ -1,7 +1,7 @@
 use Rattle.log_rules.specs.Events.{same_pairs}
 use Rattle.log_rules.specs.Live.{required_pairs}
 use Rattle.log_rules.specs.declared.rule.Rule.TheVariants as rule
-use Rattle.log_tests.proofs.Going.{test-as}
+use Rattle.entry_checks.proofs.Going.{test-as}
 use Rattle.log_live.specs.Live.{live_of}
 use Rattle.rep_conv.proofs.adding.test_pairs.Goals as goal
 

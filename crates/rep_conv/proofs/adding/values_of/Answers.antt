@@ -5,7 +5,7 @@ use Rattle.exact_field.specs.Vector.{dot}
 use Rattle.frac128.specs.Held.{is_held}
 use Rattle.log_rules.specs.Events.{Event, dot_steps}
 use Rattle.log_rules.specs.Runs.{Stops, steps}
-use Rattle.log_tests.proofs.Going.{Passed, Stopped, at-room, at-stop, at-more, at-end, stopped-after}
+use Rattle.entry_checks.proofs.Going.{Passed, Stopped, at-room, at-stop, at-more, at-end, stopped-after}
 use Rattle.vlp_matrices.proofs.Lists.{map-take_more}
 use Rattle.log_live.specs.declared.generator.Generator.{Generator}
 use Rattle.rep_conv.specs.Adding.{values_at}

@@ -1,6 +1,6 @@
 use Rattle.std.proofs.Common.{◌≡◌, take}
 use Rattle.log_rules.specs.Events.{dot_steps}
-use Rattle.log_tests.proofs.Going.{IsAt}
+use Rattle.entry_checks.proofs.Going.{IsAt}
 use Rattle.rep_conv.specs.Adding.{values_at}
 use Rattle.rep_conv.proofs.adding.values_of.Given as goal
 

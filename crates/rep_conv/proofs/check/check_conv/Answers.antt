@@ -7,8 +7,8 @@ use Rattle.rep_conv.proofs.EventRules.{events_are_rules}
 use Rattle.rep_conv.proofs.NeededRows.{conversion_is_right}
 use Rattle.rep_conv.proofs.check.check_conv.Goals as goal
 
-pub other_behind-requires : goal.other_behind-requires
-other_behind-requires c = (c.as_slice.result.now, c.in_ok-standing.ensures.ok.1)
+pub other_rep_after-requires : goal.other_rep_after-requires
+other_rep_after-requires c = (c.as_slice.result.now, c.in_ok-standing.ensures.ok.1)
 
 pub returns-clause-ok : goal.returns-clause-ok
 returns-clause-ok c = subst (λ (log : List ConvEntry). (conv_failure is_held c.args.rep.now log ≡ None) × Gives c.args.rep.now log c.in_ok-found.found) c.as_slice.ensures.items

@@ -1,7 +1,7 @@
 use Rattle.std.proofs.Common.{◌≡◌, ℕ, ◌+◌, ◌-◌, ◌*◌, List, [], take, drop, slice_index_or, sym, ap, ◌∙◌, subst, arith}
 use Rattle.exact_field.specs.Rational.{ℚ}
 use Rattle.upper_image.specs.Spots.{pieces}
-use Rattle.log_tests.proofs.RisingNumbers.{length-pieces, pieces-at}
+use Rattle.entry_checks.proofs.RisingNumbers.{length-pieces, pieces-at}
 use Rattle.rep_conv.specs.Starting.{IsFirst}
 use Rattle.rep_conv.proofs.FirstPlaces.{AreFirst, first_live, none_first, one_first}
 use Rattle.rep_conv.proofs.firsts.first_generators.Goals as goal

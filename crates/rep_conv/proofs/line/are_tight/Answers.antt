@@ -4,7 +4,7 @@ use Rattle.exact_field.specs.Rational.{ℚ}
 use Rattle.frac128.specs.Held.{is_held}
 use Rattle.log_rules.specs.Events.{Event}
 use Rattle.log_rules.specs.Runs.{Stops, steps}
-use Rattle.log_tests.proofs.Going.{Passed, at-room, at-stop, at-more, at-end}
+use Rattle.entry_checks.proofs.Going.{Passed, at-room, at-stop, at-more, at-end}
 use Rattle.rep_conv.specs.Events.{tight_events}
 use Rattle.rep_conv.proofs.line.are_tight.Goals as goal
 

@@ -1,4 +1,4 @@
-use Rattle.log_tests.proofs.Going.{IsAt}
+use Rattle.entry_checks.proofs.Going.{IsAt}
 use Rattle.rep_conv.specs.Events.{tight_events}
 use Rattle.rep_conv.proofs.line.are_tight.Given as goal
 

@@ -8,7 +8,7 @@ use Rattle.log_rules.specs.Events.{Event, goes_on}
 use Rattle.log_rules.specs.Events.Event.{test}
 use Rattle.log_rules.specs.Runs.{Runs, steps}
 use Rattle.log_rules.specs.declared.rule.Rule.TheVariants as rule
-use Rattle.log_tests.proofs.Going.{Passed, Stopped, stopped-in, Ran, ran-behind, whole-run, first-passed}
+use Rattle.entry_checks.proofs.Going.{Passed, Stopped, stopped-in, Ran, ran-after, whole-run, first-passed}
 use Rattle.rep_conv.specs.Events.{line_events, tight_events}
 use Rattle.rep_conv.specs.Rows.{text_rows}
 use Rattle.rep_conv.proofs.EntrySteps.{few_tight}
@@ -54,4 +54,4 @@ returns c =
     record {
       runs = subst (λ (rs : List (List ℚ)). Runs {X = Unit {0}} is_held (flat_map (tight_events c.args.d.now) rs) 0 c.are_tight.new.counter.taken (λ _. ⊤) c.are_tight.result) c.requires.rows c.are_tight.ensures;
     } in
-    whole-run (line_events c.args.rep.now c.args.lines.now c.args.d.now) c.are_tight.new.counter.taken (λ _. ⊤) c.are_tight.result (ran-behind came last).runs
+    whole-run (line_events c.args.rep.now c.args.lines.now c.args.d.now) c.are_tight.new.counter.taken (λ _. ⊤) c.are_tight.result (ran-after came last).runs

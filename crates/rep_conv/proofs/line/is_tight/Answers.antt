@@ -6,7 +6,7 @@ use Rattle.log_rules.specs.Events.{dot_steps}
 use Rattle.log_rules.specs.Events.Event.{test}
 use Rattle.log_rules.specs.declared.rule.Rule.TheVariants as rule
 use Rattle.log_rules.proofs.Failures.{stops-then}
-use Rattle.log_tests.proofs.Going.{room-in, then-test}
+use Rattle.entry_checks.proofs.Going.{room-in, then-test}
 use Rattle.rep_conv.proofs.line.is_tight.Goals as goal
 
 pub dot-requires-clause-room : goal.dot-requires-clause-room

@@ -4,7 +4,7 @@ use Rattle.exact_field.specs.Rational.{ℚ}
 use Rattle.log_rules.specs.Events.{Event}
 use Rattle.log_rules.specs.Events.Event.{test}
 use Rattle.log_rules.specs.declared.rule.Rule.TheVariants as rule
-use Rattle.log_tests.proofs.Going.{Passed, Stopped, stopped-in, Ran, ran-behind}
+use Rattle.entry_checks.proofs.Going.{Passed, Stopped, stopped-in, Ran, ran-after}
 use Rattle.rep_conv.specs.Events.{is_first, corners_events}
 use Rattle.rep_conv.proofs.Pieces.{came_as, stopped_as}
 use Rattle.rep_conv.proofs.start.check_generator.Goals as goal
@@ -26,4 +26,4 @@ returns c =
     came_as _ _ _ _ (first c.args.lines.now c.args.generator.now c.is_first.result c.is_first.ensures) (c.in_ok-pass.ensures c.args.counter.now.taken).0 (c.in_ok-pass.ensures c.args.counter.now.taken).1 in
     let last : Ran {X = Unit {0}} (corners_events c.args.rep.now (c.args.number, c.args.generator.now) c.args.named.now) c.args.counter.now.taken c.meets_rows.new.counter.taken (λ _. ⊤) c.meets_rows.result =
     record { runs = c.meets_rows.ensures } in
-    (ran-behind came last).runs
+    (ran-after came last).runs

@@ -5,8 +5,8 @@ use Rattle.frac128.specs.Held.{is_held}
 use Rattle.upper_image.specs.Spots.{pieces}
 use Rattle.log_rules.specs.Events.{Event}
 use Rattle.log_rules.specs.Runs.{Stops, steps}
-use Rattle.log_tests.proofs.Going.{Passed, at-room, at-stop, at-more, at-end}
-use Rattle.log_tests.proofs.RisingNumbers.{numbered-next, length-numbered, length-pieces, pieces-at}
+use Rattle.entry_checks.proofs.Going.{Passed, at-room, at-stop, at-more, at-end}
+use Rattle.entry_checks.proofs.RisingNumbers.{numbered-next, length-numbered, length-pieces, pieces-at}
 use Rattle.rep_conv.specs.Events.{generator_events}
 use Rattle.rep_conv.proofs.start.check_generators.Goals as goal
 

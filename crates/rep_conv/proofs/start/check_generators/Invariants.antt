@@ -1,7 +1,7 @@
 use Rattle.std.proofs.Common.{suc, length}
 use Rattle.std.specs.List.{enumerate_from}
 use Rattle.upper_image.specs.Spots.{pieces}
-use Rattle.log_tests.proofs.Going.{IsAt}
+use Rattle.entry_checks.proofs.Going.{IsAt}
 use Rattle.rep_conv.specs.Events.{generator_events}
 use Rattle.rep_conv.proofs.start.check_generators.Given as goal
 

@@ -8,7 +8,7 @@ use Rattle.upper_image.specs.Spots.{pieces}
 use Rattle.log_rules.specs.Events.{Event, rises}
 use Rattle.log_rules.specs.Events.Event.{test}
 use Rattle.log_rules.specs.declared.rule.Rule.TheVariants as rule
-use Rattle.log_tests.proofs.Going.{Passed, Stopped, stopped-in, Ran, ran-behind, whole-run, first-passed}
+use Rattle.entry_checks.proofs.Going.{Passed, Stopped, stopped-in, Ran, ran-after, whole-run, first-passed}
 use Rattle.rep_conv.specs.Events.{all_below, generator_events, start_events}
 use Rattle.rep_conv.specs.Rows.{text_rows}
 use Rattle.rep_text.specs.declared.rep.Rep.{Rep}
@@ -88,4 +88,4 @@ returns c =
     came_as _ _ _ _ (two c.args.rep.now c.args.rows.now c.args.lines.now c.args.named.now c.args.gens.now c.lists_fit.result c.are_picks.result c.requires.rows c.lists_fit.ensures c.are_picks.ensures) (c.in_ok-pass_both.ensures 0).0 (c.in_ok-pass_both.ensures 0).1 in
     let last : Ran {X = Unit {0}} (flat_map (generator_events c.args.rep.now c.args.lines.now c.args.named.now) (enumerate_from 1 (pieces (length c.args.named.now) (suc c.args.rep.now.width) c.args.gens.now))) 0 c.check_generators.new.counter.taken (λ _. ⊤) c.check_generators.result =
     record { runs = c.check_generators.ensures } in
-    whole-run (start_events c.args.rep.now c.args.lines.now c.args.named.now c.args.gens.now) c.check_generators.new.counter.taken (λ _. ⊤) c.check_generators.result (ran-behind came last).runs
+    whole-run (start_events c.args.rep.now c.args.lines.now c.args.named.now c.args.gens.now) c.check_generators.new.counter.taken (λ _. ⊤) c.check_generators.result (ran-after came last).runs

@@ -4,9 +4,9 @@ use Rattle.exact_field.specs.Rational.{ℚ}
 use Rattle.frac128.specs.Held.{is_held}
 use Rattle.log_rules.specs.Events.{Event}
 use Rattle.log_rules.specs.Runs.{Stops, steps}
-use Rattle.log_tests.specs.Parts.{corner_events}
-use Rattle.log_tests.proofs.Going.{Passed, at-room, at-stop, at-more, at-end}
-use Rattle.log_tests.proofs.RisingNumbers.{length-numbered}
+use Rattle.entry_checks.specs.Parts.{corner_events}
+use Rattle.entry_checks.proofs.Going.{Passed, at-room, at-stop, at-more, at-end}
+use Rattle.entry_checks.proofs.RisingNumbers.{length-numbered}
 use Rattle.rep_conv.specs.Rows.{row_at}
 use Rattle.rep_conv.proofs.EntrySteps.{below_at, named_next, row_read, row_wide}
 use Rattle.rep_conv.proofs.start.meets_rows.Goals as goal

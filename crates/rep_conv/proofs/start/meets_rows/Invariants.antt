@@ -1,7 +1,7 @@
 use Rattle.std.proofs.Common.{ℕ, ◌==◌}
 use Rattle.std.specs.List.{enumerate_from}
-use Rattle.log_tests.specs.Parts.{corner_events}
-use Rattle.log_tests.proofs.Going.{IsAt}
+use Rattle.entry_checks.specs.Parts.{corner_events}
+use Rattle.entry_checks.proofs.Going.{IsAt}
 use Rattle.rep_conv.specs.Rows.{row_at}
 use Rattle.rep_conv.proofs.start.meets_rows.Given as goal
 

@@ -5,11 +5,11 @@ use Rattle.rep_conv.specs.Live.{state}
 use Rattle.rep_convert.proofs.Ended.{no_rows, short_conversion, short_given, short_log}
 use Rattle.rep_convert.proofs.conversion.without_rows.Goals as goal
 
-pub other-requires-clause-some : goal.other-requires-clause-some
-other-requires-clause-some c = sym (no_rows c.args.rep.now c.requires)
+pub other_rep-requires-clause-some : goal.other_rep-requires-clause-some
+other_rep-requires-clause-some c = sym (no_rows c.args.rep.now c.requires)
 
-pub other-requires-clause-given : goal.other-requires-clause-given
-other-requires-clause-given c =
+pub other_rep-requires-clause-given : goal.other_rep-requires-clause-given
+other_rep-requires-clause-given c =
     let rep = c.args.rep.now in (
       short_log rep c.requires,
       subst (λ (p : List (List ℚ) × List (List ℚ)). IsGiven rep.width (state rep (short_log rep c.requires)) p.0 p.1)

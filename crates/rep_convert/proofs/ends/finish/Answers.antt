@@ -7,16 +7,16 @@ use Rattle.rep_convert.specs.Lines.{marks_of}
 use Rattle.rep_convert.proofs.Ended.{ended, given_off}
 use Rattle.rep_convert.proofs.ends.finish.Goals as goal
 
-pub other-requires-clause-given : goal.other-requires-clause-given
-other-requires-clause-given c =
+pub other_rep-requires-clause-given : goal.other_rep-requires-clause-given
+other_rep-requires-clause-given c =
     let rep = c.args.rep.now in
     let log = c.take_all.new.log in
     let dd = c.take_all.new.dd in
     let did = c.in_ok-take_all.ensures in (
       log ++ End ∷ [],
       given_off rep log dd did.ok (subst (λ (rows : List (List ℚ)). 0 < length rows) c.requires.rows c.requires.some) did.all
-          c.as_slice-4.result.now c.as_slice-5.result.now (c.as_slice-4.ensures.items ∙ c.requires.lines ∙ sym did.lines)
-          (c.as_slice-5.ensures.items ∙ c.in_ok-generators.ensures
+          c.as_slice-5.result.now c.as_slice-6.result.now (c.as_slice-5.ensures.items ∙ c.requires.lines ∙ sym did.lines)
+          (c.as_slice-6.ensures.items ∙ c.in_ok-generators.ensures
           ∙ ap (λ (bs : List Bool). map (with_zeros bs) (vectors dd.list.live)) (c.as_slice-places.ensures.items ∙ c.requires.places ∙ sym (ap (marks_of rep) did.lines))),
     )
 
@@ -30,6 +30,6 @@ returns-clause-ok c =
     ended rep log dd did.ok some did.all c.push.new.self c.in_ok-push.ensures.ok c.in_ok-found.found
     (c.in_ok-found.ensures (log ++ End ∷ [])
     (given_off rep log dd did.ok some did.all
-    c.as_slice-4.result.now c.as_slice-5.result.now (c.as_slice-4.ensures.items ∙ c.requires.lines ∙ sym did.lines)
-    (c.as_slice-5.ensures.items ∙ c.in_ok-generators.ensures
+    c.as_slice-5.result.now c.as_slice-6.result.now (c.as_slice-5.ensures.items ∙ c.requires.lines ∙ sym did.lines)
+    (c.as_slice-6.ensures.items ∙ c.in_ok-generators.ensures
     ∙ ap (λ (bs : List Bool). map (with_zeros bs) (vectors dd.list.live)) (c.as_slice-places.ensures.items ∙ c.requires.places ∙ sym (ap (marks_of rep) did.lines)))))

@@ -2,7 +2,7 @@ use Rattle.std.proofs.Common.{sym, ap, arith, ◌∙◌, ◌≡◌, ◌+◌, ℕ
 use Rattle.std.proofs.lemmas.List.{drop_all}
 use Rattle.exact_field.specs.Rational.{ℚ}
 use Rattle.lineality.specs.Lines.{leading_place}
-use Rattle.log_tests.proofs.Products.{place-here, place-next}
+use Rattle.entry_checks.proofs.Products.{place-here, place-next}
 use Rattle.rep_convert.proofs.places.leading_place.Goals as goal
 
 pub returns-then-not-is_zero : goal.returns-then-not-is_zero

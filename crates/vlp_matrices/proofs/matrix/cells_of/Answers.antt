@@ -1,7 +1,7 @@
 use Rattle.std.proofs.Common.{sym, ap₂, arith, ◌∙◌, ◌≡◌, ◌+◌, ℕ, ◌++◌}
 use Rattle.vlp_matrices.proofs.Lists.{item-as}
-use Rattle.vlp_matrices.proofs.Matrices.{cells_from-more}
-use Rattle.vlp_matrices.specs.Sheets.{row_cells}
+use Rattle.vlp_matrices.proofs.Cells.{cells_from-more}
+use Rattle.vlp_matrices.specs.Matrices.{row_cells}
 use Rattle.vlp_matrices.proofs.matrix.cells_of.Goals as goal
 
 pub loop-row-preserved : goal.loop-row-preserved

@@ -1,5 +1,5 @@
 use Rattle.std.proofs.Common.{◌≡◌, take}
-use Rattle.vlp_matrices.specs.Sheets.{cells_from}
+use Rattle.vlp_matrices.specs.Matrices.{cells_from}
 use Rattle.vlp_matrices.proofs.matrix.cells_of.Given as goal
 
 abbrev pub invariant-loop-row : goal.invariant-loop-row

@@ -1,5 +1,5 @@
 use Rattle.std.proofs.Common.{◌≡◌, ◌++◌, take}
-use Rattle.vlp_matrices.specs.Sheets.{row_cells}
+use Rattle.vlp_matrices.specs.Matrices.{row_cells}
 use Rattle.vlp_matrices.proofs.matrix.push_cells.Given as goal
 
 abbrev pub invariant-loop-spot : goal.invariant-loop-spot

@@ -4,9 +4,9 @@ use Rattle.frac128.specs.declared.vectors.Spot.{Spot}
 use Rattle.upper_image.proofs.Widths.{length-numbers}
 use Rattle.vlp_reader.specs.Sides.{numbers_from}
 use Rattle.std.proofs.Math.ListN.{set}
-use Rattle.vlp_matrices.proofs.Matrices.{none-lists, spots_by-more}
+use Rattle.vlp_matrices.proofs.Cells.{none-lists, spots_by-more}
 use Rattle.std.proofs.Common.{take}
-use Rattle.vlp_matrices.specs.Sheets.{key_of, spots_in}
+use Rattle.vlp_matrices.specs.Matrices.{key_of, spots_in}
 use Rattle.vlp_reader.specs.declared.problem.Cell.{Cell}
 use Rattle.vlp_matrices.proofs.matrix.spots_by.Goals as goal
 

@@ -1,8 +1,8 @@
 use Rattle.std.proofs.Common.{sym, ap, ap₂, arith, ◌∙◌, ◌≡◌, ◌+◌, List, [], ◌∷◌, ◌++◌}
 use Rattle.exact_field.specs.Rational.{ℚ}
 use Rattle.frac128.specs.declared.vectors.Spot.{Spot}
-use Rattle.vlp_matrices.proofs.Matrices.{numbers-more}
-use Rattle.vlp_matrices.specs.Sheets.{unit_spots}
+use Rattle.vlp_matrices.proofs.Cells.{numbers-more}
+use Rattle.vlp_matrices.specs.Matrices.{unit_spots}
 use Rattle.vlp_matrices.proofs.matrix.units.Goals as goal
 
 pub loop-before-preserved : goal.loop-before-preserved

@@ -1,6 +1,6 @@
 use Rattle.std.proofs.Common.{◌≡◌, map}
 use Rattle.vlp_reader.specs.Sides.{numbers_from}
-use Rattle.vlp_matrices.specs.Sheets.{unit_spots}
+use Rattle.vlp_matrices.specs.Matrices.{unit_spots}
 use Rattle.vlp_matrices.proofs.matrix.units.Given as goal
 
 abbrev pub invariant-loop-before : goal.invariant-loop-before

@@ -11,12 +11,12 @@ loop-vector-preserved c =
     let within = subst (λ (l : List (List ℚ)). i < length l) c.as_slice-vector-items.ensures.items c.loop-vector-test.true in
     let is : item ≡ get_or c.args.vectors.now i item = c.vector-item.is ∙ ap (λ (l : List (List ℚ)). get_or l i item) c.as_slice-vector-items.ensures.items in
     let bound = c.loop-vector.invariant.bound in
-    let fits = c.nonzero.type_inv in
+    let fits = c.count_nonzero.type_inv in
     record {
       value =
-          ap (λ (n : ℕ). n + c.nonzero.result) c.loop-vector.invariant.value
+          ap (λ (n : ℕ). n + c.count_nonzero.result) c.loop-vector.invariant.value
           ∙ ap (λ (n : ℕ). sum_by (λ v. count_by (λ q. not (is_zero q)) v) (take i c.args.vectors.now) + n)
-          (c.nonzero.ensures.value ∙ ap (λ (v : List ℚ). count_by (λ q. not (is_zero q)) v) is)
+          (c.count_nonzero.ensures.value ∙ ap (λ (v : List ℚ). count_by (λ q. not (is_zero q)) v) is)
           ∙ sym (sum_by_more (λ v. count_by (λ q. not (is_zero q)) v) c.args.vectors.now i item within);
       bound = omega arith;
     }

@@ -20,7 +20,7 @@ returns-in_err-natural-clause-value c =
     ∙ sym (some_exponent text at c.place_of-at.ensures.value c.place_of-at.ensures.bound c.if-at-text.false
     ∙ ap (λ n. option_map (signed (starts_with_minus (drop (at + 1) text))) n)
     (ap (λ (l : List ℕ). natural (without_leading_sign l)) (sym (take_rest text (at + 1)))
-    ∙ ap natural (sym c.unsigned.ensures) ∙ sym c.natural.ensures ∙ c.in_err-natural.was))
+    ∙ ap natural (sym c.without_sign.ensures) ∙ sym c.natural.ensures ∙ c.in_err-natural.was))
 
 pub returns-clause-value : goal.returns-clause-value
 returns-clause-value c =
@@ -28,13 +28,13 @@ returns-clause-value c =
     let at = c.place_of-at.result in
     let n = c.in_ok-natural.field-0 in
     let is : natural (without_leading_sign (drop (at + 1) text)) ≡ Some n =
-    ap (λ (l : List ℕ). natural (without_leading_sign l)) (sym (take_rest text (at + 1))) ∙ ap natural (sym c.unsigned.ensures) ∙ sym c.natural.ensures ∙ c.in_ok-natural.was in
+    ap (λ (l : List ℕ). natural (without_leading_sign l)) (sym (take_rest text (at + 1))) ∙ ap natural (sym c.without_sign.ensures) ∙ sym c.natural.ensures ∙ c.in_ok-natural.was in
     let minus : c.is_negative.result ≡ starts_with_minus (drop (at + 1) text) = c.is_negative.ensures ∙ ap starts_with_minus (take_rest text (at + 1)) in
     let size_is : to_z w128 (of_z w128 c.from-size.result) ≡ pos n = let t = c.from-size.ensures in let fits = c.from-size.type_inv in omega (arith, ints) in
-    let value : c.signed.result ≡ signed (starts_with_minus (drop (at + 1) text)) n =
-    c.signed.ensures ∙ ap (λ (z : ℤ). if c.is_negative.result then neg_ℤ z else z) size_is ∙ signed_same c.is_negative.result n ∙ ap (λ b. signed b n) minus in
-    let fits = c.signed.type_inv in
-    let signed_is : to_z w128 (of_z w128 c.signed.result) ≡ c.signed.result = omega (arith, ints) in
+    let value : c.with_sign.result ≡ signed (starts_with_minus (drop (at + 1) text)) n =
+    c.with_sign.ensures ∙ ap (λ (z : ℤ). if c.is_negative.result then neg_ℤ z else z) size_is ∙ signed_same c.is_negative.result n ∙ ap (λ b. signed b n) minus in
+    let fits = c.with_sign.type_inv in
+    let signed_is : to_z w128 (of_z w128 c.with_sign.result) ≡ c.with_sign.result = omega (arith, ints) in
     ap Some (signed_is ∙ value)
     ∙ sym (some_exponent text at c.place_of-at.ensures.value c.place_of-at.ensures.bound c.if-at-text.false
     ∙ ap (λ o. option_map (signed (starts_with_minus (drop (at + 1) text))) o) is)

@@ -13,16 +13,16 @@ returns c =
     let digits = c.args.digits.whole.now ++ c.args.digits.decimals.now in
     let negative = c.args.negative in
     let power = c.args.power in
-    let fits = c.signed.type_inv in
+    let fits = c.with_sign.type_inv in
     let value_fits = c.value.type_inv in
     let power_is : to_z w128 (of_z w128 power) ≡ power = omega (arith, ints) in
     let value_is : to_z w128 (of_z w128 c.value.result) ≡ c.value.result = omega (arith, ints) in
-    let signed_is : to_z w128 (of_z w128 c.signed.result) ≡ c.signed.result = omega (arith, ints) in
-    let value : c.signed.result ≡ signed negative (digits_value 10 digits) =
-    c.signed.ensures ∙ ap (λ (z : ℤ). if negative then neg_ℤ z else z) (value_is ∙ c.value.ensures.value) ∙ signed_same negative (digits_value 10 digits) in
+    let signed_is : to_z w128 (of_z w128 c.with_sign.result) ≡ c.with_sign.result = omega (arith, ints) in
+    let value : c.with_sign.result ≡ signed negative (digits_value 10 digits) =
+    c.with_sign.ensures ∙ ap (λ (z : ℤ). if negative then neg_ℤ z else z) (value_is ∙ c.value.ensures.value) ∙ signed_same negative (digits_value 10 digits) in
     let low : negsuc 35 ≤ℤ power = omega (arith, ints) in
     let high : power ≤ℤ pos 36 = omega (arith, ints) in
-    c.scaled.ensures
+    c.scale_digits.ensures
     ∙ ap (λ (z : ℤ). held_number (scaled z (to_z w128 (of_z w128 power)))) (signed_is ∙ value)
     ∙ ap (λ (z : ℤ). held_number (scaled (signed negative (digits_value 10 digits)) z)) power_is
     ∙ sym (number_in negative digits power (omega arith) (omega arith) low high)

@@ -9,7 +9,7 @@ pub returns-in-Ok-true : goal.returns-in-Ok-true
 returns-in-Ok-true c =
     let come = c.loop-line.invariant in
     let takes = MatchResult-at_ok _ _ c.in-Ok-true.field-0 c.in-Ok-true.is (c.take_line.ensures (map statement_on come.done) come.has) in
-    ended_as c.args.bytes.now (c.loop-line.number + 1) c.close.result c.ended.result c.ended.ensures
+    ended_as c.args.bytes.now (c.loop-line.number + 1) c.close.result c.end_reading.result c.end_reading.ensures
     (come_end c.args.bytes.now c.loop-line.rest.now c.in-Some.next.now c.in-Some.line.now c.loop-line.number c.loop-line.draft c.take_line.new.draft c.close.result come c.in-Some.ensures.0
     (subst (TakesLine c.in-Some.line.now (map statement_on come.done) c.take_line.new.draft) c.in-Ok-true.field-0-test takes) c.close.ensures)
 
@@ -29,5 +29,5 @@ returns-in-Err c =
 
 pub returns : goal.returns
 returns c =
-    ended_as c.args.bytes.now (c.loop-line.number + 1) c.close-2.result c.ended-2.result c.ended-2.ensures
+    ended_as c.args.bytes.now (c.loop-line.number + 1) c.close-2.result c.end_reading-2.result c.end_reading-2.ensures
     (come_last c.args.bytes.now c.loop-line.rest.now c.loop-line.number c.loop-line.draft c.close-2.result c.loop-line.invariant c.in_default.ensures c.close-2.ensures)

@@ -19,4 +19,4 @@ returns c =
     (then_lines (section (codes "facets") facet_line facets)
     (then_lines (sets_lines points (sets_of points facets)) (first_line (codes "points" ∷ decimal (length points) ∷ []) c.in_ok-put_counted.ensures)
     (c.in_ok-put_sets.ensures ∙ ap (λ sets. c.put_counted.new.into ++ lines_text (sets_lines points sets)) sets_are))
-    (then_each facet_line facets (first_line (codes "facets" ∷ decimal (length facets) ∷ []) c.in_ok-put_counted-2.ensures) c.in_ok-put_facets.ensures).text).text
+    (then_each facet_line facets (first_line (codes "facets" ∷ decimal (length facets) ∷ []) c.in_ok-put_counted-2.ensures) c.in_ok-put_facet_lines.ensures).text).text

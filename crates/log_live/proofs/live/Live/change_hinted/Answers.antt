@@ -6,7 +6,7 @@ use Rattle.log_rules.specs.Events.Event.{test}
 use Rattle.log_rules.specs.declared.rule.Rule.TheVariants as rule
 use Rattle.log_rules.specs.Live.{cut_row, required_pairs, rows_in_use}
 use Rattle.log_rules.specs.Runs.{Stops}
-use Rattle.log_tests.proofs.Going.{Passed, Stopped, passed-then, stopped-after, stopped-behind, stopped-in}
+use Rattle.entry_checks.proofs.Going.{Passed, Stopped, passed-then, stopped-after, stopped-later, stopped-in}
 use Rattle.log_live.specs.Adding.{AreAtRow, AreGenerators, all_value_events, all_values}
 use Rattle.log_live.specs.Live.{live_of}
 use Rattle.log_live.specs.declared.generator.Generator.{Generator}
@@ -106,7 +106,7 @@ returns-in_err-test_hints c file s cut h =
     (hinted_added_events file.objs s cut c.args.pairs.now c.args.hints.now) 0
     c.in_err-test_hints.field-0.0 = subst
     (λ (es : List Event). Stops is_held es 0 c.in_err-test_hints.field-0.0) all
-    (stopped-behind came (stopped-in P here)).at in
+    (stopped-later came (stopped-in P here)).at in
     search (stopped, rules)
 
 pub new_generators-requires-clause-pairs : goal.new_generators-requires-clause-pairs
@@ -184,7 +184,7 @@ returns-in_err-made c file s cut h =
     (hinted_added_events file.objs s cut c.args.pairs.now c.args.hints.now) 0
     c.in_err-made.field-0.0 = subst
     (λ (es : List Event). Stops is_held es 0 c.in_err-made.field-0.0) all
-    (stopped-behind came (stopped-behind tested here)).at in
+    (stopped-later came (stopped-later tested here)).at in
     search (stopped, rules)
 
 pub returns-in_err-next : goal.returns-in_err-next

@@ -8,7 +8,7 @@ use Rattle.log_rules.specs.Order.{has}
 use Rattle.log_rules.specs.Order as order
 use Rattle.log_rules.specs.declared.rule.Rule.TheVariants as rule
 use Rattle.log_rules.proofs.Entries.{order_of}
-use Rattle.log_tests.proofs.Going.{test-passed}
+use Rattle.entry_checks.proofs.Going.{test-passed}
 use Rattle.log_solved.proofs.Adding.{is_usable, usable, usable_told, addition_of, hinted_added}
 use Rattle.log_solved.proofs.Entered.{changed}
 use Rattle.log_solved.proofs.Given.{stops_as}

@@ -1,4 +1,4 @@
-use Rattle.log_upgrade.proofs.Steps.{formed_next, few_behind}
+use Rattle.log_upgrade.proofs.Steps.{formed_next, few_after}
 use Rattle.log_upgrade.proofs.walk.Upgrader.take.Goals as goal
 
 pub take-requires-clause-formed : goal.take-requires-clause-formed
@@ -13,5 +13,5 @@ pub returns-clause-stands : goal.returns-clause-stands
 returns-clause-stands c all before vectors after n = record {
   checked = c.in_ok-take.ensures.ok before n.checked;
   standings = c.in_ok-upgraded.ensures.standings c.args.problem.now all before vectors after n;
-  few = few_behind all before vectors c.args.entry.now n.few;
+  few = few_after all before vectors c.args.entry.now n.few;
 }

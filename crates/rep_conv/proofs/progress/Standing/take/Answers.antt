@@ -4,15 +4,15 @@ use Rattle.log_rules.specs.Events.{Event}
 use Rattle.log_rules.specs.Events.Event.{test}
 use Rattle.log_rules.specs.Runs.{steps}
 use Rattle.log_rules.specs.declared.rule.Rule.TheVariants as rule
-use Rattle.log_tests.proofs.Going.{Passed, Stopped, Ran, stopped-in, ran-behind, test-passed, whole-run}
+use Rattle.entry_checks.proofs.Going.{Passed, Stopped, Ran, stopped-in, ran-after, test-passed, whole-run}
 use Rattle.rep_conv.specs.Events.{events, kind_events}
 use Rattle.rep_conv.specs.Live.{state, after}
 use Rattle.rep_conv.specs.Meets.{in_order, is_start}
-use Rattle.rep_conv.specs.Progress.{Keeps, StandsBehind}
+use Rattle.rep_conv.specs.Progress.{Keeps, StandsAfter}
 use Rattle.rep_conv.specs.Rows.{text_rows, has_rows}
 use Rattle.rep_text.specs.declared.rep.Rep.{Rep}
 use Rattle.rep_text.specs.declared.conv.ConvEntry.{ConvEntry}
-use Rattle.rep_conv.proofs.Behind.{one_behind, order_is}
+use Rattle.rep_conv.proofs.After.{one_after, order_is}
 use Rattle.rep_conv.proofs.Pieces.{came_as, gives_more, stopped_as}
 use Rattle.rep_conv.proofs.progress.Standing.take.Goals as goal
 
@@ -56,8 +56,8 @@ returns c before h n =
     } in
     gives_more (events c.args.rep.now before c.args.entry.now) (steps (events c.args.rep.now before c.args.entry.now))
     (Keeps c.args.rep.now (after c.args.rep.now (state c.args.rep.now before) c.args.entry.now) c.take_kind.new.self × (c.take_kind.new.self.started ≡ (c.args.self.now.started || is_start c.args.entry.now)))
-    (StandsBehind c.args.rep.now (before ++ c.args.entry.now ∷ []) c.take_kind.new.self) c.take_kind.result
+    (StandsAfter c.args.rep.now (before ++ c.args.entry.now ∷ []) c.take_kind.new.self) c.take_kind.result
     (whole-run (events c.args.rep.now before c.args.entry.now) (steps (kind_events c.args.rep.now (state c.args.rep.now before) c.args.entry.now))
     (λ _. Keeps c.args.rep.now (after c.args.rep.now (state c.args.rep.now before) c.args.entry.now) c.take_kind.new.self × (c.take_kind.new.self.started ≡ (c.args.self.now.started || is_start c.args.entry.now)))
-    c.take_kind.result (ran-behind came last).runs)
-    (λ none v. one_behind c.args.rep.now before c.args.entry.now c.args.self.now c.take_kind.new.self h none v.0 v.1)
+    c.take_kind.result (ran-after came last).runs)
+    (λ none v. one_after c.args.rep.now before c.args.entry.now c.args.self.now c.take_kind.new.self h none v.0 v.1)

@@ -12,12 +12,12 @@ use Rattle.log_rules.specs.Runs.{steps}
 use Rattle.log_rules.specs.declared.rule.Rule.TheVariants as rule
 use Rattle.log_live.specs.Live.{live_of}
 use Rattle.log_live.specs.declared.generator.Generator.{Generator}
-use Rattle.log_tests.proofs.Going.{Passed, Stopped, passed-then, stopped-behind, stopped-in, test-passed}
+use Rattle.entry_checks.proofs.Going.{Passed, Stopped, passed-then, stopped-later, stopped-in, test-passed}
 use Rattle.rep_conv.specs.Adding.{AreAtRow, IsChange}
 use Rattle.rep_conv.specs.Events.{added_events, add_events}
 use Rattle.rep_conv.specs.Live.{State, rows_in_use}
 use Rattle.rep_conv.specs.Rows.{text_rows, row_at}
-use Rattle.rep_conv.proofs.Behind.{added, at_row}
+use Rattle.rep_conv.proofs.After.{added, at_row}
 use Rattle.rep_conv.proofs.EntrySteps.{row_read}
 use Rattle.rep_conv.proofs.Pieces.{came_as, stopped_as}
 use Rattle.rep_text.specs.declared.rep.Rep.{Rep}
@@ -86,7 +86,7 @@ returns-in_err-change c s h begun =
     ap₂ (λ (l : List Numbered) (r : List ℚ). added_events (rows_in_use c.args.rep.now s) l r c.args.pairs.now) (ap live_of c.as_slice.ensures.value ∙ h.keeps.list.live) read in
     let here : Stopped (added_events (rows_in_use c.args.rep.now s) s.list.live (row_at c.args.rep.now c.args.row) c.args.pairs.now) 0 c.in_err-change.field-0.0 =
     stopped_as _ _ _ _ same (c.in_err-change.ensures c.args.rep.now.width (rows_in_use c.args.rep.now s) at) in
-    let stopped = (stopped-behind came here).at in
+    let stopped = (stopped-later came here).at in
     search (stopped, rules)
 
 pub grow-requires-clause-values : goal.grow-requires-clause-values

@@ -14,7 +14,7 @@ use Rattle.rep_conv.specs.declared.progress.Standing.{Standing}
 use Rattle.rep_text.specs.declared.rep.Rep.{Rep}
 use Rattle.rep_text.specs.declared.conv.ConvEntry.{ConvEntry}
 use Rattle.rep_text.specs.declared.conv.ConvEntry.TheVariants.{Conv, Line, Start, Add, End}
-use Rattle.rep_conv.proofs.Behind.{or_false, or_true}
+use Rattle.rep_conv.proofs.After.{or_false, or_true}
 use Rattle.rep_conv.proofs.Pieces.{gives_more}
 use Rattle.rep_conv.proofs.progress.Standing.take_kind.Goals as goal
 

@@ -2,7 +2,7 @@ use Rattle.std.proofs.Common.{◌≡◌, ℕ, ◌+◌, ◌-◌, ◌≤◌, List,
 use Rattle.std.proofs.lemmas.List.{drop-drop, drop-take, length-take}
 use Rattle.src_sink.proofs.lines.Piece.advance.Goals as goal
 
--- bytes behind a front of those from one place to another
+-- bytes after a front of those from one place to another
 later : (bytes view : List ℕ) (start end count : ℕ) → take (end - start) (drop start bytes) ≡ view → count ≤ length view → take (end - (start + count)) (drop (start + count) bytes) ≡ drop count view
 later bytes view start end count is fits =
     let size : count ≤ end - start = omega (arith, ap length is, length-take (end - start) (drop start bytes)) in

@@ -2,11 +2,11 @@ use Rattle.std.proofs.Common.{sym, ap, ap₂, arith, refl, ◌∙◌, ◌≡◌,
 use Rattle.std.specs.List.{flat_map}
 use Rattle.std.proofs.lemmas.List.{append_assoc}
 use Rattle.vlp_matrices.proofs.Lists.{item-as}
-use Rattle.vlp_matrices.proofs.Matrices.{flat_map-more}
+use Rattle.vlp_matrices.proofs.Cells.{flat_map-more}
 use Rattle.vlp_matrices.proofs.Lists.{zip-at, length-zip}
 use Rattle.std.proofs.lemmas.List.{take_all}
 use Rattle.std.proofs.Common.{take}
-use Rattle.vlp_matrices.specs.Sheets.{side_spots, side_values}
+use Rattle.vlp_matrices.specs.Matrices.{side_spots, side_values}
 use Rattle.vlp_matrices.proofs.matrix.Sides.push_bounds.Goals as goal
 
 pub loop-i-preserved : goal.loop-i-preserved

@@ -1,6 +1,6 @@
 use Rattle.std.proofs.Common.{◌≡◌, ◌++◌, take}
 use Rattle.std.specs.List.{flat_map, zip}
-use Rattle.vlp_matrices.specs.Sheets.{side_spots, side_values}
+use Rattle.vlp_matrices.specs.Matrices.{side_spots, side_values}
 use Rattle.vlp_matrices.proofs.matrix.Sides.push_bounds.Given as goal
 
 abbrev pub invariant-loop-i : goal.invariant-loop-i

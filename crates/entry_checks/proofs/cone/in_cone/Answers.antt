@@ -1,0 +1,10 @@
+use Rattle.std.proofs.Common.{sym, subst}
+use Rattle.std.specs.Prelude.{⊤}
+use Rattle.frac128.specs.Held.{is_held}
+use Rattle.log_rules.specs.Events.{in_cone}
+use Rattle.log_rules.specs.Runs.{Runs}
+use Rattle.vlp_reader.specs.declared.problem.Cone.{Cone}
+use Rattle.entry_checks.proofs.cone.in_cone.Goals as goal
+
+pub returns-in-Orthant : goal.returns-in-Orthant
+returns-in-Orthant c = subst (λ (k : Cone). Runs {X = Unit {0}} is_held (in_cone k c.args.e.now c.args.m.now) c.args.counter.now.taken c.args.counter.now.taken (λ _. ⊤) c.in_orthant.result) (sym c.in-Orthant.is) (c.in_orthant.ensures c.args.counter.now.taken)

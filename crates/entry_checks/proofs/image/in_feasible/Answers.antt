@@ -1,0 +1,44 @@
+use Rattle.std.proofs.Common.{rules, sym, subst, ◌∙◌, ◌+◌, ◌<◌, List, [], ◌∷◌, ◌++◌, map}
+use Rattle.std.specs.Prelude.{⊤}
+use Rattle.frac128.specs.Held.{is_held}
+use Rattle.log_rules.specs.Events.{Event, places_within}
+use Rattle.log_rules.specs.Runs.{Runs, Stops, steps}
+use Rattle.upper_image.specs.Spots.{dense}
+use Rattle.upper_image.proofs.Widths.{length-dense}
+use Rattle.entry_checks.specs.Parts.{sides_events}
+use Rattle.entry_checks.proofs.Going.{Passed, Stopped, stopped-in, stopped-later, Ran, ran-after, spots-within, room-after}
+use Rattle.entry_checks.proofs.MatrixEvents.{feasible-matrices}
+use Rattle.entry_checks.proofs.MatrixEvents.{vectors-as, sides-as}
+use Rattle.entry_checks.proofs.image.in_feasible.Goals as goal
+
+pub returns-in_err-places_within : goal.returns-in_err-places_within
+returns-in_err-places_within c =
+    let here : Stopped (places_within c.args.problem.now.cols c.args.x.now ∷ []) c.args.counter.now.taken c.in_err-places_within.field-0.0 = record { at = c.in_err-places_within.ensures c.args.counter.now.taken } in
+    let stopped = subst (λ (es : List Event). Stops is_held es c.args.counter.now.taken c.in_err-places_within.field-0.0) (sym (feasible-matrices c.args.problem.now c.args.matrices.now c.args.x.now c.requires.matrices)) ((stopped-in (([]) ++ (sides_events (map (dense c.args.problem.now.cols) c.args.matrices.now.sides.rows) c.args.matrices.now.bounds (dense c.args.problem.now.cols c.args.x.now))) here).at) in
+    search (stopped, rules)
+
+pub spread-requires : goal.spread-requires
+spread-requires c = record { sparse = c.requires.sparse; places = spots-within c.args.counter.now.taken c.args.problem.now.cols c.args.x.now (c.in_ok-places_within.ensures c.args.counter.now.taken).0 }
+
+pub returns-in_err-values : goal.returns-in_err-values
+returns-in_err-values c =
+    let came0 : Passed (places_within c.args.problem.now.cols c.args.x.now ∷ []) c.args.counter.now.taken c.args.counter.now.taken = record { none = (c.in_ok-places_within.ensures c.args.counter.now.taken).0; count = (c.in_ok-places_within.ensures c.args.counter.now.taken).1 } in
+    let here : Stopped ([]) c.args.counter.now.taken c.in_err-values.field-0.0 = record { at = c.in_err-values.ensures c.args.counter.now.taken } in
+    let stopped = subst (λ (es : List Event). Stops is_held es c.args.counter.now.taken c.in_err-values.field-0.0) (sym (feasible-matrices c.args.problem.now c.args.matrices.now c.args.x.now c.requires.matrices)) ((stopped-later came0 (stopped-in (sides_events (map (dense c.args.problem.now.cols) c.args.matrices.now.sides.rows) c.args.matrices.now.bounds (dense c.args.problem.now.cols c.args.x.now)) here)).at) in
+    search (stopped, rules)
+
+pub meets_sides-requires-clause-vectors : goal.meets_sides-requires-clause-vectors
+meets_sides-requires-clause-vectors c = vectors-as c.args.problem.now.cols c.as_slice-2.result.now (dense c.args.problem.now.cols c.args.x.now) c.as_slice-rows.result.now c.args.matrices.now.sides.rows (c.as_slice-2.ensures.value ∙ (c.in_ok-values.ensures c.args.counter.now.taken).2) (length-dense c.args.problem.now.cols c.args.x.now) c.as_slice-rows.ensures.items c.requires.matrices.side_rows.sparse
+
+pub meets_sides-requires-clause-room : goal.meets_sides-requires-clause-room
+meets_sides-requires-clause-room c =
+    let came0 : Passed (places_within c.args.problem.now.cols c.args.x.now ∷ []) c.args.counter.now.taken c.args.counter.now.taken = record { none = (c.in_ok-places_within.ensures c.args.counter.now.taken).0; count = (c.in_ok-places_within.ensures c.args.counter.now.taken).1 } in
+    let came1 : Passed ([]) c.args.counter.now.taken c.args.counter.now.taken = record { none = (c.in_ok-values.ensures c.args.counter.now.taken).0; count = (c.in_ok-values.ensures c.args.counter.now.taken).1 } in
+    subst (λ (es : List Event). c.args.counter.now.taken + steps es < 9223372036854775808) (sym (sides-as c.args.problem.now.cols c.as_slice-2.result.now (dense c.args.problem.now.cols c.args.x.now) c.as_slice-rows.result.now c.args.matrices.now.sides.rows c.as_slice.result.now c.args.matrices.now.bounds (c.as_slice-2.ensures.value ∙ (c.in_ok-values.ensures c.args.counter.now.taken).2) (length-dense c.args.problem.now.cols c.args.x.now) c.as_slice-rows.ensures.items c.as_slice.ensures.items)) ((room-after (sides_events (map (dense c.args.problem.now.cols) c.args.matrices.now.sides.rows) c.args.matrices.now.bounds (dense c.args.problem.now.cols c.args.x.now)) _ came1 (room-after (([]) ++ (sides_events (map (dense c.args.problem.now.cols) c.args.matrices.now.sides.rows) c.args.matrices.now.bounds (dense c.args.problem.now.cols c.args.x.now))) _ came0 (subst (λ (es : List Event). c.args.counter.now.taken + steps es < 9223372036854775808) (feasible-matrices c.args.problem.now c.args.matrices.now c.args.x.now c.requires.matrices) c.requires.room))))
+
+pub returns : goal.returns
+returns c =
+    let came0 : Passed (places_within c.args.problem.now.cols c.args.x.now ∷ []) c.args.counter.now.taken c.args.counter.now.taken = record { none = (c.in_ok-places_within.ensures c.args.counter.now.taken).0; count = (c.in_ok-places_within.ensures c.args.counter.now.taken).1 } in
+    let came1 : Passed ([]) c.args.counter.now.taken c.args.counter.now.taken = record { none = (c.in_ok-values.ensures c.args.counter.now.taken).0; count = (c.in_ok-values.ensures c.args.counter.now.taken).1 } in
+    let last : Ran {X = Unit {0}} (sides_events (map (dense c.args.problem.now.cols) c.args.matrices.now.sides.rows) c.args.matrices.now.bounds (dense c.args.problem.now.cols c.args.x.now)) c.args.counter.now.taken c.meets_sides.new.counter.taken (λ _. ⊤) c.meets_sides.result = record { runs = subst (λ (es : List Event). Runs {X = Unit {0}} is_held es c.args.counter.now.taken c.meets_sides.new.counter.taken (λ _. ⊤) c.meets_sides.result) (sides-as c.args.problem.now.cols c.as_slice-2.result.now (dense c.args.problem.now.cols c.args.x.now) c.as_slice-rows.result.now c.args.matrices.now.sides.rows c.as_slice.result.now c.args.matrices.now.bounds (c.as_slice-2.ensures.value ∙ (c.in_ok-values.ensures c.args.counter.now.taken).2) (length-dense c.args.problem.now.cols c.args.x.now) c.as_slice-rows.ensures.items c.as_slice.ensures.items) c.meets_sides.ensures } in
+    subst (λ (es : List Event). Runs {X = Unit {0}} is_held es c.args.counter.now.taken c.meets_sides.new.counter.taken (λ _. ⊤) c.meets_sides.result) (sym (feasible-matrices c.args.problem.now c.args.matrices.now c.args.x.now c.requires.matrices)) ((ran-after came0 (ran-after came1 last)).runs)

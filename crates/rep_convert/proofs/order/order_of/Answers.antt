@@ -1,0 +1,11 @@
+use Rattle.std.proofs.Common.{sym, subst}
+use Rattle.rep_convert.specs.Order.{IsOrder}
+use Rattle.rep_convert.proofs.Ordered.{order_permuted}
+use Rattle.rep_convert.proofs.order.order_of.Goals as goal
+
+pub returns : goal.returns
+returns c =
+    let is = IsOrder c.args.count c.args.used.now in
+    subst is (sym c.from_vec.ensures)
+    (order_permuted c.args.count c.args.used.now c.into_vec-order.result.items c.sort_by_cached_key.new.self.items c.in_ok-sort_by_cached_key.ensures.permutation
+    (subst is (sym c.into_vec-order.ensures.items) c.in_ok-order.ensures))

@@ -1,0 +1,120 @@
+#!/usr/bin/env python3
+"""What `rt WORDS` proves and builds, in an order that keeps all processors at work.
+
+    rt_lanes.py WORDS
+
+`rt all check --jobs N` hands N crates at a time to its workers, lowest first, and a worker that has a crate waits until those
+below it are built, while others that could be proved wait for a worker. Here a crate is begun once those below it are built, and
+of several that one first on which the longest chain of others stands, by their lines. The sources of a crate are summed up once:
+some kits sum them up once for each path through the lists of libraries, and nothing writes to the launcher's copy of the sources
+while it builds. The quick pass over all sources that comes before the proofs, and proves nothing, is left out. What is proved,
+and how, is the kit's. Where `rt` is no such program, it runs itself.
+"""
+import functools
+import importlib.machinery
+import importlib.util
+import os
+import shutil
+import sys
+import threading
+from concurrent.futures import Future, ThreadPoolExecutor
+
+
+def kept(method, copied):
+    """The method of a crate, asked once for each crate's folder."""
+    answers = {}
+
+    def answer(crate):
+        if crate.folder not in answers:
+            answers[crate.folder] = method(crate)
+        return copied(answers[crate.folder])
+
+    return answer
+
+
+@functools.lru_cache(maxsize=None)
+def lines_of(folder):
+    """How many lines the code and the proofs of a crate have."""
+    count = 0
+    for part in ("src", "specs", "proofs"):
+        for place, _, files in os.walk(os.path.join(folder, part)):
+            for name in files:
+                with open(os.path.join(place, name), "rb") as file:
+                    count += file.read().count(b"\n")
+    return count
+
+
+class Lanes(ThreadPoolExecutor):
+    """Workers for calls on crates, which are handed in lowest first: a call is begun once those on the crates below have ended."""
+
+    def __init__(self, count):
+        super().__init__(count)
+        self.idle = count
+        self.lock = threading.Lock()
+        self.waiting = []
+        self.ended = set()
+
+    def submit(self, call, *given):
+        if not given or not hasattr(given[0], "below"):
+            return super().submit(call, *given)
+        task = call, given[0], Future()
+        with self.lock:
+            self.waiting.append(task)
+            self.begin()
+        return task[-1]
+
+    def chains(self):
+        """For each crate that waits the lines of the longest chain that begins with it, of crates of which each stands on the last."""
+        chains = {}
+        for _, crate, _ in reversed(self.waiting):
+            above = (chains[it] for it in chains if crate in it.below())
+            chains[crate] = lines_of(crate.folder) + max(above, default=0)
+        return chains
+
+    def begin(self):
+        """Begins as many calls as there are idle workers."""
+        is_ready = lambda task: self.ended.issuperset(task[1].below())
+        ready, chains = list(filter(is_ready, self.waiting)), self.chains()
+        ready.sort(key=lambda task: -chains[task[1]])
+        for task in ready[: self.idle]:
+            self.waiting.remove(task)
+            self.idle -= 1
+            super().submit(self.work, *task)
+
+    def work(self, call, crate, future):
+        try:
+            future.set_result(call(crate))
+        except BaseException as fault:
+            future.set_exception(fault)
+        with self.lock:
+            self.ended.add(crate)
+            self.idle += 1
+            self.begin()
+
+
+def loaded(path):
+    """The kit's `rt` as a module that works in this order."""
+    loader = importlib.machinery.SourceFileLoader("rt", path)
+    module = importlib.util.module_from_spec(importlib.util.spec_from_loader("rt", loader))
+    sys.modules["rt"] = module
+    loader.exec_module(module)
+    crate = module.rtlib.Crate
+    crate.stamp = kept(crate.stamp, str)
+    crate.below = kept(crate.below, list)
+    crate.front_end = lambda _: 0
+    module.rtlib.ThreadPoolExecutor = Lanes
+    return module
+
+
+def main():
+    path = os.path.realpath(shutil.which("rt") or sys.exit("rt_lanes.py: there is no rt on the path"))
+    sys.dont_write_bytecode = True
+    try:
+        run = loaded(path).main
+    except (AttributeError, ImportError, OSError, SyntaxError, ValueError):
+        os.execv(path, ["rt", *sys.argv[1:]])
+    sys.exit(run(sys.argv[1:]))
+
+
+if __name__ == "__main__":
+    main()
