@@ -16,7 +16,7 @@ use deriv_log::Entries;
 use double_descr::Dd;
 use exact_field::Field;
 use lin_rows::cells::is_zero;
-use outer_approx::{full_vector, push_preimage, end_solved};
+use outer_approx::{end_solved, full_vector, push_preimage};
 use overflows::SolveFault;
 use recession::{Asked, Kept, ask};
 

@@ -61,8 +61,8 @@ fn take_all<F: Field>(
     ensures trail { IsOpenTrail task trail.new }
     ensures left { IfErr result (Overflows F.holds (behind task trail.new) []) }
 {
-    for cut in cuts {
-        take_cut(alloc, places, trail, dd, cut)?;
+    for i in 0..cuts.len() {
+        take_cut(alloc, places, trail, dd, &cuts[i])?;
     }
     Ok(())
 }

@@ -18,7 +18,7 @@ use deriv_log::{Entries, Entry};
 use exact_field::Field;
 use incid_sets::Marks;
 use lp_form::{Cut, Data};
-use outer_approx::{Line, open_trail, places_of, end_solved, start_outer};
+use outer_approx::{Line, end_solved, open_trail, places_of, start_outer};
 use overflows::SolveFault;
 use recession::{First, Kept, contradiction_log, everything_log, first_cuts};
 use src_sink::Items;

@@ -32,12 +32,16 @@ use frac128::{Frac, Sparse, Spot};
 use lin_rows::Indep;
 use lin_rows::cells::is_positive;
 use lp_form::{Data, difference, is_zero_vector, negative};
-use overflows::{SolveFault, quotients_of, fractions, spots_of, sum_of_products, term_fault};
+use overflows::{SolveFault, fractions, quotients_of, spots_of, sum_of_products, term_fault};
 use src_sink::{Items, NoMemory};
 use std::alloc::Global;
 
 /// That the vectors do not combine to 0.
-fn require_solid<F: Field>(alloc: Global, form: &Data<F>, vectors: &[Items<F>]) -> Result<(), ConeEnd>
+fn require_solid<F: Field>(
+    alloc: Global,
+    form: &Data<F>,
+    vectors: &[Items<F>],
+) -> Result<(), ConeEnd>
     requires { form.now.cone ≡ cone.Dual vectors.now }
     ensures ok { OnOk result (HasInterior (length form.now.p) (cone_of F.value form.now.cone)) }
     ensures end { (file : File) → IsDataOf F.value file form.now

@@ -27,7 +27,7 @@ use exact_simplex::LpEnd;
 use lin_rows::Indep;
 use lin_rows::cells::is_positive;
 use lp_form::{Data, column};
-use overflows::{SolveFault, quotients_of, fractions, sum_of_products, term_fault};
+use overflows::{SolveFault, fractions, quotients_of, sum_of_products, term_fault};
 use src_sink::{Items, NoMemory};
 use std::alloc::Global;
 

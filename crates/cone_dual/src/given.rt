@@ -17,7 +17,7 @@ use exact_field::Field;
 use frac128::Sparse;
 use lin_rows::cells::is_positive;
 use lp_form::Data;
-use overflows::{quotients_of, fractions};
+use overflows::{fractions, quotients_of};
 use src_sink::{Items, NoMemory};
 use std::alloc::Global;
 

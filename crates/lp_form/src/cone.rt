@@ -275,7 +275,11 @@ pub fn interior_system<F: Field>(
 }
 
 /// The program of a line in the cone or its dual.
-pub fn pointed_system<F: Field>(alloc: Global, q: u32, cone: &ConeOf<F>) -> Result<System<F>, NoMemory>
+pub fn pointed_system<F: Field>(
+    alloc: Global,
+    q: u32,
+    cone: &ConeOf<F>,
+) -> Result<System<F>, NoMemory>
     requires { IsTrue (vectors_fit q cone.now) }
     ensures { IfOk result (IsWritten F.value (pointed_system q (cone_of F.value cone.now))) }
 {

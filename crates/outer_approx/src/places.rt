@@ -92,7 +92,11 @@ pub fn cut_row<F: Field>(alloc: Global, places: &[bool], cut: &Cut<F>) -> Result
 }
 
 /// A generator with zeros at the places of lines.
-pub fn full_vector<F: Field>(alloc: Global, places: &[bool], short: &[F]) -> Result<Items<F>, NoMemory>
+pub fn full_vector<F: Field>(
+    alloc: Global,
+    places: &[bool],
+    short: &[F],
+) -> Result<Items<F>, NoMemory>
     ensures { IfOk result
         (λ full. map F.value full ≡ with_zeros places.now (map F.value short.now)) }
 {
