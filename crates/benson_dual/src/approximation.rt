@@ -16,7 +16,7 @@ use deriv_log::Entries;
 use double_descr::Dd;
 use exact_field::Field;
 use lin_rows::cells::is_zero;
-use outer_approx::{filled, push_preimage, solved};
+use outer_approx::{end_solved, full_vector, push_preimage};
 use overflows::SolveFault;
 use recession::{Asked, Kept, ask};
 
@@ -59,7 +59,7 @@ impl<F: Field> Approximation<F> {
         ensures trail { IsOpenTrail task self.new.trail }
         ensures left { IfErr result (Overflows F.holds (behind task self.new.trail) []) }
     {
-        let full = filled(image.alloc, image.places.as_slice(), self.dd.generator(g))?;
+        let full = full_vector(image.alloc, image.places.as_slice(), self.dd.generator(g))?;
         let full = full.as_slice();
         let t = is_point(full);
         let v = &full[..image.c.len()];
@@ -104,7 +104,7 @@ impl<F: Field> Approximation<F> {
         ensures left { IfErr result (Overflows F.holds (behind task self.new.trail) []) }
     {
         self.reach_all(image, kept)?;
-        solved(image.alloc, &mut self.trail, &self.dd)?;
+        end_solved(image.alloc, &mut self.trail, &self.dd)?;
         Ok(())
     }
 

@@ -42,7 +42,7 @@ fn small_count(length: usize) -> Result<u32, NoMemory>
 
 /// The log of an image over these facets, in the first of some orders in which no operation
 /// overflows.
-fn described_by<F: Field>(
+fn image_log_by<F: Field>(
     image: &Image<'_, F>,
     facets: &AllFacets<F>,
     kept: &mut Kept<F>,
@@ -62,7 +62,7 @@ fn described_by<F: Field>(
 }
 
 /// The log of an image over its facets.
-fn described<F: Field>(image: &Image<'_, F>, kept: &mut Kept<F>) -> Result<Entries, SolveFault>
+fn image_log<F: Field>(image: &Image<'_, F>, kept: &mut Kept<F>) -> Result<Entries, SolveFault>
     ghost task: { Task }
     requires image { IsImage F.value F.holds task image.now }
     requires pointed { IsPointed task.file }
@@ -72,7 +72,7 @@ fn described<F: Field>(image: &Image<'_, F>, kept: &mut Kept<F>) -> Result<Entri
 {
     let lines = image.lines.len() as u32;
     let facets = all_facets(image.alloc, image.form, image.c, image.x.as_slice(), lines)?;
-    described_by(image, &facets, kept)
+    image_log_by(image, &facets, kept)
 }
 
 /// The log of an image that is neither empty nor everything, from its lines on. x is a feasible
@@ -106,7 +106,7 @@ fn facet_log<F: Field>(
         lines,
         places,
     };
-    described(&image, kept)
+    image_log(&image, kept)
 }
 
 /// The log as `dual` says, with what is kept of the last of Benson's programs.

@@ -18,7 +18,7 @@ use deriv_log::{Entries, Entry};
 use double_descr::Dd;
 use exact_field::Field;
 use lp_form::{Cut, Data};
-use outer_approx::{Line, begun, started, take as take_cut};
+use outer_approx::{Line, open_trail, start_outer, take as take_cut};
 use overflows::SolveFault;
 use src_sink::{Items, NoMemory};
 use std::alloc::Global;
@@ -91,7 +91,7 @@ impl<'a, F: Field> Image<'a, F> {
         ensures left { IfErr result (Overflows F.holds (behind task trail.new) []) }
     {
         let places = self.places.as_slice();
-        let mut dd = started(self.alloc, places, trail, first)?;
+        let mut dd = start_outer(self.alloc, places, trail, first)?;
         take_all(self.alloc, places, trail, &mut dd, others)?;
         Ok(dd)
     }
@@ -113,7 +113,7 @@ impl<'a, F: Field> Image<'a, F> {
             OnLicence fault (Licensed F.holds task.file task.c)) }
     {
         let opening = self.opening.copy(self.alloc)?;
-        let mut trail = begun(self.alloc, opening, self.x, self.lines, first)?;
+        let mut trail = open_trail(self.alloc, opening, self.x, self.lines, first)?;
         match self.bring(&mut trail, first, others) {
             Ok(dd) => Ok(Approximation { trail, dd }),
             Err(fault) => Err(fault.behind(trail)),

@@ -18,7 +18,7 @@ use deriv_log::{Entries, Entry};
 use exact_field::Field;
 use incid_sets::Marks;
 use lp_form::{Cut, Data};
-use outer_approx::{Line, begun, places_of, solved, started};
+use outer_approx::{Line, end_solved, open_trail, places_of, start_outer};
 use overflows::SolveFault;
 use recession::{First, Kept, contradiction_log, everything_log, first_cuts};
 use src_sink::Items;
@@ -36,12 +36,12 @@ fn describe<F: Field>(search: &mut Search<'_, F>) -> Result<(), SolveFault>
 {
     search.directions()?;
     search.approximate(Scope::Both)?;
-    solved(search.alloc, &mut search.trail, &search.dd)?;
+    end_solved(search.alloc, &mut search.trail, &search.dd)?;
     Ok(())
 }
 
 /// The log of an image, from the first state of its search on.
-fn searched<F: Field>(search: Search<'_, F>) -> Result<Entries, SolveFault>
+fn search_log<F: Field>(search: Search<'_, F>) -> Result<Entries, SolveFault>
     ghost task: { Task }
     requires { IsSearching F.value F.holds task search }
     ensures ok { IfOk result (IsEnded task) }
@@ -57,7 +57,7 @@ fn searched<F: Field>(search: Search<'_, F>) -> Result<Entries, SolveFault>
 }
 
 /// The log of an image, from its lines and first cuts on. x is a feasible point.
-fn described<F: Field>(
+fn image_log<F: Field>(
     alloc: Global,
     form: &Data<F>,
     c: &[F],
@@ -75,14 +75,14 @@ fn described<F: Field>(
     ensures ok { IfOk result (IsEnded task) }
     ensures left { IfErr result (λ fault. OnLicence fault (Licensed F.holds task.file task.c)) }
 {
-    let mut trail = begun(alloc, opening, x, lines, cuts)?;
+    let mut trail = open_trail(alloc, opening, x, lines, cuts)?;
     let places = places_of(alloc, form.p.len() as u32, lines)?;
-    match started(alloc, places.as_slice(), &mut trail, cuts) {
+    match start_outer(alloc, places.as_slice(), &mut trail, cuts) {
         Err(fault) => Err(fault.behind(trail)),
         Ok(dd) => {
             let reached = Marks::new(alloc, 0)?;
             let kept = replace(kept, Kept::new(alloc));
-            searched(Search {
+            search_log(Search {
                 alloc,
                 form,
                 c,
@@ -122,7 +122,7 @@ fn primal_with<F: Field>(
         First::Cuts { x, lines, cuts } => {
             let lines = lines.as_slice();
             let cuts = cuts.as_slice();
-            described(alloc, form, c, weights, entry, &x, lines, cuts, kept)
+            image_log(alloc, form, c, weights, entry, &x, lines, cuts, kept)
         }
     }
 }

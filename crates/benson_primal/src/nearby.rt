@@ -37,7 +37,7 @@ fn is_long<F: Field>(x: F) -> bool {
 }
 
 /// A short number near `x`, if one is found. No clause speaks of how near it is.
-fn rounded<F: Field>(x: F) -> Option<F> {
+fn round<F: Field>(x: F) -> Option<F> {
     let (num, den) = match x.num().checked_mul(PARTS) {
         Some(scaled) => (scaled, x.den()),
         None => ((x.num() / CUT_OFF).checked_mul(PARTS)?, x.den() / CUT_OFF),
@@ -55,7 +55,7 @@ pub(crate) fn vector_nearby<F: Field>(alloc: Global, v: &[F]) -> Result<Option<I
     }
     let mut near = Items::new(alloc);
     for x in v {
-        let Some(short) = rounded(*x) else {
+        let Some(short) = round(*x) else {
             return Ok(None);
         };
         near.push(short)?;

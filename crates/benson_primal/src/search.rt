@@ -16,7 +16,7 @@ use double_descr::Dd;
 use exact_field::Field;
 use incid_sets::Marks;
 use lp_form::{Cut, Data};
-use outer_approx::{filled, push_preimage, take, try_take};
+use outer_approx::{full_vector, push_preimage, take, try_take};
 use overflows::SolveFault;
 use recession::{Asked, Kept, ask};
 use src_sink::{Items, NoMemory};
@@ -120,7 +120,7 @@ impl<'a, F: Field> Search<'a, F> {
             Contains self.now.dd.list.live (record { number = g; vector = v }) →
             map F.value full ≡ with_zeros self.now.places v) }
     {
-        filled(self.alloc, self.places.as_slice(), self.dd.generator(g))
+        full_vector(self.alloc, self.places.as_slice(), self.dd.generator(g))
     }
 
     /// Asks at the vector of the live generator `g`, which has no pre-image yet: a cut that it

@@ -106,7 +106,7 @@ fn add_all<F: Field>(
 /// The double description of the pointed cone where all rows of a family are at least 0: it begins
 /// with as many independent rows as they have entries, the first that an elimination finds, and
 /// adds the others in their order. After an overflow the licence has no trail.
-pub fn described_rows<F: Field>(
+pub fn describe_rows<F: Field>(
     alloc: Global,
     family: Family,
     rows: &Rows<F>,

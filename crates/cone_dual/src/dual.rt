@@ -11,7 +11,7 @@ ghost use Rattle.licence.specs.Licence.{LicensedWithout};
 ghost use Rattle.overflows.specs.Faults.{OnLicence};
 ghost use Rattle.cone_dual.specs.Generators.{AreConeRows, AreGenerators, AreMadeInOrder, IsOver};
 
-use crate::described::described_rows;
+use crate::described::describe_rows;
 use deriv_log::Family;
 use double_descr::Dd;
 use exact_field::Field;
@@ -52,6 +52,6 @@ pub fn dual_gens<F: Field>(alloc: Global, rows: &Rows<F>) -> Result<Rows<F>, Sol
         → AreConeRows file rows.now.width (numbers F.value rows.now.list)
         → IfErr result (λ fault. OnLicence fault (LicensedWithout F.holds file)) }
 {
-    let dd = described_rows(alloc, Family::ConeRows, rows)?;
+    let dd = describe_rows(alloc, Family::ConeRows, rows)?;
     Ok(generators_of(alloc, &dd, rows.width())?)
 }

@@ -15,7 +15,7 @@ mod lists;
 mod orthant;
 mod picked;
 
-pub use described::{add_row, described_rows};
+pub use described::{add_row, describe_rows};
 pub use dual::dual_gens;
 pub use duality::{ConeEnd, Duality};
 pub use facts::cone_facts;

@@ -3,7 +3,7 @@ ghost use Rattle.std.specs.Prelude.{◌≤◌, ◌<◌, IfOk};
 ghost use Rattle.described.specs.Described.{Describes};
 
 use projected_answer::{project_answer, projection_text};
-use projection::associated;
+use projection::associated_problem;
 use solver::{log_text, solve, unsolved_reply};
 use src_sink::NoMemory;
 use statuses::{Reply, Status};
@@ -18,7 +18,7 @@ pub(crate) fn describe(alloc: Global, file: &Problem, k: u32, logs: bool) -> Res
     requires columns { k ≤ file.now.cols }
     ensures { IfOk result (Describes k file.now logs) }
 {
-    let made = associated(alloc, file, k)?;
+    let made = associated_problem(alloc, file, k)?;
     match solve(alloc, &made) {
         Ok(solution) => {
             let found = project_answer(alloc, k, &solution.answer)?;

@@ -5,7 +5,7 @@ ghost use Rattle.vlp_printer.specs.Printing.{HasWord};
 ghost use Rattle.vlp_reader.specs.Values.{printed_numbers};
 
 use crate::describe::describe;
-use projection::associated;
+use projection::associated_problem;
 use src_sink::NoMemory;
 use statuses::{Reply, Status, fault_reply};
 use std::alloc::Global;
@@ -46,7 +46,7 @@ pub fn associate_reply(alloc: Global, file: &Problem, k: u32) -> Result<Reply, N
     if file.cols < k {
         return columns_reply(alloc, file, k);
     }
-    let made = associated(alloc, file, k)?;
+    let made = associated_problem(alloc, file, k)?;
     match print_vlp(alloc, &made) {
         Ok(text) => Ok(Reply {
             status: Status::Done,

@@ -15,7 +15,7 @@ use crate::kept::KeptWeights;
 use crate::search::Search;
 use crate::spanning::spanning_rows;
 use crate::starting::lower_description;
-use crate::touching::touching;
+use crate::touching::touching_facets;
 use exact_field::Field;
 use incid_sets::Marks;
 use lin_rows::Rows;
@@ -68,7 +68,7 @@ fn facets_over<F: Field>(
         kept: KeptWeights::new(alloc),
     };
     search.approximate()?;
-    let touching = touching(alloc, &search.dd, search.certified.as_slice(), least)?;
+    let touching = touching_facets(alloc, &search.dd, search.certified.as_slice(), least)?;
     Ok(AllFacets {
         cuts: search.into_cuts(),
         touching,

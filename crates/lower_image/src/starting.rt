@@ -11,7 +11,7 @@ ghost use Rattle.outer_approx.specs.Task.{IsFitting, Task, behind};
 ghost use Rattle.overflows.specs.Faults.{Overflows};
 
 use crate::rows::{exchanged_row, image_at};
-use cone_dual::described_rows;
+use cone_dual::describe_rows;
 use deriv_log::Family;
 use double_descr::Dd;
 use exact_field::Field;
@@ -71,5 +71,5 @@ pub(crate) fn lower_description<F: Field>(
     ensures left { (trail : List Entry) → IfErr result (Overflows F.holds (behind task trail) []) }
 {
     let rows = rows_over(alloc, form, c, x, directions)?;
-    described_rows(alloc, Family::Exchanged, &rows)
+    describe_rows(alloc, Family::Exchanged, &rows)
 }

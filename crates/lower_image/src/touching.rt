@@ -84,7 +84,7 @@ fn touched_points<F: Field>(
 
 /// For each point at which at least so many facets touch the places, from 0, of the generators for
 /// which they stand. Points with short entries come first.
-pub(crate) fn touching<F: Field>(
+pub(crate) fn touching_facets<F: Field>(
     alloc: Global,
     dd: &Dd<F>,
     generators: &[u32],

@@ -17,15 +17,15 @@ use std::alloc::Global;
 fn push_facets(trail: &mut Entries, facets: &[u32]) -> Result<(), NoMemory>
     ensures { OnOk result (trail.new ≡ trail.old ++ map (λ k. entry_of.Facet k) facets.now) }
 {
-    for i in 0..facets.len() {
-        trail.push(Entry::Facet { cut: facets[i] })?;
+    for cut in facets {
+        trail.push(Entry::Facet { cut: *cut })?;
     }
     Ok(())
 }
 
 /// Names the facets of an outer approximation all of whose live generators have pre-images, and
 /// ends its log.
-pub fn solved<F: Field>(alloc: Global, trail: &mut Entries, dd: &Dd<F>) -> Result<(), NoMemory>
+pub fn end_solved<F: Field>(alloc: Global, trail: &mut Entries, dd: &Dd<F>) -> Result<(), NoMemory>
     ghost task: { Task }
     requires outer { IsOuter task trail.old dd.now }
     requires reached { All (λ g. preimages trail.old g.number ≢ []) dd.now.list.live }

@@ -9,9 +9,9 @@ mod start;
 mod turn;
 mod unstarted;
 
-pub use ends::solved;
-pub use log::{Line, begun, push_cut, push_cut_entry, push_preimage};
-pub use places::{cut_row, filled, places_of};
-pub use start::started;
+pub use ends::end_solved;
+pub use log::{Line, open_trail, push_cut, push_cut_entry, push_preimage};
+pub use places::{cut_row, full_vector, places_of};
+pub use start::start_outer;
 pub use turn::{take, try_take};
 pub use unstarted::{infeasible_log, whole_log};

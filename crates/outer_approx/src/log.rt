@@ -102,7 +102,7 @@ pub fn push_preimage<F: Field>(
 }
 
 /// A `version` entry and a `duality` entry.
-fn opened(alloc: Global, opening: Entry) -> Result<Entries, NoMemory>
+fn open_log(alloc: Global, opening: Entry) -> Result<Entries, NoMemory>
     ensures entries { IfOk result (λ entries. entries ≡ entry_of.Version 1 ∷ opening ∷ []) }
     ensures written { (c weights : List ℚ) (picks : List ℕ) (inverse : List ℚ)
         → opening ≡ entry_of.Duality c weights picks inverse
@@ -170,16 +170,16 @@ fn with_cuts<F: Field>(alloc: Global, opening: Entry, cuts: &[Cut<F>]) -> Result
     ensures begun { IfOk result (IsBegun task [] (map (said_by F.value) cuts.now)) }
     ensures unreached { IfOk result (λ trail. (k : ℕ) → preimages trail k ≡ []) }
 {
-    let mut trail = opened(alloc, opening)?;
-    for i in 0..cuts.len() {
-        push_cut(alloc, &mut trail, &cuts[i])?;
+    let mut trail = open_log(alloc, opening)?;
+    for cut in cuts {
+        push_cut(alloc, &mut trail, cut)?;
     }
     Ok(trail)
 }
 
 /// The entries of a log that begins with a duality entry, and has these cuts and then these lines,
 /// each with the feasible point x.
-pub fn begun<F: Field>(
+pub fn open_trail<F: Field>(
     alloc: Global,
     opening: Entry,
     x: &Items<F>,
@@ -196,8 +196,8 @@ pub fn begun<F: Field>(
     ensures unreached { IfOk result (λ trail. (k : ℕ) → preimages trail k ≡ []) }
 {
     let mut trail = with_cuts(alloc, opening, cuts)?;
-    for i in 0..lines.len() {
-        push_line(alloc, &mut trail, x, &lines[i])?;
+    for line in lines {
+        push_line(alloc, &mut trail, x, line)?;
     }
     Ok(trail)
 }

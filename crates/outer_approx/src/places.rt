@@ -37,8 +37,8 @@ fn leading_place<F: Field>(v: &[F]) -> usize
 fn is_line_place<F: Field>(lines: &[Line<F>], place: usize) -> bool
     ensures { result ≡ is_line_place (map (told_by F.value) lines.now) place }
 {
-    for i in 0..lines.len() {
-        if leading_place(lines[i].d.as_slice()) == place {
+    for line in lines {
+        if leading_place(line.d.as_slice()) == place {
             return true;
         }
     }
@@ -66,8 +66,8 @@ pub fn open_places(places: &[bool]) -> u32
     ensures { result ≡ open_count places.now }
 {
     let mut count = 0u32;
-    for k in 0..places.len() {
-        if !places[k] {
+    for is_line in places {
+        if !*is_line {
             count += 1;
         }
     }
@@ -92,7 +92,11 @@ pub fn cut_row<F: Field>(alloc: Global, places: &[bool], cut: &Cut<F>) -> Result
 }
 
 /// A generator with zeros at the places of lines.
-pub fn filled<F: Field>(alloc: Global, places: &[bool], short: &[F]) -> Result<Items<F>, NoMemory>
+pub fn full_vector<F: Field>(
+    alloc: Global,
+    places: &[bool],
+    short: &[F],
+) -> Result<Items<F>, NoMemory>
     ensures { IfOk result
         (λ full. map F.value full ≡ with_zeros places.now (map F.value short.now)) }
 {

@@ -15,7 +15,7 @@ ghost use Rattle.outer_approx.specs.Task.{Task, behind};
 ghost use Rattle.overflows.specs.Faults.{Overflows};
 ghost use Rattle.polyhedra.specs.Cone.{HasFullRank};
 
-use crate::places::{cut_row, filled, open_places};
+use crate::places::{cut_row, full_vector, open_places};
 use deriv_log::{Entries, Entry};
 use double_descr::Dd;
 use exact_field::Field;
@@ -54,8 +54,8 @@ fn rows_of_cuts<F: Field>(
     let level = level_row(alloc, count)?;
     let mut rows = Rows::new(alloc, count + 1);
     rows.push_row(level.as_slice())?;
-    for i in 0..cuts.len() {
-        let row = cut_row(alloc, places, &cuts[i])?;
+    for cut in cuts {
+        let row = cut_row(alloc, places, cut)?;
         rows.push_row(row.as_slice())?;
     }
     Ok(rows)
@@ -85,7 +85,7 @@ fn front_of<F: Field>(
     ensures { IfOk result (λ front. front
         ≡ front_with places.now (slice_index_or (vectors dd.now.list.live) (g - 1) [])) }
 {
-    let full = filled(alloc, places, dd.generator(g))?;
+    let full = full_vector(alloc, places, dd.generator(g))?;
     let entries = full.as_slice();
     fractions(alloc, &entries[..places.len()])
 }
@@ -141,7 +141,7 @@ fn push_start<F: Field>(
 /// Brings the cuts of a trail into use, which with its lines are as many as there are objectives,
 /// and whose normals are independent without the entries at the places of the lines: the double
 /// description of the row `t >= 0` and their rows without these entries, and the entry `start`.
-pub fn started<F: Field>(
+pub fn start_outer<F: Field>(
     alloc: Global,
     places: &[bool],
     trail: &mut Entries,

@@ -6,7 +6,7 @@ ghost use Rattle.vlp_reader.specs.FileSizes.{HasFileSizes};
 ghost use Rattle.poly_calc.specs.Sets.{HasFeasible, IsInJoin, ProjectsTo};
 
 use crate::cells::push_bounds;
-use crate::made::{Bounds, made};
+use crate::made::{Bounds, problem_of};
 use crate::sides::{Columns, push_sides};
 use crate::sum::push_sum_rows;
 use frac128::Frac;
@@ -108,5 +108,5 @@ pub fn join_file(alloc: Global, a: &Problem, b: &Problem) -> Result<Problem, NoM
     let bounds = join_bounds(alloc, count, first, second)?;
     let rows = count + 1 + first + second;
     let cols = count + count + count + 2;
-    Ok(made(alloc, rows, cols, joined.cells, bounds))
+    Ok(problem_of(alloc, rows, cols, joined.cells, bounds))
 }

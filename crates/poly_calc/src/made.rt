@@ -15,7 +15,7 @@ pub(crate) struct Bounds {
 }
 
 /// The problem with these rows, columns and cells, and with one objective that is 0.
-pub(crate) fn made(
+pub(crate) fn problem_of(
     alloc: Global,
     rows: u32,
     cols: u32,

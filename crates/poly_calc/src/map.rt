@@ -7,7 +7,7 @@ ghost use Rattle.vlp_reader.specs.FileSizes.{HasFileSizes};
 ghost use Rattle.poly_calc.specs.Sets.{IsInMap, ProjectsTo};
 
 use crate::cells::{push_bounds, push_moved, push_negatives};
-use crate::made::{Bounds, made};
+use crate::made::{Bounds, problem_of};
 use frac128::Frac;
 use src_sink::{Items, NoMemory};
 use std::alloc::Global;
@@ -63,5 +63,5 @@ pub fn map_file(alloc: Global, a: &Problem) -> Result<Problem, NoMemory>
 {
     let cells = map_matrix(alloc, a)?;
     let bounds = map_bounds(alloc, a)?;
-    Ok(made(alloc, a.objs + a.rows, a.objs + a.cols, cells, bounds))
+    Ok(problem_of(alloc, a.objs + a.rows, a.objs + a.cols, cells, bounds))
 }

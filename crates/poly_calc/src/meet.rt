@@ -5,7 +5,7 @@ ghost use Rattle.vlp_reader.specs.FileSizes.{HasFileSizes};
 ghost use Rattle.poly_calc.specs.Sets.{IsInBoth, ProjectsTo};
 
 use crate::cells::{push_moved, push_units};
-use crate::made::{Bounds, made};
+use crate::made::{Bounds, problem_of};
 use src_sink::{Items, NoMemory};
 use std::alloc::Global;
 use vlp_reader::{Cell, Problem};
@@ -48,5 +48,5 @@ pub fn meet_file(alloc: Global, a: &Problem, b: &Problem) -> Result<Problem, NoM
 {
     let cells = meet_matrix(alloc, a, b)?;
     let bounds = meet_bounds(alloc, a, b)?;
-    Ok(made(alloc, a.rows + b.rows + b.cols, a.cols, cells, bounds))
+    Ok(problem_of(alloc, a.rows + b.rows + b.cols, a.cols, cells, bounds))
 }

@@ -9,7 +9,7 @@ ghost use Rattle.vlp_reader.specs.FileSizes.{HasFileSizes};
 ghost use Rattle.poly_calc.specs.Sets.{IsInSum, ProjectsTo};
 
 use crate::cells::{push_bounds, push_moved};
-use crate::made::{Bounds, made};
+use crate::made::{Bounds, problem_of};
 use exact_field::Field;
 use frac128::Frac;
 use src_sink::{Items, NoMemory};
@@ -94,7 +94,7 @@ pub fn sum_file(alloc: Global, a: &Problem, b: &Problem) -> Result<Problem, NoMe
     let cells = sum_matrix(alloc, a, b)?;
     let bounds = sum_bounds(alloc, a, b)?;
     let cols = a.cols;
-    Ok(made(
+    Ok(problem_of(
         alloc,
         cols + a.rows + b.rows,
         cols + cols + cols,

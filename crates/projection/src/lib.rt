@@ -9,4 +9,4 @@ pub use laws::{
     associated_example, associated_is_associated, level_directions, never_whole, points_are_level,
     projection_example, projection_is_cut_out, projection_is_hull, projection_is_slice_of,
 };
-pub use problem::associated;
+pub use problem::associated_problem;

@@ -52,7 +52,7 @@ fn same_bounds(alloc: Global, bounds: &Items<Bound>) -> Result<Items<Bound>, NoM
 /// bounds it minimises these columns, and minus their sum, for the orthant. So its image has the
 /// projection of the feasible set on these columns as the slice of the vectors whose entries sum
 /// to 0.
-pub fn associated(alloc: Global, problem: &Problem, k: u32) -> Result<Problem, NoMemory>
+pub fn associated_problem(alloc: Global, problem: &Problem, k: u32) -> Result<Problem, NoMemory>
     requires from_one { 0 < k }
     requires at_most { k ≤ 19 }
     requires columns { k ≤ problem.now.cols }

@@ -23,8 +23,8 @@ fn normals<F: Field>(alloc: Global, q: u32, cuts: &[Cut<F>]) -> Result<Rows<F>, 
     ensures rows { IfOk result (λ rows. numbers F.value rows.list ≡ normals_of F.value cuts.now) }
 {
     let mut rows = Rows::new(alloc, q);
-    for i in 0..cuts.len() {
-        rows.push_row(cuts[i].w.as_slice())?;
+    for cut in cuts {
+        rows.push_row(cut.w.as_slice())?;
     }
     Ok(rows)
 }

@@ -47,7 +47,7 @@ pub enum First<F: Drop> {
 }
 
 /// A list from its end.
-fn reversed<T: Drop>(list: Items<T>) -> Items<T>
+fn reverse<T: Drop>(list: Items<T>) -> Items<T>
     ensures { result ≡ reverse list }
 {
     let mut list = list.into_vec();
@@ -57,7 +57,7 @@ fn reversed<T: Drop>(list: Items<T>) -> Items<T>
 
 /// The lines and first cuts of an image, of which this is one. x is a feasible point. The lines are
 /// found from the last to the first.
-fn described<F: Field>(
+fn lines_and_cuts<F: Field>(
     alloc: Global,
     form: &Data<F>,
     c: &[F],
@@ -96,13 +96,13 @@ fn described<F: Field>(
     }
     Ok(First::Cuts {
         x,
-        lines: reversed(lines),
+        lines: reverse(lines),
         cuts,
     })
 }
 
 /// How the description begins of an image that is not empty. x is a feasible point.
-fn solvable<F: Field>(
+fn first_of_solvable<F: Field>(
     alloc: Global,
     form: &Data<F>,
     c: &[F],
@@ -124,7 +124,7 @@ fn solvable<F: Field>(
     match end {
         BensonEnd::Optimal { z, .. } => {
             let first = cut_of(alloc, form, c, origin.as_slice(), true, z.as_slice())?;
-            described(alloc, form, c, weights, x, first, kept)
+            lines_and_cuts(alloc, form, c, weights, x, first, kept)
         }
         BensonEnd::Empty { dual, .. } => {
             let parts = whole_of(alloc, form, dual.as_slice())?;
@@ -155,6 +155,6 @@ pub fn first_cuts<F: Field>(
     let end = feasible_end(alloc, form)?;
     match end {
         FeasibleEnd::Contradiction { u } => Ok(First::Infeasible { u }),
-        FeasibleEnd::Point { x } => solvable(alloc, form, c, weights, x, kept),
+        FeasibleEnd::Point { x } => first_of_solvable(alloc, form, c, weights, x, kept),
     }
 }

@@ -71,7 +71,7 @@ fn opposite<F: Field>(
 
 /// What is found after cuts and lines, fewer than there are objectives. The lines stand in the
 /// order in which they were found.
-fn found<F: Field>(
+fn cut_or_line<F: Field>(
     alloc: Global,
     form: &Data<F>,
     c: &[F],
@@ -108,8 +108,8 @@ pub fn entries_of<F: Field>(alloc: Global, cuts: &[Cut<F>]) -> Result<Entries, N
     ensures { IfOk result (SayCuts F.value cuts.now) }
 {
     let mut entries = Entries::new(alloc);
-    for i in 0..cuts.len() {
-        push_cut_entry(alloc, &mut entries, &cuts[i])?;
+    for cut in cuts {
+        push_cut_entry(alloc, &mut entries, cut)?;
     }
     Ok(entries)
 }
@@ -137,7 +137,7 @@ pub(crate) fn next_of<F: Field>(
     ensures ok { IfOk result (IsNext F.value task cuts.now (reverse lines.now)) }
     ensures left { IfErr result (λ fault. OnLicence fault (Licensed F.holds task.file task.c)) }
 {
-    match found(alloc, form, c, weights, cuts, lines, kept) {
+    match cut_or_line(alloc, form, c, weights, cuts, lines, kept) {
         Ok(next) => Ok(next),
         Err(fault) => {
             let entries = entries_of(alloc, cuts)?;

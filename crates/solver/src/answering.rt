@@ -26,7 +26,7 @@ fn is_read(number: &Frac)
 }
 
 /// Why there are no data of a problem in fractions, which hold each number of it.
-fn wanting(fault: &DataFault) -> NoMemory
+fn no_memory(fault: &DataFault) -> NoMemory
     requires { (file : Problem) × RefusesNumber is_held file fault.now }
 {
     match fault {
@@ -44,12 +44,12 @@ pub fn data_of(alloc: Global, problem: &Problem) -> Result<Data<Frac>, NoMemory>
 {
     match Data::<Frac>::of(alloc, problem) {
         Ok(form) => Ok(form),
-        Err(fault) => Err(wanting(&fault)),
+        Err(fault) => Err(no_memory(&fault)),
     }
 }
 
 /// The answer of a log that meets its rules.
-fn checked(alloc: Global, problem: &Problem, entries: Entries) -> Result<Solution, SolveEnd>
+fn check_solution(alloc: Global, problem: &Problem, entries: Entries) -> Result<Solution, SolveEnd>
     requires sound { IsSound problem.now }
     requires own { IsOwnLogAnyhow is_held problem.now entries }
     ensures same { IfOk result (λ solution. solution.entries ≡ entries) }
@@ -71,7 +71,7 @@ pub fn solve(alloc: Global, problem: &Problem) -> Result<Solution, SolveEnd>
 {
     let form = data_of(alloc, problem)?;
     let entries = log_of(alloc, problem, &form)?;
-    checked(alloc, problem, entries)
+    check_solution(alloc, problem, entries)
 }
 
 /// The same by the other way: the facets are found first, by an outer approximation of the lower
@@ -87,5 +87,5 @@ pub fn solve_dual(alloc: Global, problem: &Problem) -> Result<Solution, SolveEnd
 {
     let form = data_of(alloc, problem)?;
     let entries = dual_log_of(alloc, problem, &form)?;
-    checked(alloc, problem, entries)
+    check_solution(alloc, problem, entries)
 }

@@ -21,7 +21,7 @@ use std::alloc::Global;
 use vlp_reader::Problem;
 
 /// A copy of a duality vector, with lists of its own.
-fn copied<F: Field>(alloc: Global, duality: &Duality<F>) -> Result<Duality<F>, NoMemory>
+fn copy_duality<F: Field>(alloc: Global, duality: &Duality<F>) -> Result<Duality<F>, NoMemory>
     ensures { IfOk result (λ copy. copy ≡ duality.now) }
 {
     let mut c = Items::new(alloc);
@@ -95,7 +95,7 @@ fn log_by<F: Field>(
     ensures own { IfOk result (IsOwnLogAnyhow F.holds file) }
     ensures end { IfErr result (EndsIn F.holds file) }
 {
-    let copy = copied(alloc, duality)?;
+    let copy = copy_duality(alloc, duality)?;
     match primal(alloc, form, copy) {
         Ok(log) => Ok(log),
         Err(fault) => log_instead(alloc, form, duality, fault),

@@ -10,7 +10,7 @@ ghost use Rattle.weighing.specs.Stages.{IsPassed, IsWeighedFrom, point_items};
 ghost use Rattle.weighing.specs.Walk.{AreAllWide, IsFoundFrom, IsNoLess, StopsWalk, WeighStops, WeighsTo, all_items, cone_items};
 ghost use Rattle.weighing.specs.Weighing.{IsWeighed};
 
-use crate::walk::{is_below, product, signed, walk_directions, walk_lines};
+use crate::walk::{is_below, product, walk_directions, walk_lines, working_number};
 use crate::weighed::{WeighEnd, Weighed};
 use frac128::Frac;
 use log_rules::{Answer, Gen, LineGen};
@@ -49,7 +49,10 @@ fn best(direction: Dir, values: &[Frac]) -> Frac
 {
     let mut found = values[0];
     for value in values {
-        if is_below(signed(direction, *value), signed(direction, found)) {
+        if is_below(
+            working_number(direction, *value),
+            working_number(direction, found),
+        ) {
             found = *value;
         }
     }

@@ -31,7 +31,7 @@ pub(crate) fn product(w: &[Frac], v: &[Frac], item: u64) -> Result<Frac, WeighEn
 }
 
 /// A number in working coordinates: its negative where the file maximises.
-pub(crate) fn signed(direction: Dir, value: Frac) -> Frac
+pub(crate) fn working_number(direction: Dir, value: Frac) -> Frac
     ensures { result ≡ signed direction value }
 {
     match direction {
@@ -51,7 +51,7 @@ pub(crate) fn is_below(a: Frac, b: Frac) -> bool
 fn is_down(direction: Dir, value: Frac) -> bool
     ensures { IsTrue result ↔ (signed direction value <ℚ zero_ℚ) }
 {
-    is_below(signed(direction, value), Frac::zero())
+    is_below(working_number(direction, value), Frac::zero())
 }
 
 fn is_zero(value: Frac) -> bool
@@ -61,7 +61,7 @@ fn is_zero(value: Frac) -> bool
 }
 
 /// A copy of a vector.
-fn same(alloc: Global, v: &[Frac]) -> Result<Vector, NoMemory>
+fn copy_of(alloc: Global, v: &[Frac]) -> Result<Vector, NoMemory>
     ensures { IfOk result (λ copy. copy ≡ v.now) }
 {
     let mut copy = Items::new(alloc);
@@ -70,7 +70,7 @@ fn same(alloc: Global, v: &[Frac]) -> Result<Vector, NoMemory>
 }
 
 /// The negative of a vector.
-fn negated(alloc: Global, v: &[Frac]) -> Result<Vector, NoMemory>
+fn negative(alloc: Global, v: &[Frac]) -> Result<Vector, NoMemory>
     ensures { IfOk result (λ negative. negative ≡ negated v.now) }
 {
     let mut negative = Items::new(alloc);
@@ -85,9 +85,9 @@ fn way_down(alloc: Global, direction: Dir, value: Frac, d: &[Frac]) -> Result<Ve
     ensures { IfOk result (λ way. way ≡ way_of direction value d.now) }
 {
     if is_down(direction, value) {
-        same(alloc, d)
+        copy_of(alloc, d)
     } else {
-        negated(alloc, d)
+        negative(alloc, d)
     }
 }
 
@@ -132,7 +132,7 @@ pub(crate) fn walk_directions(
         let d = directions[index].y.as_slice();
         let value = product(w, d, earlier + index as u64 + 1)?;
         if is_down(direction, value) {
-            return Ok(Some(same(alloc, d)?));
+            return Ok(Some(copy_of(alloc, d)?));
         }
     }
     Ok(None)

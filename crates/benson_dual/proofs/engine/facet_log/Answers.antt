@@ -17,8 +17,8 @@ use Rattle.benson_dual.proofs.AllInUse.{named_log}
 use Rattle.benson_dual.proofs.Images.{fitting, opens, read_as}
 use Rattle.benson_dual.proofs.engine.facet_log.Goals as goal
 
-pub described-requires : goal.described-requires
-described-requires g c κs within =
+pub image_log-requires : goal.image_log-requires
+image_log-requires g c κs within =
     let value = g.F.Field.value in
     let holds = g.F.Field.holds in
     let d = c.args.duality.now in
@@ -56,12 +56,12 @@ returns-clause-ok g c =
     let d = c.args.duality.now in
     let h = c.requires.1.1.0 in
     let same = read_as value holds g.file d h c.as_slice.result.now c.as_slice-2.result.now c.as_slice.ensures.items c.as_slice-2.ensures.items in
-    ok_both c.described.result c.described.ensures.ok c.described.ensures.facets
+    ok_both c.image_log.result c.image_log.ensures.ok c.image_log.ensures.facets
     (λ log e all. named_log holds (task_with value g.file d) (fitting value holds g.file d h) log (subst (λ t. IsEnded t log) same e)
     (subst (λ t. AreAllInUse t log) same all))
 
 pub returns-clause-left : goal.returns-clause-left
 returns-clause-left g c =
     let value = g.F.Field.value in
-    subst (λ (c' : List _). IfErr c.described.result (λ fault. OnLicence fault (Licensed g.F.Field.holds g.file (map value c')))) c.as_slice.ensures.items
-    c.described.ensures.left
+    subst (λ (c' : List _). IfErr c.image_log.result (λ fault. OnLicence fault (Licensed g.F.Field.holds g.file (map value c')))) c.as_slice.ensures.items
+    c.image_log.ensures.left

@@ -6,5 +6,5 @@ ghost-directions g a = g.task
 abbrev pub ghost-approximate : goal.ghost-approximate
 ghost-approximate g a = g.task
 
-abbrev pub ghost-solved : goal.ghost-solved
-ghost-solved g a = g.task
+abbrev pub ghost-end_solved : goal.ghost-end_solved
+ghost-end_solved g a = g.task

@@ -29,8 +29,8 @@ pub returns-in_err-touching-clause-left : goal.returns-in_err-touching-clause-le
 returns-in_err-touching-clause-left g c = λ trail.
     search (rules, c.from_residual-in_err-touching.ensures)
 
-pub touching-requires-clause-listed : goal.touching-requires-clause-listed
-touching-requires-clause-listed g c =
+pub touching_facets-requires-clause-listed : goal.touching_facets-requires-clause-listed
+touching_facets-requires-clause-listed g c =
     let s = c.approximate.new.self in
     subst (All (Contains (numbers s.dd.list.live))) (sym c.as_slice.ensures.items)
     (certified_live g.F.Field.value g.F.Field.holds g.task s c.in_ok-approximate.ensures.searching)

@@ -5,8 +5,8 @@ use Rattle.outer_approx.specs.Cuts.{IsCutFor}
 use Rattle.outer_approx.proofs.Pushed.{filled_more, opened_open, opened_unreached}
 use Rattle.outer_approx.proofs.log.with_cuts.Goals as goal
 
-pub loop-i-init : goal.loop-i-init
-loop-i-init g c =
+pub loop-cut-init : goal.loop-cut-init
+loop-cut-init g c =
     let task = g.task in
     let h = c.requires.1.0 in
     let trail = c.in_ok-trail.trail in
@@ -19,16 +19,16 @@ pub push_cut-requires : goal.push_cut-requires
 push_cut-requires g c κs within = (
   search rules,
   (
-    c.loop-i.invariant.begun.open_trail,
-    subst (λ (x : Cut g.row.F.Denot). IsCutFor g.F.Field.value g.task x) (sym c.index-cuts-i.is)
-        (c.requires.1.1 c.loop-i.i c.index-cuts-i.result c.loop-i-test.true),
+    c.loop-cut.invariant.begun.open_trail,
+    subst (λ (x : Cut g.row.F.Denot). IsCutFor g.F.Field.value g.task x) (sym c.cut-item.is)
+        (c.requires.1.1 c.loop-cut.cut-index c.cut-item.result c.loop-cut-test.true),
   ),
 )
 
-pub loop-i-preserved : goal.loop-i-preserved
-loop-i-preserved g c =
+pub loop-cut-preserved : goal.loop-cut-preserved
+loop-cut-preserved g c =
     let cuts = c.args.cuts.now in
-    let i = c.loop-i.i in
-    filled_more g.F.Field.value g.task (take i cuts) (take (i + 1) cuts) c.index-cuts-i.result c.loop-i.trail c.push_cut.new.trail
-    (take_more cuts i c.index-cuts-i.result c.loop-i-test.true ∙ ap (λ x. take i cuts ++ x ∷ []) (sym c.index-cuts-i.is))
-    c.loop-i.invariant c.in_ok-push_cut.ensures.trail c.in_ok-push_cut.ensures.more
+    let i = c.loop-cut.cut-index in
+    filled_more g.F.Field.value g.task (take i cuts) (take (i + 1) cuts) c.cut-item.result c.loop-cut.trail c.push_cut.new.trail
+    (take_more cuts i c.cut-item.result c.loop-cut-test.true ∙ ap (λ x. take i cuts ++ x ∷ []) (sym c.cut-item.is))
+    c.loop-cut.invariant c.in_ok-push_cut.ensures.trail c.in_ok-push_cut.ensures.more

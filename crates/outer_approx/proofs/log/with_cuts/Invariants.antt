@@ -5,5 +5,5 @@ use Rattle.outer_approx.proofs.log.with_cuts.Given as goal
 abbrev pub ghost-push_cut : goal.ghost-push_cut
 ghost-push_cut g a = g.task
 
-abbrev pub invariant-loop-i : goal.invariant-loop-i
-invariant-loop-i g l = IsFilled g.F.Field.value g.task (take l.i l.cuts) l.trail
+abbrev pub invariant-loop-cut : goal.invariant-loop-cut
+invariant-loop-cut g l = IsFilled g.F.Field.value g.task (take l.cut-index l.cuts) l.trail

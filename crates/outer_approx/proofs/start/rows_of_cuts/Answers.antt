@@ -7,8 +7,8 @@ use Rattle.outer_approx.specs.Cuts.{said_by}
 use Rattle.outer_approx.proofs.RowsOfCuts.{length-row, rows_begin, rows_more}
 use Rattle.outer_approx.proofs.start.rows_of_cuts.Goals as goal
 
-pub loop-i-init : goal.loop-i-init
-loop-i-init g c =
+pub loop-cut-init : goal.loop-cut-init
+loop-cut-init g c =
     let value = g.F.Field.value in
     let places = c.args.places.now in
     let count = c.open_places-count.result in
@@ -19,32 +19,32 @@ loop-i-init g c =
           (ap (map value) c.as_slice.ensures.items ∙ c.in_ok-level.ensures) c.new-rows.ensures.rows c.in_ok-push_row.ensures.ok;
     }
 
-pub push_row-requires-in-loop-i : goal.push_row-requires-in-loop-i
-push_row-requires-in-loop-i g c =
+pub push_row-requires-in-loop-cut : goal.push_row-requires-in-loop-cut
+push_row-requires-in-loop-cut g c =
     let F = g.row.F.Denot in
     let value = g.F.Field.value in
     let places = c.args.places.now in
-    let cut = c.index-cuts-i.result in
+    let cut = c.cut-item.result in
     let row = c.in_ok-row.row in
     let wide : length cut.w ≡ length places =
-    subst (λ (x : Cut F). length x.w ≡ length places) (sym c.index-cuts-i.is) (c.requires.wide c.loop-i.i cut c.loop-i-test.true) in
-    ap (λ (xs : List F). length xs) c.as_slice-in-loop-i.ensures.items ∙ sym (length-map row value) ∙ ap (λ (v : List ℚ). length v) c.in_ok-row.ensures
-    ∙ length-row places (said_by value cut) (length-map cut.w value ∙ wide) ∙ sym c.loop-i.invariant.width
+    subst (λ (x : Cut F). length x.w ≡ length places) (sym c.cut-item.is) (c.requires.wide c.loop-cut.cut-index cut c.loop-cut-test.true) in
+    ap (λ (xs : List F). length xs) c.as_slice-in-loop-cut.ensures.items ∙ sym (length-map row value) ∙ ap (λ (v : List ℚ). length v) c.in_ok-row.ensures
+    ∙ length-row places (said_by value cut) (length-map cut.w value ∙ wide) ∙ sym c.loop-cut.invariant.width
 
-pub loop-i-preserved : goal.loop-i-preserved
-loop-i-preserved g c =
+pub loop-cut-preserved : goal.loop-cut-preserved
+loop-cut-preserved g c =
     let F = g.row.F.Denot in
     let value = g.F.Field.value in
     let places = c.args.places.now in
     let cuts = c.args.cuts.now in
-    let cut = c.index-cuts-i.result in
-    let i = c.loop-i.i in
+    let cut = c.cut-item.result in
+    let i = c.loop-cut.cut-index in
     let longer : map (said_by value) (take (i + 1) cuts) ≡ map (said_by value) (take i cuts) ++ said_by value cut ∷ [] =
-    ap (map (said_by value)) (take_more cuts i cut c.loop-i-test.true ∙ ap (λ (x : Cut F). take i cuts ++ x ∷ []) (sym c.index-cuts-i.is))
+    ap (map (said_by value)) (take_more cuts i cut c.loop-cut-test.true ∙ ap (λ (x : Cut F). take i cuts ++ x ∷ []) (sym c.cut-item.is))
     ∙ map-append (said_by value) (take i cuts) (cut ∷ []) in
     record {
-      width = c.push_row-in-loop-i.ensures.width ∙ c.loop-i.invariant.width;
-      rows = rows_more value places (map (said_by value) (take i cuts)) (map (said_by value) (take (i + 1) cuts)) (said_by value cut) c.loop-i.rows.list
-          c.push_row-in-loop-i.new.self.list c.as_slice-in-loop-i.result.now longer (ap (map value) c.as_slice-in-loop-i.ensures.items ∙ c.in_ok-row.ensures)
-          c.in_ok-push_row-2.ensures.ok c.loop-i.invariant.rows;
+      width = c.push_row-in-loop-cut.ensures.width ∙ c.loop-cut.invariant.width;
+      rows = rows_more value places (map (said_by value) (take i cuts)) (map (said_by value) (take (i + 1) cuts)) (said_by value cut) c.loop-cut.rows.list
+          c.push_row-in-loop-cut.new.self.list c.as_slice-in-loop-cut.result.now longer (ap (map value) c.as_slice-in-loop-cut.ensures.items ∙ c.in_ok-row.ensures)
+          c.in_ok-push_row-2.ensures.ok c.loop-cut.invariant.rows;
     }

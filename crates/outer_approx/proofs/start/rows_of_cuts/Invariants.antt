@@ -5,10 +5,10 @@ use Rattle.polyhedra.specs.Exactness.{rows_of}
 use Rattle.outer_approx.specs.Cuts.{said_by}
 use Rattle.outer_approx.proofs.start.rows_of_cuts.Given as goal
 
-abbrev pub invariant-loop-i : goal.invariant-loop-i
-invariant-loop-i g l =
+abbrev pub invariant-loop-cut : goal.invariant-loop-cut
+invariant-loop-cut g l =
     let value = g.F.Field.value in
     record {
       width : l.rows.width ≡ suc (open_count l.places);
-      rows : numbers value l.rows.list ≡ map (without l.places) (rows_of (length l.places) (map (said_by value) (take l.i l.cuts)));
+      rows : numbers value l.rows.list ≡ map (without l.places) (rows_of (length l.places) (map (said_by value) (take l.cut-index l.cuts)));
     }

@@ -9,14 +9,14 @@ use Rattle.poly_calc.proofs.Parts.{same_parts}
 use Rattle.poly_calc.proofs.FeasibleMap.{map_projects}
 use Rattle.poly_calc.proofs.map.map_file.Goals as goal
 
-pub made-requires-clause-cells : goal.made-requires-clause-cells
-made-requires-clause-cells c =
+pub problem_of-requires-clause-cells : goal.problem_of-requires-clause-cells
+problem_of-requires-clause-cells c =
     let a = c.args.a.now in
     subst (λ (cs : List Cell). IsTrue (are_cells (a.objs + a.rows) (a.objs + a.cols) cs)) (sym c.in_ok-cells.ensures) (map_block a)
 
 pub returns-clause-set : goal.returns-clause-set
 returns-clause-set c =
     let a = c.args.a.now in
-    map_projects a c.made.result
-    (same_parts c.made.result (a.objs + a.rows) (a.objs + a.cols) c.in_ok-cells.cells (map_cells a) c.in_ok-bounds.bounds.rows (replicate a.objs (Fixed zero_ℚ) ++ a.row_bounds)
-    c.in_ok-bounds.bounds.cols (replicate a.objs Free ++ a.col_bounds) c.made.ensures c.in_ok-cells.ensures c.in_ok-bounds.ensures.rows c.in_ok-bounds.ensures.cols)
+    map_projects a c.problem_of.result
+    (same_parts c.problem_of.result (a.objs + a.rows) (a.objs + a.cols) c.in_ok-cells.cells (map_cells a) c.in_ok-bounds.bounds.rows (replicate a.objs (Fixed zero_ℚ) ++ a.row_bounds)
+    c.in_ok-bounds.bounds.cols (replicate a.objs Free ++ a.col_bounds) c.problem_of.ensures c.in_ok-cells.ensures c.in_ok-bounds.ensures.rows c.in_ok-bounds.ensures.cols)

@@ -7,8 +7,8 @@ use Rattle.poly_calc.proofs.Parts.{same_parts}
 use Rattle.poly_calc.proofs.FeasibleMeet.{meet_projects}
 use Rattle.poly_calc.proofs.meet.meet_file.Goals as goal
 
-pub made-requires-clause-cells : goal.made-requires-clause-cells
-made-requires-clause-cells c =
+pub problem_of-requires-clause-cells : goal.problem_of-requires-clause-cells
+problem_of-requires-clause-cells c =
     let a = c.args.a.now in
     let b = c.args.b.now in
     subst (λ (cs : List Cell). IsTrue (are_cells (a.rows + b.rows + b.cols) a.cols cs)) (sym c.in_ok-cells.ensures) (meet_block a b c.requires.columns)
@@ -17,6 +17,6 @@ pub returns-clause-set : goal.returns-clause-set
 returns-clause-set c =
     let a = c.args.a.now in
     let b = c.args.b.now in
-    meet_projects a b c.made.result c.requires.columns
-    (same_parts c.made.result (a.rows + b.rows + b.cols) a.cols c.in_ok-cells.cells (meet_cells a b) c.in_ok-bounds.bounds.rows (a.row_bounds ++ (b.row_bounds ++ b.col_bounds))
-    c.in_ok-bounds.bounds.cols a.col_bounds c.made.ensures c.in_ok-cells.ensures c.in_ok-bounds.ensures.rows c.in_ok-bounds.ensures.cols)
+    meet_projects a b c.problem_of.result c.requires.columns
+    (same_parts c.problem_of.result (a.rows + b.rows + b.cols) a.cols c.in_ok-cells.cells (meet_cells a b) c.in_ok-bounds.bounds.rows (a.row_bounds ++ (b.row_bounds ++ b.col_bounds))
+    c.in_ok-bounds.bounds.cols a.col_bounds c.problem_of.ensures c.in_ok-cells.ensures c.in_ok-bounds.ensures.rows c.in_ok-bounds.ensures.cols)

@@ -22,8 +22,8 @@ pub returns-in-Contradiction-clause-ok : goal.returns-in-Contradiction-clause-ok
 returns-in-Contradiction-clause-ok g c =
     subst (IsFeasibleEnd g.F.Field.value g.task.file) c.in-Contradiction.is (c.in_ok-end.ensures.ok g.task.file c.requires.1.0)
 
-pub solvable-requires : goal.solvable-requires
-solvable-requires g c κs within = (
+pub first_of_solvable-requires : goal.first_of_solvable-requires
+first_of_solvable-requires g c κs within = (
   within,
   (
     c.requires.1.0,

@@ -16,7 +16,7 @@ loop-value-preserved c =
     let old : IsBestOf dir vs i found = record { least = c.loop-value.invariant.least; one = c.loop-value.invariant.one } in
     let within : i < length vs = c.loop-value-test.true in
     let test = subst (λ (p : ℚ × ℚ). (c.is_below.result ≡ Rattle.std.proofs.Common.true → p.0 <ℚ p.1) × (p.0 <ℚ p.1 → c.is_below.result ≡ Rattle.std.proofs.Common.true))
-    (ap₂ (λ (a b : ℚ). (a, b)) c.signed.ensures c.signed-in-loop-value.ensures) c.is_below.ensures in
+    (ap₂ (λ (a b : ℚ). (a, b)) c.working_number.ensures c.working_number-in-loop-value.ensures) c.is_below.ensures in
     let new : IsBestOf dir vs (i + 1) c.if-is_below.found = elim c.if-is_below.branch [
       | then-is_below w ↦ subst (λ (f : ℚ). IsBestOf dir vs (i + 1) f) (sym w.found-is) (best_moved dir vs i v found c.is_below.result within c.value-item.is test w.if-is_below.true old)
       | else-is_below w ↦ subst (λ (f : ℚ). IsBestOf dir vs (i + 1) f) (sym w.found-is) (best_kept dir vs i v found c.is_below.result within c.value-item.is test w.if-is_below.false old)

@@ -31,7 +31,7 @@ returns-then-is_down-clause-ok c =
     let d_is = c.as_slice-d.ensures.items ∙ ap (λ (g : Gen). g.y) (sym c.index-directions-index.is) in
     let taken : IsTaken w x.y = subst (λ (v : List ℚ). IsTaken w v) d_is c.in_ok-value.ensures.taken in
     let value_is : value ≡ dot w x.y = subst (λ (v : List ℚ). value ≡ dot w v) d_is c.in_ok-value.ensures.ok in
-    let way_is : c.in_ok-same.field-0 ≡ x.y = c.in_ok-same.ensures ∙ d_is in
+    let way_is : c.in_ok-copy_of.field-0 ≡ x.y = c.in_ok-copy_of.ensures ∙ d_is in
     record {
       number = c.loop-index.index + 1;
       item = direction x.y;

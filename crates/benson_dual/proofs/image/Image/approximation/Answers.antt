@@ -10,8 +10,8 @@ use Rattle.recession.proofs.Free.{all_back}
 use Rattle.recession.proofs.OwnLogs.{carried, licensed}
 use Rattle.benson_dual.proofs.image.Image.approximation.Goals as goal
 
-pub begun-requires : goal.begun-requires
-begun-requires g c κs within =
+pub open_trail-requires : goal.open_trail-requires
+open_trail-requires g c κs within =
     let h = c.requires.1.0 in
     let first = c.requires.1.1.0 in (
       search rules,

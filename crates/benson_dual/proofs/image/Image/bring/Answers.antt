@@ -9,8 +9,8 @@ use Rattle.outer_approx.specs.Standing.{IsBegun}
 use Rattle.recession.specs.Further.{normals_of}
 use Rattle.benson_dual.proofs.image.Image.bring.Goals as goal
 
-pub started-requires : goal.started-requires
-started-requires g c κs within =
+pub start_outer-requires : goal.start_outer-requires
+start_outer-requires g c κs within =
     let value = g.F.Field.value in
     let task = g.task in
     let h = c.requires.1.0 in

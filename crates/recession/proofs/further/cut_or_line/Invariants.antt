@@ -1,0 +1,7 @@
+use Rattle.recession.proofs.further.cut_or_line.Given as goal
+
+abbrev pub ghost-ask : goal.ghost-ask
+ghost-ask g a = g.task
+
+abbrev pub ghost-opposite : goal.ghost-opposite
+ghost-opposite g a = g.task

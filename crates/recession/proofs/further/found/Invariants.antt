@@ -1,7 +1,0 @@
-use Rattle.recession.proofs.further.found.Given as goal
-
-abbrev pub ghost-ask : goal.ghost-ask
-ghost-ask g a = g.task
-
-abbrev pub ghost-opposite : goal.ghost-opposite
-ghost-opposite g a = g.task
