@@ -2,7 +2,7 @@
 -- same report.
 use Rattle.std.proofs.Common.{◌≡◌, ℕ, ◌≤◌, List, length, Option, Some, None, true, false, refl, inl, inr, subst, sym, ◌∙◌, ap, arith}
 use Rattle.vlp_reader.specs.FirstFault.{Reads}
-use Rattle.vlp_reader.specs.declared.problem.Problem.{Problem}
+use Rattle.vlp_problem.specs.declared.problem.Problem.{Problem}
 use Rattle.deriv_log.specs.Laws.{IsTextOf}
 use Rattle.deriv_log.specs.LogText.{log_text}
 use Rattle.deriv_log.specs.declared.entry.Entry.{Entry}

@@ -3,7 +3,7 @@ use Rattle.std.proofs.Common.{◌≡◌, ℕ, ◌≤◌, Bool, List, length, Opt
 use Rattle.src_sink.proofs.Known.{Consumes-to_end, TakesCount-known}
 use Rattle.vlp_reader.specs.FirstFault.{Reads}
 use Rattle.vlp_reader.specs.declared.fault.FileFault.{FileFault as AFileFault}
-use Rattle.vlp_reader.specs.declared.problem.Problem.{Problem}
+use Rattle.vlp_problem.specs.declared.problem.Problem.{Problem}
 use Rattle.vlp_reader.proofs.Faults.{never_both}
 use Rattle.rep_text.specs.RepText.{IsRepText}
 use Rattle.rep_text.specs.declared.rep.Rep.{Rep}

@@ -1,7 +1,7 @@
 -- The upgrade of a log that passes says the same.
 use Rattle.std.proofs.Common.{◌≡◌, List, None, refl}
 use Rattle.frac128.specs.Held.{is_held}
-use Rattle.vlp_reader.specs.declared.problem.Problem.{Problem}
+use Rattle.vlp_problem.specs.declared.problem.Problem.{Problem}
 use Rattle.deriv_log.specs.Formed.{IsLog}
 use Rattle.deriv_log.specs.Laws.{IsTextOf}
 use Rattle.deriv_log.specs.LogText.{log_text}

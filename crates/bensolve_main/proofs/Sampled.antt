@@ -1,7 +1,7 @@
 -- `sample`: from what its steps tell to its verdict.
 use Rattle.std.proofs.Common.{◌≡◌, ℕ, None, Result, Ok, Err, IfOk, subst, sym, inl, inr}
-use Rattle.vlp_reader.specs.declared.problem.Problem.{Problem}
-use Rattle.vlp_reader.specs.declared.problem.Cone.{Cone}
+use Rattle.vlp_problem.specs.declared.problem.Problem.{Problem}
+use Rattle.vlp_problem.specs.declared.problem.Cone.{Cone}
 use Rattle.upper_image.proofs.Solid.{duality_fits}
 use Rattle.cone_rules.specs.Faults.{IsSound, HasInterior, HasNoLine}
 use Rattle.cone_rules.proofs.Excluding.{faults_exclude}

@@ -1,6 +1,6 @@
 -- From what the steps of a run tell to what its result says.
 use Rattle.std.proofs.Common.{◌≡◌, ℕ, List, Bool, true, false, None, Result, Ok, Err, IfOk, IfErr, subst, sym, refl, inl, inr}
-use Rattle.vlp_reader.specs.declared.problem.Problem.{Problem}
+use Rattle.vlp_problem.specs.declared.problem.Problem.{Problem}
 use Rattle.rep_text.specs.declared.rep.Rep.{Rep}
 use Rattle.cert_check.specs.Streams.{ReadsWhole, StreamEnds, TextAccepts}
 use Rattle.cert_check.specs.declared.fault.Refusal.TheVariants as refusal

@@ -1,7 +1,7 @@
 -- What the replies of each task say: with an answer where nothing stands against it, never of words
 -- without a shape, and with a log only where one is written.
 use Rattle.std.proofs.Common.{◌≡◌, ℕ, List, Bool, true, false, None}
-use Rattle.vlp_reader.specs.declared.problem.Problem.{Problem}
+use Rattle.vlp_problem.specs.declared.problem.Problem.{Problem}
 use Rattle.commands.specs.Tasks.{Task}
 use Rattle.commands.specs.Tasks.Task.{check, relog, solve, dual, sample, project, associate, meet, sum, join, map, weights, weigh, vertices, facets, reconv}
 use Rattle.rep_text.specs.declared.rep.Rep.{Rep}

@@ -3,7 +3,7 @@ use Rattle.std.specs.Prelude.{◌⊎◌, ◌≡◌, ℕ, ◌≤◌, Bool, true, 
 use Rattle.src_sink.specs.Outside.{Rose}
 use Rattle.frac128.specs.Held.{is_held}
 use Rattle.vlp_reader.specs.FirstFault.{Reads}
-use Rattle.vlp_reader.specs.declared.problem.Problem.{Problem}
+use Rattle.vlp_problem.specs.declared.problem.Problem.{Problem}
 use Rattle.deriv_log.specs.Laws.{IsTextOf}
 use Rattle.deriv_log.specs.declared.entry.Entry.{Entry}
 use Rattle.log_versions.specs.WrittenEvents.{log_failure}

@@ -1,7 +1,7 @@
 -- What `check` says of the bytes of a log, for a problem.
 use Rattle.std.specs.Prelude.{◌≡◌, ◌⊎◌, ℕ, List, [], None, Some}
 use Rattle.frac128.specs.Held.{is_held}
-use Rattle.vlp_reader.specs.declared.problem.Problem.{Problem}
+use Rattle.vlp_problem.specs.declared.problem.Problem.{Problem}
 use Rattle.deriv_log.specs.FirstFault.{FirstFault as FirstLogFault}
 use Rattle.deriv_log.specs.Laws.{IsTextOf}
 use Rattle.deriv_log.specs.declared.entry.Entry.{Entry}

@@ -1,7 +1,7 @@
 -- What the result of a command says, by the stages of its work: the problem or representation is read,
 -- then the log or the second problem, then the task is done, and then its reply is written.
 use Rattle.std.specs.Prelude.{◌⊎◌, ◌≡◌, Bool, true, false, List, ℕ}
-use Rattle.vlp_reader.specs.declared.problem.Problem.{Problem}
+use Rattle.vlp_problem.specs.declared.problem.Problem.{Problem}
 use Rattle.rep_text.specs.declared.rep.Rep.{Rep}
 use Rattle.cert_check.specs.Streams.{ReadsWhole}
 use Rattle.commands.specs.Paths.{writes_log}

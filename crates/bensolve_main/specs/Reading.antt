@@ -2,7 +2,7 @@
 use Rattle.std.specs.Prelude.{◌≡◌, ◌⊎◌, ℕ, Bool, false, List}
 use Rattle.vlp_reader.specs.FirstFault.{FirstFault, Reads}
 use Rattle.vlp_reader.specs.declared.fault.FileFault.{FileFault as AFileFault}
-use Rattle.vlp_reader.specs.declared.problem.Problem.{Problem}
+use Rattle.vlp_problem.specs.declared.problem.Problem.{Problem}
 use Rattle.word_lines.specs.declared.fault.LogFault.{LogFault}
 use Rattle.rep_text.specs.RepFault.{RepFirstFault}
 use Rattle.rep_text.specs.RepText.{IsRepText}

@@ -2,10 +2,10 @@
 use Rattle.std.specs.Prelude.{◌≡◌, ◌⊎◌, ℕ, None}
 use Rattle.frac128.specs.Held.{is_held}
 use Rattle.vlp_reader.specs.FirstFault.{Reads}
-use Rattle.vlp_reader.specs.declared.problem.Problem.{Problem}
+use Rattle.vlp_problem.specs.declared.problem.Problem.{Problem}
 use Rattle.vlp_printer.specs.Printing.{problem_text}
 use Rattle.deriv_log.specs.declared.licence.Licence.{Licence}
-use Rattle.licence.specs.Licence.{LicensedAnyhow}
+use Rattle.overflow_rules.specs.Licence.{LicensedAnyhow}
 use Rattle.sample_file.specs.Sample.{IsSample}
 use Rattle.sample_file.specs.Summary.{Sums}
 use Rattle.solver.specs.Replies.{Overflowed}

@@ -1,7 +1,7 @@
 -- What the steps of a run tell. For the clauses of the code alone.
 use Rattle.std.specs.Prelude.{◌≡◌, ◌⊎◌, ℕ, ◌<◌, ◌≤◌, Bool, true, false, List, IsTrue}
 use Rattle.vlp_reader.specs.declared.fault.FileFault.{FileFault as AFileFault}
-use Rattle.vlp_reader.specs.declared.problem.Problem.{Problem}
+use Rattle.vlp_problem.specs.declared.problem.Problem.{Problem}
 use Rattle.rep_text.specs.declared.rep.Rep.{Rep}
 use Rattle.cert_check.specs.Streams.{ReadsWhole}
 use Rattle.cert_check.specs.declared.fault.Refusal.TheVariants as refusal

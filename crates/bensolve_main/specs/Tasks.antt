@@ -1,6 +1,6 @@
 -- How each task reads, and what it says of what was read.
 use Rattle.std.specs.Prelude.{ℕ, Bool, List}
-use Rattle.vlp_reader.specs.declared.problem.Problem.{Problem}
+use Rattle.vlp_problem.specs.declared.problem.Problem.{Problem}
 use Rattle.commands.specs.Tasks.{Task}
 use Rattle.commands.specs.Tasks.Task.{check, relog, solve, dual, sample, project, associate, meet, sum, join, map, weights, weigh, vertices, facets, reconv}
 use Rattle.rep_text.specs.declared.rep.Rep.{Rep}

@@ -6,13 +6,13 @@ ghost use Rattle.bensolve_main.specs.World.{channel};
 ghost use Rattle.bensolve_main.specs.Stages.{HaltsEnd, HaltsReading, LogTold, TellsEnd};
 ghost use Rattle.bensolve_main.specs.Reading.{log_limit};
 
-use crate::reading::long_reply;
 use cert_check::{Answer, Refusal, StreamEnd, check_from};
+use crate::reading::long_reply;
 use sol_writer::report;
 use src_sink::{NoMemory, Source};
 use statuses::{LogRefusal, Reply, Status, refused_reply, step_reply};
 use std::alloc::Global;
-use vlp_reader::Problem;
+use vlp_problem::Problem;
 
 /// The most bytes that are read of a log: 384 MiB.
 pub(crate) const LOG_LIMIT: u64 = 402_653_184;

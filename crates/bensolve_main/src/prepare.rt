@@ -1,8 +1,8 @@
 //! What a command replies: its texts are read, and its task is done.
 ghost use Rattle.std.specs.Prelude.{◌≡◌, ◌≤◌, true, false, All, None, IfOk, IfErr};
 ghost use Rattle.vlp_printer.specs.Printing.{HasWord};
-ghost use Rattle.vlp_reader.specs.FileSizes.{HasFileSizes};
-ghost use Rattle.vlp_reader.specs.Values.{printed_numbers};
+ghost use Rattle.vlp_problem.specs.FileSizes.{HasFileSizes};
+ghost use Rattle.vlp_problem.specs.Values.{printed_numbers};
 ghost use Rattle.commands.specs.Paths.{log_in_path, problem_path};
 ghost use Rattle.commands.specs.Seen.{files_seen, shape_seen, task_seen};
 ghost use Rattle.bensolve_main.specs.Outcome.{HaltsFor, Replies};
@@ -25,7 +25,7 @@ use solver::{dual_reply, solve_reply};
 use src_sink::{NoMemory, Source};
 use statuses::{Reply, Status};
 use std::alloc::Global;
-use vlp_reader::Problem;
+use vlp_problem::Problem;
 
 /// The reply of a task that reads nothing.
 fn alone_reply(alloc: Global, task: Task<'_>) -> Result<Reply, NoMemory>

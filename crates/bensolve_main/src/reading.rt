@@ -10,7 +10,8 @@ use rep_text::{Rep, RepEnd, read_rep};
 use src_sink::{Bytes, NoMemory, ReadEnd, Source, read_all};
 use statuses::{Reply, Status, fault_reply};
 use std::alloc::Global;
-use vlp_reader::{FileFault, Problem, VlpEnd, read_vlp};
+use vlp_problem::Problem;
+use vlp_reader::{FileFault, VlpEnd, read_vlp};
 use word_lines::LogKind;
 
 /// The most bytes that are read of a problem or of a representation: 16 MiB.

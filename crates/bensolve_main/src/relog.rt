@@ -1,6 +1,6 @@
 //! The upgrade of a log.
 ghost use Rattle.std.specs.Prelude.{◌≡◌, ◌≤◌, ℕ, true, List, IfOk, IfErr};
-ghost use Rattle.vlp_reader.specs.declared.problem.Problem.{Problem as AProblem};
+ghost use Rattle.vlp_problem.specs.declared.problem.Problem.{Problem as AProblem};
 ghost use Rattle.deriv_log.specs.Formed.{IsLog};
 ghost use Rattle.deriv_log.specs.Laws.{IsTextOf};
 ghost use Rattle.deriv_log.specs.LogText.{log_text};
@@ -12,14 +12,14 @@ ghost use Rattle.bensolve_main.specs.Reading.{log_limit};
 ghost use Rattle.bensolve_main.specs.Relog.{Relogged};
 ghost use Rattle.bensolve_main.specs.Stages.{HaltsReading, LogTold};
 
-use crate::examine::{LOG_LIMIT, end_reply};
 use cert_check::{Refusal, StreamEnd, check};
+use crate::examine::{LOG_LIMIT, end_reply};
 use deriv_log::{Entries, LogEnd, read_log};
 use log_upgrade::upgrade_text;
 use src_sink::{Source, read_all};
 use statuses::{Reply, Status};
 use std::alloc::Global;
-use vlp_reader::Problem;
+use vlp_problem::Problem;
 
 /// The entries of the log that is left in a source. Its text is let go as soon as they are read.
 fn read_entries<L: Source>(alloc: Global, log_in: &mut L) -> Result<Entries, StreamEnd>

@@ -17,9 +17,9 @@ use Rattle.polyhedra.specs.Vectors.{zeros}
 use Rattle.polyhedra.proofs.Homogenised.{IsHomogenised, dot-homogenised, unhomogenised}
 use Rattle.polyhedra.proofs.Linear.{dot_comm}
 use Rattle.polyhedra.proofs.Members.{Contains-map, Contains-map_source}
-use Rattle.vlp_reader.specs.declared.problem.Dir.{Dir}
-use Rattle.vlp_reader.specs.declared.problem.Dir.TheVariants.{Min, Max}
-use Rattle.vlp_reader.specs.declared.problem.Problem.{Problem}
+use Rattle.vlp_problem.specs.declared.problem.Dir.{Dir}
+use Rattle.vlp_problem.specs.declared.problem.Dir.TheVariants.{Min, Max}
+use Rattle.vlp_problem.specs.declared.problem.Problem.{Problem}
 use Rattle.upper_image.specs.UpperImage.{IsInLowerImageOf, IsInWorkingImage, LowerImage, front, signed, working}
 use Rattle.upper_image.proofs.ConvexCones.{ordering_cone_convex}
 use Rattle.upper_image.proofs.Widths.{map-map}

@@ -16,7 +16,7 @@ use Rattle.outer_approx.proofs.Growing.{outer_reached}
 use Rattle.benson_dual.proofs.LiveVectors.{live_vector}
 use Rattle.lower_image.specs.Lower.{AreAllFacets}
 use Rattle.recession.specs.Logs.{task_of}
-use Rattle.vlp_reader.specs.declared.problem.Problem.{Problem}
+use Rattle.vlp_problem.specs.declared.problem.Problem.{Problem}
 use Rattle.cone_dual.specs.Fitting.{IsDualityOf}
 use Rattle.cone_dual.specs.declared.duality.Duality.{Duality}
 use Rattle.benson_dual.specs.Images.{IsApproximation, IsImage}

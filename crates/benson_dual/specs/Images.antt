@@ -6,7 +6,7 @@ use Rattle.polyhedra.specs.Exactness.{homogenised}
 use Rattle.lineality.specs.Without.{marks}
 use Rattle.deriv_log.specs.declared.entry.Entry.{Entry}
 use Rattle.log_rules.specs.Live.{preimages}
-use Rattle.licence.specs.Base.{IsLiveAfter, last_of}
+use Rattle.overflow_rules.specs.Base.{IsLiveAfter, last_of}
 use Rattle.lp_form.specs.declared.shown.Cut.{Cut}
 use Rattle.lower_image.specs.Lower.{AreAllFacets}
 use Rattle.outer_approx.specs.Lines.{line_places, told_by}

@@ -4,7 +4,7 @@ use Rattle.exact_field.specs.Rational.{ℚ, one_ℚ, neg_ℚ}
 use Rattle.polyhedra.specs.Hull.{IsExtremeDirection, IsNormedDirection, IsVertex}
 use Rattle.polyhedra.specs.LowerImage.{IsRecession}
 use Rattle.polyhedra.specs.Vectors.{zeros}
-use Rattle.vlp_reader.specs.declared.problem.Problem.{Problem}
+use Rattle.vlp_problem.specs.declared.problem.Problem.{Problem}
 use Rattle.upper_image.specs.UpperImage.{IsInLowerImageOf, signed}
 use Rattle.log_rules.specs.Report.{dual_direction_line, dual_line, head_lines, image_lines, vector_line}
 use Rattle.log_rules.specs.Right.{IsSolution}

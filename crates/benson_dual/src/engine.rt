@@ -4,7 +4,7 @@ ghost use Rattle.benson_dual.specs.Images.{AreAllInUse, IsImage};
 ghost use Rattle.benson_dual.specs.Logs.{IsFacetLog, task_with};
 ghost use Rattle.cone_dual.specs.Fitting.{IsDualityOf};
 ghost use Rattle.cone_rules.specs.Faults.{IsPointed};
-ghost use Rattle.licence.specs.Licence.{Licensed};
+ghost use Rattle.overflow_rules.specs.Licence.{Licensed};
 ghost use Rattle.lower_image.specs.Facets.{AreFacetCuts};
 ghost use Rattle.lp_form.specs.Data.{IsDataOf};
 ghost use Rattle.lp_form.specs.declared.shown.Cut.{Cut};
@@ -12,7 +12,7 @@ ghost use Rattle.outer_approx.specs.Standing.{IsEnded};
 ghost use Rattle.outer_approx.specs.Task.{Task};
 ghost use Rattle.overflows.specs.Faults.{OnLicence};
 ghost use Rattle.recession.specs.First.{AreFirstCuts};
-ghost use Rattle.vlp_reader.specs.declared.problem.Problem.{Problem as File};
+ghost use Rattle.vlp_problem.specs.declared.problem.Problem.{Problem as File};
 
 use crate::image::Image;
 use crate::order::orders;

@@ -10,9 +10,9 @@ use Rattle.deriv_log.specs.declared.entry.Entry.{Entry}
 use Rattle.double_descr.specs.State.{State as Description}
 use Rattle.log_rules.specs.Live.{lines, preimages}
 use Rattle.log_rules.proofs.NormedMembers.{front-homogenised, last-homogenised, one_not_zero}
-use Rattle.licence.specs.Base.{IsBaseStart, IsLiveAfter, last_of}
-use Rattle.licence.proofs.CutTurns.{optimum_turns, read_at_origin}
-use Rattle.licence.specs.Preimages.{IsPreimageOf}
+use Rattle.overflow_rules.specs.Base.{IsBaseStart, IsLiveAfter, last_of}
+use Rattle.overflow_rules.proofs.CutTurns.{optimum_turns, read_at_origin}
+use Rattle.overflow_rules.specs.Preimages.{IsPreimageOf}
 use Rattle.lp_form.specs.declared.shown.Cut.{Cut}
 use Rattle.lp_form.specs.declared.shown.Preimage.{Preimage}
 use Rattle.outer_approx.specs.Cuts.{said_by}

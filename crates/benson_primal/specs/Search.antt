@@ -7,8 +7,8 @@ use Rattle.polyhedra.specs.LiveList.{numbers}
 use Rattle.deriv_log.specs.declared.entry.Entry.{Entry}
 use Rattle.double_descr.specs.State.{State as Description}
 use Rattle.log_rules.specs.Live.{preimages}
-use Rattle.licence.specs.Base.{IsLiveAfter, last_of}
-use Rattle.licence.specs.Turns.{IsCutTurn, said_row}
+use Rattle.overflow_rules.specs.Base.{IsLiveAfter, last_of}
+use Rattle.overflow_rules.specs.Turns.{IsCutTurn, said_row}
 use Rattle.lp_form.specs.declared.shown.Cut.{Cut}
 use Rattle.outer_approx.specs.Cuts.{IsCutFor, said_by}
 use Rattle.outer_approx.specs.Preimages.{AreMarks}

@@ -1,7 +1,7 @@
 //! From data and a duality vector to the log that describes the image.
 ghost use Rattle.std.specs.Prelude.{[], map, IfOk, IfErr, OnOk};
 ghost use Rattle.cone_dual.specs.Fitting.{IsDualityOf};
-ghost use Rattle.licence.specs.Licence.{Licensed};
+ghost use Rattle.overflow_rules.specs.Licence.{Licensed};
 ghost use Rattle.lp_form.specs.Data.{IsDataOf};
 ghost use Rattle.overflows.specs.Faults.{OnLicence, Overflows};
 ghost use Rattle.outer_approx.specs.Standing.{IsEnded, IsOpenTrail, IsOpening};
@@ -9,7 +9,7 @@ ghost use Rattle.outer_approx.specs.Task.{Task, behind};
 ghost use Rattle.recession.specs.Asking.{IsKnown};
 ghost use Rattle.recession.specs.First.{AreFirstCuts};
 ghost use Rattle.recession.specs.Logs.{IsOwnLog};
-ghost use Rattle.vlp_reader.specs.declared.problem.Problem.{Problem as File};
+ghost use Rattle.vlp_problem.specs.declared.problem.Problem.{Problem as File};
 ghost use Rattle.benson_primal.specs.Search.{IsSearching};
 
 use crate::search::{Scope, Search};

@@ -12,10 +12,10 @@ use Rattle.polyhedra.proofs.Laws.{mul_one}
 use Rattle.polyhedra.proofs.Linear.{dot-combination}
 use Rattle.polyhedra.proofs.Lists.{all_from_map}
 use Rattle.tableaux.specs.Simplex.{IsOptimal}
-use Rattle.vlp_reader.specs.Sides.{side_bounds}
-use Rattle.vlp_reader.specs.declared.problem.Problem.{Problem}
-use Rattle.vlp_reader.specs.declared.problem.Cone.{Cone}
-use Rattle.vlp_reader.specs.declared.problem.Cone.TheVariants.{Orthant, Gens, Dual}
+use Rattle.vlp_problem.specs.Sides.{side_bounds}
+use Rattle.vlp_problem.specs.declared.problem.Problem.{Problem}
+use Rattle.vlp_problem.specs.declared.problem.Cone.{Cone}
+use Rattle.vlp_problem.specs.declared.problem.Cone.TheVariants.{Orthant, Gens, Dual}
 use Rattle.upper_image.specs.OrderingCone.{dual_of}
 use Rattle.upper_image.specs.Shows.{ShowsCut}
 use Rattle.upper_image.specs.Spots.{dense, product, IsVector}
@@ -23,10 +23,10 @@ use Rattle.upper_image.specs.UpperImage.{normals}
 use Rattle.upper_image.proofs.Widths.{product_is}
 use Rattle.lp_form.specs.Programs.{side_total, dual_unknowns, generators, benson_system, u_of, w_of, v_of, behind_of, value_of}
 use Rattle.lp_form.proofs.Systems.{IsWideCone, cone_wide, benson_ok, length-side_bounds}
-use Rattle.licence.specs.Base.{AreCutParts}
-use Rattle.licence.proofs.Cuts.{benson_unknowns, length-benson_cost}
-use Rattle.licence.proofs.CutTurns.{optimal_value}
-use Rattle.licence.proofs.Violated.{said_value}
+use Rattle.overflow_rules.specs.Base.{AreCutParts}
+use Rattle.overflow_rules.proofs.Cuts.{benson_unknowns, length-benson_cost}
+use Rattle.overflow_rules.proofs.CutTurns.{optimal_value}
+use Rattle.overflow_rules.proofs.Violated.{said_value}
 use Rattle.benson_program.specs.Laws.{BensonCut}
 use Rattle.benson_program.proofs.Blocks.{asked, given}
 use Rattle.benson_program.proofs.Shown.{IsHeld, shows}

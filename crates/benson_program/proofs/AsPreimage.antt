@@ -14,10 +14,10 @@ use Rattle.polyhedra.proofs.Order.{le_or_lt, lt_irrefl, neg_nonneg}
 use Rattle.std.proofs.lemmas.List.Elements.{All-weaker}
 use Rattle.tableaux.specs.Simplex.{IsOptimal}
 use Rattle.tableaux.specs.Table.{column_of}
-use Rattle.vlp_reader.specs.Sides.{sides, side_bounds, IsRecession}
-use Rattle.vlp_reader.specs.declared.problem.Problem.{Problem}
-use Rattle.vlp_reader.specs.declared.problem.Cone.{Cone}
-use Rattle.vlp_reader.specs.declared.problem.Cone.TheVariants.{Orthant, Gens, Dual}
+use Rattle.vlp_problem.specs.Sides.{sides, side_bounds, IsRecession}
+use Rattle.vlp_problem.specs.declared.problem.Problem.{Problem}
+use Rattle.vlp_problem.specs.declared.problem.Cone.{Cone}
+use Rattle.vlp_problem.specs.declared.problem.Cone.TheVariants.{Orthant, Gens, Dual}
 use Rattle.upper_image.specs.OrderingCone.{IsIn}
 use Rattle.upper_image.specs.Shows.{ShowsIn, ShowsInterior, ShowsFitting, ShowsAbove}
 use Rattle.upper_image.specs.Spots.{dense, IsVector}
@@ -27,7 +27,7 @@ use Rattle.upper_image.proofs.Solid.{duality_fits}
 use Rattle.upper_image.proofs.WorkingImage.{rest_wide}
 use Rattle.lp_form.specs.Programs.{side_total, on_parts, dual_unknowns, dual_equations, generators, benson_system, choice_of, value_of, share_of, full_share_of}
 use Rattle.lp_form.proofs.Systems.{benson_ok, length-negated}
-use Rattle.licence.proofs.Cuts.{benson_unknowns, length-benson_cost, length-bounds_if}
+use Rattle.overflow_rules.proofs.Cuts.{benson_unknowns, length-benson_cost, length-bounds_if}
 use Rattle.benson_program.specs.Laws.{BensonPreimage}
 use Rattle.benson_program.proofs.Blocks.{benson_equations}
 use Rattle.benson_program.proofs.Priced.{pulled, pushed, x_long, p_long, normals_at_least, shares_positive, rest_value}

@@ -19,10 +19,10 @@ use Rattle.polyhedra.proofs.Order.{inverse_positive, neg_positive}
 use Rattle.tableaux.specs.Simplex.{IsInfeasible}
 use Rattle.tableaux.specs.Table.{column_of}
 use Rattle.tableaux.proofs.Unique.{slice-zeros}
-use Rattle.vlp_reader.specs.Sides.{IsFeasible, IsRecession}
-use Rattle.vlp_reader.specs.declared.problem.Problem.{Problem}
-use Rattle.vlp_reader.specs.declared.problem.Cone.{Cone}
-use Rattle.vlp_reader.specs.declared.problem.Cone.TheVariants.{Orthant, Gens, Dual}
+use Rattle.vlp_problem.specs.Sides.{IsFeasible, IsRecession}
+use Rattle.vlp_problem.specs.declared.problem.Problem.{Problem}
+use Rattle.vlp_problem.specs.declared.problem.Cone.{Cone}
+use Rattle.vlp_problem.specs.declared.problem.Cone.TheVariants.{Orthant, Gens, Dual}
 use Rattle.upper_image.specs.OrderingCone.{IsInOrderingCone, Fits}
 use Rattle.upper_image.specs.Shows.{ShowsIn, ShowsAbove}
 use Rattle.upper_image.specs.Spots.{dense, IsVector}
@@ -32,9 +32,9 @@ use Rattle.upper_image.proofs.ConvexCones.{cone_convex, ordering_cone_convex}
 use Rattle.upper_image.proofs.WorkingImage.{rest_wide}
 use Rattle.lp_form.specs.Programs.{side_total, on_parts, dual_unknowns, dual_equations, generators, benson_system, choice_of, value_of, share_of}
 use Rattle.lp_form.proofs.Systems.{length-negated}
-use Rattle.licence.specs.Trails.{divided_by}
-use Rattle.licence.proofs.Cuts.{benson_unknowns, length-benson_cost}
-use Rattle.licence.proofs.CutTurns.{last_value}
+use Rattle.overflow_rules.specs.Trails.{divided_by}
+use Rattle.overflow_rules.proofs.Cuts.{benson_unknowns, length-benson_cost}
+use Rattle.overflow_rules.proofs.CutTurns.{last_value}
 use Rattle.benson_program.specs.Laws.{BensonWhole}
 use Rattle.benson_program.proofs.Blocks.{asked, benson_equations}
 use Rattle.benson_program.proofs.AsPreimage.{shares, multipliers_long, sides_rise}

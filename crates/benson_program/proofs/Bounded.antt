@@ -13,8 +13,8 @@ use Rattle.polyhedra.proofs.Laws.{mul_one}
 use Rattle.polyhedra.proofs.Linear.{dot_comm, dot-combination, dot-zeros, length-combination, length-zeros, same_wide}
 use Rattle.polyhedra.proofs.Order.{lt_irrefl}
 use Rattle.tableaux.specs.Simplex.{IsUnbounded}
-use Rattle.vlp_reader.specs.Sides.{sides, side_bounds, IsFeasible}
-use Rattle.vlp_reader.specs.declared.problem.Problem.{Problem}
+use Rattle.vlp_problem.specs.Sides.{sides, side_bounds, IsFeasible}
+use Rattle.vlp_problem.specs.declared.problem.Problem.{Problem}
 use Rattle.upper_image.specs.OrderingCone.{IsInOrderingCone, IsInteriorToCone}
 use Rattle.upper_image.specs.UpperImage.{normals, objectives}
 use Rattle.upper_image.proofs.Absorbing.{zero_at_interior}
@@ -23,8 +23,8 @@ use Rattle.upper_image.proofs.Widths.{wide_objectives}
 use Rattle.upper_image.proofs.WorkingImage.{feasible_meets}
 use Rattle.lp_form.specs.Programs.{dual_equations, benson_system, u_of, w_of, behind_of}
 use Rattle.lp_form.proofs.Systems.{benson_ok}
-use Rattle.licence.proofs.Cuts.{benson_cost, benson_unknowns, length-benson_cost}
-use Rattle.licence.proofs.Violated.{said_value}
+use Rattle.overflow_rules.proofs.Cuts.{benson_cost, benson_unknowns, length-benson_cost}
+use Rattle.overflow_rules.proofs.Violated.{said_value}
 use Rattle.benson_program.specs.Laws.{BensonBounded}
 use Rattle.benson_program.proofs.Blocks.{benson_equations}
 use Rattle.benson_program.proofs.Solved.{balanced, behind_long, behind_positive, in_dual, member, scaled_at, u_long, u_positive, w_long}

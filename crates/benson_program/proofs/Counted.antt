@@ -7,9 +7,9 @@ use Rattle.exact_field.specs.Rational.{ℚ, zero_ℚ, neg_ℚ, le_ℚ, ◌<ℚ�
 use Rattle.polyhedra.specs.DoubleDescription.{magnitude}
 use Rattle.polyhedra.proofs.Tests.{both_true}
 use Rattle.lin_rows.specs.Widths.{are_wide}
-use Rattle.vlp_reader.specs.declared.problem.Problem.{Problem}
-use Rattle.vlp_reader.specs.declared.problem.Cone.{Cone}
-use Rattle.vlp_reader.specs.declared.problem.Cone.TheVariants as cone
+use Rattle.vlp_problem.specs.declared.problem.Problem.{Problem}
+use Rattle.vlp_problem.specs.declared.problem.Cone.{Cone}
+use Rattle.vlp_problem.specs.declared.problem.Cone.TheVariants as cone
 use Rattle.lp_form.specs.declared.data.ConeOf.{ConeOf}
 use Rattle.lp_form.specs.declared.data.ConeOf.TheVariants.{Orthant, Gens, Dual}
 use Rattle.lp_form.specs.declared.data.Data.{Data}

@@ -9,15 +9,15 @@ use Rattle.polyhedra.specs.Vectors.{scaled, zeros}
 use Rattle.polyhedra.proofs.Algebra.{mul_neg}
 use Rattle.polyhedra.proofs.Linear.{length-scaled, length-zeros}
 use Rattle.polyhedra.proofs.Order.{lt_irrefl, neg_positive}
-use Rattle.vlp_reader.specs.declared.problem.Problem.{Problem}
-use Rattle.vlp_reader.specs.declared.problem.Cone.{Cone}
-use Rattle.vlp_reader.specs.declared.problem.Cone.TheVariants.{Orthant, Gens, Dual}
+use Rattle.vlp_problem.specs.declared.problem.Problem.{Problem}
+use Rattle.vlp_problem.specs.declared.problem.Cone.{Cone}
+use Rattle.vlp_problem.specs.declared.problem.Cone.TheVariants.{Orthant, Gens, Dual}
 use Rattle.upper_image.specs.Spots.{dense, IsVector}
-use Rattle.deriv_log.specs.declared.licence.Program.TheVariants.{Benson}
+use Rattle.vlp_problem.specs.declared.program.Program.TheVariants.{Benson}
 use Rattle.lp_form.specs.Programs.{benson_system, dual_equations, generators, choice_of, share_of, value_of}
-use Rattle.licence.specs.Base.{AreFirstMultipliersOff, IsBaseStart}
-use Rattle.licence.specs.Operands.{Setting, Knows, IsDivisor, IsScaled, vector_of}
-use Rattle.licence.specs.Trails.{divided_by}
+use Rattle.overflow_rules.specs.Base.{AreFirstMultipliersOff, IsBaseStart}
+use Rattle.overflow_rules.specs.Operands.{Setting, Knows, IsDivisor, IsScaled, vector_of}
+use Rattle.overflow_rules.specs.Trails.{divided_by}
 use Rattle.benson_program.proofs.AsPreimage.{multipliers_long}
 use Rattle.benson_program.proofs.AsWhole.{benson_whole}
 use Rattle.benson_program.proofs.Counted.{generators_few, magnitude_below}

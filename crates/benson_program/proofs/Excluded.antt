@@ -11,7 +11,7 @@ use Rattle.polyhedra.specs.Vectors.{scaled}
 use Rattle.polyhedra.proofs.Laws.{mul_one, zero_lt_one}
 use Rattle.polyhedra.proofs.Linear.{dot-scaled, length-scaled}
 use Rattle.polyhedra.proofs.Order.{lt_of_difference, not_lt_of_le}
-use Rattle.vlp_reader.specs.declared.problem.Problem.{Problem}
+use Rattle.vlp_problem.specs.declared.problem.Problem.{Problem}
 use Rattle.upper_image.specs.UpperImage.{turned, IsInWorkingImage}
 use Rattle.upper_image.specs.Witnesses.{IsWhole}
 use Rattle.upper_image.proofs.ConvexCones.{ordering_cone_convex}

@@ -11,8 +11,8 @@ use Rattle.tableaux.specs.Simplex.{IsOptimal, IsInfeasible, IsUnbounded}
 use Rattle.tableaux.specs.Table.{Table, column_of, listed}
 use Rattle.tableaux.proofs.Places.{length-list_from}
 use Rattle.tableaux.proofs.Unique.{entry-combination}
-use Rattle.vlp_reader.specs.Sides.{sides, side_column, side_bounds, IsFeasible}
-use Rattle.vlp_reader.specs.declared.problem.Problem.{Problem}
+use Rattle.vlp_problem.specs.Sides.{sides, side_column, side_bounds, IsFeasible}
+use Rattle.vlp_problem.specs.declared.problem.Problem.{Problem}
 use Rattle.upper_image.specs.Spots.{dense, IsVector}
 use Rattle.upper_image.specs.UpperImage.{normals}
 use Rattle.upper_image.proofs.Widths.{wide_normals, side_columns, product_is}

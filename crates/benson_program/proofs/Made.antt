@@ -4,14 +4,14 @@ use Rattle.std.proofs.lemmas.List.{length-map}
 use Rattle.exact_field.specs.Rational.{ℚ}
 use Rattle.exact_field.specs.Vector.{dot}
 use Rattle.frac128.specs.declared.vectors.Spot.{Spot}
-use Rattle.vlp_reader.specs.Sides.{side_bounds}
-use Rattle.vlp_reader.specs.declared.problem.Problem.{Problem}
+use Rattle.vlp_problem.specs.Sides.{side_bounds}
+use Rattle.vlp_problem.specs.declared.problem.Problem.{Problem}
 use Rattle.upper_image.specs.Shows.{ShowsCut}
 use Rattle.upper_image.specs.Spots.{dense, product, IsVector}
 use Rattle.upper_image.proofs.Widths.{product_is}
 use Rattle.lp_form.specs.Programs.{side_total, benson_system, u_of, w_of, v_of}
 use Rattle.lp_form.proofs.Systems.{length-side_bounds}
-use Rattle.licence.specs.Base.{AreCutParts, IsBaseCut}
+use Rattle.overflow_rules.specs.Base.{AreCutParts, IsBaseCut}
 use Rattle.benson_program.proofs.AsCut.{benson_cut}
 use Rattle.benson_program.proofs.Solved.{u_long}
 use Rattle.benson_program.proofs.Read.{z_long, base}

@@ -15,18 +15,18 @@ use Rattle.polyhedra.proofs.Negatives.{dot-negated}
 use Rattle.tableaux.specs.Table.{column_of, minus}
 use Rattle.tableaux.proofs.Inverse.{dot-append}
 use Rattle.tableaux.proofs.Unique.{entry-combination}
-use Rattle.vlp_reader.specs.Sides.{sides}
-use Rattle.vlp_reader.specs.declared.problem.Problem.{Problem}
-use Rattle.vlp_reader.specs.declared.problem.Cone.{Cone}
-use Rattle.vlp_reader.specs.declared.problem.Cone.TheVariants.{Orthant, Gens, Dual}
+use Rattle.vlp_problem.specs.Sides.{sides}
+use Rattle.vlp_problem.specs.declared.problem.Problem.{Problem}
+use Rattle.vlp_problem.specs.declared.problem.Cone.{Cone}
+use Rattle.vlp_problem.specs.declared.problem.Cone.TheVariants.{Orthant, Gens, Dual}
 use Rattle.upper_image.specs.UpperImage.{normals, objectives, rest}
 use Rattle.upper_image.proofs.Widths.{wide_normals, wide_objectives}
 use Rattle.upper_image.proofs.WorkingImage.{value_wide}
 use Rattle.log_rules.proofs.ByEntries.{entry-suc}
 use Rattle.lp_form.specs.Programs.{side_total, on_parts, dual_unknowns, dual_equations, choice_of, value_of}
 use Rattle.lp_form.proofs.Systems.{IsWideCone, cone_wide, benson_ok, length-negated}
-use Rattle.licence.proofs.Cuts.{benson_unknowns, length-benson_cost, length-on_parts}
-use Rattle.licence.proofs.Violated.{length-minus}
+use Rattle.overflow_rules.proofs.Cuts.{benson_unknowns, length-benson_cost, length-on_parts}
+use Rattle.overflow_rules.proofs.Violated.{length-minus}
 use Rattle.benson_program.proofs.Blocks.{asked, given, length-asked, length-given, benson_equations, equations-value}
 use Rattle.benson_program.proofs.Solved.{u_long, a_long, b_long, behind_long}
 use Rattle.benson_program.proofs.Vectors.{AreAtMost, at_most_each, at_most_parts, at_most_both, at_least_zero, dot-minus, dot-parts, parts_of, same_on}

@@ -5,8 +5,8 @@ use Rattle.exact_field.specs.Rational.{ℚ, zero_ℚ}
 use Rattle.frac128.specs.declared.vectors.Spot.{Spot}
 use Rattle.tableaux.specs.Dictionary.{solution}
 use Rattle.tableaux.specs.Table.{System, unknown_count}
-use Rattle.vlp_reader.specs.Sides.{side_bounds}
-use Rattle.vlp_reader.specs.declared.problem.Problem.{Problem}
+use Rattle.vlp_problem.specs.Sides.{side_bounds}
+use Rattle.vlp_problem.specs.declared.problem.Problem.{Problem}
 use Rattle.upper_image.specs.Spots.{dense}
 use Rattle.lp_form.specs.declared.data.Data.{Data}
 use Rattle.lp_form.specs.declared.data.SideOf.{SideOf}
@@ -16,10 +16,10 @@ use Rattle.lp_form.specs.Programs.{side_total, dual_unknowns, benson_system, u_o
 use Rattle.lp_form.specs.Reading.{HasColumns, IsSplit}
 use Rattle.lp_form.proofs.Figures.{side_number, objective_number}
 use Rattle.lp_form.proofs.Systems.{benson_ok}
-use Rattle.licence.specs.Base.{AreCutParts, IsBaseCut}
-use Rattle.licence.specs.Operands.{Setting, Knows, IsBaseU}
-use Rattle.licence.proofs.Cuts.{benson_unknowns, length-benson_cost}
-use Rattle.licence.proofs.CutTurns.{cuts_are_base}
+use Rattle.overflow_rules.specs.Base.{AreCutParts, IsBaseCut}
+use Rattle.overflow_rules.specs.Operands.{Setting, Knows, IsBaseU}
+use Rattle.overflow_rules.proofs.Cuts.{benson_unknowns, length-benson_cost}
+use Rattle.overflow_rules.proofs.CutTurns.{cuts_are_base}
 use Rattle.cone_rules.proofs.Opposite.{opposite_columns}
 use Rattle.benson_program.proofs.Solved.{u_long}
 use Rattle.benson_program.proofs.Opposite.{opposite_entries}

@@ -3,7 +3,7 @@ use Rattle.std.proofs.Common.{◌≡◌, List, length, map, refl, sym, ap, ◌�
 use Rattle.std.specs.Prelude.{IsSomeAnd}
 use Rattle.exact_field.specs.Rational.{ℚ}
 use Rattle.frac128.specs.Sparse.{is_zero}
-use Rattle.vlp_reader.specs.declared.problem.Problem.{Problem}
+use Rattle.vlp_problem.specs.declared.problem.Problem.{Problem}
 use Rattle.lp_form.specs.declared.data.Data.{Data}
 use Rattle.lp_form.specs.Data.{IsDataOf, cone_of, duality_of, vector_of}
 use Rattle.lp_form.specs.Programs.{benson_system}

@@ -7,19 +7,19 @@ use Rattle.frac128.specs.declared.vectors.Spot.{Spot}
 use Rattle.polyhedra.specs.Vectors.{plus, scaled}
 use Rattle.polyhedra.proofs.Linear.{length-plus, length-scaled}
 use Rattle.tableaux.specs.Simplex.{IsOptimal}
-use Rattle.vlp_reader.specs.Sides.{IsFeasible, IsRecession}
-use Rattle.vlp_reader.specs.declared.problem.Problem.{Problem}
-use Rattle.vlp_reader.specs.declared.problem.Cone.{Cone}
+use Rattle.vlp_problem.specs.Sides.{IsFeasible, IsRecession}
+use Rattle.vlp_problem.specs.declared.problem.Problem.{Problem}
+use Rattle.vlp_problem.specs.declared.problem.Cone.{Cone}
 use Rattle.upper_image.specs.Shows.{ShowsFitting}
 use Rattle.upper_image.specs.Spots.{dense, IsVector}
 use Rattle.lp_form.specs.Programs.{benson_system, choice_of, dual_equations, full_share_of, generators, share_of, value_of}
-use Rattle.licence.specs.Base.{AreMultipliersOff, IsBaseStart}
-use Rattle.licence.specs.Operands.{AreBensonMultipliers, Knows, Setting}
+use Rattle.overflow_rules.specs.Base.{AreMultipliersOff, IsBaseStart}
+use Rattle.overflow_rules.specs.Operands.{AreBensonMultipliers, Knows, Setting}
 use Rattle.benson_program.proofs.AsPreimage.{benson_preimage, multipliers_long}
 use Rattle.benson_program.proofs.Counted.{generators_few}
 use Rattle.benson_program.proofs.Divided.{length-share}
 use Rattle.benson_program.specs.Preimages.{AreLowMultipliers}
-use Rattle.licence.specs.Preimages.{IsPreimageOf, ShowsChosen}
+use Rattle.overflow_rules.specs.Preimages.{IsPreimageOf, ShowsChosen}
 use Rattle.lp_form.specs.Sparse.{IsSparseOf}
 use Rattle.lp_form.specs.declared.shown.Preimage.{Preimage}
 

@@ -7,9 +7,9 @@ use Rattle.frac128.specs.declared.vectors.Spot.{Spot}
 use Rattle.polyhedra.specs.Vectors.{AtLeastZero, combination, plus, values}
 use Rattle.polyhedra.proofs.Linear.{dot-combination, dot-plus, length-combination, same_wide}
 use Rattle.polyhedra.proofs.Lists.{HoldsAt, all_from_map}
-use Rattle.vlp_reader.specs.Cones.{cone_fits}
-use Rattle.vlp_reader.specs.declared.problem.Cone.{Cone}
-use Rattle.vlp_reader.specs.declared.problem.Cone.TheVariants.{Orthant, Gens, Dual}
+use Rattle.vlp_problem.specs.Cones.{cone_fits}
+use Rattle.vlp_problem.specs.declared.problem.Cone.{Cone}
+use Rattle.vlp_problem.specs.declared.problem.Cone.TheVariants.{Orthant, Gens, Dual}
 use Rattle.upper_image.specs.OrderingCone.{IsIn}
 use Rattle.upper_image.specs.Shows.{ShowsIn}
 use Rattle.upper_image.specs.Spots.{dense, IsVector}

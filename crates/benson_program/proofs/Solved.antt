@@ -17,17 +17,17 @@ use Rattle.polyhedra.proofs.Linear.{dot_comm, dot-plus, dot-zeros, length-combin
 use Rattle.polyhedra.proofs.Lists.{all_from_map}
 use Rattle.polyhedra.proofs.Negatives.{dot-negated}
 use Rattle.polyhedra.proofs.Support.{dot_nonneg}
-use Rattle.vlp_reader.specs.Cones.{cone_fits}
-use Rattle.vlp_reader.specs.declared.problem.Problem.{Problem}
-use Rattle.vlp_reader.specs.declared.problem.Cone.{Cone}
-use Rattle.vlp_reader.specs.declared.problem.Cone.TheVariants.{Orthant, Gens, Dual}
+use Rattle.vlp_problem.specs.Cones.{cone_fits}
+use Rattle.vlp_problem.specs.declared.problem.Problem.{Problem}
+use Rattle.vlp_problem.specs.declared.problem.Cone.{Cone}
+use Rattle.vlp_problem.specs.declared.problem.Cone.TheVariants.{Orthant, Gens, Dual}
 use Rattle.upper_image.specs.OrderingCone.{IsIn}
 use Rattle.upper_image.specs.UpperImage.{normals, objectives}
 use Rattle.upper_image.proofs.Widths.{wide_normals, wide_objectives}
 use Rattle.lp_form.specs.Programs.{side_total, dual_unknowns, dual_equations, u_of, w_of, behind_of}
 use Rattle.lp_form.proofs.Systems.{IsWideCone, cone_wide, length-negated}
-use Rattle.licence.proofs.Cuts.{benson_unknowns}
-use Rattle.licence.proofs.Violated.{length-minus}
+use Rattle.overflow_rules.proofs.Cuts.{benson_unknowns}
+use Rattle.overflow_rules.proofs.Violated.{length-minus}
 use Rattle.benson_program.proofs.Blocks.{asked, given, length-asked, length-given, benson_equations, equations-value}
 use Rattle.benson_program.proofs.Vectors.{append_parts, parts_of}
 

@@ -16,7 +16,7 @@ use Rattle.polyhedra.proofs.Lists.{nonneg-nil, nonneg-cons}
 use Rattle.polyhedra.proofs.Negatives.{dot-negated}
 use Rattle.tableaux.specs.Table.{minus}
 use Rattle.tableaux.proofs.Inverse.{dot-append}
-use Rattle.licence.proofs.Violated.{minus-is}
+use Rattle.overflow_rules.proofs.Violated.{minus-is}
 
 -- ---- cut at one place
 pub append_parts : (a b c d : List ℚ) → length a ≡ length c → a ++ b ≡ c ++ d → (a ≡ c) × (b ≡ d)

@@ -13,9 +13,9 @@ use Rattle.deriv_log.specs.declared.entry.Entry.{Entry}
 use Rattle.deriv_log.specs.declared.licence.Licence.{Licence}
 use Rattle.deriv_log.specs.declared.licence.Place.TheVariants.{Elim}
 use Rattle.lp_form.specs.Programs.{share_of, value_of}
-use Rattle.licence.specs.Licence.{IsOverflow}
-use Rattle.licence.specs.Operands.{AreBensonMultipliers, IsListStep, IsShareStep, Setting}
-use Rattle.licence.specs.Steps.{IsNotHeld, in_numbers, operation}
+use Rattle.overflow_rules.specs.Licence.{IsOverflow}
+use Rattle.overflow_rules.specs.Operands.{AreBensonMultipliers, IsListStep, IsShareStep, Setting}
+use Rattle.overflow_rules.specs.Steps.{IsNotHeld, in_numbers, operation}
 use Rattle.overflows.specs.Faults.{IsEliminationLeft, IsLeftAt, Overflows}
 use Rattle.overflows.specs.declared.fault.SolveFault.{SolveFault}
 use Rattle.overflows.specs.declared.fault.SolveFault.TheVariants.{Left, NoMemory}

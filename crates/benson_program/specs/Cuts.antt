@@ -3,11 +3,11 @@ use Rattle.std.specs.Prelude.{◌≡◌, List, map}
 use Rattle.exact_field.specs.Rational.{ℚ}
 use Rattle.exact_field.specs.Vector.{dot}
 use Rattle.frac128.specs.declared.vectors.Spot.{Spot}
-use Rattle.vlp_reader.specs.Sides.{side_bounds}
-use Rattle.vlp_reader.specs.declared.problem.Problem.{Problem}
+use Rattle.vlp_problem.specs.Sides.{side_bounds}
+use Rattle.vlp_problem.specs.declared.problem.Problem.{Problem}
 use Rattle.upper_image.specs.Shows.{ShowsCut}
 use Rattle.lp_form.specs.Programs.{u_of, w_of, v_of}
-use Rattle.licence.specs.Base.{IsBaseCut}
+use Rattle.overflow_rules.specs.Base.{IsBaseCut}
 use Rattle.lp_form.specs.Sparse.{IsSparseOf}
 use Rattle.lp_form.specs.declared.shown.Cut.{Cut}
 

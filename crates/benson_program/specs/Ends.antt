@@ -4,19 +4,19 @@ use Rattle.exact_field.specs.Rational.{ℚ}
 use Rattle.frac128.specs.declared.vectors.Spot.{Spot}
 use Rattle.tableaux.specs.Table.{Table, System}
 use Rattle.tableaux.specs.Simplex.{IsOptimal, IsInfeasible, OptimalAt, InfeasibleAt}
-use Rattle.vlp_reader.specs.Sides.{IsFeasible}
-use Rattle.vlp_reader.specs.declared.problem.Problem.{Problem}
+use Rattle.vlp_problem.specs.Sides.{IsFeasible}
+use Rattle.vlp_problem.specs.declared.problem.Problem.{Problem}
 use Rattle.upper_image.specs.OrderingCone.{IsInteriorToCone}
 use Rattle.upper_image.specs.Spots.{dense, IsVector}
 use Rattle.upper_image.specs.Witnesses as witnesses
 use Rattle.deriv_log.specs.declared.licence.Place.{Place}
 use Rattle.deriv_log.specs.declared.licence.Place.TheVariants.{Pivot}
-use Rattle.deriv_log.specs.declared.licence.Program.TheVariants.{Feasible}
+use Rattle.vlp_problem.specs.declared.program.Program.TheVariants.{Feasible}
 use Rattle.log_rules.specs.Meets.{MeetsFarkas}
 use Rattle.lp_form.specs.Data.{IsDataOf}
 use Rattle.lp_form.specs.Programs.{side_total, feasible_system, benson_system}
 use Rattle.lp_form.specs.declared.data.Data.{Data}
-use Rattle.licence.specs.Base.{IsRayOff, IsBaseChoice}
+use Rattle.overflow_rules.specs.Base.{IsRayOff, IsBaseChoice}
 use Rattle.benson_program.specs.declared.ends.FeasibleEnd.{FeasibleEnd}
 use Rattle.benson_program.specs.declared.ends.FeasibleEnd.TheVariants.{Contradiction, Point}
 use Rattle.benson_program.specs.declared.ends.BensonEnd.{BensonEnd}

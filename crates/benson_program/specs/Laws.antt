@@ -4,8 +4,8 @@ use Rattle.exact_field.specs.Rational.{ℚ, zero_ℚ, neg_ℚ, ◌-ℚ◌, ◌�
 use Rattle.exact_field.specs.Vector.{dot}
 use Rattle.frac128.specs.declared.vectors.Spot.{Spot}
 use Rattle.tableaux.specs.Simplex.{IsOptimal, IsInfeasible, IsUnbounded}
-use Rattle.vlp_reader.specs.Sides.{side_bounds, IsFeasible, IsRecession}
-use Rattle.vlp_reader.specs.declared.problem.Problem.{Problem}
+use Rattle.vlp_problem.specs.Sides.{side_bounds, IsFeasible, IsRecession}
+use Rattle.vlp_problem.specs.declared.problem.Problem.{Problem}
 use Rattle.upper_image.specs.Laws.{InfeasibleIsEmpty}
 use Rattle.upper_image.specs.OrderingCone.{IsInteriorToCone, Fits}
 use Rattle.upper_image.specs.Shows.{ShowsFitting, ShowsRecession, ShowsAbove, ShowsCut}
@@ -14,8 +14,8 @@ use Rattle.upper_image.specs.Witnesses.{IsWhole}
 use Rattle.upper_image.specs.Witnesses as witnesses
 use Rattle.log_rules.specs.Meets.{MeetsFarkas}
 use Rattle.lp_form.specs.Programs.{side_total, generators, feasible_system, benson_system, w_of, v_of, choice_of, value_of, share_of, full_share_of}
-use Rattle.licence.specs.Base.{AreCutParts}
-use Rattle.licence.specs.Trails.{divided_by}
+use Rattle.overflow_rules.specs.Base.{AreCutParts}
+use Rattle.overflow_rules.specs.Trails.{divided_by}
 
 -- ---- the program `Feasible`
 -- what each of its three ends shows

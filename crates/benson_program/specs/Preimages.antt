@@ -1,7 +1,7 @@
 -- The multipliers of Benson's program from which a pre-image is read off.
 use Rattle.std.specs.Prelude.{ℕ, ◌≡◌, Bool, List, length}
 use Rattle.exact_field.specs.Rational.{ℚ, zero_ℚ, ◌≤ℚ◌}
-use Rattle.vlp_reader.specs.declared.problem.Problem.{Problem}
+use Rattle.vlp_problem.specs.declared.problem.Problem.{Problem}
 use Rattle.lp_form.specs.Programs.{benson_system, value_of}
 use Rattle.benson_program.specs.Ends.{IsOptimumAt}
 

@@ -3,14 +3,14 @@ use Rattle.std.specs.Prelude.{ℕ, ◌≡◌, true, List, map, length}
 use Rattle.exact_field.specs.Rational.{ℚ, neg_ℚ}
 use Rattle.frac128.specs.declared.vectors.Spot.{Spot}
 use Rattle.polyhedra.specs.Vectors.{zeros}
-use Rattle.vlp_reader.specs.Sides.{IsFeasible}
-use Rattle.vlp_reader.specs.declared.problem.Problem.{Problem}
+use Rattle.vlp_problem.specs.Sides.{IsFeasible}
+use Rattle.vlp_problem.specs.declared.problem.Problem.{Problem}
 use Rattle.upper_image.specs.OrderingCone.{Fits}
 use Rattle.upper_image.specs.Shows.{ShowsAbove, ShowsRecession}
 use Rattle.upper_image.specs.Spots.{dense, IsVector}
 use Rattle.upper_image.specs.Witnesses.{IsWhole}
 use Rattle.lp_form.specs.Programs.{generators, benson_system}
-use Rattle.licence.specs.Trails.{IsBaseWhole}
+use Rattle.overflow_rules.specs.Trails.{IsBaseWhole}
 use Rattle.benson_program.specs.Ends.{IsEmptyAt}
 use Rattle.lp_form.specs.Sparse.{IsSparseOf}
 use Rattle.benson_program.specs.declared.whole.WholeParts.{WholeParts}

@@ -3,7 +3,7 @@ use Rattle.std.specs.Prelude.{◌≡◌, Bool, List, map, length}
 use Rattle.exact_field.specs.Rational.{ℚ}
 use Rattle.exact_simplex.specs.Keeping.{IsKeptFor}
 use Rattle.exact_simplex.specs.declared.kept.Kept.{Kept}
-use Rattle.vlp_reader.specs.declared.problem.Problem.{Problem}
+use Rattle.vlp_problem.specs.declared.problem.Problem.{Problem}
 use Rattle.lp_form.specs.Data.{IsDataOf}
 use Rattle.lp_form.specs.Programs.{benson_system}
 use Rattle.lp_form.specs.declared.data.Data.{Data}

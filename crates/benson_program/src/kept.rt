@@ -6,13 +6,14 @@ ghost use Rattle.lp_form.specs.Names.{HasWidths, named};
 ghost use Rattle.lp_form.specs.Programs.{named_system};
 ghost use Rattle.tableaux.specs.Simplex.{IsOptimal, OptimalAt};
 ghost use Rattle.tableaux.specs.Table.{Table};
-ghost use Rattle.vlp_reader.specs.declared.problem.Problem.{Problem as File};
+ghost use Rattle.vlp_problem.specs.declared.problem.Problem.{Problem as File};
 
 use crate::written::Written;
 use bounded_simplex::Engine;
 use exact_field::Field;
 use lp_form::{Data, LpName};
-use shown_program::{Guess, Optimum, optimum_of};
+use shown_program::optimum_of;
+use shown_bases::{Guess, Optimum};
 use src_sink::NoMemory;
 use std::alloc::Global;
 

@@ -2,15 +2,15 @@
 ghost use Rattle.std.specs.Prelude.{◌≡◌, ◌≤◌, ◌+◌, ℕ, Bool, List, [], map, take, length, IfOk, IfErr};
 ghost use Rattle.exact_field.specs.Rational.{ℚ, ◌<ℚ◌, neg_ℚ, zero_ℚ};
 ghost use Rattle.benson_program.specs.Preimages.{AreLowMultipliers};
-ghost use Rattle.licence.specs.Preimages.{IsPreimageOf};
-ghost use Rattle.licence.specs.Base.{IsBaseStart};
-ghost use Rattle.licence.specs.Operands.{AreBensonMultipliers, Knows, Setting};
+ghost use Rattle.overflow_rules.specs.Preimages.{IsPreimageOf};
+ghost use Rattle.overflow_rules.specs.Base.{IsBaseStart};
+ghost use Rattle.overflow_rules.specs.Operands.{AreBensonMultipliers, Knows, Setting};
 ghost use Rattle.lp_form.specs.Data.{IsDataOf, cone_of};
 ghost use Rattle.lp_form.specs.Programs.{full_share_of, generators, share_of, value_of};
 ghost use Rattle.overflows.specs.Faults.{Overflows};
 ghost use Rattle.polyhedra.specs.Vectors.{plus, scaled};
 ghost use Rattle.upper_image.specs.Shows.{ShowsFitting};
-ghost use Rattle.vlp_reader.specs.declared.problem.Problem.{Problem as File};
+ghost use Rattle.vlp_problem.specs.declared.problem.Problem.{Problem as File};
 
 use crate::whole::generator_count;
 use exact_field::Field;

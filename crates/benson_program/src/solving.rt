@@ -2,14 +2,14 @@
 ghost use Rattle.std.specs.Prelude.{◌≡◌, [], map, length, IfOk, IfErr};
 ghost use Rattle.benson_program.specs.Ends.{CanStart, IsBensonEnd, IsFeasibleEnd, IsPivotOfFeasible, StandForSome};
 ghost use Rattle.exact_simplex.specs.Ends.{IsCertified, IsLpFault, IsReadOff};
-ghost use Rattle.licence.specs.Base.{IsBaseStart};
-ghost use Rattle.licence.specs.Operands.{IsAllowed, Knows, Setting, system_in};
+ghost use Rattle.overflow_rules.specs.Base.{IsBaseStart};
+ghost use Rattle.overflow_rules.specs.Operands.{IsAllowed, Knows, Setting, system_in};
 ghost use Rattle.lp_form.specs.Data.{IsDataOf};
 ghost use Rattle.lp_form.specs.Names.{HasWidths, named};
 ghost use Rattle.lp_form.specs.Programs.{named_system};
 ghost use Rattle.lp_form.specs.declared.name.LpName.TheVariants as name_of;
 ghost use Rattle.overflows.specs.Faults.{OnLicence, Overflows};
-ghost use Rattle.vlp_reader.specs.declared.problem.Problem.{Problem as File};
+ghost use Rattle.vlp_problem.specs.declared.problem.Problem.{Problem as File};
 
 use crate::ends::{BensonEnd, FeasibleEnd};
 use crate::kept::Kept;
@@ -18,7 +18,7 @@ use exact_field::Field;
 use exact_simplex::{LpEnd, LpFault, solve_lp};
 use lp_form::{Data, LpName, program};
 use overflows::{SolveFault, program_fault};
-use shown_program::Optimum;
+use shown_bases::Optimum;
 use src_sink::{Items, NoMemory};
 use std::alloc::Global;
 

@@ -2,12 +2,12 @@
 ghost use Rattle.std.specs.Prelude.{◌≡◌, ◌≤◌, List, [], map, take, drop, length, IfOk, IfErr};
 ghost use Rattle.exact_field.specs.Rational.{ℚ};
 ghost use Rattle.benson_program.specs.Wholes.{AreEmptyAtOrigin, IsWholeOf};
-ghost use Rattle.licence.specs.Operands.{Knows, Setting};
+ghost use Rattle.overflow_rules.specs.Operands.{Knows, Setting};
 ghost use Rattle.lp_form.specs.Data.{IsDataOf, cone_of};
 ghost use Rattle.lp_form.specs.Programs.{generators};
 ghost use Rattle.overflows.specs.Faults.{Overflows};
 ghost use Rattle.polyhedra.specs.Negatives.{negated};
-ghost use Rattle.vlp_reader.specs.declared.problem.Problem.{Problem as File};
+ghost use Rattle.vlp_problem.specs.declared.problem.Problem.{Problem as File};
 
 use exact_field::Field;
 use lp_form::{ConeOf, Data, negative};

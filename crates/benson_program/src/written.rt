@@ -5,7 +5,7 @@ ghost use Rattle.benson_program.specs.Ends.{StandForSome};
 ghost use Rattle.exact_simplex.specs.Ends.{IsCertified, IsLpFault, IsReadOff};
 ghost use Rattle.lp_form.specs.Data.{IsDataOf};
 ghost use Rattle.lp_form.specs.Programs.{benson_system};
-ghost use Rattle.vlp_reader.specs.declared.problem.Problem.{Problem as File};
+ghost use Rattle.vlp_problem.specs.declared.problem.Problem.{Problem as File};
 
 use crate::same::{copy, copy_data, is_same_data, is_same_vector};
 use exact_field::Field;

@@ -4,7 +4,7 @@ use crate::limits::limits_at;
 use crate::meaning::Dual;
 use exact_field::Field;
 use lp_form::{ConeOf, Data};
-use shown_program::Guess;
+use shown_bases::Guess;
 use src_sink::NoMemory;
 use std::alloc::Global;
 use whole_simplex::{Stop, Term};

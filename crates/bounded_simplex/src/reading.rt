@@ -4,7 +4,7 @@ use crate::meaning::{Bound, Dual, Kind};
 use crate::table::{Basis, Layout, magnitude};
 use exact_field::Field;
 use lp_form::{ConeOf, Data};
-use shown_program::Guess;
+use shown_bases::Guess;
 use src_sink::Items;
 use whole_simplex::{Place, Stop, at, item, put};
 

@@ -4,7 +4,7 @@ use crate::lists::{Lists, numbered};
 use crate::ordering::order_of;
 use exact_field::Field;
 use lp_form::{At, ConeOf, Data};
-use shown_program::Guess;
+use shown_bases::Guess;
 use src_sink::Items;
 use std::alloc::Global;
 use whole_simplex::{Stop, at, item};

@@ -4,14 +4,14 @@ ghost use Rattle.cert_check.specs.Keeping.{next_scale, next_farkas, next_whole, 
 ghost use Rattle.cert_check.specs.Standing.{HasFound};
 ghost use Rattle.deriv_log.specs.declared.entry.Entry.{Entry};
 ghost use Rattle.log_versions.specs.Plain.{plain};
-ghost use Rattle.vlp_reader.specs.declared.problem.Dir.{Dir};
+ghost use Rattle.vlp_problem.specs.declared.problem.Dir.{Dir};
 
 use deriv_log::{EndKind, Entry};
 use frac128::{Sparse, Vector};
 use log_rules::LineGen;
 use src_sink::{Items, NoMemory};
 use std::alloc::Global;
-use vlp_reader::Dir;
+use vlp_problem::Dir;
 
 /// A feasible point, and a direction along which the image is everything.
 #[derive(Debug, Drop)]

@@ -4,7 +4,7 @@ ghost use Rattle.deriv_log.specs.Formed.{is_formed};
 ghost use Rattle.deriv_log.specs.declared.entry.Entry.{Entry};
 ghost use Rattle.cert_check.specs.Standing.{IsKnown};
 ghost use Rattle.cert_check.specs.Taking.{IsTested};
-ghost use Rattle.vlp_reader.specs.declared.problem.Problem.{Problem};
+ghost use Rattle.vlp_problem.specs.declared.problem.Problem.{Problem};
 
 use crate::found::{keep_scale, keep_way};
 use crate::kinds::Kinds;
@@ -14,7 +14,7 @@ use frac128::Vector;
 use src_sink::{Items, NoMemory};
 use std::alloc::Global;
 use vlp_matrices::Matrices;
-use vlp_reader::Problem;
+use vlp_problem::Problem;
 
 /// The problem by rows and columns, the kinds of the entries before, the duality vector, the lines,
 /// and the shared vectors.

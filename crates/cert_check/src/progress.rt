@@ -10,7 +10,7 @@ ghost use Rattle.log_versions.specs.Plain.{plain};
 ghost use Rattle.log_versions.specs.WrittenEvents.{written_events};
 ghost use Rattle.cert_check.specs.Standing.{IsAt, IsKnown, HasFound};
 ghost use Rattle.cert_check.specs.Taking.{IsTested};
-ghost use Rattle.vlp_reader.specs.declared.problem.Problem.{Problem};
+ghost use Rattle.vlp_problem.specs.declared.problem.Problem.{Problem};
 
 use crate::found::{Found, FoundWhole};
 use crate::known::Known;
@@ -23,7 +23,7 @@ use log_rules::{Answer, Rule, Stop};
 use log_solved::Solving;
 use src_sink::NoMemory;
 use std::alloc::Global;
-use vlp_reader::{Dir, Problem};
+use vlp_problem::{Dir, Problem};
 
 /// What is known of a log's entries so far, none of whose events fails. After an error of `take`
 /// the value is of no use. It takes memory for the cuts, the lines, the shared vectors, and the

@@ -6,15 +6,15 @@ use Rattle.lin_rows.specs.Eliminate.{IsElimFault}
 use Rattle.lin_rows.specs.declared.fault.RowFault.{RowFault}
 use Rattle.exact_simplex.specs.Ends.{IsLpFault}
 use Rattle.exact_simplex.specs.declared.answer.LpFault.{LpFault}
-use Rattle.vlp_reader.specs.declared.problem.Problem.{Problem}
-use Rattle.vlp_reader.specs.Values.{cone_vectors}
-use Rattle.deriv_log.specs.declared.licence.Program.{Program}
+use Rattle.vlp_problem.specs.declared.problem.Problem.{Problem}
+use Rattle.vlp_problem.specs.Values.{cone_vectors}
+use Rattle.vlp_problem.specs.declared.program.Program.{Program}
 use Rattle.lp_form.specs.declared.data.Data.{Data}
 use Rattle.lp_form.specs.Data.{IsDataOf, cone_of, duality_of}
 use Rattle.lp_form.specs.Programs.{interior_system, pointed_system}
 use Rattle.lp_form.proofs.Figures.{objective_number}
-use Rattle.licence.specs.Licence.{LicensedWithout}
-use Rattle.licence.specs.Operands.{Setting, AreElimRows, IsAllowed, IsElimTable, system_in}
+use Rattle.overflow_rules.specs.Licence.{LicensedWithout}
+use Rattle.overflow_rules.specs.Operands.{Setting, AreElimRows, IsAllowed, IsElimTable, system_in}
 use Rattle.overflows.specs.Faults.{OnLicence, Overflows}
 use Rattle.overflows.specs.declared.fault.SolveFault.{SolveFault}
 use Rattle.cone_dual.proofs.Standing.{before, without}

@@ -23,10 +23,10 @@ use Rattle.exact_simplex.specs.declared.answer.LpEnd.{LpEnd}
 use Rattle.exact_simplex.specs.declared.answer.LpEnd.TheVariants.{Optimal, Unbounded, Infeasible}
 use Rattle.lin_rows.specs.Read.{numbers}
 use Rattle.upper_image.specs.Spots.{dense, IsVector}
-use Rattle.vlp_reader.specs.declared.problem.Problem.{Problem}
-use Rattle.vlp_reader.specs.declared.problem.Cone.{Cone}
-use Rattle.vlp_reader.specs.declared.problem.Cone.TheVariants as cone
-use Rattle.deriv_log.specs.declared.licence.Program.TheVariants.{Interior}
+use Rattle.vlp_problem.specs.declared.problem.Problem.{Problem}
+use Rattle.vlp_problem.specs.declared.problem.Cone.{Cone}
+use Rattle.vlp_problem.specs.declared.problem.Cone.TheVariants as cone
+use Rattle.vlp_problem.specs.declared.program.Program.TheVariants.{Interior}
 use Rattle.lp_form.specs.declared.data.ConeOf.TheVariants.{Dual}
 use Rattle.lp_form.specs.declared.data.Data.{Data}
 use Rattle.lp_form.specs.Data.{IsDataOf, cone_of, duality_of}
@@ -34,9 +34,9 @@ use Rattle.lp_form.specs.Programs.{dual_gaps, interior_of_dual, interior_system,
 use Rattle.lp_form.specs.Reading.{AreDisjoint}
 use Rattle.lp_form.proofs.Figures.{objective_number}
 use Rattle.lp_form.proofs.Systems.{dual_ok, length-zeros}
-use Rattle.licence.specs.Base.{AreFirstMultipliersOff, IsSolutionOff}
-use Rattle.licence.specs.Operands.{IsDivisor, IsScaled}
-use Rattle.licence.specs.Trails.{IsInteriorOff}
+use Rattle.overflow_rules.specs.Base.{AreFirstMultipliersOff, IsSolutionOff}
+use Rattle.overflow_rules.specs.Operands.{IsDivisor, IsScaled}
+use Rattle.overflow_rules.specs.Trails.{IsInteriorOff}
 use Rattle.cone_rules.specs.Faults.{CombinesToMinusLast, HasInterior}
 use Rattle.cone_rules.specs.Laws.{interior_said, spread}
 use Rattle.cone_rules.proofs.FoundRows.{rows_program}

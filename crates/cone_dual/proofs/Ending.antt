@@ -2,8 +2,8 @@
 use Rattle.std.proofs.Common.{◌≡◌, sym, subst, Bool, Result, Ok, Err}
 use Rattle.std.specs.Prelude.{IsErrAnd, IfErr}
 use Rattle.exact_field.specs.Rational.{ℚ}
-use Rattle.vlp_reader.specs.declared.problem.Problem.{Problem}
-use Rattle.licence.specs.Licence.{LicensedWithout}
+use Rattle.vlp_problem.specs.declared.problem.Problem.{Problem}
+use Rattle.overflow_rules.specs.Licence.{LicensedWithout}
 use Rattle.overflows.specs.Faults.{OnLicence}
 use Rattle.overflows.specs.declared.fault.SolveFault.{SolveFault}
 use Rattle.overflows.specs.declared.fault.SolveFault.TheVariants as fault

@@ -1,13 +1,13 @@
 -- A duality vector that is made fits.
 use Rattle.std.proofs.Common.{◌≡◌, ℕ, List, [], map, sym, ap, ap₂, ◌∙◌, subst, Bool, Option}
 use Rattle.exact_field.specs.Rational.{ℚ}
-use Rattle.vlp_reader.specs.declared.problem.Problem.{Problem}
-use Rattle.vlp_reader.specs.declared.problem.Cone.{Cone}
+use Rattle.vlp_problem.specs.declared.problem.Problem.{Problem}
+use Rattle.vlp_problem.specs.declared.problem.Cone.{Cone}
 use Rattle.upper_image.specs.Shows.{ShowsFitting}
 use Rattle.upper_image.proofs.Solid.{duality_fits}
 use Rattle.deriv_log.specs.declared.entry.Entry.TheVariants.{Duality as Line}
-use Rattle.licence.specs.Licence.{IsHeldDuality}
-use Rattle.licence.specs.Trails.{IsBaseDuality}
+use Rattle.overflow_rules.specs.Licence.{IsHeldDuality}
+use Rattle.overflow_rules.specs.Trails.{IsBaseDuality}
 use Rattle.cone_rules.specs.Faults.{IsSolid, IsPointed}
 use Rattle.cone_dual.specs.Fitting.{IsMade, IsDualityOf}
 use Rattle.cone_dual.specs.declared.duality.Duality.{Duality}

@@ -7,20 +7,20 @@ use Rattle.polyhedra.specs.Vectors.{combination, scaled}
 use Rattle.tableaux.specs.Table.{System, Table, row_of}
 use Rattle.tableaux.specs.Elimination.{AreIndependent, AreInverse, columns_of}
 use Rattle.lin_rows.specs.Read.{numbers}
-use Rattle.vlp_reader.specs.declared.problem.Problem.{Problem}
-use Rattle.vlp_reader.specs.declared.problem.Cone.{Cone}
-use Rattle.vlp_reader.specs.declared.problem.Cone.TheVariants as cone
+use Rattle.vlp_problem.specs.declared.problem.Problem.{Problem}
+use Rattle.vlp_problem.specs.declared.problem.Cone.{Cone}
+use Rattle.vlp_problem.specs.declared.problem.Cone.TheVariants as cone
 use Rattle.upper_image.specs.Shows.{ShowsFitting}
-use Rattle.deriv_log.specs.declared.licence.Program.TheVariants.{Interior}
+use Rattle.vlp_problem.specs.declared.program.Program.TheVariants.{Interior}
 use Rattle.lp_form.specs.Building.{joined}
 use Rattle.lp_form.specs.Data.{IsDataOf, cone_of, duality_of}
 use Rattle.lp_form.specs.Programs.{interior_of_generators, interior_system}
 use Rattle.lp_form.specs.declared.data.ConeOf.TheVariants.{Gens}
 use Rattle.lp_form.specs.declared.data.Data.{Data}
 use Rattle.lp_form.proofs.Figures.{objective_number}
-use Rattle.licence.specs.Base.{IsSolutionOff}
-use Rattle.licence.specs.Operands.{IsScaled}
-use Rattle.licence.specs.Trails.{IsMuOff}
+use Rattle.overflow_rules.specs.Base.{IsSolutionOff}
+use Rattle.overflow_rules.specs.Operands.{IsScaled}
+use Rattle.overflow_rules.specs.Trails.{IsMuOff}
 use Rattle.cone_rules.specs.Faults.{HasInterior, HasNoLine, IsPointed, IsSolid}
 use Rattle.cone_rules.specs.Laws.{IsPositiveCombination, at_last_one}
 use Rattle.cone_rules.proofs.Fitting.{fitting_laws}

@@ -14,8 +14,8 @@ use Rattle.double_descr.specs.Adding.{Block, IsAddFault}
 use Rattle.double_descr.specs.Starting.{IsStartFault}
 use Rattle.double_descr.specs.declared.fault.DdFault.{DdFault}
 use Rattle.double_descr.specs.declared.fault.DdFault.TheVariants as description
-use Rattle.vlp_reader.specs.declared.problem.Problem.{Problem}
-use Rattle.vlp_reader.specs.Values.{cone_vectors}
+use Rattle.vlp_problem.specs.declared.problem.Problem.{Problem}
+use Rattle.vlp_problem.specs.Values.{cone_vectors}
 use Rattle.deriv_log.specs.declared.entry.Entry.{Entry}
 use Rattle.deriv_log.specs.declared.licence.Family.{Family}
 use Rattle.deriv_log.specs.declared.licence.Family.TheVariants.{ConeRows}
@@ -23,8 +23,8 @@ use Rattle.deriv_log.specs.declared.licence.Licence.{Licence}
 use Rattle.deriv_log.specs.declared.licence.Place.{Place}
 use Rattle.deriv_log.specs.declared.licence.Place.TheVariants.{Elim, Pair}
 use Rattle.lp_form.specs.Programs.{nonzero_vectors}
-use Rattle.licence.specs.Licence.{LicensedWithout}
-use Rattle.licence.specs.Operands.{Setting, AreElimRows, IsElimTable, IsMadeOver, IsAddition}
+use Rattle.overflow_rules.specs.Licence.{LicensedWithout}
+use Rattle.overflow_rules.specs.Operands.{Setting, AreElimRows, IsElimTable, IsMadeOver, IsAddition}
 use Rattle.overflows.specs.Faults.{IsEliminationLeft, OnLicence, Overflows}
 use Rattle.overflows.specs.declared.fault.SolveFault.{SolveFault}
 use Rattle.overflows.specs.declared.fault.SolveFault.TheVariants.{Left as Stuck, NoMemory}

@@ -7,14 +7,14 @@ use Rattle.polyhedra.specs.Cone.{IsInterior}
 use Rattle.upper_image.specs.OrderingCone.{IsIn}
 use Rattle.lp_form.specs.Shapes.{duality_fits}
 use Rattle.cone_rules.specs.Faults.{IsGivenInside}
-use Rattle.vlp_reader.specs.declared.problem.Problem.{Problem}
-use Rattle.vlp_reader.specs.declared.problem.Cone.{Cone}
+use Rattle.vlp_problem.specs.declared.problem.Problem.{Problem}
+use Rattle.vlp_problem.specs.declared.problem.Cone.{Cone}
 use Rattle.lp_form.specs.declared.data.ConeOf.{ConeOf}
 use Rattle.lp_form.specs.declared.data.Data.{Data}
 use Rattle.lp_form.specs.Data.{IsDataOf, cone_of, duality_of}
 use Rattle.lp_form.proofs.Figures.{objective_number}
-use Rattle.licence.specs.Licence.{LicensedWithout}
-use Rattle.licence.specs.Operands.{Setting}
+use Rattle.overflow_rules.specs.Licence.{LicensedWithout}
+use Rattle.overflow_rules.specs.Operands.{Setting}
 use Rattle.overflows.specs.Faults.{OnLicence, Overflows}
 use Rattle.overflows.specs.declared.fault.SolveFault.{SolveFault}
 use Rattle.overflows.specs.declared.fault.SolveFault.TheVariants.{Left, NoMemory}

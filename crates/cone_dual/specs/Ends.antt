@@ -1,8 +1,8 @@
 -- Why no duality vector is found.
 use Rattle.std.specs.Prelude.{◌≡◌, Bool}
 use Rattle.exact_field.specs.Rational.{ℚ}
-use Rattle.vlp_reader.specs.declared.problem.Problem.{Problem}
-use Rattle.licence.specs.Licence.{LicensedWithout}
+use Rattle.vlp_problem.specs.declared.problem.Problem.{Problem}
+use Rattle.overflow_rules.specs.Licence.{LicensedWithout}
 use Rattle.overflows.specs.declared.fault.SolveFault.{SolveFault}
 use Rattle.overflows.specs.declared.fault.SolveFault.TheVariants as fault
 use Rattle.cone_rules.specs.Faults.{HasFault}

@@ -3,13 +3,13 @@ use Rattle.std.specs.Prelude.{ℕ, ◌≡◌, Bool, List, All, map, length}
 use Rattle.exact_field.specs.Rational.{ℚ, zero_ℚ, one_ℚ, ◌<ℚ◌}
 use Rattle.exact_field.specs.Vector.{dot, entry}
 use Rattle.polyhedra.specs.Vectors.{combination}
-use Rattle.vlp_reader.specs.declared.problem.Problem.{Problem}
-use Rattle.vlp_reader.specs.declared.problem.Cone.TheVariants.{Dual}
+use Rattle.vlp_problem.specs.declared.problem.Problem.{Problem}
+use Rattle.vlp_problem.specs.declared.problem.Cone.TheVariants.{Dual}
 use Rattle.upper_image.specs.Shows.{ShowsFitting}
 use Rattle.deriv_log.specs.declared.entry.Entry.TheVariants.{Duality as Line}
 use Rattle.lp_form.specs.Programs.{nonzero_vectors}
-use Rattle.licence.specs.Licence.{IsHeldDuality}
-use Rattle.licence.specs.Trails.{IsBaseDuality}
+use Rattle.overflow_rules.specs.Licence.{IsHeldDuality}
+use Rattle.overflow_rules.specs.Trails.{IsBaseDuality}
 use Rattle.cone_rules.specs.Faults.{IsSound}
 use Rattle.cone_rules.specs.Laws.{IsPositiveCombination}
 use Rattle.cone_dual.specs.declared.duality.Duality.{Duality}

@@ -6,14 +6,14 @@ use Rattle.exact_field.specs.Rational.{ℚ}
 use Rattle.polyhedra.specs.LiveList.{LiveList, vectors}
 use Rattle.tableaux.specs.Table.{Table, row_of}
 use Rattle.tableaux.specs.Elimination.{AreIndependent}
-use Rattle.vlp_reader.specs.declared.problem.Problem.{Problem}
+use Rattle.vlp_problem.specs.declared.problem.Problem.{Problem}
 use Rattle.deriv_log.specs.declared.licence.Family.{Family}
 use Rattle.deriv_log.specs.declared.licence.Place.{Place}
 use Rattle.deriv_log.specs.declared.licence.Place.TheVariants.{Elim, Pair}
 use Rattle.lp_form.specs.Programs.{nonzero_vectors}
 use Rattle.log_rules.specs.Live.{contains}
-use Rattle.licence.specs.Base.{IsGeneratorOf}
-use Rattle.licence.specs.Operands.{AreElimRows, IsAddition, IsMadeOver, Setting}
+use Rattle.overflow_rules.specs.Base.{IsGeneratorOf}
+use Rattle.overflow_rules.specs.Operands.{AreElimRows, IsAddition, IsMadeOver, Setting}
 use Rattle.double_descr.specs.State.{State}
 
 -- the list has exactly the generators of the cone where all rows are at least 0, each once

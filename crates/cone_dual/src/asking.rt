@@ -1,7 +1,7 @@
 //! What is asked of linear programs and eliminations over an ordering cone.
 ghost use Rattle.std.specs.Prelude.{◌≡◌, map, length, IfOk, IfErr};
 ghost use Rattle.exact_simplex.specs.Ends.{IsCertified, IsReadOff};
-ghost use Rattle.licence.specs.Licence.{LicensedWithout};
+ghost use Rattle.overflow_rules.specs.Licence.{LicensedWithout};
 ghost use Rattle.lin_rows.specs.Answers.{IsIndep};
 ghost use Rattle.lin_rows.specs.Read.{numbers};
 ghost use Rattle.lp_form.specs.Building.{joined};
@@ -11,8 +11,8 @@ ghost use Rattle.overflows.specs.Faults.{OnLicence};
 ghost use Rattle.polyhedra.specs.Vectors.{AreWide};
 ghost use Rattle.tableaux.specs.Elimination.{AreIndependent, AreInverse, columns_of};
 ghost use Rattle.tableaux.specs.Table.{Table, row_of};
-ghost use Rattle.vlp_reader.specs.Values.{cone_vectors};
-ghost use Rattle.vlp_reader.specs.declared.problem.Problem.{Problem as File};
+ghost use Rattle.vlp_problem.specs.Values.{cone_vectors};
+ghost use Rattle.vlp_problem.specs.declared.problem.Problem.{Problem as File};
 
 use crate::lists::{picked_rows, rows_of};
 use exact_field::Field;

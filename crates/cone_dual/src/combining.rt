@@ -3,15 +3,15 @@ ghost use Rattle.std.specs.Prelude.{◌≡◌, ◌≤◌, ◌∷◌, drop, map, 
 ghost use Rattle.exact_field.specs.Rational.{ℚ};
 ghost use Rattle.cone_rules.specs.Faults.{IsZeroCombination};
 ghost use Rattle.cone_rules.specs.Laws.{spread};
-ghost use Rattle.licence.specs.Licence.{LicensedWithout};
+ghost use Rattle.overflow_rules.specs.Licence.{LicensedWithout};
 ghost use Rattle.lin_rows.specs.Read.{numbers};
 ghost use Rattle.lp_form.specs.Data.{IsDataOf, cone_of};
 ghost use Rattle.lp_form.specs.Programs.{nonzero_vectors, pointed_system, zero_combination as combination_system};
 ghost use Rattle.overflows.specs.Faults.{OnLicence};
 ghost use Rattle.polyhedra.specs.Vectors.{AreWide};
 ghost use Rattle.tableaux.specs.Simplex.{IsInfeasible, IsOptimal};
-ghost use Rattle.vlp_reader.specs.declared.problem.Cone.TheVariants as cone;
-ghost use Rattle.vlp_reader.specs.declared.problem.Problem.{Problem as File};
+ghost use Rattle.vlp_problem.specs.declared.problem.Cone.TheVariants as cone;
+ghost use Rattle.vlp_problem.specs.declared.problem.Problem.{Problem as File};
 
 use crate::asking::pointed_end;
 use exact_field::Field;

@@ -3,7 +3,7 @@ ghost use Rattle.std.specs.Prelude.{IfOk, IfErr};
 ghost use Rattle.cone_dual.specs.Ends.{IsEnd};
 ghost use Rattle.cone_dual.specs.Fitting.{IsDualityOf};
 ghost use Rattle.lp_form.specs.Data.{IsDataOf};
-ghost use Rattle.vlp_reader.specs.declared.problem.Problem.{Problem as File};
+ghost use Rattle.vlp_problem.specs.declared.problem.Problem.{Problem as File};
 
 use crate::dual_form::dual_form_facts;
 use crate::duality::{ConeEnd, Duality};

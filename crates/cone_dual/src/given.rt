@@ -8,7 +8,7 @@ ghost use Rattle.cone_rules.specs.Faults.{HasInterior, HasNoLine, IsGivenInside}
 ghost use Rattle.cone_rules.specs.Laws.{at_last_one};
 ghost use Rattle.cone_rules.specs.declared.fault.ConeFault.TheVariants as fault_of;
 ghost use Rattle.lp_form.specs.Data.{IsDataOf, cone_of, duality_of};
-ghost use Rattle.vlp_reader.specs.declared.problem.Problem.{Problem as File};
+ghost use Rattle.vlp_problem.specs.declared.problem.Problem.{Problem as File};
 
 use crate::duality::{ConeEnd, Duality};
 use cone_rules::ConeFault;

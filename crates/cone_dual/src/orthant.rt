@@ -5,7 +5,7 @@ ghost use Rattle.cone_dual.specs.Ends.{IsEnd};
 ghost use Rattle.cone_dual.specs.Fitting.{IsDualityOf};
 ghost use Rattle.lp_form.specs.Data.{IsDataOf};
 ghost use Rattle.lp_form.specs.declared.data.ConeOf.TheVariants as cone;
-ghost use Rattle.vlp_reader.specs.declared.problem.Problem.{Problem as File};
+ghost use Rattle.vlp_problem.specs.declared.problem.Problem.{Problem as File};
 
 use crate::duality::{ConeEnd, Duality};
 use crate::given::{duality_with, not_interior, scaled_given};

@@ -21,10 +21,10 @@ use Rattle.polyhedra.proofs.Order.{lt_irrefl, le_of_eq, mul_le, not_lt_of_le, in
 use Rattle.polyhedra.proofs.Support.{InSupport, support_listed, support_zero, support_positive, dot_nonneg}
 use Rattle.tableaux.specs.Table.{row_of, unit}
 use Rattle.tableaux.proofs.Unique.{dot-unit, slice-zeros}
-use Rattle.vlp_reader.specs.Cones.{cone_fits}
-use Rattle.vlp_reader.specs.declared.problem.Problem.{Problem}
-use Rattle.vlp_reader.specs.declared.problem.Cone.{Cone}
-use Rattle.vlp_reader.specs.declared.problem.Cone.TheVariants.{Orthant, Gens, Dual}
+use Rattle.vlp_problem.specs.Cones.{cone_fits}
+use Rattle.vlp_problem.specs.declared.problem.Problem.{Problem}
+use Rattle.vlp_problem.specs.declared.problem.Cone.{Cone}
+use Rattle.vlp_problem.specs.declared.problem.Cone.TheVariants.{Orthant, Gens, Dual}
 use Rattle.upper_image.specs.OrderingCone.{IsIn, FollowsFile}
 use Rattle.upper_image.specs.Spots.{dense}
 use Rattle.upper_image.proofs.Shown.{nonneg-dense, dual_shown}

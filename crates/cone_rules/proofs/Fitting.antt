@@ -17,10 +17,10 @@ use Rattle.tableaux.specs.Elimination.{AreIndependent, AreInverse, columns_of}
 use Rattle.tableaux.proofs.Matrix.{combination-scaled}
 use Rattle.tableaux.proofs.Places.{length-list_from, list_from-place, entry-scaled, delta-same, delta-other}
 use Rattle.tableaux.proofs.Unique.{column-long}
-use Rattle.vlp_reader.specs.Cones.{cone_fits, duality_fits}
-use Rattle.vlp_reader.specs.declared.problem.Problem.{Problem}
-use Rattle.vlp_reader.specs.declared.problem.Cone.{Cone}
-use Rattle.vlp_reader.specs.declared.problem.Cone.TheVariants.{Orthant, Gens, Dual}
+use Rattle.vlp_problem.specs.Cones.{cone_fits, duality_fits}
+use Rattle.vlp_problem.specs.declared.problem.Problem.{Problem}
+use Rattle.vlp_problem.specs.declared.problem.Cone.{Cone}
+use Rattle.vlp_problem.specs.declared.problem.Cone.TheVariants.{Orthant, Gens, Dual}
 use Rattle.upper_image.specs.OrderingCone.{FollowsFile}
 use Rattle.upper_image.specs.Shows.{AreEmpty, ShowsSolid, ShowsInterior, ShowsFitting}
 use Rattle.upper_image.specs.Spots.{pieces}

@@ -16,7 +16,7 @@ use Rattle.tableaux.specs.Simplex.{IsOptimal, IsInfeasible, IsUnbounded}
 use Rattle.tableaux.proofs.Definition.{unit_value}
 use Rattle.tableaux.proofs.Inverse.{dot-append}
 use Rattle.tableaux.proofs.Places.{length-list_from}
-use Rattle.vlp_reader.specs.declared.problem.Cone.TheVariants.{Gens}
+use Rattle.vlp_problem.specs.declared.problem.Cone.TheVariants.{Gens}
 use Rattle.lp_form.specs.Programs.{generator_gaps, interior_of_generators}
 use Rattle.lp_form.proofs.Systems.{given_ok, length-unit}
 use Rattle.cone_rules.specs.Faults.{HasInterior, HasNoLine, ShowsOutside}

@@ -21,7 +21,7 @@ use Rattle.polyhedra.proofs.Order.{lt_irrefl, inverse_positive, mul_inverse_canc
 use Rattle.polyhedra.proofs.Support.{InSupport, support_listed, support_positive}
 use Rattle.tableaux.specs.Table.{unit}
 use Rattle.tableaux.proofs.Places.{length-list_from}
-use Rattle.vlp_reader.specs.declared.problem.Cone.TheVariants.{Gens}
+use Rattle.vlp_problem.specs.declared.problem.Cone.TheVariants.{Gens}
 use Rattle.cone_rules.specs.Faults.{HasInterior, HasNoLine}
 use Rattle.cone_rules.specs.Laws.{IsPositiveCombination}
 use Rattle.cone_rules.proofs.Parts.{dot-zeros_left}

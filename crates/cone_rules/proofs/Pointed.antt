@@ -24,7 +24,7 @@ use Rattle.tableaux.specs.Table.{Table, row_of, column_of, listed, unit}
 use Rattle.tableaux.specs.Simplex.{IsOptimal, IsInfeasible, IsUnbounded}
 use Rattle.tableaux.proofs.Definition.{unit_value}
 use Rattle.tableaux.proofs.Places.{length-list_from}
-use Rattle.vlp_reader.specs.declared.problem.Cone.TheVariants.{Gens}
+use Rattle.vlp_problem.specs.declared.problem.Cone.TheVariants.{Gens}
 use Rattle.upper_image.specs.Spots.{entry_of, dense, IsVector}
 use Rattle.upper_image.proofs.Absorbing.{zero_at_interior}
 use Rattle.lp_form.specs.Programs.{zero_combination}

@@ -18,7 +18,7 @@ use Rattle.tableaux.specs.Table.{unit}
 use Rattle.tableaux.proofs.Definition.{slice_eq, unit_entry}
 use Rattle.tableaux.proofs.Places.{delta, delta-same, same_or_other, if_true, if_false}
 use Rattle.tableaux.proofs.Unique.{dot-unit, slice-zeros}
-use Rattle.vlp_reader.specs.declared.problem.Cone.TheVariants.{Orthant}
+use Rattle.vlp_problem.specs.declared.problem.Cone.TheVariants.{Orthant}
 use Rattle.upper_image.specs.OrderingCone.{IsNonnegative, IsIn}
 use Rattle.upper_image.proofs.ConvexCones.{orthant_same, interior_as}
 use Rattle.upper_image.proofs.Units.{units, units_wide, units_positive}

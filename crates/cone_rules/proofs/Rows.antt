@@ -23,7 +23,7 @@ use Rattle.polyhedra.proofs.Tests.{both_hold, both_true}
 use Rattle.tableaux.specs.Table.{row_of, list_from, unit}
 use Rattle.tableaux.proofs.Definition.{unit_value, delta_sym}
 use Rattle.tableaux.proofs.Places.{row-wide, delta}
-use Rattle.vlp_reader.specs.declared.problem.Cone.TheVariants.{Dual}
+use Rattle.vlp_problem.specs.declared.problem.Cone.TheVariants.{Dual}
 use Rattle.upper_image.specs.Spots.{entry_of, dense, IsVector}
 use Rattle.cone_rules.specs.Faults.{ShowsOutside}
 use Rattle.cone_rules.specs.Laws.{RowTests, spread, IsSpread}

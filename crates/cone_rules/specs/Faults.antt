@@ -9,9 +9,9 @@ use Rattle.polyhedra.specs.Negatives.{negated}
 use Rattle.polyhedra.specs.Vectors.{zeros, combination}
 use Rattle.tableaux.specs.Elimination.{IsOrthogonal}
 use Rattle.tableaux.specs.Table.{row_of, unit}
-use Rattle.vlp_reader.specs.declared.problem.Problem.{Problem}
-use Rattle.vlp_reader.specs.declared.problem.Cone.{Cone}
-use Rattle.vlp_reader.specs.declared.problem.Cone.TheVariants.{Orthant, Gens, Dual}
+use Rattle.vlp_problem.specs.declared.problem.Problem.{Problem}
+use Rattle.vlp_problem.specs.declared.problem.Cone.{Cone}
+use Rattle.vlp_problem.specs.declared.problem.Cone.TheVariants.{Orthant, Gens, Dual}
 use Rattle.upper_image.specs.OrderingCone.{IsIn, dual_of, Fits}
 use Rattle.upper_image.specs.Shows.{ShowsIn}
 use Rattle.upper_image.specs.Spots.{dense, IsVector}

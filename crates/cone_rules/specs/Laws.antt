@@ -13,8 +13,8 @@ use Rattle.tableaux.specs.Table.{Table, System, IsSystem, row_of, column_of, uni
 use Rattle.tableaux.specs.Dictionary.{IsFullDictionaryOf, solution}
 use Rattle.tableaux.specs.Elimination.{AreIndependent, AreInverse, columns_of}
 use Rattle.tableaux.specs.Simplex.{IsOptimal, IsInfeasible, IsUnbounded}
-use Rattle.vlp_reader.specs.declared.problem.Problem.{Problem}
-use Rattle.vlp_reader.specs.declared.problem.Cone.TheVariants.{Orthant, Gens, Dual}
+use Rattle.vlp_problem.specs.declared.problem.Problem.{Problem}
+use Rattle.vlp_problem.specs.declared.problem.Cone.TheVariants.{Orthant, Gens, Dual}
 use Rattle.upper_image.specs.OrderingCone.{IsIn, IsInteriorToCone, Fits}
 use Rattle.upper_image.specs.Shows.{ShowsFitting}
 use Rattle.upper_image.specs.Spots.{dense, IsVector}

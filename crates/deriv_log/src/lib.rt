@@ -11,7 +11,7 @@ mod log;
 mod text;
 
 pub use entry::{Entries, Entry};
-pub use licence::{Family, Licence, Place, Program};
+pub use licence::{Family, Licence, Place};
 pub use line::read_line;
 pub use log::{one_reading, read_log};
 pub use text::{print_line, print_log};

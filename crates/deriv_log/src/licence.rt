@@ -3,21 +3,7 @@ use crate::entry::Entries;
 use exact_field::Left;
 use frac128::{Frac, Vector, Vectors};
 use src_sink::Items;
-
-/// A linear program by its name, over the sides, the objectives and the ordering cone of a file.
-#[derive(Debug, Drop)]
-pub enum Program {
-    /// Multipliers that show that the sides contradict each other.
-    Feasible,
-    /// Benson's program at a point, or at a direction where `t` is false.
-    Benson { v: Vector, t: bool },
-    /// The best bound of a weight vector.
-    Weight { w: Vector },
-    /// An interior vector of the ordering cone.
-    Interior,
-    /// Multipliers that show that the ordering cone contains a line.
-    Pointed,
-}
+use vlp_problem::Program;
 
 /// What the rows of a double description are.
 #[derive(Clone, Copy, Debug, PartialEq, Eq)]

@@ -7,7 +7,7 @@ use Rattle.poly_calc.specs.Sets.{IsInBoth, IsInJoin, IsInMap, IsInSum}
 use Rattle.statuses.specs.declared.reply.Reply.{Reply}
 use Rattle.statuses.specs.declared.status.Status.TheVariants.{Done, Words}
 use Rattle.upper_image.proofs.WorkingImage.{infeasible_is_empty}
-use Rattle.vlp_reader.specs.declared.problem.Problem.{Problem}
+use Rattle.vlp_problem.specs.declared.problem.Problem.{Problem}
 use Rattle.described.specs.Calculus.{CanJoin, CanMap, CanMeet, CanSum, IsSetDescribable, JoinVerdict, MapVerdict, MeetVerdict, SetDescribed, SumVerdict}
 use Rattle.described.specs.Described.{Describes, IsDescribable}
 use Rattle.described.specs.Parts.{BothAreFeasible, EmptyTold, StopTold, part_of}

@@ -3,15 +3,15 @@ use Rattle.std.proofs.Common.{◌≡◌, subst, [], None, Result, Err, IfErr}
 use Rattle.frac128.specs.Held.{is_held}
 use Rattle.benson_program.specs.Ends.{IsPivotOfFeasible}
 use Rattle.deriv_log.specs.declared.licence.Licence.{Licence}
-use Rattle.licence.specs.Licence.{LicensedWithout}
-use Rattle.licence.specs.Operands.{Setting}
+use Rattle.overflow_rules.specs.Licence.{LicensedWithout}
+use Rattle.overflow_rules.specs.Operands.{Setting}
 use Rattle.overflows.specs.Faults.{OnLicence, Overflows}
 use Rattle.overflows.specs.declared.fault.SolveFault.{SolveFault}
 use Rattle.overflows.specs.declared.fault.SolveFault.TheVariants.{Left}
 use Rattle.statuses.specs.Replies.{TellsFault}
 use Rattle.statuses.specs.declared.reply.Reply.{Reply}
 use Rattle.statuses.specs.declared.status.Status.TheVariants as status
-use Rattle.vlp_reader.specs.declared.problem.Problem.{Problem}
+use Rattle.vlp_problem.specs.declared.problem.Problem.{Problem}
 use Rattle.described.specs.Parts.{StopTold}
 
 -- before a duality vector is known

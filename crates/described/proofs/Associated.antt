@@ -5,8 +5,8 @@ use Rattle.cone_rules.specs.Faults.{HasFault, IsGivenOutside, ShowsFlat, ShowsLa
 use Rattle.cone_rules.specs.declared.fault.ConeFault.{ConeFault}
 use Rattle.cone_rules.specs.declared.fault.ConeFault.TheVariants.{HasLine, LastNotPositive, NotInterior, NotSolid}
 use Rattle.projection.specs.Associated.{IsAssociated}
-use Rattle.vlp_reader.specs.declared.problem.Cone.{Cone}
-use Rattle.vlp_reader.specs.declared.problem.Problem.{Problem}
+use Rattle.vlp_problem.specs.declared.problem.Cone.{Cone}
+use Rattle.vlp_problem.specs.declared.problem.Problem.{Problem}
 
 pub faultless : (k : ℕ) (file made : Problem) → IsAssociated k file made → (f : ConeFault) →
     HasFault made f → ⊥

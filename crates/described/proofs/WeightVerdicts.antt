@@ -4,7 +4,7 @@ use Rattle.src_sink.specs.declared.items.NoMemory.{NoMemory}
 use Rattle.exact_field.specs.Rational.{ℚ}
 use Rattle.exact_field.specs.declared.op.Left.{Left}
 use Rattle.frac128.specs.declared.frac.Frac.{Frac}
-use Rattle.vlp_reader.specs.declared.problem.Problem.{Problem}
+use Rattle.vlp_problem.specs.declared.problem.Problem.{Problem}
 use Rattle.commands.specs.Weights.{AreWeightsOf}
 use Rattle.solver.specs.Replies.{Unsolved}
 use Rattle.solver.specs.Solving.{IsSolutionOf}

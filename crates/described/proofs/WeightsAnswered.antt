@@ -2,7 +2,7 @@
 -- without a shape, and without a log.
 use Rattle.std.proofs.Common.{◌≡◌, ◌⊎◌, inl, inr, ℕ, List, length, None, ap, ◌∙◌, subst, arith}
 use Rattle.exact_field.specs.Rational.{ℚ}
-use Rattle.vlp_reader.specs.declared.problem.Problem.{Problem}
+use Rattle.vlp_problem.specs.declared.problem.Problem.{Problem}
 use Rattle.commands.proofs.WeightWords.{one_list}
 use Rattle.solver.specs.Replies.{IsSolvable, Unsolved}
 use Rattle.solver.proofs.Replies.{unsolved_answered, unsolved_never_words, unsolved_quiet}

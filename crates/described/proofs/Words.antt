@@ -10,13 +10,13 @@ use Rattle.projection.specs.Associated.{associated_cells, cell, IsAssociated}
 use Rattle.vlp_printer.specs.Printing.{HasWord, IsFirstWithoutWord, Prints, RefusesText}
 use Rattle.vlp_printer.specs.declared.fault.PrintFault.{PrintFault}
 use Rattle.vlp_printer.specs.declared.fault.PrintFault.TheVariants.{NotDecimal}
-use Rattle.vlp_reader.specs.Sides.{numbers_from}
-use Rattle.vlp_reader.specs.Values.{bound_numbers, cone_vectors, duality_entries, printed_numbers}
-use Rattle.vlp_reader.specs.declared.problem.Bound.{Bound}
-use Rattle.vlp_reader.specs.declared.problem.Cell.{Cell}
-use Rattle.vlp_reader.specs.declared.problem.Cone.{Cone}
-use Rattle.vlp_reader.specs.declared.problem.Cone.TheVariants.{Orthant}
-use Rattle.vlp_reader.specs.declared.problem.Problem.{Problem}
+use Rattle.vlp_problem.specs.Sides.{numbers_from}
+use Rattle.vlp_problem.specs.Values.{bound_numbers, cone_vectors, duality_entries, printed_numbers}
+use Rattle.vlp_problem.specs.declared.problem.Bound.{Bound}
+use Rattle.vlp_problem.specs.declared.problem.Cell.{Cell}
+use Rattle.vlp_problem.specs.declared.problem.Cone.{Cone}
+use Rattle.vlp_problem.specs.declared.problem.Cone.TheVariants.{Orthant}
+use Rattle.vlp_problem.specs.declared.problem.Problem.{Problem}
 
 front : (xs ys : List ℚ) → All HasWord (xs ++ ys) → All HasWord xs
 front [] ys h = All-nil HasWord

@@ -2,7 +2,7 @@
 -- feasible sets.
 use Rattle.std.specs.Prelude.{◌≡◌, ◌⊎◌, ℕ, ◌<◌, ◌≤◌, false, List}
 use Rattle.exact_field.specs.Rational.{ℚ}
-use Rattle.vlp_reader.specs.declared.problem.Problem.{Problem}
+use Rattle.vlp_problem.specs.declared.problem.Problem.{Problem}
 use Rattle.poly_calc.specs.Made.{IsMeet, IsSum, IsJoin, IsMap}
 use Rattle.poly_calc.specs.Sets.{ProjectsTo, IsInBoth, IsInSum, IsInJoin, IsInMap}
 use Rattle.described.specs.Described.{Describes, IsDescribable}

@@ -2,9 +2,9 @@
 -- an answer to the associated problem.
 use Rattle.std.specs.Prelude.{◌≡◌, ◌⊎◌, ℕ, Bool}
 use Rattle.frac128.specs.Held.{is_held}
-use Rattle.vlp_reader.specs.declared.problem.Problem.{Problem}
+use Rattle.vlp_problem.specs.declared.problem.Problem.{Problem}
 use Rattle.deriv_log.specs.declared.licence.Licence.{Licence}
-use Rattle.licence.specs.Licence.{LicensedAnyhow}
+use Rattle.overflow_rules.specs.Licence.{LicensedAnyhow}
 use Rattle.projection.specs.Associated.{IsAssociated}
 use Rattle.projected_answer.specs.Found.{IsProjectionFrom}
 use Rattle.projected_answer.specs.Right.{IsRightProjection}

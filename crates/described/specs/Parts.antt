@@ -2,11 +2,11 @@
 use Rattle.std.specs.Prelude.{◌≡◌, Bool, true, List, if◌then◌else◌}
 use Rattle.frac128.specs.Held.{is_held}
 use Rattle.frac128.specs.declared.vectors.Spot.{Spot}
-use Rattle.vlp_reader.specs.declared.problem.Problem.{Problem}
+use Rattle.vlp_problem.specs.declared.problem.Problem.{Problem}
 use Rattle.upper_image.specs.Witnesses.{IsInfeasible}
 use Rattle.deriv_log.specs.declared.licence.Licence.{Licence}
 use Rattle.benson_program.specs.Ends.{IsPivotOfFeasible}
-use Rattle.licence.specs.Licence.{LicensedWithout}
+use Rattle.overflow_rules.specs.Licence.{LicensedWithout}
 use Rattle.poly_calc.specs.Sets.{HasFeasible}
 use Rattle.statuses.specs.Replies.{TellsFault}
 use Rattle.statuses.specs.declared.reply.Reply.{Reply}

@@ -1,6 +1,6 @@
 -- What `project` and `associate` reply of a problem.
 use Rattle.std.specs.Prelude.{◌≡◌, ◌⊎◌, ℕ, ◌<◌, ◌≤◌, Bool, None}
-use Rattle.vlp_reader.specs.declared.problem.Problem.{Problem}
+use Rattle.vlp_problem.specs.declared.problem.Problem.{Problem}
 use Rattle.vlp_printer.specs.Printing.{problem_text}
 use Rattle.projection.specs.Associated.{IsAssociated}
 use Rattle.described.specs.Described.{Describes, IsDescribable}

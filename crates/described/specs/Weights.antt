@@ -3,7 +3,7 @@ use Rattle.std.specs.Prelude.{◌≡◌, ◌⊎◌, ℕ, List, length, None}
 use Rattle.exact_field.specs.Rational.{ℚ}
 use Rattle.exact_field.specs.declared.op.Left.{Left}
 use Rattle.frac128.specs.declared.frac.Frac.{Frac}
-use Rattle.vlp_reader.specs.declared.problem.Problem.{Problem}
+use Rattle.vlp_problem.specs.declared.problem.Problem.{Problem}
 use Rattle.commands.specs.Weights.{AreWeightsOf}
 use Rattle.solver.specs.Replies.{IsSolvable, Unsolved}
 use Rattle.solver.specs.Solving.{IsSolutionOf}

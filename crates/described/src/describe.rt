@@ -8,7 +8,7 @@ use solver::{log_text, solve, unsolved_reply};
 use src_sink::NoMemory;
 use statuses::{Reply, Status};
 use std::alloc::Global;
-use vlp_reader::Problem;
+use vlp_problem::Problem;
 
 /// Solves the associated problem, and tells the projection on the first k columns that its answer
 /// gives, with the log that proves the answer or without, or why there is no answer.

@@ -1,7 +1,7 @@
 //! Sets that are made of the feasible sets of two problems.
 ghost use Rattle.std.specs.Prelude.{◌↔◌, IfOk, IsTrue};
 ghost use Rattle.described.specs.Calculus.{JoinVerdict, MeetVerdict, SizesFit, SizesTold, SumVerdict};
-ghost use Rattle.vlp_reader.specs.FileSizes.{HasFileSizes};
+ghost use Rattle.vlp_problem.specs.FileSizes.{HasFileSizes};
 
 use crate::describe::describe;
 use crate::parts::parts_reply;
@@ -9,7 +9,7 @@ use poly_calc::{join_file, meet_file, sum_file};
 use src_sink::NoMemory;
 use statuses::{Reply, Status, fault_reply};
 use std::alloc::Global;
-use vlp_reader::Problem;
+use vlp_problem::Problem;
 
 /// Whether the two have one number of columns, and at most 19.
 fn sizes_fit(a: &Problem, b: &Problem) -> bool

@@ -1,14 +1,14 @@
 //! The image of a feasible set under the objectives.
 ghost use Rattle.std.specs.Prelude.{IfOk};
 ghost use Rattle.described.specs.Calculus.{MapVerdict};
-ghost use Rattle.vlp_reader.specs.FileSizes.{HasFileSizes};
+ghost use Rattle.vlp_problem.specs.FileSizes.{HasFileSizes};
 
 use crate::describe::describe;
 use poly_calc::map_file;
 use src_sink::NoMemory;
 use statuses::{Reply, Status, fault_reply};
 use std::alloc::Global;
-use vlp_reader::Problem;
+use vlp_problem::Problem;
 
 /// Describes the image of the feasible set under the objectives, as the file gives them, of which
 /// there are at most 19.

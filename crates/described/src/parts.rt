@@ -4,7 +4,7 @@ ghost use Rattle.benson_program.specs.Ends.{IsContradiction};
 ghost use Rattle.described.specs.Parts.{BothAreFeasible, EmptyTold, PartIsEmpty, PartStopped, StopTold};
 ghost use Rattle.poly_calc.specs.Sets.{HasFeasible};
 ghost use Rattle.statuses.specs.declared.reply.Reply.{Reply as AReply};
-ghost use Rattle.vlp_reader.specs.declared.problem.Problem.{Problem as AProblem};
+ghost use Rattle.vlp_problem.specs.declared.problem.Problem.{Problem as AProblem};
 
 use benson_program::{FeasibleEnd, feasible_end};
 use frac128::Frac;
@@ -13,7 +13,7 @@ use solver::data_of;
 use src_sink::{Items, NoMemory};
 use statuses::{Reply, Status, fault_reply};
 use std::alloc::Global;
-use vlp_reader::Problem;
+use vlp_problem::Problem;
 
 /// The reply of a part whose sides contradict each other by these multipliers.
 fn empty_reply(alloc: Global, second: bool, u: &Items<Frac>) -> Result<Reply, NoMemory>

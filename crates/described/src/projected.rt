@@ -2,7 +2,7 @@
 ghost use Rattle.std.specs.Prelude.{◌≤◌, ◌<◌, All, IfOk};
 ghost use Rattle.described.specs.Projected.{AssociateVerdict, ColumnsWanting, ProjectVerdict};
 ghost use Rattle.vlp_printer.specs.Printing.{HasWord};
-ghost use Rattle.vlp_reader.specs.Values.{printed_numbers};
+ghost use Rattle.vlp_problem.specs.Values.{printed_numbers};
 
 use crate::describe::describe;
 use projection::associated_problem;
@@ -10,7 +10,7 @@ use src_sink::NoMemory;
 use statuses::{Reply, Status, fault_reply};
 use std::alloc::Global;
 use vlp_printer::{PrintFault, print_vlp};
-use vlp_reader::Problem;
+use vlp_problem::Problem;
 
 /// The reply where more columns are asked for than there are.
 fn columns_reply(alloc: Global, file: &Problem, k: u32) -> Result<Reply, NoMemory>

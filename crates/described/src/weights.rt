@@ -2,7 +2,7 @@
 ghost use Rattle.std.specs.Prelude.{◌≡◌, ◌⊎◌, ◌≢◌, IfOk, IsTrue, length};
 ghost use Rattle.commands.specs.Weights.{are_weights};
 ghost use Rattle.solver.specs.Solving.{IsSolutionOf};
-ghost use Rattle.vlp_reader.specs.declared.problem.Problem.{Problem as AProblem};
+ghost use Rattle.vlp_problem.specs.declared.problem.Problem.{Problem as AProblem};
 ghost use Rattle.described.specs.Weights.{WeighVerdict, WeighingStopped, WeighingTold, WeightsCounted, WeightsTold, WeightsVerdict};
 
 use commands::weights_of;
@@ -11,7 +11,7 @@ use solver::{Solution, solve, unsolved_reply};
 use src_sink::NoMemory;
 use statuses::{Reply, Status, fault_reply};
 use std::alloc::Global;
-use vlp_reader::Problem;
+use vlp_problem::Problem;
 use weighing::{WeighEnd, weigh, weighed_text, weights_text};
 
 /// The reply of a solution: its points with the facets that are told of them.

@@ -27,13 +27,13 @@ use Rattle.deriv_log.specs.declared.entry.Entry.{Entry}
 use Rattle.upper_image.specs.OrderingCone.{dual_of}
 use Rattle.log_rules.specs.Events.Event.{test, step}
 use Rattle.log_rules.specs.declared.rule.Rule.TheVariants as rule
-use Rattle.vlp_reader.specs.Sides.{sides, side_column, side_bounds, numbers_from}
-use Rattle.vlp_reader.specs.declared.problem.Problem.{Problem}
+use Rattle.vlp_problem.specs.Sides.{sides, side_column, side_bounds, numbers_from}
+use Rattle.vlp_problem.specs.declared.problem.Problem.{Problem}
 use Rattle.entry_checks.specs.Parts.{side_events, sides_events, recession_events, difference_events, rest_events, balance_events, balances_events, vanishing_events, contradiction_events, positive_events, bound_events, scaled_events, follow_events, quotient_events}
 use Rattle.polyhedra.proofs.Tests.{not_true}
 use Rattle.polyhedra.proofs.Laws.{le_refl}
-use Rattle.vlp_reader.specs.declared.problem.Cone.{Cone}
-use Rattle.vlp_reader.specs.declared.problem.Cone.TheVariants.{Orthant, Gens, Dual}
+use Rattle.vlp_problem.specs.declared.problem.Cone.{Cone}
+use Rattle.vlp_problem.specs.declared.problem.Cone.TheVariants.{Orthant, Gens, Dual}
 use Rattle.vlp_matrices.specs.Matrices.{AreMatricesOf}
 use Rattle.vlp_matrices.specs.declared.matrices.Matrices.{Matrices}
 

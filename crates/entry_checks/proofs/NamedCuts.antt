@@ -7,7 +7,7 @@ use Rattle.polyhedra.proofs.Tests.{both_true}
 use Rattle.std.proofs.lemmas.List.{length-map}
 use Rattle.exact_field.specs.Rational.{ℚ}
 use Rattle.upper_image.specs.Spots.{pieces}
-use Rattle.vlp_reader.specs.declared.problem.Problem.{Problem}
+use Rattle.vlp_problem.specs.declared.problem.Problem.{Problem}
 use Rattle.log_rules.specs.Events.{dot_steps, start_events, all_within}
 use Rattle.log_rules.specs.Live.{State, Stated, cut_at}
 use Rattle.log_rules.specs.Runs.{steps}

@@ -13,13 +13,13 @@ ghost use Rattle.log_rules.specs.declared.rule.Rule.TheVariants as rule;
 ghost use Rattle.entry_checks.specs.Parts.{product_events, entry_events, combination_events};
 ghost use Rattle.upper_image.specs.OrderingCone.{dual_of};
 ghost use Rattle.upper_image.specs.Spots.{IsVector, column, product};
-ghost use Rattle.vlp_reader.specs.Cones.{cone_fits};
-ghost use Rattle.vlp_reader.specs.declared.problem.Cone.TheVariants as cone;
+ghost use Rattle.vlp_problem.specs.Cones.{cone_fits};
+ghost use Rattle.vlp_problem.specs.declared.problem.Cone.TheVariants as cone;
 
 use crate::steps::{Steps, is_nonnegative, is_positive, pass};
 use frac128::{Frac, Spot, Vector};
 use log_rules::{Rule, Stop};
-use vlp_reader::Cone;
+use vlp_problem::Cone;
 
 /// Whether each place is at most `most`.
 fn are_within(most: usize, spots: &[Spot]) -> bool

@@ -22,7 +22,7 @@ use crate::steps::{Steps, is_nonnegative, is_positive, pass};
 use exact_field::Field;
 use frac128::{Frac, Sparse, Vector, is_zero};
 use log_rules::{Rule, Stop};
-use vlp_reader::Problem;
+use vlp_problem::Problem;
 
 /// The inequality `w.y >= gamma` that a `cut` entry states, with its dual vector.
 #[derive(Debug, Drop)]

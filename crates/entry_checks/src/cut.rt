@@ -22,7 +22,7 @@ use frac128::{Frac, Sparse, Spot, is_zero};
 use log_rules::{Rule, Stop};
 use std::alloc::Global;
 use vlp_matrices::Matrices;
-use vlp_reader::Problem;
+use vlp_problem::Problem;
 
 /// In one column, the product of the sides with `u` is that of the objectives with `w`.
 fn is_balanced(

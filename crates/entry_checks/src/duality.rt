@@ -13,14 +13,14 @@ ghost use Rattle.log_rules.specs.declared.rule.Rule.TheVariants as rule;
 ghost use Rattle.entry_checks.specs.Parts.{quotient_events, quotients_events, row_events, rows_events, weight_events, weights_events, unit_events, units_events, follow_events};
 ghost use Rattle.upper_image.specs.Shows.{picked};
 ghost use Rattle.upper_image.specs.Spots.{column, pieces};
-ghost use Rattle.vlp_reader.specs.Cones.{cone_fits, duality_fits};
-ghost use Rattle.vlp_reader.specs.declared.problem.Cone.TheVariants as cone;
+ghost use Rattle.vlp_problem.specs.Cones.{cone_fits, duality_fits};
+ghost use Rattle.vlp_problem.specs.declared.problem.Cone.TheVariants as cone;
 
 use crate::numbers::are_picks;
 use crate::steps::{Steps, is_positive, pass};
 use frac128::{Frac, Vector, is_zero};
 use log_rules::{Rule, Stop};
-use vlp_reader::{Cone, Problem};
+use vlp_problem::{Cone, Problem};
 
 /// Whether the lists of a `duality` entry have their lengths.
 fn has_lengths(objs: u32, cone: &Cone, weights: &[Frac], picks: &[u32], inverse: &[Frac]) -> bool

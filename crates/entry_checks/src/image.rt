@@ -17,7 +17,7 @@ use frac128::{Frac, Sparse, Spot};
 use log_rules::{Rule, Stop};
 use std::alloc::Global;
 use vlp_matrices::Matrices;
-use vlp_reader::Problem;
+use vlp_problem::Problem;
 
 /// A vector of `n` zeros.
 fn zeros(alloc: Global, n: usize) -> Result<Vec<Frac>, Stop>

@@ -18,7 +18,7 @@ use frac128::{Frac, Spot, Vector, is_zero};
 use log_rules::{Rule, Stop};
 use std::alloc::Global;
 use vlp_matrices::Matrices;
-use vlp_reader::Problem;
+use vlp_problem::Problem;
 
 /// The negative of a vector.
 fn negate(alloc: Global, v: &[Frac]) -> Result<Vec<Frac>, Stop>

@@ -15,8 +15,8 @@ use Rattle.polyhedra.specs.Inequality.{Inequality}
 use Rattle.polyhedra.proofs.Lists.{Contains-here, Contains-there}
 use Rattle.polyhedra.proofs.Members.{all_of_members, member_of, Contains-map, Contains-map_source, Contains-filter, Contains-filter_source, pairs-map, pairs-filter, pairs-weaker}
 use Rattle.upper_image.specs.UpperImage.{front, signed}
-use Rattle.vlp_reader.specs.declared.problem.Dir.{Dir}
-use Rattle.vlp_reader.specs.declared.problem.Problem.{Problem}
+use Rattle.vlp_problem.specs.declared.problem.Dir.{Dir}
+use Rattle.vlp_problem.specs.declared.problem.Problem.{Problem}
 use Rattle.deriv_log.specs.declared.entry.Entry.{Entry}
 use Rattle.log_rules.specs.Live.{Stated, State, state, rows_in_use, cut_row, inequality, cut_at, named}
 use Rattle.log_rules.specs.declared.answer.LineGen.{LineGen}

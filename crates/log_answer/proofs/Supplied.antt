@@ -12,8 +12,8 @@ use Rattle.polyhedra.specs.LiveList.{Numbered}
 use Rattle.polyhedra.proofs.Members.{all_of_members, member_of, Contains-map}
 use Rattle.polyhedra.proofs.Tests.{same_tests, refuted, not_true}
 use Rattle.upper_image.specs.UpperImage.{front, turned}
-use Rattle.vlp_reader.specs.declared.problem.Dir.{Dir}
-use Rattle.vlp_reader.specs.declared.problem.Problem.{Problem}
+use Rattle.vlp_problem.specs.declared.problem.Dir.{Dir}
+use Rattle.vlp_problem.specs.declared.problem.Problem.{Problem}
 use Rattle.deriv_log.specs.declared.entry.Entry.{Entry}
 use Rattle.log_rules.specs.Laws.{Stands}
 use Rattle.log_rules.specs.Live.{Stated, State, lines, state, y_of, t_of, preimages}

@@ -10,7 +10,7 @@ use Rattle.polyhedra.specs.LiveList.{Numbered, numbered, new_vectors, live_pairs
 use Rattle.polyhedra.proofs.Homogenised.{length-homogenised}
 use Rattle.polyhedra.proofs.Lists.{all_from_map}
 use Rattle.polyhedra.proofs.LiveList.{numbered_within}
-use Rattle.vlp_reader.specs.declared.problem.Problem.{Problem}
+use Rattle.vlp_problem.specs.declared.problem.Problem.{Problem}
 use Rattle.word_lines.specs.declared.part.LogPair.{LogPair}
 use Rattle.deriv_log.specs.declared.entry.Entry.{Entry}
 use Rattle.deriv_log.specs.declared.entry.Entry.TheVariants.{Add}

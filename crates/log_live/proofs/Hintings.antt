@@ -10,7 +10,7 @@ use Rattle.word_lines.specs.declared.part.LogPair.{LogPair}
 use Rattle.std.specs.Prelude.{AllPairs, Contains, Result, Ok, Err}
 use Rattle.std.specs.List.{list_all}
 use Rattle.frac128.specs.Held.{is_held}
-use Rattle.vlp_reader.specs.declared.problem.Problem.{Problem}
+use Rattle.vlp_problem.specs.declared.problem.Problem.{Problem}
 use Rattle.log_rules.specs.Events.{Event, first_failure, same_pairs, value_steps}
 use Rattle.log_rules.specs.Events as events
 use Rattle.log_rules.specs.Events.Event.{test}

@@ -4,7 +4,7 @@ use Rattle.std.specs.List.{list_all, flat_map}
 use Rattle.exact_field.specs.Rational.{ℚ, zero_ℚ, lt_ℚ}
 use Rattle.frac128.specs.Held.{is_held}
 use Rattle.polyhedra.specs.LiveList.{Numbered, LivePair}
-use Rattle.vlp_reader.specs.declared.problem.Problem.{Problem}
+use Rattle.vlp_problem.specs.declared.problem.Problem.{Problem}
 use Rattle.word_lines.specs.declared.part.LogPair.{LogPair}
 use Rattle.log_rules.specs.Events.{Event, first_failure, pair_of, value_steps}
 use Rattle.log_rules.specs.Events.Event.{test}

@@ -30,7 +30,7 @@ use Rattle.log_rules.specs.Live.{Stated, State, inequality, cut_at, lines}
 use Rattle.log_rules.specs.Meets.{MeetsStart}
 use Rattle.log_rules.proofs.PassedTests.{Passed, both_pass, last_passes, each_test, each_both, one_place, other_place, same_number, zero_number, they_rise, all_are_within}
 use Rattle.frac128.specs.Sparse.{is_zero}
-use Rattle.vlp_reader.specs.declared.problem.Problem.{Problem}
+use Rattle.vlp_problem.specs.declared.problem.Problem.{Problem}
 use Rattle.log_rules.specs.declared.rule.Rule.TheVariants as rule
 use Rattle.log_rules.specs.Events.Event.{test}
 

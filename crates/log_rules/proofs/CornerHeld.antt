@@ -28,7 +28,7 @@ use Rattle.log_rules.proofs.Corner.{named_inequalities, normal_at}
 use Rattle.log_rules.proofs.HeldTests.{pass_both, pass_last, pass_tests, pass_pairs, pass_sum, place_cases, same_passes, all_pass, rising_passes, all_within_passes}
 use Rattle.log_rules.proofs.PassedTests.{Passed, zero_passes}
 use Rattle.frac128.specs.Sparse.{is_zero}
-use Rattle.vlp_reader.specs.declared.problem.Problem.{Problem}
+use Rattle.vlp_problem.specs.declared.problem.Problem.{Problem}
 use Rattle.log_rules.specs.declared.rule.Rule.TheVariants as rule
 use Rattle.log_rules.specs.Events.Event.{test}
 

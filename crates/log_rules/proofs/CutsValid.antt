@@ -21,7 +21,7 @@ use Rattle.log_rules.proofs.DualityStays.{duality_stays}
 use Rattle.log_rules.proofs.Entries.{state-push, has_more, order_of, along}
 use Rattle.log_rules.proofs.Sound.{AreSound}
 use Rattle.log_rules.proofs.SparseEntries.{AreSparse, sparse_parts}
-use Rattle.vlp_reader.specs.declared.problem.Problem.{Problem}
+use Rattle.vlp_problem.specs.declared.problem.Problem.{Problem}
 use Rattle.deriv_log.specs.declared.entry.Entry.{Entry}
 use Rattle.deriv_log.specs.declared.entry.Entry.TheVariants.{Cut}
 use Rattle.log_rules.specs.Order as order

@@ -28,7 +28,7 @@ use Rattle.log_rules.proofs.AddDescribes.{stands-add}
 use Rattle.log_rules.proofs.CutsStay.{Exists, exists_stays, stated_stay}
 use Rattle.log_rules.proofs.Entries.{state-push, has_before, order_of, along}
 use Rattle.log_rules.proofs.StartDescribes.{stands-start}
-use Rattle.vlp_reader.specs.declared.problem.Problem.{Problem}
+use Rattle.vlp_problem.specs.declared.problem.Problem.{Problem}
 use Rattle.deriv_log.specs.declared.entry.Entry.{Entry}
 use Rattle.deriv_log.specs.declared.entry.Entry.TheVariants.{Cut, Start, Add, Line}
 use Rattle.log_rules.specs.Order as order

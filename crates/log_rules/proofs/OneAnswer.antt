@@ -12,7 +12,7 @@ use Rattle.log_rules.specs.Proves.{PlainProves, AllMeet, Gives, IsSorting, live_
 use Rattle.log_rules.specs.Right.{key, stated}
 use Rattle.log_rules.proofs.Entries.{order_of, along, StandsAt, stands_at, end_last}
 use Rattle.log_rules.proofs.Rising.{sorted_same}
-use Rattle.vlp_reader.specs.declared.problem.Problem.{Problem}
+use Rattle.vlp_problem.specs.declared.problem.Problem.{Problem}
 use Rattle.deriv_log.specs.Formed.{ends_once}
 use Rattle.log_rules.specs.declared.answer.Answer.{Answer}
 use Rattle.log_rules.specs.declared.answer.Answer.TheVariants.{Infeasible, Whole, Solved}

@@ -16,7 +16,7 @@ use Rattle.polyhedra.proofs.Tests.{both_true}
 use Rattle.upper_image.specs.UpperImage.{working}
 use Rattle.upper_image.proofs.TurnedSets.{turned-same}
 use Rattle.frac128.specs.declared.vectors.Spot.{Spot}
-use Rattle.vlp_reader.specs.declared.problem.Problem.{Problem}
+use Rattle.vlp_problem.specs.declared.problem.Problem.{Problem}
 use Rattle.deriv_log.specs.Formed.{IsLog, is_end, ends_once}
 use Rattle.word_lines.specs.declared.part.EndKind.{EndKind}
 use Rattle.word_lines.specs.declared.part.EndKind.TheVariants as ending

@@ -8,7 +8,7 @@ use Rattle.frac128.specs.declared.vectors.Spot.{Spot}
 use Rattle.polyhedra.specs.Hull.{IsConvex, IsValidAt}
 use Rattle.upper_image.specs.Shows.{ShowsFeasible, ShowsRecession, ShowsAbove, ShowsCut}
 use Rattle.upper_image.specs.UpperImage.{IsInWorkingImage, IsWorkingDirection}
-use Rattle.vlp_reader.specs.declared.problem.Problem.{Problem}
+use Rattle.vlp_problem.specs.declared.problem.Problem.{Problem}
 
 -- the rules of single entries say what is true of the image
 pub record AreSound (file : Problem) : Type 0 where

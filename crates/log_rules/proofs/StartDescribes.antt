@@ -26,7 +26,7 @@ use Rattle.log_rules.specs.Live.{State, after, first_vectors, lines}
 use Rattle.log_rules.specs.Meets.{MeetsStart}
 use Rattle.log_rules.proofs.CutsStay.{stated}
 use Rattle.log_rules.proofs.NormedMembers.{stands_of}
-use Rattle.vlp_reader.specs.declared.problem.Problem.{Problem}
+use Rattle.vlp_problem.specs.declared.problem.Problem.{Problem}
 use Rattle.deriv_log.specs.declared.entry.Entry.{Entry}
 use Rattle.deriv_log.specs.declared.entry.Entry.TheVariants.{Start}
 

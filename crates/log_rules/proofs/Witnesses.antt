@@ -23,11 +23,11 @@ use Rattle.log_rules.specs.Proves.{forth, facet_of}
 use Rattle.log_rules.specs.Right.{stated}
 use Rattle.frac128.specs.Sparse.{IsSparse}
 use Rattle.frac128.specs.declared.vectors.Spot.{Spot}
-use Rattle.vlp_reader.specs.Sides.{sides, side_bounds, IsRecession}
+use Rattle.vlp_problem.specs.Sides.{sides, side_bounds, IsRecession}
 use Rattle.deriv_log.specs.declared.entry.Entry.{Entry}
-use Rattle.vlp_reader.specs.declared.problem.Problem.{Problem}
-use Rattle.vlp_reader.specs.declared.problem.Dir.{Dir}
-use Rattle.vlp_reader.specs.declared.problem.Dir.TheVariants.{Min, Max}
+use Rattle.vlp_problem.specs.declared.problem.Problem.{Problem}
+use Rattle.vlp_problem.specs.declared.problem.Dir.{Dir}
+use Rattle.vlp_problem.specs.declared.problem.Dir.TheVariants.{Min, Max}
 
 dual_vector : (file : Problem) (w : List ℚ) (u : List Spot) → All (λ s. zero_ℚ <ℚ s.value) u →
     combination file.cols (dense (length (sides file)) u) (normals file) ≡ w → IsDualVector file.cols (normals file) w (dense (length (sides file)) u)

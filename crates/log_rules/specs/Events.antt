@@ -18,10 +18,10 @@ use Rattle.log_rules.specs.Live.{Stated, State, state, y_of, t_of, value, find, 
 use Rattle.log_rules.specs.Order.{in_order}
 use Rattle.frac128.specs.Sparse.{is_zero}
 use Rattle.frac128.specs.declared.vectors.Spot.{Spot}
-use Rattle.vlp_reader.specs.Sides.{sides, side_column, side_bounds, numbers_from}
-use Rattle.vlp_reader.specs.declared.problem.Problem.{Problem}
-use Rattle.vlp_reader.specs.declared.problem.Cone.{Cone}
-use Rattle.vlp_reader.specs.declared.problem.Cone.TheVariants.{Orthant, Gens, Dual}
+use Rattle.vlp_problem.specs.Sides.{sides, side_column, side_bounds, numbers_from}
+use Rattle.vlp_problem.specs.declared.problem.Problem.{Problem}
+use Rattle.vlp_problem.specs.declared.problem.Cone.{Cone}
+use Rattle.vlp_problem.specs.declared.problem.Cone.TheVariants.{Orthant, Gens, Dual}
 use Rattle.word_lines.specs.declared.part.LogPair.{LogPair}
 use Rattle.word_lines.specs.declared.part.EndKind.{EndKind}
 use Rattle.word_lines.specs.declared.part.EndKind.TheVariants as kind

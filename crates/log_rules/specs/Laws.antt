@@ -17,7 +17,7 @@ use Rattle.log_rules.specs.Right.{IsRight, stated, IsSolution}
 use Rattle.std.specs.Prelude.{ℕ, ◌≡◌, ◌⊎◌, ◌++◌, suc, ◌<◌, true, List, [], map, filter, All, Contains, IsTrue, Bool, None, ◌↔◌, ◌-◌, ◌∷◌, length}
 use Rattle.exact_field.specs.Rational.{ℚ, zero_ℚ, one_ℚ, neg_ℚ}
 use Rattle.exact_field.specs.Order.{same_ℚ}
-use Rattle.vlp_reader.specs.declared.problem.Problem.{Problem}
+use Rattle.vlp_problem.specs.declared.problem.Problem.{Problem}
 use Rattle.log_rules.specs.declared.answer.Answer.{Answer}
 use Rattle.log_rules.specs.declared.answer.Answer.TheVariants.{Solved}
 use Rattle.log_rules.specs.declared.answer.Gen.{Gen}

@@ -11,9 +11,9 @@ use Rattle.log_rules.specs.Live.{Stated, state, y_of, t_of, cut_at, duality_vect
 use Rattle.log_rules.specs.Meets.{Meets}
 use Rattle.log_rules.specs.Right.{stated, key, tight_numbers, Rise}
 use Rattle.frac128.specs.declared.vectors.Spot.{Spot}
-use Rattle.vlp_reader.specs.declared.problem.Problem.{Problem}
-use Rattle.vlp_reader.specs.declared.problem.Dir.{Dir}
-use Rattle.vlp_reader.specs.declared.problem.Dir.TheVariants.{Min, Max}
+use Rattle.vlp_problem.specs.declared.problem.Problem.{Problem}
+use Rattle.vlp_problem.specs.declared.problem.Dir.{Dir}
+use Rattle.vlp_problem.specs.declared.problem.Dir.TheVariants.{Min, Max}
 use Rattle.deriv_log.specs.Formed.{IsLog}
 use Rattle.log_rules.specs.declared.answer.Answer.{Answer}
 use Rattle.log_rules.specs.declared.answer.Answer.TheVariants.{Infeasible, Whole, Solved}

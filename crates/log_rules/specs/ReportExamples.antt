@@ -2,8 +2,8 @@
 use Rattle.std.specs.Prelude.{◌≡◌, ℕ, List, [], ◌∷◌, map, codes, pos}
 use Rattle.exact_field.specs.Rational.{fraction}
 use Rattle.src_sink.specs.Texts.{words_text}
-use Rattle.vlp_reader.specs.declared.problem.Problem.{Problem}
-use Rattle.vlp_reader.specs.declared.problem.Bound.TheVariants.{Unsaid, Lower}
+use Rattle.vlp_problem.specs.declared.problem.Problem.{Problem}
+use Rattle.vlp_problem.specs.declared.problem.Bound.TheVariants.{Unsaid, Lower}
 use Rattle.deriv_log.specs.declared.entry.Entry.{Entry}
 use Rattle.log_rules.specs.Examples.{Parts, Says, n, at, half, minus_one, empty, one, line_file, line_log, largest}
 use Rattle.log_rules.specs.Proves.{PlainProves}

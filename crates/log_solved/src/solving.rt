@@ -8,8 +8,8 @@ ghost use Rattle.frac128.specs.declared.vectors.Spot.{Spot};
 ghost use Rattle.deriv_log.specs.declared.entry.Entry.{Entry};
 ghost use Rattle.deriv_log.specs.declared.entry.Entry.TheVariants as entry;
 ghost use Rattle.word_lines.specs.declared.part.EndKind.TheVariants as end;
-ghost use Rattle.vlp_reader.specs.Sides.{numbers_from};
-ghost use Rattle.vlp_reader.specs.declared.problem.Problem.{Problem};
+ghost use Rattle.vlp_problem.specs.Sides.{numbers_from};
+ghost use Rattle.vlp_problem.specs.declared.problem.Problem.{Problem};
 ghost use Rattle.log_rules.specs.Events.{add_events, end_events, facet_events, is_accounted, is_largest, is_taken, start_events};
 ghost use Rattle.log_rules.specs.Live.{contains, cut_row, lines as lines_of, named, preimages, state};
 ghost use Rattle.log_rules.specs.Meets.{Meets};
@@ -35,7 +35,7 @@ use log_rules::{Rule, Stop};
 use src_sink::{Items, MOST_ITEMS, NoMemory};
 use std::alloc::Global;
 use vlp_matrices::Matrices;
-use vlp_reader::Problem;
+use vlp_problem::Problem;
 
 /// What stands of a solved log after some of its entries. After an error of a call that changes it
 /// the value is of no use: the check of the log has ended.

@@ -1,6 +1,6 @@
 -- The upgrade of a log.
 use Rattle.std.specs.Prelude.{◌≡◌, List}
-use Rattle.vlp_reader.specs.declared.problem.Problem.{Problem}
+use Rattle.vlp_problem.specs.declared.problem.Problem.{Problem}
 use Rattle.deriv_log.specs.Formed.{IsLog}
 use Rattle.deriv_log.specs.declared.entry.Entry.{Entry}
 use Rattle.log_rules.specs.declared.answer.Answer.{Answer}

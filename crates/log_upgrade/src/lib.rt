@@ -15,12 +15,12 @@ mod repeats;
 mod vectors;
 mod walk;
 
-use crate::logs::{copy_log, is_second, make_upgrade, make_upgrade_text};
 use cert_check::{Refusal, check};
+use crate::logs::{copy_log, is_second, make_upgrade, make_upgrade_text};
 use deriv_log::{Entries, print_log};
 use src_sink::{Bytes, NoMemory};
 use std::alloc::Global;
-use vlp_reader::Problem;
+use vlp_problem::Problem;
 
 /// The log of version 2 that says the same as a log which `check` accepts: each `add` gets the
 /// least generators that cover as hints, and each vector that stands in several entries is shared.

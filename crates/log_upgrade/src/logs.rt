@@ -7,7 +7,7 @@ use crate::walk::Upgrader;
 use deriv_log::{Entries, Entry};
 use src_sink::{Bytes, Items, NoMemory};
 use std::alloc::Global;
-use vlp_reader::Problem;
+use vlp_problem::Problem;
 
 /// Whether a log is of version 2.
 pub(crate) fn is_second(entries: &[Entry]) -> bool

@@ -2,7 +2,7 @@
 ghost use Rattle.std.specs.Prelude.{◌≡◌, ◌<◌, ◌++◌, ◌∷◌, [], List, IsTrue, IfOk, OnOk, Some, None};
 ghost use Rattle.std.specs.List.{list_all};
 ghost use Rattle.frac128.specs.declared.vectors.Spot.{Spot};
-ghost use Rattle.vlp_reader.specs.declared.problem.Problem.{Problem};
+ghost use Rattle.vlp_problem.specs.declared.problem.Problem.{Problem};
 ghost use Rattle.deriv_log.specs.Formed.{is_formed};
 ghost use Rattle.word_lines.specs.Parts.{is_short};
 ghost use Rattle.src_sink.specs.Texts.{line_text};
@@ -13,13 +13,13 @@ ghost use Rattle.log_upgrade.specs.Repeats.{AreStandings};
 ghost use Rattle.log_upgrade.specs.Walk.{in_place, placed, IsFirst, IsNext, IsPut, StandsAt, IsUpgraded, IsWhole, IsWholeText};
 ghost use Rattle.log_upgrade.specs.declared.repeats.Repeats.{Repeats};
 
-use crate::repeats::{Place, Repeats, vector_of};
 use cert_check::Checker;
+use crate::repeats::{Place, Repeats, vector_of};
 use deriv_log::{Entries, Entry, LogPair, print_line};
 use frac128::Spot;
 use src_sink::{Bytes, Items, NoMemory};
 use std::alloc::Global;
-use vlp_reader::Problem;
+use vlp_problem::Problem;
 
 /// What stands in the place of an entry.
 #[derive(Drop)]

@@ -2,10 +2,10 @@
 use Rattle.std.specs.Prelude.{◌≡◌, ℕ, List, [], ◌∷◌, ◌++◌, negsuc, pos, None}
 use Rattle.exact_field.specs.Rational.{ℚ, whole, fraction}
 use Rattle.frac128.specs.Held.{is_held}
-use Rattle.vlp_reader.specs.declared.problem.Problem.{Problem}
-use Rattle.vlp_reader.specs.declared.problem.Dir.TheVariants.{Min}
-use Rattle.vlp_reader.specs.declared.problem.Bound.TheVariants.{Lower}
-use Rattle.vlp_reader.specs.declared.problem.Cone.TheVariants.{Orthant}
+use Rattle.vlp_problem.specs.declared.problem.Problem.{Problem}
+use Rattle.vlp_problem.specs.declared.problem.Dir.TheVariants.{Min}
+use Rattle.vlp_problem.specs.declared.problem.Bound.TheVariants.{Lower}
+use Rattle.vlp_problem.specs.declared.problem.Cone.TheVariants.{Orthant}
 use Rattle.word_lines.specs.declared.part.LogPair.{LogPair}
 use Rattle.deriv_log.specs.declared.entry.Entry.{Entry}
 use Rattle.deriv_log.specs.declared.entry.Entry.TheVariants as entry

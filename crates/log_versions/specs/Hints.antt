@@ -5,7 +5,7 @@ use Rattle.std.specs.List.{list_all, list_any}
 use Rattle.exact_field.specs.Rational.{ℚ, zero_ℚ, lt_ℚ}
 use Rattle.polyhedra.specs.DoubleDescription.{covers}
 use Rattle.polyhedra.specs.LiveList.{Numbered, LivePair, products}
-use Rattle.vlp_reader.specs.declared.problem.Problem.{Problem}
+use Rattle.vlp_problem.specs.declared.problem.Problem.{Problem}
 use Rattle.word_lines.specs.declared.part.LogPair.{LogPair}
 use Rattle.log_rules.specs.Live.{State, value, find, cut_row, rows_in_use, required_pairs, log_pair}
 

@@ -1,7 +1,7 @@
 -- What the entries of a log as it is written must meet, whatever its version, and what it proves:
 -- what its plain log proves.
 use Rattle.std.specs.Prelude.{◌≡◌, ◌⊎◌, ⊤, ℕ, ◌≤◌, Bool, ◌&&◌, IsTrue, List, ◌∷◌, ◌++◌, length}
-use Rattle.vlp_reader.specs.declared.problem.Problem.{Problem}
+use Rattle.vlp_problem.specs.declared.problem.Problem.{Problem}
 use Rattle.deriv_log.specs.Formed.{IsLog}
 use Rattle.deriv_log.specs.declared.entry.Entry.{Entry}
 use Rattle.deriv_log.specs.declared.entry.Entry.TheVariants.{Version, Cut, Point, Ray, Share, CutOf, PointOf, RayOf, AddHints}

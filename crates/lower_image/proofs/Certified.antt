@@ -16,9 +16,9 @@ use Rattle.polyhedra.proofs.Lists.{Contains-cases, Contains-here, Contains-nil, 
 use Rattle.polyhedra.proofs.Members.{Contains-filter, Contains-filter_source, Contains-map, Contains-map_source, all_of_members, member_of, pairs-append, pairs-cons, pairs-map, pairs-nil, pairs-weaker}
 use Rattle.polyhedra.proofs.Tests.{test_of_zero, test_of_other}
 use Rattle.double_descr.specs.State.{State as Description}
-use Rattle.vlp_reader.specs.declared.problem.Problem.{Problem}
+use Rattle.vlp_problem.specs.declared.problem.Problem.{Problem}
 use Rattle.upper_image.specs.UpperImage.{IsInWorkingImage}
-use Rattle.licence.specs.Base.{IsBaseRow}
+use Rattle.overflow_rules.specs.Base.{IsBaseRow}
 use Rattle.lp_form.specs.declared.shown.Cut.{Cut}
 use Rattle.outer_approx.specs.Cuts.{IsCutFor, said_by}
 use Rattle.outer_approx.specs.Task.{Task, IsFitting}

@@ -25,7 +25,7 @@ use Rattle.polyhedra.proofs.LiveSteps.{are_live}
 use Rattle.polyhedra.proofs.Members.{all_of_members, member_of, Contains-map, Contains-map_source, Contains-filter, Contains-filter_source, pairs-map, pairs-weaker, pairs-filter}
 use Rattle.polyhedra.proofs.Order.{add_positive, inverse_positive}
 use Rattle.polyhedra.proofs.Tests.{test_of_zero, test_of_other}
-use Rattle.vlp_reader.specs.declared.problem.Problem.{Problem}
+use Rattle.vlp_problem.specs.declared.problem.Problem.{Problem}
 use Rattle.upper_image.specs.OrderingCone.{Fits}
 use Rattle.upper_image.specs.UpperImage.{front, IsInWorkingImage}
 use Rattle.lower_image.specs.Lower.{AreAllFacets, IsCertified, IsLower, dual_at, weight_at, dual_vector, inequality_of, weighted as weighted_of}

@@ -19,18 +19,18 @@ use Rattle.polyhedra.proofs.Lists.{HasWidth}
 use Rattle.polyhedra.proofs.Negatives.{dot-negated}
 use Rattle.tableaux.specs.Table.{listed, unit}
 use Rattle.lin_rows.specs.Read.{numbers}
-use Rattle.vlp_reader.specs.declared.problem.Problem.{Problem}
-use Rattle.vlp_reader.specs.declared.problem.Cone.{Cone}
-use Rattle.vlp_reader.specs.declared.problem.Cone.TheVariants as cone
+use Rattle.vlp_problem.specs.declared.problem.Problem.{Problem}
+use Rattle.vlp_problem.specs.declared.problem.Cone.{Cone}
+use Rattle.vlp_problem.specs.declared.problem.Cone.TheVariants as cone
 use Rattle.lp_form.specs.Data.{IsDataOf, cone_of}
 use Rattle.lp_form.specs.Programs.{nonzero_vectors}
 use Rattle.lp_form.specs.declared.data.ConeOf.{ConeOf}
 use Rattle.lp_form.specs.declared.data.ConeOf.TheVariants.{Orthant, Gens, Dual}
 use Rattle.lp_form.specs.declared.data.Data.{Data}
 use Rattle.lp_form.proofs.Figures.{objective_number}
-use Rattle.licence.specs.Base.{IsConeDirection, IsDirectionOf, IsGeneratorOf}
-use Rattle.licence.specs.Operands.{IsMadeOver}
-use Rattle.licence.proofs.Making.{generator_laws}
+use Rattle.overflow_rules.specs.Base.{IsConeDirection, IsDirectionOf, IsGeneratorOf}
+use Rattle.overflow_rules.specs.Operands.{IsMadeOver}
+use Rattle.overflow_rules.proofs.Making.{generator_laws}
 use Rattle.cone_rules.specs.Faults.{HasNoLine, IsPointed}
 use Rattle.cone_rules.proofs.Rows.{kept, kept_or_zero, kept_wide}
 use Rattle.cone_dual.specs.Generators.{AreConeRows, AreGenerators, AreMadeInOrder, begun_with}

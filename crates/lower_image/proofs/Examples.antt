@@ -14,18 +14,18 @@ use Rattle.polyhedra.proofs.Lists.{Contains-cases, Contains-nil}
 use Rattle.polyhedra.proofs.Tests.{both_true, same_vector_is}
 use Rattle.tableaux.specs.Dictionary.{IsFullDictionaryOf, multipliers}
 use Rattle.tableaux.specs.Table.{System, listed, table_of, unit}
-use Rattle.vlp_reader.specs.Sides.{sides, IsFeasible}
+use Rattle.vlp_problem.specs.Sides.{sides, IsFeasible}
 use Rattle.upper_image.specs.OrderingCone.{Fits}
 use Rattle.upper_image.specs.Shows.{ShowsCut}
 use Rattle.upper_image.specs.UpperImage.{IsInWorkingImage}
 use Rattle.upper_image.proofs.Solid.{duality_fits}
 use Rattle.upper_image.proofs.WorkingImage.{cut_valid}
-use Rattle.licence.specs.Base.{AreMultipliersOff, IsBaseChoice, image_of, weight_of}
-use Rattle.licence.specs.Examples.{n, minus, ones}
+use Rattle.overflow_rules.specs.Base.{AreMultipliersOff, IsBaseChoice, image_of, weight_of}
+use Rattle.overflow_rules.specs.Examples.{n, minus, ones}
 use Rattle.geo_duality.specs.Rows.{exchange_row}
-use Rattle.licence.proofs.Values.{apart, equal}
-use Rattle.licence.proofs.Pivots.{Pivots, table_after}
-use Rattle.licence.proofs.WorkedBase.{full_after}
+use Rattle.overflow_rules.proofs.Values.{apart, equal}
+use Rattle.overflow_rules.proofs.Pivots.{Pivots, table_after}
+use Rattle.overflow_rules.proofs.WorkedBase.{full_after}
 use Rattle.lp_form.specs.Programs.{feasible_system}
 use Rattle.lower_image.specs.Examples.{LowerExamples, across, choice_row, corners, first_row, first_up, four_up, second_row}
 use Rattle.lower_image.specs.Lower.{AreAllFacets, AreLowerRows, IsCertified, dual_vector, inequality_of, weight_at}

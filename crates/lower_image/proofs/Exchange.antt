@@ -17,7 +17,7 @@ use Rattle.polyhedra.proofs.Linear.{dot_comm, dot-plus_left, dot-scaled_left, le
 use Rattle.tableaux.specs.Table.{minus}
 use Rattle.upper_image.specs.UpperImage.{front}
 use Rattle.geo_duality.specs.Rows.{exchange_row}
-use Rattle.licence.proofs.Violated.{dot-append, dot-take, minus-is, length-minus}
+use Rattle.overflow_rules.proofs.Violated.{dot-append, dot-take, minus-is, length-minus}
 use Rattle.lower_image.specs.Lower.{dual_at, weight_at}
 
 -- ---- zeros

@@ -15,11 +15,11 @@ use Rattle.geo_duality.specs.Exchange as calculated
 use Rattle.deriv_log.specs.declared.licence.Place.TheVariants.{Exchange}
 use Rattle.log_rules.specs.Events.{Event}
 use Rattle.log_rules.specs.Events.Event.{step}
-use Rattle.licence.specs.Base.{IsBaseRow}
-use Rattle.licence.specs.Licence.{IsOverflow}
-use Rattle.licence.specs.Operands.{Setting, Knows}
-use Rattle.licence.specs.Steps.{in_numbers, operation}
-use Rattle.licence.proofs.Given.{overflow_laws}
+use Rattle.overflow_rules.specs.Base.{IsBaseRow}
+use Rattle.overflow_rules.specs.Licence.{IsOverflow}
+use Rattle.overflow_rules.specs.Operands.{Setting, Knows}
+use Rattle.overflow_rules.specs.Steps.{in_numbers, operation}
+use Rattle.overflow_rules.proofs.Given.{overflow_laws}
 use Rattle.overflows.specs.Faults.{IsLeftAt, Overflows}
 use Rattle.overflows.specs.declared.fault.SolveFault.{SolveFault}
 use Rattle.overflows.proofs.Events.{event_of, same_exact}

@@ -21,8 +21,8 @@ use Rattle.lineality.specs.Without.{open_count, without, with_zeros}
 use Rattle.lineality.proofs.ExactAlong.{exactness_along}
 use Rattle.lineality.proofs.Masks.{dot-without, length-with}
 use Rattle.tableaux.specs.Simplex.{IsOptimal}
-use Rattle.vlp_reader.specs.Sides.{sides, side_bounds}
-use Rattle.vlp_reader.specs.declared.problem.Problem.{Problem}
+use Rattle.vlp_problem.specs.Sides.{sides, side_bounds}
+use Rattle.vlp_problem.specs.declared.problem.Problem.{Problem}
 use Rattle.upper_image.specs.OrderingCone.{Fits}
 use Rattle.upper_image.specs.UpperImage.{normals, objectives, IsInWorkingImage, IsWorkingDirection}
 use Rattle.deriv_log.specs.Formed.{IsLog}
@@ -38,10 +38,10 @@ use Rattle.log_rules.proofs.SolutionIsRight.{are_sound}
 use Rattle.log_rules.proofs.SolvedIsSolved.{solved, solved_met}
 use Rattle.lp_form.specs.Programs.{benson_system, u_of, w_of, behind_of, value_of}
 use Rattle.lp_form.proofs.Systems.{benson_ok, length-negated}
-use Rattle.licence.specs.Base.{last_of}
-use Rattle.licence.proofs.Cuts.{length-benson_cost, benson_unknowns}
-use Rattle.licence.proofs.CutTurns.{optimal_value}
-use Rattle.licence.proofs.Violated.{said_value}
+use Rattle.overflow_rules.specs.Base.{last_of}
+use Rattle.overflow_rules.proofs.Cuts.{length-benson_cost, benson_unknowns}
+use Rattle.overflow_rules.proofs.CutTurns.{optimal_value}
+use Rattle.overflow_rules.proofs.Violated.{said_value}
 use Rattle.benson_program.proofs.Solved.{balanced, behind_long, behind_positive, in_dual, member, scaled_at, u_long, u_positive, w_long}
 use Rattle.lower_image.specs.Lower.{AreAllFacets}
 use Rattle.lower_image.specs.Laws.{AllFacetsLaws}

@@ -16,11 +16,11 @@ use Rattle.polyhedra.proofs.LiveSteps.{are_live}
 use Rattle.polyhedra.proofs.Members.{member_of}
 use Rattle.polyhedra.proofs.Order.{le_or_lt, le_of_difference}
 use Rattle.polyhedra.proofs.Tests.{test_of_zero, test_of_other}
-use Rattle.vlp_reader.specs.declared.problem.Problem.{Problem}
+use Rattle.vlp_problem.specs.declared.problem.Problem.{Problem}
 use Rattle.upper_image.specs.OrderingCone.{Fits, IsInDualCone, IsInOrderingCone}
 use Rattle.upper_image.specs.UpperImage.{front}
 use Rattle.upper_image.proofs.Absorbing.{zero_at_interior}
-use Rattle.licence.specs.Base.{image_of, weight_of}
+use Rattle.overflow_rules.specs.Base.{image_of, weight_of}
 use Rattle.geo_duality.specs.Rows.{exchange_row}
 use Rattle.lower_image.specs.Lower.{IsLower, dual_at, weight_at}
 use Rattle.lower_image.specs.Laws.{IsWeighted, LowerGeneratorLaws}

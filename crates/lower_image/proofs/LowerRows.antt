@@ -25,11 +25,11 @@ use Rattle.polyhedra.proofs.Members.{all_of_members, member_of}
 use Rattle.polyhedra.proofs.Negatives.{dot-negated}
 use Rattle.polyhedra.proofs.Order.{le_of_difference, le_of_eq}
 use Rattle.tableaux.specs.Table.{minus}
-use Rattle.vlp_reader.specs.Cones.{cone_fits}
-use Rattle.vlp_reader.specs.Sides.{sides, IsFeasible, IsRecession}
-use Rattle.vlp_reader.specs.declared.problem.Problem.{Problem}
-use Rattle.vlp_reader.specs.declared.problem.Cone.{Cone}
-use Rattle.vlp_reader.specs.declared.problem.Cone.TheVariants.{Orthant, Gens, Dual}
+use Rattle.vlp_problem.specs.Cones.{cone_fits}
+use Rattle.vlp_problem.specs.Sides.{sides, IsFeasible, IsRecession}
+use Rattle.vlp_problem.specs.declared.problem.Problem.{Problem}
+use Rattle.vlp_problem.specs.declared.problem.Cone.{Cone}
+use Rattle.vlp_problem.specs.declared.problem.Cone.TheVariants.{Orthant, Gens, Dual}
 use Rattle.upper_image.specs.OrderingCone.{Fits, IsIn, IsInDualCone, IsInOrderingCone}
 use Rattle.upper_image.specs.UpperImage.{objectives, front, IsInWorkingImage, IsWorkingDirection}
 use Rattle.upper_image.proofs.Absorbing.{zero_at_interior}
@@ -37,11 +37,11 @@ use Rattle.upper_image.proofs.ConvexCones.{ordering_cone_convex}
 use Rattle.upper_image.proofs.WorkingImage.{feasible_meets, recession_meets, value_wide, working_image_convex}
 use Rattle.lp_form.proofs.Systems.{cone_wide, length-negated, length-unit}
 use Rattle.cone_rules.proofs.Ranks.{unit_nonneg}
-use Rattle.licence.specs.Base.{IsBaseRow, IsConeDirection, IsDirectionOf, image_of}
-use Rattle.licence.specs.Base.IsBaseRow.{of_choice, of_ray, of_cone}
+use Rattle.overflow_rules.specs.Base.{IsBaseRow, IsConeDirection, IsDirectionOf, image_of}
+use Rattle.overflow_rules.specs.Base.IsBaseRow.{of_choice, of_ray, of_cone}
 use Rattle.geo_duality.specs.Rows.{exchange_row}
-use Rattle.licence.proofs.Making.{generator_laws}
-use Rattle.licence.proofs.Violated.{length-minus}
+use Rattle.overflow_rules.proofs.Making.{generator_laws}
+use Rattle.overflow_rules.proofs.Violated.{length-minus}
 use Rattle.lower_image.specs.Lower.{AreLowerRows, IsLower, dual_at, weight_at, dual_vector}
 use Rattle.lower_image.specs.Laws.{LowerRowLaws}
 use Rattle.lower_image.proofs.Exchange.{exchange_at, take-zeros, two_more, weight_again, weight_normed, dual_parts}

@@ -8,10 +8,10 @@ use Rattle.polyhedra.specs.Negatives.{negated}
 use Rattle.polyhedra.specs.Vectors.{zeros}
 use Rattle.polyhedra.proofs.Algebra.{neg_neg}
 use Rattle.tableaux.specs.Table.{Table, column_of, list_from, listed, unit}
-use Rattle.vlp_reader.specs.Sides.{side_column, numbers_from}
-use Rattle.vlp_reader.specs.declared.problem.Problem.{Problem}
-use Rattle.vlp_reader.specs.declared.problem.Cone.{Cone}
-use Rattle.vlp_reader.specs.declared.problem.Cone.TheVariants.{Orthant, Gens, Dual}
+use Rattle.vlp_problem.specs.Sides.{side_column, numbers_from}
+use Rattle.vlp_problem.specs.declared.problem.Problem.{Problem}
+use Rattle.vlp_problem.specs.declared.problem.Cone.{Cone}
+use Rattle.vlp_problem.specs.declared.problem.Cone.TheVariants.{Orthant, Gens, Dual}
 use Rattle.upper_image.specs.UpperImage.{objective_column}
 use Rattle.upper_image.proofs.Widths.{length-numbers}
 use Rattle.lp_form.specs.Programs.{side_total, on_parts, balances, weight_members, weight_unknowns}

@@ -6,8 +6,8 @@ use Rattle.exact_field.specs.Vector.{dot}
 use Rattle.frac128.specs.declared.vectors.Spot.{Spot}
 use Rattle.tableaux.specs.Dictionary.{solution}
 use Rattle.tableaux.specs.Table.{System, unknown_count}
-use Rattle.vlp_reader.specs.Sides.{side_bounds}
-use Rattle.vlp_reader.specs.declared.problem.Problem.{Problem}
+use Rattle.vlp_problem.specs.Sides.{side_bounds}
+use Rattle.vlp_problem.specs.declared.problem.Problem.{Problem}
 use Rattle.upper_image.specs.OrderingCone.{IsInDualCone}
 use Rattle.upper_image.specs.Shows.{ShowsCut}
 use Rattle.upper_image.specs.Spots.{dense, product, IsVector}
@@ -19,8 +19,8 @@ use Rattle.lp_form.specs.Programs.{side_total, weight_system, weight_unknowns, u
 use Rattle.lp_form.specs.Reading.{HasColumns, IsSplit}
 use Rattle.lp_form.proofs.Figures.{side_number, objective_number}
 use Rattle.lp_form.proofs.Systems.{weight_ok, length-side_bounds}
-use Rattle.licence.specs.Base.{AreCutParts, IsBaseCut, IsBaseWeight}
-use Rattle.licence.specs.Operands.{Setting, Knows, IsBaseU}
+use Rattle.overflow_rules.specs.Base.{AreCutParts, IsBaseCut, IsBaseWeight}
+use Rattle.overflow_rules.specs.Operands.{Setting, Knows, IsBaseU}
 use Rattle.cone_rules.proofs.Opposite.{opposite_columns}
 use Rattle.benson_program.proofs.Spread.{spots, spots-dense}
 use Rattle.benson_program.specs.Cuts.{IsCutOf}

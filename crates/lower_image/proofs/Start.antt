@@ -23,21 +23,21 @@ use Rattle.polyhedra.proofs.TightRows.{same_vector_or_not}
 use Rattle.tableaux.specs.Table.{listed, unit}
 use Rattle.tableaux.proofs.Places.{length-list_from, list_from-place}
 use Rattle.tableaux.proofs.Unique.{dot-unit}
-use Rattle.vlp_reader.specs.declared.problem.Problem.{Problem}
-use Rattle.vlp_reader.specs.declared.problem.Cone.{Cone}
-use Rattle.vlp_reader.specs.declared.problem.Cone.TheVariants.{Orthant, Gens, Dual}
+use Rattle.vlp_problem.specs.declared.problem.Problem.{Problem}
+use Rattle.vlp_problem.specs.declared.problem.Cone.{Cone}
+use Rattle.vlp_problem.specs.declared.problem.Cone.TheVariants.{Orthant, Gens, Dual}
 use Rattle.upper_image.specs.OrderingCone.{Fits, IsIn}
 use Rattle.upper_image.proofs.ConvexCones.{ordering_cone_convex}
 use Rattle.lp_form.proofs.Systems.{cone_wide}
-use Rattle.licence.specs.Base.{IsBaseChoice, IsBaseRow, IsConeDirection, IsDirectionOf, image_of}
-use Rattle.licence.specs.Base.IsBaseRow.{of_choice, of_cone}
+use Rattle.overflow_rules.specs.Base.{IsBaseChoice, IsBaseRow, IsConeDirection, IsDirectionOf, image_of}
+use Rattle.overflow_rules.specs.Base.IsBaseRow.{of_choice, of_cone}
 use Rattle.geo_duality.specs.Rows.{exchange_row}
 use Rattle.lower_image.specs.Lower.{AreLowerRows, AreSpanning, IsCertified, IsLower, dual_at, weight_at, dual_vector, inequality_of}
 use Rattle.lower_image.specs.Laws.{IsWeighted, LowerStartLaws}
 use Rattle.lower_image.proofs.Exchange.{exchange_at, weight_long}
 use Rattle.lower_image.proofs.Generators.{lower_generators}
 use Rattle.lower_image.proofs.LowerRows.{c_long, some, cone_direction, lower_rows}
-use Rattle.vlp_reader.specs.Cones.{cone_fits}
+use Rattle.vlp_problem.specs.Cones.{cone_fits}
 
 -- ---- the first rows
 begins : (file : Problem) (c x : List ℚ) (es : List (List ℚ)) → Fits file c → IsBaseChoice file x → AreSpanning file es →

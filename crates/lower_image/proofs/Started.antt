@@ -10,11 +10,11 @@ use Rattle.polyhedra.proofs.Members.{all_of_members, member_of}
 use Rattle.double_descr.specs.State.{State as Description}
 use Rattle.deriv_log.specs.declared.entry.Entry.{Entry}
 use Rattle.deriv_log.specs.declared.licence.Family.TheVariants.{Exchanged}
-use Rattle.licence.specs.Base.{IsBaseChoice, IsBaseRow, IsConeDirection, image_of}
-use Rattle.licence.specs.Base.IsBaseRow.{of_choice, of_cone}
-use Rattle.licence.specs.Operands.{AreElimRows, IsAddition}
+use Rattle.overflow_rules.specs.Base.{IsBaseChoice, IsBaseRow, IsConeDirection, image_of}
+use Rattle.overflow_rules.specs.Base.IsBaseRow.{of_choice, of_cone}
+use Rattle.overflow_rules.specs.Operands.{AreElimRows, IsAddition}
 use Rattle.geo_duality.specs.Rows.{exchange_row}
-use Rattle.licence.proofs.Making.{generator_laws}
+use Rattle.overflow_rules.proofs.Making.{generator_laws}
 use Rattle.cone_dual.specs.Generators.{IsDescriptionOf, MayDescribe, begun_with}
 use Rattle.cone_dual.proofs.Reordered.{begun_listed, picked_places, rows_begun}
 use Rattle.outer_approx.specs.Task.{Task, IsFitting, behind}

@@ -18,16 +18,16 @@ use Rattle.polyhedra.proofs.LiveSteps.{are_live}
 use Rattle.polyhedra.proofs.Members.{all_of_members, member_of}
 use Rattle.polyhedra.proofs.Order.{le_or_lt}
 use Rattle.tableaux.specs.Simplex.{IsOptimal, IsInfeasible}
-use Rattle.vlp_reader.specs.Sides.{side_bounds}
-use Rattle.vlp_reader.specs.declared.problem.Problem.{Problem}
+use Rattle.vlp_problem.specs.Sides.{side_bounds}
+use Rattle.vlp_problem.specs.declared.problem.Problem.{Problem}
 use Rattle.upper_image.specs.OrderingCone.{Fits}
 use Rattle.upper_image.specs.UpperImage.{front, IsInWorkingImage}
 use Rattle.upper_image.proofs.ConvexCones.{ordering_cone_convex}
 use Rattle.lp_form.specs.Programs.{weight_system, u_of, choice_of}
-use Rattle.licence.specs.Base.{AreMultipliersOff, AreFirstMultipliersOff, IsBaseRow, image_of, weight_of}
-use Rattle.licence.specs.Base.IsBaseRow.{of_choice, of_ray, of_cone}
+use Rattle.overflow_rules.specs.Base.{AreMultipliersOff, AreFirstMultipliersOff, IsBaseRow, image_of, weight_of}
+use Rattle.overflow_rules.specs.Base.IsBaseRow.{of_choice, of_ray, of_cone}
 use Rattle.geo_duality.specs.Rows.{exchange_row}
-use Rattle.licence.specs.Turns.{IsRowTurn, said_exchange}
+use Rattle.overflow_rules.specs.Turns.{IsRowTurn, said_exchange}
 use Rattle.lower_image.proofs.WeightEnds.{weight_cut, weight_choice, weight_ray}
 use Rattle.lower_image.specs.Lower.{IsLower, dual_at, weight_at, dual_vector}
 use Rattle.lower_image.specs.Laws.{IsWeighted, LowerTurnLaws}

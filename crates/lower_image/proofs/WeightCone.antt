@@ -14,10 +14,10 @@ use Rattle.polyhedra.proofs.Laws.{add_zero, le_of_lt, le_refl}
 use Rattle.polyhedra.proofs.Linear.{dot_comm, dot-combination, dot-zeros, length-combination, length-zeros}
 use Rattle.polyhedra.proofs.Lists.{nonneg-nil, nonneg-cons, all_from_map}
 use Rattle.polyhedra.proofs.Negatives.{dot-negated}
-use Rattle.vlp_reader.specs.Cones.{cone_fits}
-use Rattle.vlp_reader.specs.declared.problem.Problem.{Problem}
-use Rattle.vlp_reader.specs.declared.problem.Cone.{Cone}
-use Rattle.vlp_reader.specs.declared.problem.Cone.TheVariants.{Orthant, Gens, Dual}
+use Rattle.vlp_problem.specs.Cones.{cone_fits}
+use Rattle.vlp_problem.specs.declared.problem.Problem.{Problem}
+use Rattle.vlp_problem.specs.declared.problem.Cone.{Cone}
+use Rattle.vlp_problem.specs.declared.problem.Cone.TheVariants.{Orthant, Gens, Dual}
 use Rattle.upper_image.specs.OrderingCone.{IsIn, dual_of}
 use Rattle.upper_image.specs.Shows.{ShowsIn}
 use Rattle.upper_image.specs.Spots.{dense, IsVector}

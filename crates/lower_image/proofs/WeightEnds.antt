@@ -16,8 +16,8 @@ use Rattle.tableaux.specs.Simplex.{IsOptimal, IsInfeasible, IsUnbounded}
 use Rattle.tableaux.specs.Table.{column_of}
 use Rattle.tableaux.proofs.Inverse.{dot-append}
 use Rattle.tableaux.proofs.Unique.{slice-zeros}
-use Rattle.vlp_reader.specs.Sides.{sides, side_bounds, IsFeasible, IsRecession}
-use Rattle.vlp_reader.specs.declared.problem.Problem.{Problem}
+use Rattle.vlp_problem.specs.Sides.{sides, side_bounds, IsFeasible, IsRecession}
+use Rattle.vlp_problem.specs.declared.problem.Problem.{Problem}
 use Rattle.upper_image.specs.OrderingCone.{IsInDualCone}
 use Rattle.upper_image.specs.Shows.{ShowsCut}
 use Rattle.upper_image.specs.Spots.{product, IsVector}
@@ -26,7 +26,7 @@ use Rattle.upper_image.proofs.Widths.{wide_objectives}
 use Rattle.upper_image.proofs.WorkingImage.{feasible_meets}
 use Rattle.lp_form.specs.Programs.{side_total, on_parts, weight_system, weight_unknowns, weight_equations, u_of, w_of, v_of, behind_of, choice_of}
 use Rattle.lp_form.proofs.Systems.{weight_ok, length-side_bounds}
-use Rattle.licence.specs.Base.{AreCutParts, image_of}
+use Rattle.overflow_rules.specs.Base.{AreCutParts, image_of}
 use Rattle.benson_program.proofs.Blocks.{on_parts-value}
 use Rattle.benson_program.proofs.AsPreimage.{sides_rise}
 use Rattle.benson_program.proofs.Spots.{positive_values}

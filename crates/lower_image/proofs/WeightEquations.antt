@@ -14,15 +14,15 @@ use Rattle.polyhedra.proofs.Negatives.{dot-negated}
 use Rattle.tableaux.specs.Table.{Table, listed, unit, minus}
 use Rattle.tableaux.proofs.Places.{entry-plus}
 use Rattle.tableaux.proofs.Unique.{dot-unit, entry-combination}
-use Rattle.vlp_reader.specs.Sides.{side_column, side_bounds, numbers_from}
-use Rattle.vlp_reader.specs.declared.problem.Problem.{Problem}
-use Rattle.vlp_reader.specs.declared.problem.Cone.{Cone}
-use Rattle.vlp_reader.specs.declared.problem.Cone.TheVariants.{Orthant, Gens, Dual}
+use Rattle.vlp_problem.specs.Sides.{side_column, side_bounds, numbers_from}
+use Rattle.vlp_problem.specs.declared.problem.Problem.{Problem}
+use Rattle.vlp_problem.specs.declared.problem.Cone.{Cone}
+use Rattle.vlp_problem.specs.declared.problem.Cone.TheVariants.{Orthant, Gens, Dual}
 use Rattle.upper_image.specs.UpperImage.{normals, objectives, objective_column}
 use Rattle.upper_image.proofs.Widths.{length-numbers, wide_normals, wide_objectives, objective_columns, side_columns}
 use Rattle.lp_form.specs.Programs.{side_total, on_parts, balances, weight_members, weight_unknowns, weight_equations, u_of, w_of, behind_of}
 use Rattle.lp_form.proofs.Systems.{IsWideCone, length-unit, length-negated, length-side_column, length-side_bounds}
-use Rattle.licence.proofs.Violated.{length-minus}
+use Rattle.overflow_rules.proofs.Violated.{length-minus}
 use Rattle.benson_program.proofs.Blocks.{on_parts-value, values_listed, members-value}
 
 none_left : (n : ℕ) (v : List ℚ) → dot (zeros n) v ≡ zero_ℚ

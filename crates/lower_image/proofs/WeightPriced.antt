@@ -17,16 +17,16 @@ use Rattle.polyhedra.proofs.Negatives.{dot-negated}
 use Rattle.tableaux.specs.Table.{column_of, minus}
 use Rattle.tableaux.proofs.Inverse.{dot-append}
 use Rattle.tableaux.proofs.Unique.{entry-combination}
-use Rattle.vlp_reader.specs.Sides.{sides}
-use Rattle.vlp_reader.specs.declared.problem.Problem.{Problem}
-use Rattle.vlp_reader.specs.declared.problem.Cone.{Cone}
-use Rattle.vlp_reader.specs.declared.problem.Cone.TheVariants.{Orthant, Gens, Dual}
+use Rattle.vlp_problem.specs.Sides.{sides}
+use Rattle.vlp_problem.specs.declared.problem.Problem.{Problem}
+use Rattle.vlp_problem.specs.declared.problem.Cone.{Cone}
+use Rattle.vlp_problem.specs.declared.problem.Cone.TheVariants.{Orthant, Gens, Dual}
 use Rattle.upper_image.specs.UpperImage.{normals, objectives}
 use Rattle.upper_image.proofs.WorkingImage.{value_wide}
 use Rattle.log_rules.proofs.ByEntries.{entry-suc}
 use Rattle.lp_form.specs.Programs.{side_total, on_parts, weight_unknowns, weight_equations, choice_of}
 use Rattle.lp_form.proofs.Systems.{IsWideCone, cone_wide, weight_ok, length-negated}
-use Rattle.licence.proofs.Violated.{length-minus}
+use Rattle.overflow_rules.proofs.Violated.{length-minus}
 use Rattle.benson_program.proofs.Vectors.{AreAtMost, at_most_each, at_most_parts, at_most_both, at_least_zero, dot-minus, dot-parts, parts_of, same_on}
 use Rattle.lower_image.proofs.WeightEquations.{tied, rows-value, weight_rows, weight_total, length-weight_cost, u_long, a_long, b_long, behind_long}
 use Rattle.upper_image.proofs.Widths.{wide_normals, wide_objectives}

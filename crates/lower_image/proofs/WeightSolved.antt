@@ -10,7 +10,7 @@ use Rattle.polyhedra.specs.Negatives.{negated}
 use Rattle.polyhedra.specs.Vectors.{zeros, plus, combination, values}
 use Rattle.polyhedra.proofs.Linear.{dot-plus, dot-zeros, length-combination, length-plus, length-zeros, same_wide}
 use Rattle.polyhedra.proofs.Negatives.{dot-negated}
-use Rattle.vlp_reader.specs.declared.problem.Problem.{Problem}
+use Rattle.vlp_problem.specs.declared.problem.Problem.{Problem}
 use Rattle.upper_image.specs.UpperImage.{normals, objectives}
 use Rattle.upper_image.proofs.Widths.{wide_normals, wide_objectives}
 use Rattle.lp_form.specs.Programs.{side_total, u_of, w_of, behind_of}

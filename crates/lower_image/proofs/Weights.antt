@@ -7,19 +7,19 @@ use Rattle.polyhedra.specs.Hull.{IsValidAt}
 use Rattle.polyhedra.specs.Negatives.{negated}
 use Rattle.polyhedra.proofs.Laws.{mul_one}
 use Rattle.polyhedra.proofs.LiveSteps.{are_live}
-use Rattle.vlp_reader.specs.Sides.{side_bounds}
+use Rattle.vlp_problem.specs.Sides.{side_bounds}
 use Rattle.upper_image.specs.OrderingCone.{Fits}
 use Rattle.upper_image.specs.UpperImage.{front, IsInWorkingImage}
 use Rattle.upper_image.proofs.Solid.{duality_fits}
 use Rattle.deriv_log.specs.declared.entry.Entry.{Entry}
 use Rattle.lp_form.specs.Data.{IsDataOf}
 use Rattle.lp_form.specs.declared.data.Data.{Data}
-use Rattle.vlp_reader.specs.declared.problem.Problem.{Problem}
+use Rattle.vlp_problem.specs.declared.problem.Problem.{Problem}
 use Rattle.lp_form.specs.Programs.{weight_system, u_of, choice_of}
-use Rattle.licence.specs.Base.{AreMultipliersOff, AreFirstMultipliersOff, IsBaseChoice, IsBaseRay, IsBaseRow, IsGeneratorOf, image_of, weight_of}
+use Rattle.overflow_rules.specs.Base.{AreMultipliersOff, AreFirstMultipliersOff, IsBaseChoice, IsBaseRay, IsBaseRow, IsGeneratorOf, image_of, weight_of}
 use Rattle.geo_duality.specs.Rows.{exchange_row}
-use Rattle.licence.specs.Operands.{AreMultiplied}
-use Rattle.licence.specs.Turns.{IsRowTurn, said_exchange}
+use Rattle.overflow_rules.specs.Operands.{AreMultiplied}
+use Rattle.overflow_rules.specs.Turns.{IsRowTurn, said_exchange}
 use Rattle.benson_program.specs.Ends.{IsOptimumAt, IsEmptyAt}
 use Rattle.cone_rules.proofs.Parts.{dot-negated_left}
 use Rattle.outer_approx.specs.Task.{Task, IsFitting, behind}

@@ -1,8 +1,8 @@
 -- How the program of a weight ends.
 use Rattle.std.specs.Prelude.{List, map}
 use Rattle.exact_field.specs.Rational.{ℚ}
-use Rattle.vlp_reader.specs.Sides.{IsFeasible}
-use Rattle.vlp_reader.specs.declared.problem.Problem.{Problem}
+use Rattle.vlp_problem.specs.Sides.{IsFeasible}
+use Rattle.vlp_problem.specs.declared.problem.Problem.{Problem}
 use Rattle.lp_form.specs.Data.{IsDataOf}
 use Rattle.lp_form.specs.Programs.{weight_system}
 use Rattle.lp_form.specs.declared.data.Data.{Data}

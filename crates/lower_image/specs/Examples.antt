@@ -4,12 +4,12 @@ use Rattle.std.specs.Prelude.{pos, List, [], ◌∷◌, ◌≡◌, None, refl}
 use Rattle.std.proofs.Math.Dec.{lit≤, lit<}
 use Rattle.exact_field.specs.Rational.{ℚ, whole}
 use Rattle.polyhedra.specs.Inequality.{Inequality}
-use Rattle.vlp_reader.specs.declared.problem.Problem.{Problem}
-use Rattle.vlp_reader.specs.declared.problem.Dir.TheVariants.{Min}
-use Rattle.vlp_reader.specs.declared.problem.Cone.TheVariants.{Orthant}
-use Rattle.vlp_reader.specs.declared.problem.Bound.TheVariants.{Lower}
-use Rattle.licence.specs.Base.{IsBaseChoice}
-use Rattle.licence.specs.Examples.{n, minus, cell, ones}
+use Rattle.vlp_problem.specs.declared.problem.Problem.{Problem}
+use Rattle.vlp_problem.specs.declared.problem.Dir.TheVariants.{Min}
+use Rattle.vlp_problem.specs.declared.problem.Cone.TheVariants.{Orthant}
+use Rattle.vlp_problem.specs.declared.problem.Bound.TheVariants.{Lower}
+use Rattle.overflow_rules.specs.Base.{IsBaseChoice}
+use Rattle.overflow_rules.specs.Examples.{n, minus, cell, ones}
 use Rattle.lower_image.specs.Lower.{AreAllFacets, AreLowerRows, IsCertified, dual_vector, weight_at, weighted}
 
 -- x_1, x_2 and x_1 + x_2 - 4 are at least 0, and the objectives are x_1 and x_2

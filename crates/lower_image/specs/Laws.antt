@@ -13,9 +13,9 @@ use Rattle.polyhedra.specs.Vectors.{zeros}
 use Rattle.lineality.specs.Without.{open_count, without}
 use Rattle.tableaux.specs.Simplex.{IsOptimal, IsInfeasible}
 use Rattle.tableaux.specs.Table.{listed, unit}
-use Rattle.vlp_reader.specs.Sides.{side_bounds}
-use Rattle.vlp_reader.specs.declared.problem.Problem.{Problem}
-use Rattle.vlp_reader.specs.declared.problem.Cone.TheVariants.{Orthant, Gens, Dual}
+use Rattle.vlp_problem.specs.Sides.{side_bounds}
+use Rattle.vlp_problem.specs.declared.problem.Problem.{Problem}
+use Rattle.vlp_problem.specs.declared.problem.Cone.TheVariants.{Orthant, Gens, Dual}
 use Rattle.upper_image.specs.OrderingCone.{Fits, IsInDualCone}
 use Rattle.upper_image.specs.UpperImage.{IsInWorkingImage}
 use Rattle.deriv_log.specs.declared.entry.Entry.{Entry}
@@ -25,9 +25,9 @@ use Rattle.log_rules.specs.Live.{duality_vector, state, inequality, named}
 use Rattle.log_rules.specs.Proves.{AllMeet}
 use Rattle.deriv_log.specs.Formed.{IsLog}
 use Rattle.lp_form.specs.Programs.{benson_system, weight_system, u_of, value_of}
-use Rattle.licence.specs.Base.{AreMultipliersOff, AreFirstMultipliersOff, IsBaseChoice, IsBaseRow, IsBaseWeight, IsConeDirection, image_of, last_of, weight_of}
+use Rattle.overflow_rules.specs.Base.{AreMultipliersOff, AreFirstMultipliersOff, IsBaseChoice, IsBaseRow, IsBaseWeight, IsConeDirection, image_of, last_of, weight_of}
 use Rattle.geo_duality.specs.Rows.{exchange_row}
-use Rattle.licence.specs.Turns.{IsRowTurn, said_exchange}
+use Rattle.overflow_rules.specs.Turns.{IsRowTurn, said_exchange}
 use Rattle.lower_image.specs.Lower.{AreLowerRows, AreSpanning, AreAllFacets, IsLower, IsCertified, dual_at, dual_vector, inequality_of, weighted}
 
 -- ---- rows

@@ -8,12 +8,12 @@ use Rattle.polyhedra.specs.Hull.{IsValidAt, IsFacet}
 use Rattle.polyhedra.specs.Inequality.{Inequality}
 use Rattle.polyhedra.specs.LiveList.{LiveList}
 use Rattle.polyhedra.specs.LiveSteps.{IsLive}
-use Rattle.vlp_reader.specs.Sides.{IsFeasible}
-use Rattle.vlp_reader.specs.declared.problem.Problem.{Problem}
+use Rattle.vlp_problem.specs.Sides.{IsFeasible}
+use Rattle.vlp_problem.specs.declared.problem.Problem.{Problem}
 use Rattle.upper_image.specs.OrderingCone.{IsInDualCone}
 use Rattle.upper_image.specs.UpperImage.{IsInWorkingImage, front}
-use Rattle.licence.specs.Base.{IsBaseRow, IsConeDirection, image_of, weight_of}
-use Rattle.licence.specs.Operands.{IsMadeOver}
+use Rattle.overflow_rules.specs.Base.{IsBaseRow, IsConeDirection, image_of, weight_of}
+use Rattle.overflow_rules.specs.Operands.{IsMadeOver}
 use Rattle.geo_duality.specs.Rows.{exchange_row}
 
 -- ---- dual vectors

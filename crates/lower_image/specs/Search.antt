@@ -5,12 +5,12 @@ use Rattle.exact_field.specs.Vector.{entry}
 use Rattle.incid_sets.specs.Marks.{has}
 use Rattle.polyhedra.specs.LiveList.{Numbered, numbers as numbers-of}
 use Rattle.double_descr.specs.State.{State as Description}
-use Rattle.vlp_reader.specs.Sides.{IsFeasible}
+use Rattle.vlp_problem.specs.Sides.{IsFeasible}
 use Rattle.lp_form.specs.Data.{IsDataOf}
 use Rattle.lp_form.specs.declared.data.Data.{Data}
 use Rattle.lp_form.specs.declared.shown.Cut.{Cut}
-use Rattle.licence.specs.Base.{IsBaseRow}
-use Rattle.licence.specs.Turns.{IsRowTurn}
+use Rattle.overflow_rules.specs.Base.{IsBaseRow}
+use Rattle.overflow_rules.specs.Turns.{IsRowTurn}
 use Rattle.outer_approx.specs.Cuts.{IsCutFor, said_by}
 use Rattle.outer_approx.specs.Task.{Task, IsFitting}
 use Rattle.lower_image.specs.Lower.{IsCertified, inequality_of}

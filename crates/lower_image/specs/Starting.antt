@@ -2,8 +2,8 @@
 use Rattle.std.specs.Prelude.{suc, ◌≡◌, true, false, List, ◌∷◌, map}
 use Rattle.exact_field.specs.Rational.{ℚ}
 use Rattle.double_descr.specs.State.{State as Description}
-use Rattle.vlp_reader.specs.declared.problem.Problem.{Problem}
-use Rattle.licence.specs.Base.{image_of}
+use Rattle.vlp_problem.specs.declared.problem.Problem.{Problem}
+use Rattle.overflow_rules.specs.Base.{image_of}
 use Rattle.geo_duality.specs.Rows.{exchange_row}
 use Rattle.outer_approx.specs.Task.{Task}
 use Rattle.lower_image.specs.Lower.{IsLower}

@@ -4,14 +4,14 @@ ghost use Rattle.exact_field.specs.Rational.{ℚ, one_ℚ};
 ghost use Rattle.exact_field.specs.Vector.{dot};
 ghost use Rattle.benson_program.specs.Cuts.{IsCutOf};
 ghost use Rattle.benson_program.specs.Ends.{IsOptimumAt, StandForSome};
-ghost use Rattle.licence.specs.Base.{IsBaseWeight};
-ghost use Rattle.licence.specs.Operands.{IsBaseU, Knows, Setting};
+ghost use Rattle.overflow_rules.specs.Base.{IsBaseWeight};
+ghost use Rattle.overflow_rules.specs.Operands.{IsBaseU, Knows, Setting};
 ghost use Rattle.lp_form.specs.Data.{IsDataOf};
 ghost use Rattle.lp_form.specs.Programs.{weight_system};
 ghost use Rattle.overflows.specs.Faults.{Overflows};
 ghost use Rattle.upper_image.specs.OrderingCone.{IsInDualCone};
-ghost use Rattle.vlp_reader.specs.Sides.{side_bounds};
-ghost use Rattle.vlp_reader.specs.declared.problem.Problem.{Problem as File};
+ghost use Rattle.vlp_problem.specs.Sides.{side_bounds};
+ghost use Rattle.vlp_problem.specs.declared.problem.Problem.{Problem as File};
 
 use crate::solving::weight_name;
 use exact_field::Field;

@@ -3,15 +3,15 @@ ghost use Rattle.std.specs.Prelude.{◌≡◌, ◌≤◌, ◌<◌, [], map, leng
 ghost use Rattle.exact_field.specs.Rational.{one_ℚ};
 ghost use Rattle.exact_field.specs.Vector.{dot, entry};
 ghost use Rattle.deriv_log.specs.declared.licence.Place.TheVariants as place_of;
-ghost use Rattle.licence.specs.Base.{IsBaseRow, image_of};
-ghost use Rattle.licence.specs.Operands.{IsBaseX, Knows, Setting};
-ghost use Rattle.licence.specs.Steps.{in_numbers};
+ghost use Rattle.overflow_rules.specs.Base.{IsBaseRow, image_of};
+ghost use Rattle.overflow_rules.specs.Operands.{IsBaseX, Knows, Setting};
+ghost use Rattle.overflow_rules.specs.Steps.{in_numbers};
 ghost use Rattle.geo_duality.specs.Rows.{exchange_row};
 ghost use Rattle.lp_form.specs.Data.{IsDataOf, vector_of};
 ghost use Rattle.lp_form.specs.Shapes.{are_places};
 ghost use Rattle.overflows.specs.Faults.{IsLeftAt, Overflows};
 ghost use Rattle.upper_image.specs.UpperImage.{objectives};
-ghost use Rattle.vlp_reader.specs.declared.problem.Problem.{Problem as File};
+ghost use Rattle.vlp_problem.specs.declared.problem.Problem.{Problem as File};
 
 use deriv_log::{Licence, Place};
 use exact_field::{Field, Left};

@@ -2,14 +2,14 @@
 ghost use Rattle.std.specs.Prelude.{◌≡◌, [], map, length, IfOk, IfErr};
 ghost use Rattle.benson_program.specs.Ends.{StandForSome};
 ghost use Rattle.exact_simplex.specs.Ends.{IsCertified, IsReadOff};
-ghost use Rattle.licence.specs.Base.{IsBaseWeight};
-ghost use Rattle.licence.specs.Operands.{IsAllowed, Knows, Setting, system_in};
+ghost use Rattle.overflow_rules.specs.Base.{IsBaseWeight};
+ghost use Rattle.overflow_rules.specs.Operands.{IsAllowed, Knows, Setting, system_in};
 ghost use Rattle.lp_form.specs.Data.{IsDataOf};
 ghost use Rattle.lp_form.specs.Names.{HasWidths, named};
 ghost use Rattle.lp_form.specs.Programs.{named_system};
 ghost use Rattle.lp_form.specs.declared.name.LpName.TheVariants as name_of;
 ghost use Rattle.overflows.specs.Faults.{Overflows};
-ghost use Rattle.vlp_reader.specs.declared.problem.Problem.{Problem as File};
+ghost use Rattle.vlp_problem.specs.declared.problem.Problem.{Problem as File};
 ghost use Rattle.lower_image.specs.Ends.{CanWeigh, IsWeightEnd};
 
 use crate::ends::WeightEnd;
@@ -18,7 +18,7 @@ use exact_field::Field;
 use exact_simplex::{LpEnd, solve_lp_from};
 use lp_form::{Data, LpName, program};
 use overflows::{SolveFault, program_fault};
-use shown_program::Optimum;
+use shown_bases::Optimum;
 use src_sink::{Items, NoMemory};
 use std::alloc::Global;
 

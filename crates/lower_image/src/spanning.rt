@@ -3,14 +3,14 @@ ghost use Rattle.std.specs.Prelude.{◌≡◌, ◌++◌, ◌∷◌, [], filter, 
 ghost use Rattle.std.specs.List.{list_all};
 ghost use Rattle.cone_rules.specs.Faults.{IsPointed};
 ghost use Rattle.frac128.specs.Sparse.{is_zero as is_nought};
-ghost use Rattle.licence.specs.Licence.{LicensedWithout};
+ghost use Rattle.overflow_rules.specs.Licence.{LicensedWithout};
 ghost use Rattle.lin_rows.specs.Read.{numbers};
 ghost use Rattle.lower_image.specs.Lower.{AreSpanning};
 ghost use Rattle.lp_form.specs.Data.{IsDataOf};
 ghost use Rattle.overflows.specs.Faults.{OnLicence};
 ghost use Rattle.polyhedra.specs.Vectors.{AreWide};
 ghost use Rattle.tableaux.specs.Table.{listed, unit as unit_vector};
-ghost use Rattle.vlp_reader.specs.declared.problem.Problem.{Problem as File};
+ghost use Rattle.vlp_problem.specs.declared.problem.Problem.{Problem as File};
 
 use cone_dual::dual_gens;
 use exact_field::Field;

@@ -15,15 +15,15 @@ use Rattle.lin_rows.specs.Lines.{Rises}
 use Rattle.lin_rows.proofs.Merging.{not_same}
 use Rattle.upper_image.specs.Spots.{IsVector, entry_of}
 use Rattle.upper_image.specs.UpperImage.{signed, normals, objective, objectives}
-use Rattle.vlp_reader.specs.Cells.{coefficient}
-use Rattle.vlp_reader.specs.Sides.{sides, sides_of, sides_from, side_bounds, numbers_from, row_vector, unit, at_least, at_most}
-use Rattle.vlp_reader.specs.declared.problem.Problem.{Problem}
-use Rattle.vlp_reader.specs.declared.problem.Bound.{Bound}
-use Rattle.vlp_reader.specs.declared.problem.Bound.TheVariants.{Unsaid, Free, Lower, Upper, Double, Fixed}
-use Rattle.vlp_reader.specs.declared.problem.Cell.{Cell as FileCell}
-use Rattle.vlp_reader.specs.declared.problem.Dir.{Dir}
-use Rattle.vlp_reader.specs.declared.problem.Dir.TheVariants.{Min, Max}
-use Rattle.vlp_reader.specs.Values.{bound_numbers, printed_numbers, cone_vectors, duality_entries}
+use Rattle.vlp_problem.specs.Cells.{coefficient}
+use Rattle.vlp_problem.specs.Sides.{sides, sides_of, sides_from, side_bounds, numbers_from, row_vector, unit, at_least, at_most}
+use Rattle.vlp_problem.specs.declared.problem.Problem.{Problem}
+use Rattle.vlp_problem.specs.declared.problem.Bound.{Bound}
+use Rattle.vlp_problem.specs.declared.problem.Bound.TheVariants.{Unsaid, Free, Lower, Upper, Double, Fixed}
+use Rattle.vlp_problem.specs.declared.problem.Cell.{Cell as FileCell}
+use Rattle.vlp_problem.specs.declared.problem.Dir.{Dir}
+use Rattle.vlp_problem.specs.declared.problem.Dir.TheVariants.{Min, Max}
+use Rattle.vlp_problem.specs.Values.{bound_numbers, printed_numbers, cone_vectors, duality_entries}
 use Rattle.lp_form.specs.Data.{IsFirstUnheld}
 
 -- ---- lists in pieces

@@ -11,7 +11,7 @@ use Rattle.polyhedra.proofs.Lists.{wide-head, wide-tail}
 use Rattle.tableaux.specs.Table.{Table, System, IsSystem, list_from, listed}
 use Rattle.lin_rows.proofs.Lists.{listed-push}
 use Rattle.tableaux.proofs.Found.{list_from-same}
-use Rattle.vlp_reader.proofs.Pieces.{flat_map-one}
+use Rattle.vlp_problem.proofs.Pieces.{flat_map-one}
 use Rattle.lin_rows.specs.declared.system.System.{System as Program}
 use Rattle.lin_rows.specs.System.{coefficients_of}
 use Rattle.polyhedra.specs.Negatives.{negated}

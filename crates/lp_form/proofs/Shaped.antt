@@ -18,9 +18,9 @@ use Rattle.polyhedra.specs.Vectors.{AreWide}
 use Rattle.lin_rows.proofs.EliminationEnds.{numbers-wide}
 use Rattle.lin_rows.specs.declared.cells.Cell.{Cell}
 use Rattle.upper_image.specs.Spots.{IsVector, entry_of}
-use Rattle.vlp_reader.specs.Cones.{each_has, cone_fits}
-use Rattle.vlp_reader.specs.Cones as file_cone
-use Rattle.vlp_reader.specs.declared.problem.Cone.{Cone}
+use Rattle.vlp_problem.specs.Cones.{each_has, cone_fits}
+use Rattle.vlp_problem.specs.Cones as file_cone
+use Rattle.vlp_problem.specs.declared.problem.Cone.{Cone}
 use Rattle.lp_form.specs.declared.data.ConeOf.{ConeOf}
 use Rattle.lp_form.specs.declared.data.ConeOf.TheVariants.{Orthant, Gens, Dual}
 use Rattle.lp_form.specs.declared.data.SideOf.{SideOf}

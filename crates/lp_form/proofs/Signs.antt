@@ -4,9 +4,9 @@ use Rattle.exact_field.specs.Rational.{ℚ, zero_ℚ, ◌+ℚ◌, ◌-ℚ◌, ne
 use Rattle.exact_field.proofs.Rationals.{add-zero_ℚ, zero-add_ℚ, neg-zero_ℚ}
 use Rattle.tableaux.specs.Table.{minus}
 use Rattle.std.specs.List.{slice_range}
-use Rattle.vlp_reader.specs.declared.problem.Problem.{Problem}
-use Rattle.vlp_reader.specs.declared.problem.Cone.{Cone}
-use Rattle.vlp_reader.specs.declared.problem.Cone.TheVariants.{Orthant, Gens, Dual}
+use Rattle.vlp_problem.specs.declared.problem.Problem.{Problem}
+use Rattle.vlp_problem.specs.declared.problem.Cone.{Cone}
+use Rattle.vlp_problem.specs.declared.problem.Cone.TheVariants.{Orthant, Gens, Dual}
 use Rattle.lp_form.specs.Programs.{behind_of, v_of}
 use Rattle.lp_form.specs.Reading.{kept_behind}
 

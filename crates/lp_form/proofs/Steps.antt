@@ -4,13 +4,13 @@ use Rattle.std.specs.Prelude.{◌&&◌, ◌↔◌}
 use Rattle.std.specs.List.{flat_map, list_all}
 use Rattle.exact_field.specs.Rational.{ℚ, zero_ℚ, whole}
 use Rattle.frac128.specs.Sparse.{is_zero}
-use Rattle.vlp_reader.proofs.Tables.{zero_is}
+use Rattle.vlp_problem.proofs.Zero.{zero_is}
 use Rattle.tableaux.specs.Table.{row_of}
 use Rattle.lin_rows.specs.Read.{numbers}
 use Rattle.lin_rows.proofs.Building.{number_row}
 use Rattle.polyhedra.proofs.Tests.{both_true}
 use Rattle.std.proofs.lemmas.List.{map_push, take_more, append_assoc}
-use Rattle.vlp_reader.proofs.Pieces.{flat_map_take}
+use Rattle.vlp_problem.proofs.Pieces.{flat_map_take}
 
 pub take_next : {X : Type 0} (xs : List X) (i : ℕ) (x : X) → i < length xs → x ≡ slice_index_or xs i x → take (i + 1) xs ≡ take i xs ++ x ∷ []
 take_next xs i x h e = take_more xs i x h ∙ ap (λ y. take i xs ++ y ∷ []) (sym e)

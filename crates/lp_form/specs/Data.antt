@@ -7,11 +7,11 @@ use Rattle.lin_rows.specs.Lines.{entries}
 use Rattle.lin_rows.specs.Read.{numbers}
 use Rattle.lin_rows.specs.declared.cells.Cell.{Cell}
 use Rattle.upper_image.specs.UpperImage.{normals, objectives}
-use Rattle.vlp_reader.specs.Sides.{side_bounds}
-use Rattle.vlp_reader.specs.declared.problem.Problem.{Problem}
-use Rattle.vlp_reader.specs.declared.problem.Cone.{Cone}
-use Rattle.vlp_reader.specs.declared.problem.Cone.TheVariants as cone
-use Rattle.vlp_reader.specs.Values.{printed_numbers}
+use Rattle.vlp_problem.specs.Sides.{side_bounds}
+use Rattle.vlp_problem.specs.declared.problem.Problem.{Problem}
+use Rattle.vlp_problem.specs.declared.problem.Cone.{Cone}
+use Rattle.vlp_problem.specs.declared.problem.Cone.TheVariants as cone
+use Rattle.vlp_problem.specs.Values.{printed_numbers}
 use Rattle.lp_form.specs.declared.data.ConeOf.{ConeOf}
 use Rattle.lp_form.specs.declared.data.ConeOf.TheVariants.{Orthant, Gens, Dual}
 use Rattle.lp_form.specs.declared.data.Data.{Data}

@@ -1,26 +1,38 @@
 -- The programs of a small file, equation by equation, and what is read off: each example would fail if a definition were wrong.
-use Rattle.std.specs.Prelude.{◌≡◌, ℕ, ℤ, pos, negsuc, codes, true, false, IsTrue, List, [], ◌∷◌, map, Option, None, Some, refl}
+use Rattle.std.specs.Prelude.{◌≡◌, ℕ, ◌+◌, ◌-◌, ◌*◌, ◌==◌, if◌then◌else◌, ℤ, pos, negsuc, codes, Bool, true, false, IsTrue, List, [], ◌∷◌, map, Option, None, Some, refl}
 use Rattle.std.proofs.Math.Dec.{lit≤, lit<}
-use Rattle.exact_field.specs.Rational.{ℚ, whole}
+use Rattle.exact_field.specs.Rational.{ℚ, whole, neg_ℚ}
 use Rattle.tableaux.specs.Table.{System, Table}
-use Rattle.vlp_reader.specs.Cones.{cone_fits, duality_fits}
-use Rattle.vlp_reader.specs.Grammar.{number_value}
-use Rattle.vlp_reader.specs.Lines.{words_of}
-use Rattle.vlp_reader.specs.Number.{number_of}
-use Rattle.vlp_reader.specs.declared.problem.Problem.{Problem}
-use Rattle.vlp_reader.specs.declared.problem.Cell.{Cell}
-use Rattle.vlp_reader.specs.declared.problem.Dir.{Dir}
-use Rattle.vlp_reader.specs.declared.problem.Dir.TheVariants.{Min, Max}
-use Rattle.vlp_reader.specs.declared.problem.Cone.{Cone}
-use Rattle.vlp_reader.specs.declared.problem.Cone.TheVariants.{Orthant, Gens, Dual}
-use Rattle.vlp_reader.specs.declared.problem.Bound.TheVariants.{Lower}
-use Rattle.deriv_log.specs.declared.licence.Program.TheVariants.{Feasible, Benson, Weight, Interior, Pointed}
+use Rattle.vlp_problem.specs.Cones.{cone_fits, duality_fits}
+use Rattle.vlp_problem.specs.declared.problem.Problem.{Problem}
+use Rattle.vlp_problem.specs.declared.problem.Cell.{Cell}
+use Rattle.vlp_problem.specs.declared.problem.Dir.{Dir}
+use Rattle.vlp_problem.specs.declared.problem.Dir.TheVariants.{Min, Max}
+use Rattle.vlp_problem.specs.declared.problem.Cone.{Cone}
+use Rattle.vlp_problem.specs.declared.problem.Cone.TheVariants.{Orthant, Gens, Dual}
+use Rattle.vlp_problem.specs.declared.problem.Bound.TheVariants.{Lower}
+use Rattle.vlp_problem.specs.declared.program.Program.TheVariants.{Feasible, Benson, Weight, Interior, Pointed}
 use Rattle.lp_form.specs.Programs.{named_system, u_of, w_of, v_of, choice_of, value_of, share_of, full_share_of}
 
--- ---- numbers as a file writes them
+-- ---- whole numbers as a file writes them
+-- a whole number by its sign and its digits' value
+abbrev pub signed : Bool → ℕ → ℚ
+signed true n = neg_ℚ (whole (pos n))
+signed false n = whole (pos n)
+
+-- the numbers of a text with blanks between them, of which one may have begun
+abbrev pub numbers_after : Option (Bool × ℕ) → List ℕ → List ℚ
+numbers_after None [] = []
+numbers_after (Some begun) [] = signed begun.0 begun.1 ∷ []
+numbers_after None (c ∷ text) =
+    if c == 32 then numbers_after None text else if c == 45 then numbers_after (Some (true, 0)) text else numbers_after (Some (false, c - 48)) text
+numbers_after (Some begun) (c ∷ text) =
+    if c == 32 then signed begun.0 begun.1 ∷ numbers_after None text else numbers_after (Some (begun.0, 10 * begun.1 + (c - 48))) text
+
+-- the numbers of a text
 -- the numbers that the words of a line write
 abbrev pub numbers : List ℕ → List ℚ
-numbers line = map (λ word. number_value (number_of word)) (words_of line)
+numbers = numbers_after None
 
 -- and those of several lines
 abbrev pub rows : List (List ℕ) → Table

@@ -1,8 +1,8 @@
 -- The names of programs in a field.
 use Rattle.std.specs.Prelude.{◌≡◌, ℕ, List, map, length}
 use Rattle.exact_field.specs.Rational.{ℚ}
-use Rattle.deriv_log.specs.declared.licence.Program.{Program}
-use Rattle.deriv_log.specs.declared.licence.Program.TheVariants as program
+use Rattle.vlp_problem.specs.declared.program.Program.{Program}
+use Rattle.vlp_problem.specs.declared.program.Program.TheVariants as program
 use Rattle.lp_form.specs.declared.name.LpName.{LpName}
 use Rattle.lp_form.specs.declared.name.LpName.TheVariants.{Feasible, Benson, Weight, Interior, Pointed}
 

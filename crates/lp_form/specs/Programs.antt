@@ -8,14 +8,14 @@ use Rattle.polyhedra.specs.Negatives.{negated}
 use Rattle.polyhedra.specs.Vectors.{zeros, plus, scaled}
 use Rattle.tableaux.specs.Table.{System, Table, row_of, column_of, listed, unit, minus}
 use Rattle.frac128.specs.Sparse.{is_zero}
-use Rattle.vlp_reader.specs.Sides.{sides, side_column, side_bounds}
-use Rattle.vlp_reader.specs.declared.problem.Problem.{Problem}
-use Rattle.vlp_reader.specs.declared.problem.Cone.{Cone}
-use Rattle.vlp_reader.specs.declared.problem.Cone.TheVariants.{Orthant, Gens, Dual}
-use Rattle.vlp_reader.specs.Values.{cone_vectors}
+use Rattle.vlp_problem.specs.Sides.{sides, side_column, side_bounds}
+use Rattle.vlp_problem.specs.declared.problem.Problem.{Problem}
+use Rattle.vlp_problem.specs.declared.problem.Cone.{Cone}
+use Rattle.vlp_problem.specs.declared.problem.Cone.TheVariants.{Orthant, Gens, Dual}
+use Rattle.vlp_problem.specs.Values.{cone_vectors}
 use Rattle.upper_image.specs.UpperImage.{objective_column}
-use Rattle.deriv_log.specs.declared.licence.Program.{Program}
-use Rattle.deriv_log.specs.declared.licence.Program.TheVariants.{Feasible, Benson, Weight, Interior, Pointed}
+use Rattle.vlp_problem.specs.declared.program.Program.{Program}
+use Rattle.vlp_problem.specs.declared.program.Program.TheVariants.{Feasible, Benson, Weight, Interior, Pointed}
 
 -- ---- what a file gives
 -- the number of the sides

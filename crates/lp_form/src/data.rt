@@ -11,7 +11,7 @@ use lin_rows::cells::Cell;
 use src_sink::{Items, NoMemory};
 use std::alloc::Global;
 use vlp_matrices::Matrices;
-use vlp_reader::Problem;
+use vlp_problem::Problem;
 
 /// An entry that is not 0, with its place, from 1. In a list of these the places rise.
 pub type At<F> = Cell<F>;
@@ -77,7 +77,7 @@ impl From<NoMemory> for DataFault {
 
 impl<F: Field> Data<F> {
     ghost use Rattle.std.specs.Prelude.{All, IfOk, IfErr};
-    ghost use Rattle.vlp_reader.specs.Values.{printed_numbers};
+    ghost use Rattle.vlp_problem.specs.Values.{printed_numbers};
     ghost use Rattle.lp_form.specs.Data.{IsDataOf, RefusesNumber};
 
     /// The data of a problem. The cost is that of its entries that are not 0, its rows and its

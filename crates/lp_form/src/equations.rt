@@ -3,9 +3,9 @@ ghost use Rattle.std.specs.Prelude.{◌≡◌, ◌++◌, ◌≤◌, length, map,
 ghost use Rattle.tableaux.specs.Table.{System as NamedSystem, IsSystem, listed, unit as unit_vector};
 ghost use Rattle.lin_rows.specs.Read.{numbers};
 ghost use Rattle.polyhedra.specs.Vectors.{AreWide, zeros as zero_vector};
-ghost use Rattle.vlp_reader.specs.Sides.{side_column};
-ghost use Rattle.vlp_reader.specs.declared.problem.Cone.TheVariants as cone;
-ghost use Rattle.vlp_reader.specs.declared.problem.Problem.{Problem as File};
+ghost use Rattle.vlp_problem.specs.Sides.{side_column};
+ghost use Rattle.vlp_problem.specs.declared.problem.Cone.TheVariants as cone;
+ghost use Rattle.vlp_problem.specs.declared.problem.Problem.{Problem as File};
 ghost use Rattle.lp_form.specs.Building.{joined, IsWritten};
 ghost use Rattle.lp_form.specs.Data.{IsDataOf, cone_of};
 ghost use Rattle.lp_form.specs.Programs.{balances, dual_equations, dual_members, dual_unknowns, on_parts, weight_equations, weight_members, weight_unknowns};

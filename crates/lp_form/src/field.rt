@@ -4,7 +4,7 @@ ghost use Rattle.frac128.specs.declared.vectors.Spot.{Spot};
 ghost use Rattle.lin_rows.specs.Lines.{entries};
 ghost use Rattle.lin_rows.specs.Read.{numbers};
 ghost use Rattle.upper_image.specs.Spots.{entry_of};
-ghost use Rattle.vlp_reader.specs.Values.{cone_vectors, duality_entries};
+ghost use Rattle.vlp_problem.specs.Values.{cone_vectors, duality_entries};
 ghost use Rattle.lp_form.specs.Data.{cone_of, duality_of};
 
 use crate::data::{At, ConeOf, SideOf};
@@ -13,7 +13,7 @@ use exact_field::Field;
 use frac128::{Frac, Sparse, Spot, Vector};
 use src_sink::{Items, NoMemory};
 use std::alloc::Global;
-use vlp_reader::Cone;
+use vlp_problem::Cone;
 
 /// A vector in the field.
 fn vector_in<F: Field>(alloc: Global, vector: &[Frac]) -> Result<Items<F>, NoMemory>

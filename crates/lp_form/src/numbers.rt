@@ -3,7 +3,7 @@ ghost use Rattle.std.specs.Prelude.{◌≡◌, ◌++◌, map, not, find, All, If
 ghost use Rattle.std.specs.List.{flat_map};
 ghost use Rattle.exact_field.specs.Field.{AnswersHeld};
 ghost use Rattle.exact_field.specs.Rational.{ℚ};
-ghost use Rattle.vlp_reader.specs.Values.{bound_numbers, printed_numbers, cone_vectors};
+ghost use Rattle.vlp_problem.specs.Values.{bound_numbers, printed_numbers, cone_vectors};
 ghost use Rattle.lp_form.specs.Data.{RefusesNumber};
 
 use crate::data::DataFault;
@@ -11,7 +11,7 @@ use exact_field::Field;
 use frac128::{Frac, Vector};
 use src_sink::{Items, NoMemory};
 use std::alloc::Global;
-use vlp_reader::{Bound, Cell, Cone, Problem};
+use vlp_problem::{Bound, Cell, Cone, Problem};
 
 /// Appends the values of cells.
 fn push_cells(numbers: &mut Vector, cells: &[Cell]) -> Result<(), NoMemory>

@@ -2,8 +2,8 @@
 ghost use Rattle.std.specs.Prelude.{◌≡◌, ◌++◌, List, map, length, IfOk, OnOk, if◌then◌else◌};
 ghost use Rattle.exact_field.specs.Rational.{ℚ};
 ghost use Rattle.polyhedra.specs.Vectors.{zeros as zero_vector};
-ghost use Rattle.vlp_reader.specs.Sides.{side_bounds};
-ghost use Rattle.vlp_reader.specs.declared.problem.Problem.{Problem as File};
+ghost use Rattle.vlp_problem.specs.Sides.{side_bounds};
+ghost use Rattle.vlp_problem.specs.declared.problem.Problem.{Problem as File};
 ghost use Rattle.lp_form.specs.Building.{IsWritten};
 ghost use Rattle.lp_form.specs.Data.{IsDataOf};
 ghost use Rattle.lp_form.specs.Names.{HasWidths, named};

@@ -2,7 +2,7 @@
 ghost use Rattle.std.specs.Prelude.{◌≡◌, ◌+◌, ◌≤◌, ◌⊎◌, map, length, IfOk};
 ghost use Rattle.exact_field.specs.Rational.{zero_ℚ, ◌-ℚ◌};
 ghost use Rattle.tableaux.specs.Table.{minus};
-ghost use Rattle.vlp_reader.specs.declared.problem.Problem.{Problem as File};
+ghost use Rattle.vlp_problem.specs.declared.problem.Problem.{Problem as File};
 ghost use Rattle.lp_form.specs.Data.{IsDataOf, cone_of};
 ghost use Rattle.lp_form.specs.Programs.{choice_of};
 ghost use Rattle.lp_form.specs.Reading.{AreParts, AreRead, AreDisjoint, HasColumns, HasEquations, IsSplit, kept_behind};

@@ -26,7 +26,7 @@ use Rattle.lineality.proofs.Masks.{inequality_without, leading-with, length-with
 use Rattle.lineality.proofs.StepsWithout.{numbered-less}
 use Rattle.tableaux.specs.Table.{row_of as row_at}
 use Rattle.upper_image.specs.Spots.{pieces}
-use Rattle.vlp_reader.specs.declared.problem.Problem.{Problem}
+use Rattle.vlp_problem.specs.declared.problem.Problem.{Problem}
 use Rattle.deriv_log.specs.declared.entry.Entry.{Entry}
 use Rattle.double_descr.specs.Starting.{IsStart}
 use Rattle.double_descr.specs.State.{State as Description}

@@ -3,7 +3,7 @@ use Rattle.std.proofs.Common.{◌≡◌, ℕ, suc, List, [], ◌∷◌, ◌++◌
 use Rattle.exact_field.specs.Rational.{ℚ}
 use Rattle.polyhedra.proofs.Tests.{both_hold}
 use Rattle.frac128.specs.declared.vectors.Spot.{Spot}
-use Rattle.vlp_reader.specs.declared.problem.Problem.{Problem}
+use Rattle.vlp_problem.specs.declared.problem.Problem.{Problem}
 use Rattle.upper_image.specs.Shows.{ShowsFitting}
 use Rattle.upper_image.specs.Spots.{dense}
 use Rattle.deriv_log.specs.Formed.{IsLog, is_formed}
@@ -18,9 +18,9 @@ use Rattle.log_rules.specs.Proves.{AllMeet}
 use Rattle.log_rules.proofs.LogHeld.{entry-passes}
 use Rattle.log_rules.proofs.LogMeets.{events_give_meets}
 use Rattle.lp_form.specs.Programs.{feasible_system, side_total}
-use Rattle.licence.specs.Base.{IsRayOff}
-use Rattle.licence.specs.Trails.{IsBaseTrail}
-use Rattle.licence.proofs.Growing.{none, grows, opened}
+use Rattle.overflow_rules.specs.Base.{IsRayOff}
+use Rattle.overflow_rules.specs.Trails.{IsBaseTrail}
+use Rattle.overflow_rules.proofs.Growing.{none, grows, opened}
 use Rattle.outer_approx.specs.Unstarted.{IsReadWhole, ShowsWhole, infeasible_entries, whole_entries}
 
 -- ---- logs

@@ -11,7 +11,7 @@ use Rattle.polyhedra.proofs.Members.{member_of, pairs-head, pairs-tail}
 use Rattle.polyhedra.proofs.Tests.{both_hold}
 use Rattle.lineality.specs.Lines.{leading_place}
 use Rattle.frac128.specs.declared.vectors.Spot.{Spot}
-use Rattle.vlp_reader.specs.Sides.{IsFeasible}
+use Rattle.vlp_problem.specs.Sides.{IsFeasible}
 use Rattle.upper_image.specs.Shows.{ShowsFeasible}
 use Rattle.upper_image.specs.Spots.{dense}
 use Rattle.deriv_log.specs.Formed.{is_formed}
@@ -24,8 +24,8 @@ use Rattle.log_rules.specs.Meets.{Meets}
 use Rattle.log_rules.specs.Order.{has, in_order}
 use Rattle.log_rules.specs.Order as order
 use Rattle.log_rules.proofs.Entries.{state-push}
-use Rattle.licence.specs.Base.{IsBaseChoice, IsSide, trail_normals}
-use Rattle.licence.specs.Trails.{IsBaseDirection, IsBaseLine}
+use Rattle.overflow_rules.specs.Base.{IsBaseChoice, IsSide, trail_normals}
+use Rattle.overflow_rules.specs.Trails.{IsBaseDirection, IsBaseLine}
 use Rattle.lp_form.specs.Sparse.{IsSparseOf}
 use Rattle.lp_form.specs.declared.shown.Cut.{Cut as CutOf}
 use Rattle.outer_approx.specs.Cuts.{said_by}

@@ -1,12 +1,12 @@
 -- What an outer approximation is made for: a file and a duality vector.
 use Rattle.std.specs.Prelude.{ℕ, Bool, List, Some}
 use Rattle.exact_field.specs.Rational.{ℚ}
-use Rattle.vlp_reader.specs.declared.problem.Problem.{Problem}
+use Rattle.vlp_problem.specs.declared.problem.Problem.{Problem}
 use Rattle.upper_image.specs.Shows.{ShowsFitting}
 use Rattle.deriv_log.specs.declared.entry.Entry.{Entry}
-use Rattle.licence.specs.Licence.{IsHeldDuality}
-use Rattle.licence.specs.Operands.{Setting}
-use Rattle.licence.specs.Trails.{IsBaseDuality}
+use Rattle.overflow_rules.specs.Licence.{IsHeldDuality}
+use Rattle.overflow_rules.specs.Operands.{Setting}
+use Rattle.overflow_rules.specs.Trails.{IsBaseDuality}
 
 -- the file, the duality vector, and the weights that combine the generators of the ordering cone to it, if the cone is given by any
 pub record Task : Type 0 where

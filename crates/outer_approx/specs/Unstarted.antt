@@ -2,15 +2,15 @@
 use Rattle.std.specs.Prelude.{◌≡◌, ℕ, List, [], ◌∷◌}
 use Rattle.exact_field.specs.Rational.{ℚ}
 use Rattle.frac128.specs.declared.vectors.Spot.{Spot}
-use Rattle.vlp_reader.specs.declared.problem.Problem.{Problem}
+use Rattle.vlp_problem.specs.declared.problem.Problem.{Problem}
 use Rattle.upper_image.specs.Shows.{ShowsFitting}
 use Rattle.upper_image.specs.Spots.{dense}
 use Rattle.word_lines.specs.declared.part.EndKind.TheVariants as kind
 use Rattle.deriv_log.specs.declared.entry.Entry.{Entry}
 use Rattle.deriv_log.specs.declared.entry.Entry.TheVariants.{Version, Duality, Farkas, Whole, End}
 use Rattle.log_rules.specs.Meets.{MeetsWhole}
-use Rattle.licence.specs.Base.{IsBaseChoice}
-use Rattle.licence.specs.Trails.{IsBaseDuality, IsBaseWhole}
+use Rattle.overflow_rules.specs.Base.{IsBaseChoice}
+use Rattle.overflow_rules.specs.Trails.{IsBaseDuality, IsBaseWhole}
 
 -- a log that no point is feasible, by these multipliers of the sides
 abbrev pub infeasible_entries : List Spot → List Entry

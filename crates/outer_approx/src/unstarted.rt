@@ -2,12 +2,12 @@
 ghost use Rattle.std.specs.Prelude.{◌≡◌, ℕ, List, IfOk, IsTrue};
 ghost use Rattle.exact_field.specs.Rational.{ℚ};
 ghost use Rattle.frac128.specs.Sparse.{IsSparse};
-ghost use Rattle.vlp_reader.specs.declared.problem.Problem.{Problem};
+ghost use Rattle.vlp_problem.specs.declared.problem.Problem.{Problem};
 ghost use Rattle.deriv_log.specs.Formed.{IsLog};
 ghost use Rattle.deriv_log.specs.declared.entry.Entry.TheVariants as line;
 ghost use Rattle.lp_form.specs.Programs.{feasible_system, side_total};
-ghost use Rattle.licence.specs.Base.{IsRayOff};
-ghost use Rattle.licence.specs.Trails.{IsBaseTrail};
+ghost use Rattle.overflow_rules.specs.Base.{IsRayOff};
+ghost use Rattle.overflow_rules.specs.Trails.{IsBaseTrail};
 ghost use Rattle.log_rules.specs.Meets.{MeetsFarkas};
 ghost use Rattle.upper_image.specs.Spots.{dense};
 ghost use Rattle.log_rules.specs.Proves.{AllMeet};

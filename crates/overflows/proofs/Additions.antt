@@ -16,10 +16,10 @@ use Rattle.deriv_log.specs.declared.licence.Family.{Family}
 use Rattle.deriv_log.specs.declared.licence.Place.TheVariants.{Pair}
 use Rattle.log_rules.specs.Events.{Event, exact}
 use Rattle.log_rules.specs.Events.Event.{step}
-use Rattle.licence.specs.Licence.{IsOverflow}
-use Rattle.licence.specs.Operands.{Setting, IsAddition}
-use Rattle.licence.specs.Steps.{in_numbers, operation, value_steps, pair_steps}
-use Rattle.licence.proofs.Given.{overflow_laws}
+use Rattle.overflow_rules.specs.Licence.{IsOverflow}
+use Rattle.overflow_rules.specs.Operands.{Setting, IsAddition}
+use Rattle.overflow_rules.specs.Steps.{in_numbers, operation, value_steps, pair_steps}
+use Rattle.overflow_rules.proofs.Given.{overflow_laws}
 use Rattle.overflows.specs.Faults.{IsLeftAt, Overflows}
 use Rattle.overflows.specs.declared.fault.SolveFault.{SolveFault}
 use Rattle.overflows.proofs.Events.{event_of, same_exact, value_events, pair_events}

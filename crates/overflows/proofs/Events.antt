@@ -17,7 +17,7 @@ use Rattle.log_rules.specs.Events.{Event, exact, sum_from}
 use Rattle.log_rules.specs.Events as events
 use Rattle.log_rules.specs.Events.Event.{step}
 use Rattle.log_rules.proofs.PassedTests.{zero_number, zero_passes}
-use Rattle.licence.specs.Steps.{value_steps, pair_steps}
+use Rattle.overflow_rules.specs.Steps.{value_steps, pair_steps}
 
 -- a step as an event
 abbrev pub event_of : Step → Event

@@ -10,13 +10,13 @@ use Rattle.lin_rows.specs.Eliminate.{IsElimFault}
 use Rattle.lin_rows.specs.declared.fault.RowFault.TheVariants.{Left as Stuck}
 use Rattle.exact_simplex.specs.Ends.{IsSystemLeft}
 use Rattle.deriv_log.specs.declared.entry.Entry.{Entry}
-use Rattle.deriv_log.specs.declared.licence.Program.{Program}
+use Rattle.vlp_problem.specs.declared.program.Program.{Program}
 use Rattle.deriv_log.specs.declared.licence.Place.TheVariants.{Pivot, Elim, Scale}
-use Rattle.licence.specs.Laws.{term_number}
-use Rattle.licence.proofs.Given.{overflow_laws}
-use Rattle.licence.specs.Licence.{IsOverflow}
-use Rattle.licence.specs.Operands.{Setting, AreElimRows, AreMultiplied, IsAllowed, IsDivisor, IsElimTable, IsScaled, system_in}
-use Rattle.licence.specs.Steps.{in_numbers, operation}
+use Rattle.overflow_rules.specs.Laws.{term_number}
+use Rattle.overflow_rules.proofs.Given.{overflow_laws}
+use Rattle.overflow_rules.specs.Licence.{IsOverflow}
+use Rattle.overflow_rules.specs.Operands.{Setting, AreElimRows, AreMultiplied, IsAllowed, IsDivisor, IsElimTable, IsScaled, system_in}
+use Rattle.overflow_rules.specs.Steps.{in_numbers, operation}
 use Rattle.overflows.specs.Faults.{IsQuotientAt, IsTermAt, Overflows}
 use Rattle.overflows.specs.declared.fault.SolveFault.{SolveFault}
 use Rattle.overflows.specs.declared.fault.SolveFault.TheVariants.{Left}

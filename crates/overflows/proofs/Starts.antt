@@ -17,11 +17,11 @@ use Rattle.polyhedra.specs.LiveList.{LiveList}
 use Rattle.deriv_log.specs.declared.entry.Entry.{Entry}
 use Rattle.deriv_log.specs.declared.licence.Place.{Place}
 use Rattle.deriv_log.specs.declared.licence.Place.TheVariants.{Elim}
-use Rattle.licence.specs.Licence.{IsOverflow}
-use Rattle.licence.specs.Operands.{Setting, AreElimRows, IsElimTable, IsMadeOver}
-use Rattle.licence.specs.Steps.{in_numbers, operation}
-use Rattle.licence.proofs.Given.{overflow_laws}
-use Rattle.licence.proofs.Making.{generator_laws}
+use Rattle.overflow_rules.specs.Licence.{IsOverflow}
+use Rattle.overflow_rules.specs.Operands.{Setting, AreElimRows, IsElimTable, IsMadeOver}
+use Rattle.overflow_rules.specs.Steps.{in_numbers, operation}
+use Rattle.overflow_rules.proofs.Given.{overflow_laws}
+use Rattle.overflow_rules.proofs.Making.{generator_laws}
 use Rattle.overflows.specs.Faults.{IsEliminationLeft, IsLeftAt, Overflows}
 use Rattle.overflows.specs.declared.fault.SolveFault.{SolveFault}
 use Rattle.overflows.specs.declared.fault.SolveFault.TheVariants.{Left as Stuck, NoMemory}

@@ -11,12 +11,12 @@ use Rattle.exact_simplex.specs.declared.answer.LpFault.{LpFault}
 use Rattle.exact_simplex.specs.declared.answer.LpFault.TheVariants as program
 use Rattle.deriv_log.specs.declared.entry.Entry.{Entry}
 use Rattle.deriv_log.specs.declared.licence.Licence.{Licence}
-use Rattle.deriv_log.specs.declared.licence.Program.{Program}
+use Rattle.vlp_problem.specs.declared.program.Program.{Program}
 use Rattle.deriv_log.specs.declared.licence.Place.{Place}
 use Rattle.deriv_log.specs.declared.licence.Place.TheVariants.{Elim, Pivot}
-use Rattle.licence.specs.Licence.{IsOverflow}
-use Rattle.licence.specs.Operands.{Setting}
-use Rattle.licence.specs.Steps.{in_numbers}
+use Rattle.overflow_rules.specs.Licence.{IsOverflow}
+use Rattle.overflow_rules.specs.Operands.{Setting}
+use Rattle.overflow_rules.specs.Steps.{in_numbers}
 use Rattle.overflows.specs.declared.fault.SolveFault.{SolveFault}
 use Rattle.overflows.specs.declared.fault.SolveFault.TheVariants.{Left, NoMemory}
 use Rattle.overflows.specs.declared.fault.SumFault.{SumFault}

@@ -2,11 +2,11 @@
 //! eliminated or added.
 ghost use Rattle.std.specs.Prelude.{◌≡◌, [], ◌∷◌, ◌++◌, IfOk, map, length};
 ghost use Rattle.deriv_log.specs.declared.licence.Place.TheVariants as place_of;
-ghost use Rattle.licence.specs.Steps.{in_numbers};
+ghost use Rattle.overflow_rules.specs.Steps.{in_numbers};
 ghost use Rattle.overflows.specs.Faults.{IsLeftAt, Overflows};
 ghost use Rattle.double_descr.specs.Adding.{IsAddFault, add_blocks};
 ghost use Rattle.double_descr.specs.Starting.{IsStartFault};
-ghost use Rattle.licence.specs.Operands.{AreElimRows, IsAddition, Setting};
+ghost use Rattle.overflow_rules.specs.Operands.{AreElimRows, IsAddition, Setting};
 ghost use Rattle.lin_rows.specs.Read.{numbers};
 ghost use Rattle.overflows.specs.Told.{IsAdditionLeft, IsStartLeft};
 

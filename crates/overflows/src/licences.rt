@@ -3,9 +3,9 @@ ghost use Rattle.std.specs.Prelude.{◌≡◌, ◌⊎◌, ℕ, List, [], map, If
 ghost use Rattle.exact_field.specs.Rational.{ℚ};
 ghost use Rattle.exact_simplex.specs.Ends.{IsLpFault};
 ghost use Rattle.deriv_log.specs.declared.licence.Place.TheVariants as place_of;
-ghost use Rattle.licence.specs.Laws.{term_number};
-ghost use Rattle.licence.specs.Operands.{AreElimRows, AreMultiplied, IsAllowed, IsDivisor, IsElimTable, IsScaled, Setting, system_in};
-ghost use Rattle.licence.specs.Steps.{in_numbers};
+ghost use Rattle.overflow_rules.specs.Laws.{term_number};
+ghost use Rattle.overflow_rules.specs.Operands.{AreElimRows, AreMultiplied, IsAllowed, IsDivisor, IsElimTable, IsScaled, Setting, system_in};
+ghost use Rattle.overflow_rules.specs.Steps.{in_numbers};
 ghost use Rattle.lin_rows.specs.Eliminate.{IsElimFault};
 ghost use Rattle.lin_rows.specs.Read.{numbers};
 ghost use Rattle.lp_form.specs.Names.{named};
@@ -15,13 +15,14 @@ ghost use Rattle.tableaux.specs.Table.{Table};
 
 use crate::fault::{SolveFault, SumFault};
 use crate::numbers::{fractions, operation, row_vectors};
-use deriv_log::{Entries, Licence, Place, Program};
+use deriv_log::{Entries, Licence, Place};
 use exact_field::{Field, Left, Op};
 use exact_simplex::LpFault;
 use lin_rows::{RowFault, Rows};
 use lp_form::LpName;
 use src_sink::{Items, NoMemory};
 use std::alloc::Global;
+use vlp_problem::Program;
 
 /// The name of a program in fractions.
 fn program_name<F: Field>(alloc: Global, name: &LpName<F>) -> Result<Program, NoMemory>

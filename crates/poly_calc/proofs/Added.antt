@@ -9,7 +9,7 @@ use Rattle.exact_field.proofs.Rationals.{rationals, difference_self, same_from_d
 use Rattle.polyhedra.specs.Vectors.{plus}
 use Rattle.polyhedra.proofs.Laws.{add_zero}
 use Rattle.polyhedra.proofs.Linear.{length-plus}
-use Rattle.vlp_reader.specs.declared.problem.Cell.{Cell}
+use Rattle.vlp_problem.specs.declared.problem.Cell.{Cell}
 use Rattle.projection.specs.Associated.{cell}
 use Rattle.poly_calc.specs.Made.{sum_row}
 use Rattle.poly_calc.proofs.Sums.{cell_sum, cell_sum-own}

@@ -6,10 +6,10 @@ use Rattle.std.proofs.lemmas.List.Elements.{All-nil, All-cons}
 use Rattle.exact_field.specs.Rational.{ℚ, whole, one_ℚ, neg_ℚ}
 use Rattle.frac128.specs.Sparse.{is_zero}
 use Rattle.frac128.specs.Held.{size-neg}
-use Rattle.vlp_reader.specs.Cells.{cells_behind, are_cells}
-use Rattle.vlp_reader.specs.Sides.{numbers_from}
-use Rattle.vlp_reader.specs.declared.problem.Cell.{Cell}
-use Rattle.vlp_reader.specs.declared.problem.Problem.{Problem}
+use Rattle.vlp_problem.specs.Cells.{cells_behind, are_cells}
+use Rattle.vlp_problem.specs.Sides.{numbers_from}
+use Rattle.vlp_problem.specs.declared.problem.Cell.{Cell}
+use Rattle.vlp_problem.specs.declared.problem.Problem.{Problem}
 use Rattle.projection.specs.Associated.{cell}
 use Rattle.poly_calc.specs.Made.{moved, unit_cells, meet_cells, value_row, map_cells, sum_row, sum_cells, IsNear}
 use Rattle.poly_calc.proofs.Sums.{IsPlaced, AreRising, rising, of_rising}

@@ -8,10 +8,10 @@ use Rattle.polyhedra.proofs.Algebra.{neg_zero}
 use Rattle.polyhedra.proofs.Order.{le_of_eq}
 use Rattle.polyhedra.proofs.Members.{all_of_members, member_of}
 use Rattle.representations.proofs.Pinned.{dot-negated, both_ways}
-use Rattle.vlp_reader.specs.Sides.{row_vector, unit, at_least, at_most, sides_of, sides_from, IsFeasible}
-use Rattle.vlp_reader.specs.declared.problem.Bound.{Bound}
-use Rattle.vlp_reader.specs.declared.problem.Bound.TheVariants.{Unsaid, Free, Lower, Upper, Double, Fixed}
-use Rattle.vlp_reader.specs.declared.problem.Problem.{Problem}
+use Rattle.vlp_problem.specs.Sides.{row_vector, unit, at_least, at_most, sides_of, sides_from, IsFeasible}
+use Rattle.vlp_problem.specs.declared.problem.Bound.{Bound}
+use Rattle.vlp_problem.specs.declared.problem.Bound.TheVariants.{Unsaid, Free, Lower, Upper, Double, Fixed}
+use Rattle.vlp_problem.specs.declared.problem.Problem.{Problem}
 use Rattle.poly_calc.proofs.Sums.{cell_sum, row-product, unit-product}
 
 -- a number lies within a bound

@@ -13,11 +13,11 @@ use Rattle.polyhedra.proofs.Algebra.{zero_add, one_mul}
 use Rattle.polyhedra.proofs.Linear.{dot-zeros}
 use Rattle.polyhedra.proofs.Members.{all_of_members}
 use Rattle.polyhedra.proofs.Order.{le_of_eq, not_lt_of_le, add_le_both, add_nonneg, mul_le}
-use Rattle.vlp_reader.specs.Cells.{coefficient}
-use Rattle.vlp_reader.specs.Sides.{numbers_from, unit, at_least, at_most, sides, sides_from, row_vector, IsFeasible, IsRecession}
-use Rattle.vlp_reader.specs.declared.problem.Bound.TheVariants.{Double}
-use Rattle.vlp_reader.specs.declared.problem.Cell.{Cell}
-use Rattle.vlp_reader.specs.declared.problem.Problem.{Problem}
+use Rattle.vlp_problem.specs.Cells.{coefficient}
+use Rattle.vlp_problem.specs.Sides.{numbers_from, unit, at_least, at_most, sides, sides_from, row_vector, IsFeasible, IsRecession}
+use Rattle.vlp_problem.specs.declared.problem.Bound.TheVariants.{Double}
+use Rattle.vlp_problem.specs.declared.problem.Cell.{Cell}
+use Rattle.vlp_problem.specs.declared.problem.Problem.{Problem}
 use Rattle.projection.specs.Associated.{cell}
 use Rattle.poly_calc.specs.Sets.{IsInBoth, IsInSum, IsInJoin, IsInMap, objective_values}
 use Rattle.poly_calc.specs.Examples.{minus_one, two, three, PartsExample, IsInterval, SetsExample, IntervalsExample}

@@ -13,11 +13,11 @@ use Rattle.polyhedra.specs.Vectors.{plus, scaled}
 use Rattle.polyhedra.proofs.Linear.{dot-plus, length-plus, length-scaled, same_wide}
 use Rattle.representations.specs.Scaled.{MeetsTimes, IsMultipleOf}
 use Rattle.representations.proofs.Scaled.{scaled_solutions}
-use Rattle.vlp_reader.specs.Sides.{numbers_from, sides}
-use Rattle.vlp_reader.specs.declared.problem.Bound.{Bound}
-use Rattle.vlp_reader.specs.declared.problem.Bound.TheVariants.{Free, Fixed, Lower}
-use Rattle.vlp_reader.specs.declared.problem.Cell.{Cell}
-use Rattle.vlp_reader.specs.declared.problem.Problem.{Problem}
+use Rattle.vlp_problem.specs.Sides.{numbers_from, sides}
+use Rattle.vlp_problem.specs.declared.problem.Bound.{Bound}
+use Rattle.vlp_problem.specs.declared.problem.Bound.TheVariants.{Free, Fixed, Lower}
+use Rattle.vlp_problem.specs.declared.problem.Cell.{Cell}
+use Rattle.vlp_problem.specs.declared.problem.Problem.{Problem}
 use Rattle.projection.specs.Associated.{IsInProjection, cell}
 use Rattle.poly_calc.specs.Sets.{HasFeasible, IsInJoin}
 use Rattle.poly_calc.specs.Made.{sum_row, side_rows, weights_row, join_cells, join_row_bounds, join_col_bounds, IsJoin}

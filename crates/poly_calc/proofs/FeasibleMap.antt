@@ -9,10 +9,10 @@ use Rattle.exact_field.specs.Vector.{entry, dot}
 use Rattle.exact_field.proofs.Rationals.{difference_self, same_from_difference}
 use Rattle.polyhedra.specs.Vectors.{values}
 use Rattle.polyhedra.proofs.Algebra.{zero_add, neg_zero, neg_mul, neg_add, one_mul}
-use Rattle.vlp_reader.specs.Sides.{numbers_from, IsFeasible}
-use Rattle.vlp_reader.specs.declared.problem.Bound.TheVariants.{Free, Fixed}
-use Rattle.vlp_reader.specs.declared.problem.Cell.{Cell}
-use Rattle.vlp_reader.specs.declared.problem.Problem.{Problem}
+use Rattle.vlp_problem.specs.Sides.{numbers_from, IsFeasible}
+use Rattle.vlp_problem.specs.declared.problem.Bound.TheVariants.{Free, Fixed}
+use Rattle.vlp_problem.specs.declared.problem.Cell.{Cell}
+use Rattle.vlp_problem.specs.declared.problem.Problem.{Problem}
 use Rattle.projection.specs.Associated.{IsInProjection, cell}
 use Rattle.poly_calc.specs.Sets.{IsInMap, objective_row, objective_values}
 use Rattle.poly_calc.specs.Made.{moved, value_row, map_cells}

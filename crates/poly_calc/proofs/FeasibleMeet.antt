@@ -2,8 +2,8 @@
 use Rattle.std.proofs.Common.{◌≡◌, ℕ, ◌+◌, ◌<◌, ◌≤◌, List, ◌++◌, length, All, sym, ap, ◌∙◌, subst, arith}
 use Rattle.exact_field.specs.Rational.{ℚ}
 use Rattle.exact_field.specs.Vector.{entry}
-use Rattle.vlp_reader.specs.Sides.{IsFeasible}
-use Rattle.vlp_reader.specs.declared.problem.Problem.{Problem}
+use Rattle.vlp_problem.specs.Sides.{IsFeasible}
+use Rattle.vlp_problem.specs.declared.problem.Problem.{Problem}
 use Rattle.poly_calc.specs.Sets.{IsInBoth}
 use Rattle.poly_calc.specs.Made.{moved, unit_cells, meet_cells, IsMeet}
 use Rattle.poly_calc.specs.Laws.{MeetProjects}

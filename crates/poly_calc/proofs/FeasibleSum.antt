@@ -6,10 +6,10 @@ use Rattle.exact_field.specs.Rational.{ℚ, zero_ℚ, ◌+ℚ◌, neg_ℚ}
 use Rattle.exact_field.specs.Vector.{entry}
 use Rattle.polyhedra.specs.Vectors.{plus}
 use Rattle.polyhedra.proofs.Linear.{length-plus}
-use Rattle.vlp_reader.specs.Sides.{numbers_from, IsFeasible}
-use Rattle.vlp_reader.specs.declared.problem.Bound.{Bound}
-use Rattle.vlp_reader.specs.declared.problem.Bound.TheVariants.{Free, Fixed}
-use Rattle.vlp_reader.specs.declared.problem.Problem.{Problem}
+use Rattle.vlp_problem.specs.Sides.{numbers_from, IsFeasible}
+use Rattle.vlp_problem.specs.declared.problem.Bound.{Bound}
+use Rattle.vlp_problem.specs.declared.problem.Bound.TheVariants.{Free, Fixed}
+use Rattle.vlp_problem.specs.declared.problem.Problem.{Problem}
 use Rattle.projection.specs.Associated.{IsInProjection}
 use Rattle.poly_calc.specs.Sets.{IsInSum}
 use Rattle.poly_calc.specs.Made.{moved, sum_row, sum_cells, IsSum}

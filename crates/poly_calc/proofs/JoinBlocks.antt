@@ -5,10 +5,10 @@ use Rattle.std.proofs.lemmas.List.Elements.{All-head, All-tail}
 use Rattle.exact_field.specs.Rational.{ℚ, one_ℚ, neg_ℚ}
 use Rattle.frac128.specs.Sparse.{is_zero}
 use Rattle.polyhedra.specs.Inequality.{Inequality}
-use Rattle.vlp_reader.specs.Cells.{are_cells}
-use Rattle.vlp_reader.specs.Sides.{numbers_from, sides}
-use Rattle.vlp_reader.specs.declared.problem.Cell.{Cell}
-use Rattle.vlp_reader.specs.declared.problem.Problem.{Problem}
+use Rattle.vlp_problem.specs.Cells.{are_cells}
+use Rattle.vlp_problem.specs.Sides.{numbers_from, sides}
+use Rattle.vlp_problem.specs.declared.problem.Cell.{Cell}
+use Rattle.vlp_problem.specs.declared.problem.Problem.{Problem}
 use Rattle.projection.specs.Associated.{cell}
 use Rattle.poly_calc.specs.Made.{sum_row, row_cells, side_row, side_rows, weights_row, join_cells}
 use Rattle.poly_calc.proofs.Sums.{IsPlaced, AreRising}

@@ -10,11 +10,11 @@ use Rattle.exact_field.specs.Vector.{entry}
 use Rattle.polyhedra.proofs.Laws.{add_zero}
 use Rattle.polyhedra.proofs.Algebra.{zero_add, one_mul}
 use Rattle.polyhedra.proofs.Members.{all_of_members, member_of}
-use Rattle.vlp_reader.specs.Cells.{cells_behind}
-use Rattle.vlp_reader.specs.Sides.{numbers_from, IsFeasible}
-use Rattle.vlp_reader.specs.declared.problem.Bound.{Bound}
-use Rattle.vlp_reader.specs.declared.problem.Cell.{Cell}
-use Rattle.vlp_reader.specs.declared.problem.Problem.{Problem}
+use Rattle.vlp_problem.specs.Cells.{cells_behind}
+use Rattle.vlp_problem.specs.Sides.{numbers_from, IsFeasible}
+use Rattle.vlp_problem.specs.declared.problem.Bound.{Bound}
+use Rattle.vlp_problem.specs.declared.problem.Cell.{Cell}
+use Rattle.vlp_problem.specs.declared.problem.Problem.{Problem}
 use Rattle.projection.specs.Associated.{cell}
 use Rattle.poly_calc.specs.Made.{moved, unit_cells, IsMade}
 use Rattle.poly_calc.proofs.Sums.{NoneIn, IsInColumns, AreRising, rising, cell_sum, cell_sum-append, cell_sum-none, cell_sum-same, cell_sum-moved}

@@ -4,9 +4,9 @@ use Rattle.std.proofs.lemmas.List.{take_more, length-take-le}
 use Rattle.exact_field.specs.Rational.{ℚ}
 use Rattle.frac128.specs.Sparse.{is_zero}
 use Rattle.polyhedra.specs.Inequality.{Inequality}
-use Rattle.vlp_reader.specs.Sides.{sides_of, sides_from}
-use Rattle.vlp_reader.specs.declared.problem.Bound.{Bound}
-use Rattle.vlp_reader.specs.declared.problem.Cell.{Cell}
+use Rattle.vlp_problem.specs.Sides.{sides_of, sides_from}
+use Rattle.vlp_problem.specs.declared.problem.Bound.{Bound}
+use Rattle.vlp_problem.specs.declared.problem.Cell.{Cell}
 use Rattle.projection.specs.Associated.{cell}
 use Rattle.poly_calc.specs.Made.{row_cells, side_row, side_rows}
 

@@ -13,12 +13,12 @@ use Rattle.polyhedra.specs.Inequality.{Inequality}
 use Rattle.polyhedra.proofs.Laws.{add_zero}
 use Rattle.polyhedra.proofs.Algebra.{zero_add, zero_mul}
 use Rattle.representations.specs.Scaled.{MeetsTimes}
-use Rattle.vlp_reader.specs.Sides.{row_vector, unit, at_least, at_most, sides, sides_of, sides_from}
-use Rattle.vlp_reader.specs.declared.problem.Bound.{Bound}
-use Rattle.vlp_reader.specs.declared.problem.Bound.TheVariants.{Unsaid, Free, Lower, Upper, Double, Fixed}
-use Rattle.vlp_reader.specs.declared.problem.Cell.{Cell}
-use Rattle.vlp_reader.specs.declared.problem.Problem.{Problem}
-use Rattle.vlp_reader.proofs.Tables.{zero_is}
+use Rattle.vlp_problem.specs.Sides.{row_vector, unit, at_least, at_most, sides, sides_of, sides_from}
+use Rattle.vlp_problem.specs.declared.problem.Bound.{Bound}
+use Rattle.vlp_problem.specs.declared.problem.Bound.TheVariants.{Unsaid, Free, Lower, Upper, Double, Fixed}
+use Rattle.vlp_problem.specs.declared.problem.Cell.{Cell}
+use Rattle.vlp_problem.specs.declared.problem.Problem.{Problem}
+use Rattle.vlp_problem.proofs.Zero.{zero_is}
 use Rattle.projection.specs.Associated.{cell}
 use Rattle.poly_calc.specs.Made.{row_cells, side_row, side_rows}
 use Rattle.poly_calc.proofs.Sums.{NoneIn, cell_sum, cell_sum-append, cell_sum-own}

@@ -9,9 +9,9 @@ use Rattle.frac128.specs.Sparse.{is_zero}
 use Rattle.polyhedra.proofs.Laws.{add_assoc, add_zero}
 use Rattle.polyhedra.proofs.Algebra.{zero_add, zero_mul, one_mul, add_left_comm}
 use Rattle.polyhedra.proofs.Tests.{both_true}
-use Rattle.vlp_reader.specs.Cells.{coefficient, cells_behind, place_before, is_within}
-use Rattle.vlp_reader.specs.Sides.{numbers_from, unit}
-use Rattle.vlp_reader.specs.declared.problem.Cell.{Cell}
+use Rattle.vlp_problem.specs.Cells.{coefficient, cells_behind, place_before, is_within}
+use Rattle.vlp_problem.specs.Sides.{numbers_from, unit}
+use Rattle.vlp_problem.specs.declared.problem.Cell.{Cell}
 use Rattle.projection.specs.Associated.{cell}
 use Rattle.poly_calc.specs.Made.{moved}
 

@@ -3,8 +3,8 @@ use Rattle.std.specs.Prelude.{◌≡◌, pos, [], ◌∷◌}
 use Rattle.exact_field.specs.Rational.{ℚ, zero_ℚ, one_ℚ, whole, fraction, neg_ℚ}
 use Rattle.polyhedra.specs.Inequality.{Inequality}
 use Rattle.projection.specs.Associated.{cell}
-use Rattle.vlp_reader.specs.declared.problem.Bound.TheVariants.{Fixed, Free, Double, Lower}
-use Rattle.vlp_reader.specs.declared.problem.Problem.{Problem}
+use Rattle.vlp_problem.specs.declared.problem.Bound.TheVariants.{Fixed, Free, Double, Lower}
+use Rattle.vlp_problem.specs.declared.problem.Problem.{Problem}
 use Rattle.poly_calc.specs.Made.{moved, unit_cells, negated_row, row_cells, sum_row, side_row, weights_row, join_row_bounds, join_col_bounds}
 use Rattle.poly_calc.specs.Sets.{IsInBoth, IsInSum, IsInJoin, IsInMap}
 

@@ -1,6 +1,6 @@
 -- What the made problems stand for: their projections on the first columns are the sets.
 use Rattle.std.specs.Prelude.{◌≡◌}
-use Rattle.vlp_reader.specs.declared.problem.Problem.{Problem}
+use Rattle.vlp_problem.specs.declared.problem.Problem.{Problem}
 use Rattle.poly_calc.specs.Sets.{ProjectsTo, HasFeasible, IsInBoth, IsInSum, IsInJoin, IsInMap}
 use Rattle.poly_calc.specs.Made.{IsMeet, IsMap, IsSum, IsJoin}
 

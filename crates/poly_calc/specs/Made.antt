@@ -7,13 +7,13 @@ use Rattle.exact_field.specs.Rational.{ℚ, zero_ℚ, one_ℚ, neg_ℚ}
 use Rattle.frac128.specs.Sparse.{is_zero}
 use Rattle.polyhedra.specs.Inequality.{Inequality}
 use Rattle.projection.specs.Associated.{cell}
-use Rattle.vlp_reader.specs.Sides.{numbers_from, sides}
-use Rattle.vlp_reader.specs.declared.problem.Bound.{Bound}
-use Rattle.vlp_reader.specs.declared.problem.Bound.TheVariants.{Free, Lower, Fixed}
-use Rattle.vlp_reader.specs.declared.problem.Cell.{Cell}
-use Rattle.vlp_reader.specs.declared.problem.Cone.TheVariants.{Orthant}
-use Rattle.vlp_reader.specs.declared.problem.Dir.TheVariants.{Min}
-use Rattle.vlp_reader.specs.declared.problem.Problem.{Problem}
+use Rattle.vlp_problem.specs.Sides.{numbers_from, sides}
+use Rattle.vlp_problem.specs.declared.problem.Bound.{Bound}
+use Rattle.vlp_problem.specs.declared.problem.Bound.TheVariants.{Free, Lower, Fixed}
+use Rattle.vlp_problem.specs.declared.problem.Cell.{Cell}
+use Rattle.vlp_problem.specs.declared.problem.Cone.TheVariants.{Orthant}
+use Rattle.vlp_problem.specs.declared.problem.Dir.TheVariants.{Min}
+use Rattle.vlp_problem.specs.declared.problem.Problem.{Problem}
 
 -- ---- parts of a matrix
 -- cells so many rows and columns further on

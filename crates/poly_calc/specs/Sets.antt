@@ -3,9 +3,9 @@ use Rattle.std.specs.Prelude.{◌≡◌, ◌↔◌, ℕ, List, map}
 use Rattle.exact_field.specs.Rational.{ℚ, zero_ℚ, one_ℚ, ◌+ℚ◌, ◌≤ℚ◌}
 use Rattle.polyhedra.specs.Vectors.{plus, scaled, values}
 use Rattle.projection.specs.Associated.{IsInProjection}
-use Rattle.vlp_reader.specs.Cells.{coefficient}
-use Rattle.vlp_reader.specs.Sides.{numbers_from, IsFeasible, IsRecession}
-use Rattle.vlp_reader.specs.declared.problem.Problem.{Problem}
+use Rattle.vlp_problem.specs.Cells.{coefficient}
+use Rattle.vlp_problem.specs.Sides.{numbers_from, IsFeasible, IsRecession}
+use Rattle.vlp_problem.specs.declared.problem.Problem.{Problem}
 
 -- z is feasible for both
 pub record IsInBoth (a b : Problem) (z : List ℚ) : Type 0 where

@@ -5,7 +5,7 @@ ghost use Rattle.poly_calc.specs.Made.{moved, unit_cells, negated_row, IsNear};
 use exact_field::Field;
 use frac128::Frac;
 use src_sink::{Items, NoMemory};
-use vlp_reader::{Bound, Cell};
+use vlp_problem::{Bound, Cell};
 
 /// Appends cells, so many rows and columns further on.
 pub(crate) fn push_moved(

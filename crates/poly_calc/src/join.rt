@@ -1,8 +1,8 @@
 //! The closed convex hull of two feasible sets that are not empty.
 ghost use Rattle.std.specs.Prelude.{◌≡◌, ◌+◌, ◌≤◌, ◌++◌, length, IfOk, OnOk};
-ghost use Rattle.vlp_reader.specs.Sides.{sides};
+ghost use Rattle.vlp_problem.specs.Sides.{sides};
 ghost use Rattle.poly_calc.specs.Made.{weights_row, join_cells, join_row_bounds, join_col_bounds, IsJoin};
-ghost use Rattle.vlp_reader.specs.FileSizes.{HasFileSizes};
+ghost use Rattle.vlp_problem.specs.FileSizes.{HasFileSizes};
 ghost use Rattle.poly_calc.specs.Sets.{HasFeasible, IsInJoin, ProjectsTo};
 
 use crate::cells::push_bounds;
@@ -12,7 +12,7 @@ use crate::sum::push_sum_rows;
 use frac128::Frac;
 use src_sink::{Items, NoMemory};
 use std::alloc::Global;
-use vlp_reader::{Bound, Cell, Problem};
+use vlp_problem::{Bound, Cell, Problem};
 
 /// A matrix, and how many rows each part's sides take of it.
 #[derive(Drop)]

@@ -1,11 +1,11 @@
 //! What the made problems have in common.
 ghost use Rattle.std.specs.Prelude.{◌≡◌, ◌<◌, ◌≤◌, length, IsTrue};
-ghost use Rattle.vlp_reader.specs.Cells.{are_cells};
+ghost use Rattle.vlp_problem.specs.Cells.{are_cells};
 ghost use Rattle.poly_calc.specs.Made.{IsMade};
 
 use src_sink::Items;
 use std::alloc::Global;
-use vlp_reader::{Bound, Cell, Cone, Dir, Problem};
+use vlp_problem::{Bound, Cell, Cone, Dir, Problem};
 
 /// The bounds of the rows and columns.
 #[derive(Drop)]

@@ -1,9 +1,9 @@
 //! The image of a feasible set under the objectives.
 ghost use Rattle.std.specs.Prelude.{◌≡◌, ◌++◌, IfOk, OnOk, replicate};
 ghost use Rattle.exact_field.specs.Rational.{zero_ℚ};
-ghost use Rattle.vlp_reader.specs.declared.problem.Bound.TheVariants as bound;
+ghost use Rattle.vlp_problem.specs.declared.problem.Bound.TheVariants as bound;
 ghost use Rattle.poly_calc.specs.Made.{value_row, map_cells, IsMap};
-ghost use Rattle.vlp_reader.specs.FileSizes.{HasFileSizes};
+ghost use Rattle.vlp_problem.specs.FileSizes.{HasFileSizes};
 ghost use Rattle.poly_calc.specs.Sets.{IsInMap, ProjectsTo};
 
 use crate::cells::{push_bounds, push_moved, push_negatives};
@@ -11,7 +11,7 @@ use crate::made::{Bounds, problem_of};
 use frac128::Frac;
 use src_sink::{Items, NoMemory};
 use std::alloc::Global;
-use vlp_reader::{Bound, Cell, Problem};
+use vlp_problem::{Bound, Cell, Problem};
 
 /// Appends row number `row` of `z - P x`.
 fn push_value_row(cells: &mut Items<Cell>, a: &Problem, row: u32) -> Result<(), NoMemory>

@@ -1,14 +1,14 @@
 //! What is feasible for two problems.
 ghost use Rattle.std.specs.Prelude.{◌≡◌, ◌++◌, IfOk};
 ghost use Rattle.poly_calc.specs.Made.{meet_cells, IsMeet};
-ghost use Rattle.vlp_reader.specs.FileSizes.{HasFileSizes};
+ghost use Rattle.vlp_problem.specs.FileSizes.{HasFileSizes};
 ghost use Rattle.poly_calc.specs.Sets.{IsInBoth, ProjectsTo};
 
 use crate::cells::{push_moved, push_units};
 use crate::made::{Bounds, problem_of};
 use src_sink::{Items, NoMemory};
 use std::alloc::Global;
-use vlp_reader::{Cell, Problem};
+use vlp_problem::{Cell, Problem};
 
 /// The matrix of the problem for both.
 fn meet_matrix(alloc: Global, a: &Problem, b: &Problem) -> Result<Items<Cell>, NoMemory>

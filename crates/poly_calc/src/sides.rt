@@ -1,15 +1,15 @@
 //! The rows of a problem's sides, each with its bound at a multiplier: `normal . x - bound k`.
 ghost use Rattle.std.specs.Prelude.{◌≡◌, ◌+◌, ◌≤◌, ◌==◌, ◌++◌, ◌∷◌, [], map, length, if◌then◌else◌, IfOk, OnOk};
 ghost use Rattle.exact_field.specs.Rational.{zero_ℚ, one_ℚ, neg_ℚ};
-ghost use Rattle.vlp_reader.specs.Sides.{row_vector, unit, at_least, sides, sides_of, sides_from};
+ghost use Rattle.vlp_problem.specs.Sides.{row_vector, unit, at_least, sides, sides_of, sides_from};
 ghost use Rattle.poly_calc.specs.Made.{row_cells, side_row, side_rows};
-ghost use Rattle.vlp_reader.specs.FileSizes.{HasFileSizes};
+ghost use Rattle.vlp_problem.specs.FileSizes.{HasFileSizes};
 
 use exact_field::Field;
 use frac128::{Frac, Vector, is_zero};
 use src_sink::{Items, NoMemory};
 use std::alloc::Global;
-use vlp_reader::{Bound, Cell, Problem};
+use vlp_problem::{Bound, Cell, Problem};
 
 /// The columns of such rows: the first of `x`, and that of its multiplier.
 #[derive(Clone, Copy, Debug)]

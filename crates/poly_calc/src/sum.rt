@@ -2,10 +2,10 @@
 ghost use Rattle.std.specs.Prelude.{◌≡◌, ◌≤◌, ◌++◌, IfOk, OnOk, replicate};
 ghost use Rattle.std.specs.List.{flat_map};
 ghost use Rattle.exact_field.specs.Rational.{zero_ℚ};
-ghost use Rattle.vlp_reader.specs.Sides.{numbers_from};
-ghost use Rattle.vlp_reader.specs.declared.problem.Bound.TheVariants as bound;
+ghost use Rattle.vlp_problem.specs.Sides.{numbers_from};
+ghost use Rattle.vlp_problem.specs.declared.problem.Bound.TheVariants as bound;
 ghost use Rattle.poly_calc.specs.Made.{sum_row, sum_cells, IsSum};
-ghost use Rattle.vlp_reader.specs.FileSizes.{HasFileSizes};
+ghost use Rattle.vlp_problem.specs.FileSizes.{HasFileSizes};
 ghost use Rattle.poly_calc.specs.Sets.{IsInSum, ProjectsTo};
 
 use crate::cells::{push_bounds, push_moved};
@@ -14,7 +14,7 @@ use exact_field::Field;
 use frac128::Frac;
 use src_sink::{Items, NoMemory};
 use std::alloc::Global;
-use vlp_reader::{Bound, Cell, Problem};
+use vlp_problem::{Bound, Cell, Problem};
 
 /// Appends row number `row` of `z - x - y`, where each has so many entries.
 fn push_sum_row(cells: &mut Items<Cell>, count: u32, row: u32) -> Result<(), NoMemory>

@@ -32,7 +32,7 @@ use Rattle.representations.specs.Needed.{AreOthers, NoneIsTooMuch}
 use Rattle.representations.specs.Projection.{spread}
 use Rattle.representations.proofs.Slices.{spread-plus, spread-scaled}
 use Rattle.upper_image.specs.UpperImage.{IsInWorkingImage, IsWorkingDirection, IsExactFor}
-use Rattle.vlp_reader.specs.declared.problem.Problem.{Problem}
+use Rattle.vlp_problem.specs.declared.problem.Problem.{Problem}
 use Rattle.projection.specs.Associated.{IsAssociated}
 use Rattle.projection.specs.Laws.{IsLevel, fronts, level_only}
 use Rattle.projection.proofs.Hulls.{fronts_wide, level_wide, level_listed, points_wide, directions_wide, lines_wide, levels, projection_is_hull}

@@ -19,9 +19,9 @@ use Rattle.upper_image.specs.Spots.{dense, IsVector}
 use Rattle.upper_image.specs.UpperImage.{signed, working, normals, IsInWorkingImage, IsWorkingDirection}
 use Rattle.upper_image.specs.Witnesses.{HasPreimage, HasDirectionPreimage, IsInfeasible, IsShownLine}
 use Rattle.upper_image.proofs.Widths.{map-map}
-use Rattle.vlp_reader.specs.Sides.{sides, IsFeasible, IsRecession}
-use Rattle.vlp_reader.specs.declared.problem.Dir.{Dir}
-use Rattle.vlp_reader.specs.declared.problem.Problem.{Problem}
+use Rattle.vlp_problem.specs.Sides.{sides, IsFeasible, IsRecession}
+use Rattle.vlp_problem.specs.declared.problem.Dir.{Dir}
+use Rattle.vlp_problem.specs.declared.problem.Problem.{Problem}
 use Rattle.log_rules.specs.Live.{state, lines, in_use, live_vectors}
 use Rattle.log_rules.specs.Laws.{listed, named_cuts}
 use Rattle.log_rules.specs.Right.{stated, IsSolution}

@@ -12,7 +12,7 @@ use Rattle.log_rules.specs.declared.answer.Answer.TheVariants.{Whole, Solved}
 use Rattle.log_rules.specs.declared.answer.Facet.{Facet}
 use Rattle.log_rules.specs.declared.answer.Gen.{Gen}
 use Rattle.log_rules.specs.declared.answer.LineGen.{LineGen}
-use Rattle.vlp_reader.specs.declared.problem.Problem.{Problem}
+use Rattle.vlp_problem.specs.declared.problem.Problem.{Problem}
 use Rattle.projection.specs.Associated.{IsAssociated}
 use Rattle.projection.proofs.Level.{level_directions}
 use Rattle.projection.proofs.Slices.{never_whole}

@@ -7,8 +7,8 @@ use Rattle.polyhedra.specs.Hull.{IsInHull}
 use Rattle.polyhedra.specs.Negatives.{negated}
 use Rattle.upper_image.specs.Spots.{dense, IsVector}
 use Rattle.upper_image.specs.Witnesses.{IsInfeasible}
-use Rattle.vlp_reader.specs.Sides.{IsFeasible, IsRecession}
-use Rattle.vlp_reader.specs.declared.problem.Problem.{Problem}
+use Rattle.vlp_problem.specs.Sides.{IsFeasible, IsRecession}
+use Rattle.vlp_problem.specs.declared.problem.Problem.{Problem}
 use Rattle.deriv_log.specs.declared.entry.Entry.{Entry}
 use Rattle.log_rules.specs.Proves.{PlainProves}
 use Rattle.log_rules.specs.declared.answer.Answer.{Answer}

@@ -5,9 +5,9 @@ use Rattle.std.proofs.lemmas.List.{append_assoc}
 use Rattle.exact_field.specs.Rational.{ℚ, one_ℚ, neg_ℚ, whole}
 use Rattle.exact_field.proofs.RationalLaws.{whole-neg}
 use Rattle.frac128.specs.Sparse.{is_zero}
-use Rattle.vlp_reader.specs.Cells.{place_before, is_within, cells_behind, are_cells}
-use Rattle.vlp_reader.specs.Sides.{numbers_from}
-use Rattle.vlp_reader.specs.declared.problem.Cell.{Cell}
+use Rattle.vlp_problem.specs.Cells.{place_before, is_within, cells_behind, are_cells}
+use Rattle.vlp_problem.specs.Sides.{numbers_from}
+use Rattle.vlp_problem.specs.declared.problem.Cell.{Cell}
 use Rattle.projection.specs.Associated.{cell, associated_cells}
 use Rattle.projection.proofs.Numbers.{last_number}
 use Rattle.projection.proofs.Objectives.{diagonal, last_row}

@@ -12,9 +12,9 @@ use Rattle.polyhedra.specs.Examples.{wholes}
 use Rattle.polyhedra.specs.Inequality.{Inequality}
 use Rattle.polyhedra.proofs.Laws.{le_refl}
 use Rattle.polyhedra.proofs.Order.{not_lt_of_le, add_le_both}
-use Rattle.vlp_reader.specs.Sides.{sides, IsFeasible}
-use Rattle.vlp_reader.specs.declared.problem.Bound.TheVariants.{Lower, Upper}
-use Rattle.vlp_reader.specs.declared.problem.Problem.{Problem}
+use Rattle.vlp_problem.specs.Sides.{sides, IsFeasible}
+use Rattle.vlp_problem.specs.declared.problem.Bound.TheVariants.{Lower, Upper}
+use Rattle.vlp_problem.specs.declared.problem.Problem.{Problem}
 use Rattle.projection.specs.Associated.{cell}
 use Rattle.projection.specs.Examples.{minus_one, AssociatedExample, IsTriangle, ProjectionExample}
 use Rattle.projection.proofs.Objectives.{sides_by}

@@ -15,7 +15,7 @@ use Rattle.polyhedra.proofs.Members.{all_of_members, member_of, Contains-filter_
 use Rattle.polyhedra.proofs.Order.{le_of_eq}
 use Rattle.upper_image.specs.OrderingCone.{IsInOrderingCone}
 use Rattle.upper_image.specs.UpperImage.{normals, objectives, IsInWorkingImage, IsWorkingDirection, IsExactFor}
-use Rattle.vlp_reader.specs.declared.problem.Problem.{Problem}
+use Rattle.vlp_problem.specs.declared.problem.Problem.{Problem}
 use Rattle.representations.specs.Faces.{at_value, IsBoundedBelow}
 use Rattle.representations.specs.Projection.{spread, ones}
 use Rattle.representations.proofs.Faces.{hull_width}

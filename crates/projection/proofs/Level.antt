@@ -26,7 +26,7 @@ use Rattle.lineality.proofs.Reduction.{reduction_same, reduction-plus, reduction
 use Rattle.upper_image.specs.OrderingCone.{IsNonnegative, IsInOrderingCone}
 use Rattle.upper_image.specs.UpperImage.{normals, objectives, rest, turned, IsInWorkingImage, IsWorkingDirection, IsExactFor, IsDirectionPreimage}
 use Rattle.upper_image.proofs.WorkingImage.{cone_in_directions}
-use Rattle.vlp_reader.specs.declared.problem.Problem.{Problem}
+use Rattle.vlp_problem.specs.declared.problem.Problem.{Problem}
 use Rattle.representations.specs.Projection.{spread}
 use Rattle.representations.proofs.Slices.{image_is_above, spread-sum, sum-plus, sum-zeros}
 use Rattle.projection.specs.Associated.{Begins, IsAssociated}

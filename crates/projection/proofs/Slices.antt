@@ -17,11 +17,11 @@ use Rattle.polyhedra.proofs.Cones.{sum_nonneg}
 use Rattle.polyhedra.proofs.Lists.{nonneg-nil, nonneg-cons}
 use Rattle.polyhedra.proofs.Members.{all_of_members}
 use Rattle.polyhedra.specs.Vectors.{AtLeastZero}
-use Rattle.vlp_reader.specs.Sides.{sides, side_bounds, IsFeasible, IsRecession}
-use Rattle.vlp_reader.specs.declared.problem.Dir.{Dir}
-use Rattle.vlp_reader.specs.declared.problem.Problem.{Problem}
-use Rattle.vlp_reader.specs.declared.problem.Cone.{Cone}
-use Rattle.vlp_reader.specs.declared.problem.Cone.TheVariants.{Orthant}
+use Rattle.vlp_problem.specs.Sides.{sides, side_bounds, IsFeasible, IsRecession}
+use Rattle.vlp_problem.specs.declared.problem.Dir.{Dir}
+use Rattle.vlp_problem.specs.declared.problem.Problem.{Problem}
+use Rattle.vlp_problem.specs.declared.problem.Cone.{Cone}
+use Rattle.vlp_problem.specs.declared.problem.Cone.TheVariants.{Orthant}
 use Rattle.upper_image.specs.OrderingCone.{IsNonnegative, IsIn, IsInOrderingCone, FollowsFile}
 use Rattle.upper_image.specs.Spots.{dense}
 use Rattle.upper_image.specs.UpperImage.{normals, objectives, rest, turned, IsInImage, IsInWorkingImage, IsDirection, IsWorkingDirection}

@@ -2,11 +2,11 @@
 -- image has this projection as a slice.
 use Rattle.std.specs.Prelude.{◌≡◌, ℕ, suc, List, ◌++◌, map, take, None}
 use Rattle.exact_field.specs.Rational.{ℚ, one_ℚ, neg_ℚ}
-use Rattle.vlp_reader.specs.Sides.{numbers_from, IsFeasible, IsRecession}
-use Rattle.vlp_reader.specs.declared.problem.Cell.{Cell}
-use Rattle.vlp_reader.specs.declared.problem.Cone.TheVariants.{Orthant}
-use Rattle.vlp_reader.specs.declared.problem.Dir.TheVariants.{Min}
-use Rattle.vlp_reader.specs.declared.problem.Problem.{Problem}
+use Rattle.vlp_problem.specs.Sides.{numbers_from, IsFeasible, IsRecession}
+use Rattle.vlp_problem.specs.declared.problem.Cell.{Cell}
+use Rattle.vlp_problem.specs.declared.problem.Cone.TheVariants.{Orthant}
+use Rattle.vlp_problem.specs.declared.problem.Dir.TheVariants.{Min}
+use Rattle.vlp_problem.specs.declared.problem.Problem.{Problem}
 
 -- x begins with z, in its first k entries
 abbrev pub Begins : ℕ → List ℚ → List ℚ → Type 0

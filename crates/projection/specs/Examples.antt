@@ -2,8 +2,8 @@
 use Rattle.std.specs.Prelude.{◌≡◌, pos, negsuc, [], ◌∷◌}
 use Rattle.exact_field.specs.Rational.{ℚ, zero_ℚ, one_ℚ, whole}
 use Rattle.polyhedra.specs.Examples.{wholes}
-use Rattle.vlp_reader.specs.declared.problem.Bound.TheVariants.{Lower, Upper}
-use Rattle.vlp_reader.specs.declared.problem.Problem.{Problem}
+use Rattle.vlp_problem.specs.declared.problem.Bound.TheVariants.{Lower, Upper}
+use Rattle.vlp_problem.specs.declared.problem.Problem.{Problem}
 use Rattle.projection.specs.Associated.{Begins, IsInProjection, cell, associated_cells}
 
 -- the number -1

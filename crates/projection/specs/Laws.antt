@@ -12,8 +12,8 @@ use Rattle.representations.specs.Facets.{MeetsAll}
 use Rattle.representations.specs.Projection.{spread, AreAssociated}
 use Rattle.upper_image.specs.UpperImage.{objectives, IsInWorkingImage, IsWorkingDirection, IsExactFor, IsDirectionPreimage}
 use Rattle.upper_image.specs.Witnesses.{IsWhole}
-use Rattle.vlp_reader.specs.Sides.{sides}
-use Rattle.vlp_reader.specs.declared.problem.Problem.{Problem}
+use Rattle.vlp_problem.specs.Sides.{sides}
+use Rattle.vlp_problem.specs.declared.problem.Problem.{Problem}
 use Rattle.projection.specs.Associated.{Begins, IsAssociated, IsInProjection, IsInProjectedRecession}
 
 -- the associated problem has the sides of the file, and its objectives take x to its first k entries

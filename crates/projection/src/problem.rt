@@ -5,7 +5,7 @@ ghost use Rattle.projection.specs.Associated.{associated_cells, IsAssociated};
 use frac128::Frac;
 use src_sink::{Items, NoMemory};
 use std::alloc::Global;
-use vlp_reader::{Bound, Cell, Cone, Dir, Problem};
+use vlp_problem::{Bound, Cell, Cone, Dir, Problem};
 
 /// The objectives: the first k columns, and minus their sum.
 fn objectives(alloc: Global, k: u32) -> Result<Items<Cell>, NoMemory>

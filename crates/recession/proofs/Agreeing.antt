@@ -5,9 +5,9 @@ use Rattle.exact_field.specs.Rational.{ℚ, one_ℚ}
 use Rattle.polyhedra.specs.Negatives.{negated}
 use Rattle.polyhedra.specs.Vectors.{zeros}
 use Rattle.tableaux.specs.Table.{System, Table, listed, list_from}
-use Rattle.vlp_reader.specs.Sides.{side_column, side_bounds}
-use Rattle.vlp_reader.specs.declared.problem.Problem.{Problem}
-use Rattle.vlp_reader.specs.declared.problem.Cone.{Cone}
+use Rattle.vlp_problem.specs.Sides.{side_column, side_bounds}
+use Rattle.vlp_problem.specs.declared.problem.Problem.{Problem}
+use Rattle.vlp_problem.specs.declared.problem.Cone.{Cone}
 use Rattle.upper_image.specs.UpperImage.{objective_column}
 use Rattle.lp_form.specs.Data.{IsDataOf}
 use Rattle.lp_form.specs.declared.data.Data.{Data}

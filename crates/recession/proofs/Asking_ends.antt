@@ -13,10 +13,10 @@ use Rattle.polyhedra.proofs.Homogenised.{homogenised-same}
 use Rattle.polyhedra.proofs.Linear.{length-scaled}
 use Rattle.polyhedra.proofs.Order.{lt_irrefl}
 use Rattle.tableaux.specs.Table.{System}
-use Rattle.vlp_reader.specs.Sides.{side_bounds, IsFeasible}
-use Rattle.vlp_reader.specs.declared.problem.Problem.{Problem}
-use Rattle.vlp_reader.specs.declared.problem.Cone.{Cone}
-use Rattle.vlp_reader.specs.declared.problem.Cone.TheVariants.{Orthant, Gens, Dual}
+use Rattle.vlp_problem.specs.Sides.{side_bounds, IsFeasible}
+use Rattle.vlp_problem.specs.declared.problem.Problem.{Problem}
+use Rattle.vlp_problem.specs.declared.problem.Cone.{Cone}
+use Rattle.vlp_problem.specs.declared.problem.Cone.TheVariants.{Orthant, Gens, Dual}
 use Rattle.upper_image.specs.OrderingCone.{Fits}
 use Rattle.upper_image.specs.Shows.{ShowsInterior}
 use Rattle.upper_image.specs.Spots.{dense, product, IsVector}
@@ -25,8 +25,8 @@ use Rattle.lp_form.specs.Data.{IsDataOf, cone_of}
 use Rattle.lp_form.specs.declared.data.Data.{Data}
 use Rattle.lp_form.proofs.Figures.{objective_number}
 use Rattle.lp_form.specs.Programs.{benson_system, choice_of, generators, value_of, u_of, w_of, v_of}
-use Rattle.licence.specs.Trails.{divided_by}
-use Rattle.licence.specs.Turns.{said_row}
+use Rattle.overflow_rules.specs.Trails.{divided_by}
+use Rattle.overflow_rules.specs.Turns.{said_row}
 use Rattle.benson_program.specs.Laws.{IsCutNormal}
 use Rattle.benson_program.proofs.AsCut.{benson_cut}
 use Rattle.benson_program.proofs.Excluded.{answers_exclude}

@@ -3,10 +3,10 @@ use Rattle.std.proofs.Common.{◌≡◌, ℕ, List, [], ◌∷◌, map, length, 
 use Rattle.std.proofs.lemmas.List.{length-map}
 use Rattle.std.proofs.lemmas.List.Elements.{All-head}
 use Rattle.exact_field.specs.Rational.{ℚ}
-use Rattle.vlp_reader.specs.Sides.{IsFeasible}
-use Rattle.vlp_reader.specs.declared.problem.Problem.{Problem}
+use Rattle.vlp_problem.specs.Sides.{IsFeasible}
+use Rattle.vlp_problem.specs.declared.problem.Problem.{Problem}
 use Rattle.upper_image.specs.Spots.{dense, IsVector}
-use Rattle.licence.specs.Base.{IsBaseChoice}
+use Rattle.overflow_rules.specs.Base.{IsBaseChoice}
 use Rattle.lp_form.specs.Programs.{side_total}
 use Rattle.benson_program.specs.Laws.{IsCutNormal}
 use Rattle.benson_program.proofs.Excluded.{answers_exclude}

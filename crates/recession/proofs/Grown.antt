@@ -11,12 +11,12 @@ use Rattle.polyhedra.proofs.Members.{all_of_members, member_of}
 use Rattle.lineality.specs.Lines.{IsInLineality}
 use Rattle.lineality.proofs.Level.{IsLevel}
 use Rattle.lin_rows.specs.Complement.{AreComplement}
-use Rattle.vlp_reader.specs.Sides.{IsFeasible}
+use Rattle.vlp_problem.specs.Sides.{IsFeasible}
 use Rattle.upper_image.specs.UpperImage.{IsWorkingDirection}
 use Rattle.upper_image.proofs.Lines.{cuts_are_level}
 use Rattle.upper_image.proofs.WorkingImage.{ray_shown, working_image_convex}
-use Rattle.licence.specs.Base.{IsBaseChoice, IsSide}
-use Rattle.licence.specs.Preimages.{IsPreimageOf}
+use Rattle.overflow_rules.specs.Base.{IsBaseChoice, IsSide}
+use Rattle.overflow_rules.specs.Preimages.{IsPreimageOf}
 use Rattle.lp_form.specs.declared.shown.Cut.{Cut}
 use Rattle.lp_form.specs.declared.shown.Preimage.{Preimage}
 use Rattle.outer_approx.specs.Cuts.{IsCutFor}

@@ -3,26 +3,26 @@ use Rattle.std.proofs.Common.{◌≡◌, ℕ, List, map, length, refl, sym, ap, 
 use Rattle.std.specs.Prelude.{IfOk}
 use Rattle.std.proofs.lemmas.List.{length-map}
 use Rattle.frac128.specs.declared.vectors.Spot.{Spot}
-use Rattle.vlp_reader.specs.Sides.{IsFeasible}
+use Rattle.vlp_problem.specs.Sides.{IsFeasible}
 use Rattle.upper_image.specs.Shows.{ShowsFitting}
 use Rattle.upper_image.specs.Spots.{dense, IsVector}
 use Rattle.deriv_log.specs.declared.entry.Entry.TheVariants.{Duality as Opening}
 use Rattle.log_rules.specs.Meets.{MeetsFarkas}
 use Rattle.log_rules.proofs.SomeAnswer.{some_answer}
 use Rattle.lp_form.specs.Programs.{side_total, feasible_system}
-use Rattle.licence.specs.Base.{IsBaseChoice, IsRayOff}
-use Rattle.licence.specs.Trails.{IsBaseDuality}
+use Rattle.overflow_rules.specs.Base.{IsBaseChoice, IsRayOff}
+use Rattle.overflow_rules.specs.Trails.{IsBaseDuality}
 use Rattle.benson_program.specs.Ends.{IsContradiction}
 use Rattle.lp_form.specs.Sparse.{IsSparseOf}
 use Rattle.benson_program.specs.Wholes.{IsWholeOf}
 use Rattle.benson_program.specs.declared.whole.WholeParts.{WholeParts}
 use Rattle.outer_approx.specs.Unstarted.{IsReadWhole, ShowsWhole}
 use Rattle.exact_field.specs.Rational.{ℚ}
-use Rattle.vlp_reader.specs.declared.problem.Problem.{Problem}
+use Rattle.vlp_problem.specs.declared.problem.Problem.{Problem}
 use Rattle.deriv_log.specs.declared.entry.Entry.{Entry}
-use Rattle.licence.specs.Licence.{Completes, IsHeldDuality, IsPossible, Licensed, StandsFor}
-use Rattle.licence.proofs.Growing.{trail_laws}
-use Rattle.licence.proofs.Without.{licence_laws}
+use Rattle.overflow_rules.specs.Licence.{Completes, IsHeldDuality, IsPossible, Licensed, StandsFor}
+use Rattle.overflow_rules.proofs.Growing.{trail_laws}
+use Rattle.overflow_rules.proofs.Without.{licence_laws}
 use Rattle.overflows.specs.Faults.{OnLicence, Overflows, with_trail}
 use Rattle.overflows.specs.declared.fault.SolveFault.{SolveFault}
 use Rattle.overflows.specs.declared.fault.SolveFault.TheVariants.{Left, NoMemory}

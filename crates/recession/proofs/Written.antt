@@ -10,7 +10,7 @@ use Rattle.lin_rows.specs.Clear.{Writes}
 use Rattle.lin_rows.specs.Lines.{last_place}
 use Rattle.lin_rows.specs.Read.{IsLineOf}
 use Rattle.lin_rows.proofs.Building.{line_pushed, last_pushed, dense_line}
-use Rattle.vlp_reader.proofs.Tables.{zero_is}
+use Rattle.vlp_problem.proofs.Zero.{zero_is}
 use Rattle.overflows.proofs.Sparse.{AreKept, vector_of, kept_more}
 use Rattle.upper_image.specs.Spots.{dense, entry_of, IsVector}
 

@@ -2,14 +2,14 @@
 use Rattle.std.specs.Prelude.{ℕ, ◌≡◌, Bool, List, map}
 use Rattle.exact_field.specs.Rational.{ℚ, zero_ℚ, ◌<ℚ◌}
 use Rattle.polyhedra.specs.Exactness.{row_of}
-use Rattle.vlp_reader.specs.Sides.{IsFeasible}
+use Rattle.vlp_problem.specs.Sides.{IsFeasible}
 use Rattle.lp_form.specs.Data.{IsDataOf}
 use Rattle.lp_form.specs.declared.data.Data.{Data}
 use Rattle.lp_form.specs.Programs.{benson_system, value_of}
-use Rattle.licence.specs.Turns.{said_row}
+use Rattle.overflow_rules.specs.Turns.{said_row}
 use Rattle.benson_program.specs.Laws.{IsCutNormal}
 use Rattle.benson_program.specs.Ends.{IsOptimumAt}
-use Rattle.licence.specs.Preimages.{IsPreimageOf}
+use Rattle.overflow_rules.specs.Preimages.{IsPreimageOf}
 use Rattle.lp_form.specs.declared.shown.Cut.{Cut as CutOf}
 use Rattle.outer_approx.specs.Cuts.{IsCutFor, said_by}
 use Rattle.outer_approx.specs.Task.{IsFitting, Task}

@@ -1,13 +1,13 @@
 -- The logs of a solver.
 use Rattle.std.specs.Prelude.{Bool, List, []}
 use Rattle.exact_field.specs.Rational.{ℚ}
-use Rattle.vlp_reader.specs.declared.problem.Problem.{Problem}
+use Rattle.vlp_problem.specs.declared.problem.Problem.{Problem}
 use Rattle.deriv_log.specs.Formed.{IsLog}
 use Rattle.deriv_log.specs.declared.entry.Entry.{Entry}
 use Rattle.log_rules.specs.Proves.{AllMeet, Gives}
 use Rattle.log_rules.specs.declared.answer.Answer.{Answer}
-use Rattle.licence.specs.Licence.{IsPossible}
-use Rattle.licence.specs.Trails.{IsBaseTrail}
+use Rattle.overflow_rules.specs.Licence.{IsPossible}
+use Rattle.overflow_rules.specs.Trails.{IsBaseTrail}
 use Rattle.deriv_log.specs.declared.entry.Entry.TheVariants.{Duality}
 use Rattle.outer_approx.specs.Task.{Task}
 

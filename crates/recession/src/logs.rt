@@ -3,11 +3,11 @@ ghost use Rattle.std.specs.Prelude.{◌≡◌, ◌≤◌, ℕ, List, [], map, le
 ghost use Rattle.exact_field.specs.Rational.{ℚ};
 ghost use Rattle.benson_program.specs.Ends.{IsContradiction};
 ghost use Rattle.benson_program.specs.Wholes.{IsWholeOf};
-ghost use Rattle.licence.specs.Base.{IsBaseChoice};
+ghost use Rattle.overflow_rules.specs.Base.{IsBaseChoice};
 ghost use Rattle.log_rules.specs.Live.{state};
 ghost use Rattle.outer_approx.specs.Standing.{IsEnded, IsOpening};
 ghost use Rattle.outer_approx.specs.Task.{Task};
-ghost use Rattle.vlp_reader.specs.declared.problem.Problem.{Problem as File};
+ghost use Rattle.vlp_problem.specs.declared.problem.Problem.{Problem as File};
 
 use benson_program::WholeParts;
 use deriv_log::{Entries, Entry};

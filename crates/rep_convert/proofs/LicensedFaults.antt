@@ -26,9 +26,9 @@ use Rattle.deriv_log.specs.declared.licence.Licence.{Licence}
 use Rattle.deriv_log.specs.declared.licence.Place.{Place}
 use Rattle.deriv_log.specs.declared.licence.Place.TheVariants.{Elim}
 use Rattle.log_rules.specs.Events.{exact}
-use Rattle.licence.specs.Laws.{term_number}
-use Rattle.licence.specs.Steps.{operation, IsNotHeld}
-use Rattle.licence.proofs.Given.{not_held}
+use Rattle.overflow_rules.specs.Laws.{term_number}
+use Rattle.overflow_rules.specs.Steps.{operation, IsNotHeld}
+use Rattle.overflow_rules.proofs.Given.{not_held}
 use Rattle.overflows.specs.Faults.{IsEliminationLeft, IsLeftAt, IsTermAt}
 use Rattle.overflows.specs.declared.fault.SolveFault.{SolveFault}
 use Rattle.overflows.specs.declared.fault.SolveFault.TheVariants as solving

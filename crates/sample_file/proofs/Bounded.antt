@@ -11,11 +11,11 @@ use Rattle.polyhedra.specs.DoubleDescription.{is_zero, leading}
 use Rattle.polyhedra.specs.Vectors.{AtLeastZero, plus, values, zeros}
 use Rattle.polyhedra.proofs.Linear.{dot-zeros}
 use Rattle.polyhedra.proofs.Lists.{nonneg-head, nonneg-tail}
-use Rattle.vlp_reader.specs.declared.problem.Problem.{Problem}
-use Rattle.vlp_reader.specs.declared.problem.Cone.{Cone}
-use Rattle.vlp_reader.specs.declared.problem.Cone.TheVariants.{Orthant}
-use Rattle.vlp_reader.specs.declared.problem.Dir.{Dir}
-use Rattle.vlp_reader.specs.declared.problem.Dir.TheVariants.{Min, Max}
+use Rattle.vlp_problem.specs.declared.problem.Problem.{Problem}
+use Rattle.vlp_problem.specs.declared.problem.Cone.{Cone}
+use Rattle.vlp_problem.specs.declared.problem.Cone.TheVariants.{Orthant}
+use Rattle.vlp_problem.specs.declared.problem.Dir.{Dir}
+use Rattle.vlp_problem.specs.declared.problem.Dir.TheVariants.{Min, Max}
 use Rattle.upper_image.specs.OrderingCone.{IsNonnegative, IsIn, IsInOrderingCone}
 use Rattle.upper_image.specs.Spots.{dense}
 use Rattle.upper_image.specs.Witnesses.{IsShownLine}

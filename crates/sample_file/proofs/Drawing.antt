@@ -5,8 +5,8 @@ use Rattle.std.proofs.lemmas.Bool.Decides.{nat_tests}
 use Rattle.std.proofs.lemmas.List.{append_assoc}
 use Rattle.exact_field.specs.Rational.{ℚ, zero_ℚ, whole}
 use Rattle.frac128.specs.Sparse.{is_zero}
-use Rattle.vlp_reader.specs.Cells.{is_within, are_cells, coefficient}
-use Rattle.vlp_reader.specs.declared.problem.Cell.{Cell}
+use Rattle.vlp_problem.specs.Cells.{is_within, are_cells, coefficient}
+use Rattle.vlp_problem.specs.declared.problem.Cell.{Cell}
 use Rattle.vlp_reader.proofs.BuiltCells.{cell_at, row_cells, built_cells, built_are_cells, built_entries}
 use Rattle.sample_file.specs.Draws.{state_after, draw}
 use Rattle.sample_file.specs.Drawn.{drawn, drawn_row, HasDraws}

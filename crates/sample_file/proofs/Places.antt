@@ -5,8 +5,8 @@ use Rattle.std.proofs.lemmas.Bool.Decides.{nat_tests}
 use Rattle.std.proofs.lemmas.List.Elements.{All-nil, All-cons}
 use Rattle.exact_field.specs.Rational.{ℚ}
 use Rattle.frac128.specs.Sparse.{is_zero}
-use Rattle.vlp_reader.specs.Cells.{place_before, is_within, cells_behind, coefficient}
-use Rattle.vlp_reader.specs.declared.problem.Cell.{Cell}
+use Rattle.vlp_problem.specs.Cells.{place_before, is_within, cells_behind, coefficient}
+use Rattle.vlp_problem.specs.declared.problem.Cell.{Cell}
 
 -- what the test of the first of some cells says
 record First (rows cols i j : ℕ) (c : Cell) (cells : List Cell) : Type 0 where

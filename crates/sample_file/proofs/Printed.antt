@@ -5,15 +5,15 @@ use Rattle.std.proofs.lemmas.Bool.{and_from, le-leb}
 use Rattle.std.proofs.lemmas.Bool.Decides.{nat_tests, Decides-below_and}
 use Rattle.std.proofs.lemmas.List.Elements.{All-nil, All-cons, All-head, All-tail, All-append}
 use Rattle.exact_field.specs.Rational.{ℚ, zero_ℚ, one_ℚ, whole}
-use Rattle.vlp_reader.specs.Cells.{is_within, are_cells, coefficient}
+use Rattle.vlp_problem.specs.Cells.{is_within, are_cells, coefficient}
 use Rattle.vlp_reader.specs.FirstFault.{Reads}
 use Rattle.vlp_reader.specs.Grammar.{cone_count, cone_entries}
-use Rattle.vlp_reader.specs.declared.problem.Problem.{Problem}
-use Rattle.vlp_reader.specs.declared.problem.Bound.{Bound}
-use Rattle.vlp_reader.specs.declared.problem.Bound.TheVariants.{Double}
-use Rattle.vlp_reader.specs.declared.problem.Cone.{Cone}
+use Rattle.vlp_problem.specs.declared.problem.Problem.{Problem}
+use Rattle.vlp_problem.specs.declared.problem.Bound.{Bound}
+use Rattle.vlp_problem.specs.declared.problem.Bound.TheVariants.{Double}
+use Rattle.vlp_problem.specs.declared.problem.Cone.{Cone}
 use Rattle.vlp_printer.specs.Decimal.{is_decimal, number_text}
-use Rattle.vlp_reader.specs.Values.{printed_numbers, bound_numbers, cone_vectors, duality_entries}
+use Rattle.vlp_problem.specs.Values.{printed_numbers, bound_numbers, cone_vectors, duality_entries}
 use Rattle.vlp_printer.specs.Printing.{HasWord, IsWithinLimits, IsFirstWithoutWord, printed_cone, problem_text}
 use Rattle.vlp_printer.proofs.ReadNumbers.{number_back}
 use Rattle.vlp_printer.proofs.RoundTrip.{reads_back}

@@ -10,10 +10,10 @@ use Rattle.polyhedra.specs.Inequality.{Inequality}
 use Rattle.polyhedra.specs.Vectors.{zeros}
 use Rattle.polyhedra.proofs.Linear.{dot-zeros, dot_comm, length-zeros}
 use Rattle.polyhedra.proofs.Negatives.{dot-negated}
-use Rattle.vlp_reader.specs.Sides.{numbers_from, unit, at_least, at_most, sides_from, sides, row_vector, IsFeasible}
-use Rattle.vlp_reader.specs.declared.problem.Problem.{Problem}
-use Rattle.vlp_reader.specs.declared.problem.Bound.{Bound}
-use Rattle.vlp_reader.specs.declared.problem.Bound.TheVariants.{Double}
+use Rattle.vlp_problem.specs.Sides.{numbers_from, unit, at_least, at_most, sides_from, sides, row_vector, IsFeasible}
+use Rattle.vlp_problem.specs.declared.problem.Problem.{Problem}
+use Rattle.vlp_problem.specs.declared.problem.Bound.{Bound}
+use Rattle.vlp_problem.specs.declared.problem.Bound.TheVariants.{Double}
 use Rattle.sample_file.specs.Laws.{SamplesAreSolved, IsBounded}
 use Rattle.sample_file.specs.Sample.{IsSample}
 use Rattle.sample_file.proofs.Bounded.{at_most_zero, bounded_are_solved}

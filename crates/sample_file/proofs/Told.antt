@@ -8,7 +8,7 @@ use Rattle.log_rules.specs.declared.answer.Gen.{Gen}
 use Rattle.log_rules.specs.declared.answer.Facet.{Facet}
 use Rattle.log_rules.specs.declared.answer.LineGen.{LineGen}
 use Rattle.vlp_reader.specs.FirstFault.{Reads}
-use Rattle.vlp_reader.specs.declared.problem.Problem.{Problem}
+use Rattle.vlp_problem.specs.declared.problem.Problem.{Problem}
 use Rattle.vlp_printer.specs.Printing.{problem_text}
 use Rattle.sample_file.specs.Sample.{IsSample, IsSampleText}
 use Rattle.sample_file.specs.Summary.{IsSolved, Sums, summary_text}

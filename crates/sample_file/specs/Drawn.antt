@@ -2,8 +2,8 @@
 use Rattle.std.specs.Prelude.{◌≡◌, ℕ, zero, suc, ◌+◌, ◌-◌, ◌*◌, ◌≤◌, if◌then◌else◌, List, [], ◌∷◌, ◌++◌, IsTrue}
 use Rattle.exact_field.specs.Rational.{ℚ, whole}
 use Rattle.frac128.specs.Sparse.{is_zero}
-use Rattle.vlp_reader.specs.Cells.{are_cells, coefficient}
-use Rattle.vlp_reader.specs.declared.problem.Cell.{Cell}
+use Rattle.vlp_problem.specs.Cells.{are_cells, coefficient}
+use Rattle.vlp_problem.specs.declared.problem.Cell.{Cell}
 use Rattle.sample_file.specs.Draws.{state_after, draw}
 
 -- the cell of a place, where its value is not 0

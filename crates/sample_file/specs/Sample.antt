@@ -1,12 +1,12 @@
 -- The sample file of a number.
 use Rattle.std.specs.Prelude.{◌≡◌, ℕ, ◌+◌, ◌-◌, ◌*◌, ◌%◌, ◌≤◌, List, [], replicate, None}
 use Rattle.exact_field.specs.Rational.{zero_ℚ, one_ℚ, whole}
-use Rattle.vlp_reader.specs.Cells.{coefficient}
+use Rattle.vlp_problem.specs.Cells.{coefficient}
 use Rattle.vlp_reader.specs.FirstFault.{Reads}
-use Rattle.vlp_reader.specs.declared.problem.Problem.{Problem}
-use Rattle.vlp_reader.specs.declared.problem.Bound.TheVariants.{Double}
-use Rattle.vlp_reader.specs.declared.problem.Cone.TheVariants.{Orthant}
-use Rattle.vlp_reader.specs.declared.problem.Dir.TheVariants.{Min}
+use Rattle.vlp_problem.specs.declared.problem.Problem.{Problem}
+use Rattle.vlp_problem.specs.declared.problem.Bound.TheVariants.{Double}
+use Rattle.vlp_problem.specs.declared.problem.Cone.TheVariants.{Orthant}
+use Rattle.vlp_problem.specs.declared.problem.Dir.TheVariants.{Min}
 use Rattle.vlp_printer.specs.Printing.{problem_text}
 use Rattle.sample_file.specs.Draws.{state_after, draw}
 

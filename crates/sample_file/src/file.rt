@@ -2,8 +2,8 @@
 ghost use Rattle.std.specs.Prelude.{◌≡◌, ℕ, ◌++◌, replicate, OnOk, IfOk};
 ghost use Rattle.exact_field.specs.Rational.{zero_ℚ, one_ℚ};
 ghost use Rattle.vlp_printer.specs.Printing.{problem_text};
-ghost use Rattle.vlp_reader.specs.declared.problem.Problem.{Problem};
-ghost use Rattle.vlp_reader.specs.declared.problem.Bound.TheVariants.{Double};
+ghost use Rattle.vlp_problem.specs.declared.problem.Problem.{Problem};
+ghost use Rattle.vlp_problem.specs.declared.problem.Bound.TheVariants.{Double};
 ghost use Rattle.sample_file.specs.Draws.{state_after};
 ghost use Rattle.sample_file.specs.Drawn.{drawn, drawn_row, HasDraws};
 ghost use Rattle.sample_file.specs.Sample.{sample_cols, IsSample, IsSampleText};
@@ -14,7 +14,7 @@ use frac128::Frac;
 use src_sink::{Bytes, Items, NoMemory};
 use std::alloc::Global;
 use vlp_printer::{PrintFault, print_vlp};
-use vlp_reader::{Bound, Cell, Cone, Dir, Problem};
+use vlp_problem::{Bound, Cell, Cone, Dir, Problem};
 
 /// How many columns the sample file of a number has.
 fn columns(number: u32) -> u32

@@ -21,8 +21,8 @@ use Rattle.lin_rows.specs.declared.cells.Cell.{Cell}
 use Rattle.lin_rows.proofs.Merging.{shown}
 use Rattle.lin_rows.proofs.Pivoted.{listed-same}
 use Rattle.upper_image.proofs.Widths.{map-map}
-use Rattle.vlp_reader.specs.Sides.{side_column}
-use Rattle.vlp_reader.specs.declared.problem.Problem.{Problem}
+use Rattle.vlp_problem.specs.Sides.{side_column}
+use Rattle.vlp_problem.specs.declared.problem.Problem.{Problem}
 use Rattle.lp_form.specs.Data.{IsDataOf}
 use Rattle.lp_form.specs.Programs.{feasible_system}
 use Rattle.lp_form.specs.Shapes.{are_places}

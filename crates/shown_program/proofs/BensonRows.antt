@@ -18,10 +18,10 @@ use Rattle.lin_rows.specs.declared.cells.Cell.{Cell}
 use Rattle.lin_rows.proofs.Merging.{shown}
 use Rattle.upper_image.specs.UpperImage.{objective_column}
 use Rattle.upper_image.proofs.Widths.{map-map}
-use Rattle.vlp_reader.specs.Sides.{side_column}
-use Rattle.vlp_reader.specs.declared.problem.Problem.{Problem}
-use Rattle.vlp_reader.specs.declared.problem.Cone.{Cone}
-use Rattle.vlp_reader.specs.declared.problem.Cone.TheVariants.{Orthant, Gens, Dual}
+use Rattle.vlp_problem.specs.Sides.{side_column}
+use Rattle.vlp_problem.specs.declared.problem.Problem.{Problem}
+use Rattle.vlp_problem.specs.declared.problem.Cone.{Cone}
+use Rattle.vlp_problem.specs.declared.problem.Cone.TheVariants.{Orthant, Gens, Dual}
 use Rattle.lp_form.specs.Data.{IsDataOf, cone_of}
 use Rattle.lp_form.specs.Programs.{balances, benson_system, dual_equations, dual_members, dual_unknowns, on_parts, side_total}
 use Rattle.lp_form.specs.Shapes.{are_places}

@@ -12,10 +12,10 @@ use Rattle.lin_rows.specs.Lines.{entries, sum_at}
 use Rattle.lin_rows.specs.declared.cells.Cell.{Cell}
 use Rattle.upper_image.specs.UpperImage.{objective_column}
 use Rattle.upper_image.proofs.Widths.{map-map}
-use Rattle.vlp_reader.specs.Sides.{side_column}
-use Rattle.vlp_reader.specs.declared.problem.Problem.{Problem}
-use Rattle.vlp_reader.specs.declared.problem.Cone.{Cone}
-use Rattle.vlp_reader.specs.declared.problem.Cone.TheVariants.{Orthant, Gens, Dual}
+use Rattle.vlp_problem.specs.Sides.{side_column}
+use Rattle.vlp_problem.specs.declared.problem.Problem.{Problem}
+use Rattle.vlp_problem.specs.declared.problem.Cone.{Cone}
+use Rattle.vlp_problem.specs.declared.problem.Cone.TheVariants.{Orthant, Gens, Dual}
 use Rattle.lp_form.specs.Data.{IsDataOf}
 use Rattle.lp_form.specs.Programs.{on_parts, side_total, weight_equations, weight_members, weight_system, weight_unknowns}
 use Rattle.lp_form.specs.declared.data.Data.{Data}

@@ -8,8 +8,8 @@ use Rattle.polyhedra.specs.Sparse.{Entry}
 use Rattle.tableaux.specs.Table.{artificial_sign, column_of, listed, row_of}
 use Rattle.lin_rows.specs.Lines.{Rises, entries, last_place, sum_at}
 use Rattle.lin_rows.specs.declared.cells.Cell.{Cell}
-use Rattle.vlp_reader.specs.declared.problem.Cone.{Cone}
-use Rattle.vlp_reader.specs.declared.problem.Cone.TheVariants.{Orthant, Gens, Dual}
+use Rattle.vlp_problem.specs.declared.problem.Cone.{Cone}
+use Rattle.vlp_problem.specs.declared.problem.Cone.TheVariants.{Orthant, Gens, Dual}
 use Rattle.lp_form.specs.Data.{cone_of}
 use Rattle.lp_form.specs.Programs.{dual_equations, dual_unknowns}
 use Rattle.lp_form.specs.Shapes.{are_places}

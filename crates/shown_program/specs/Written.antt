@@ -5,8 +5,8 @@ use Rattle.exact_field.specs.Rational.{ℚ}
 use Rattle.polyhedra.specs.Negatives.{negated}
 use Rattle.lin_rows.specs.Lines.{entries}
 use Rattle.lin_rows.specs.declared.cells.Cell.{Cell}
-use Rattle.vlp_reader.specs.declared.problem.Cone.{Cone}
-use Rattle.vlp_reader.specs.declared.problem.Cone.TheVariants.{Orthant, Gens, Dual}
+use Rattle.vlp_problem.specs.declared.problem.Cone.{Cone}
+use Rattle.vlp_problem.specs.declared.problem.Cone.TheVariants.{Orthant, Gens, Dual}
 use Rattle.lp_form.specs.Shapes.{are_places}
 use Rattle.lp_form.specs.declared.data.Data.{Data}
 use Rattle.shown_program.specs.Entries.{across, behind_row, benson_equations, given_equations, given_row, unit_entries, weight_row}

@@ -3,7 +3,6 @@
 #![tactic(auto)]
 
 mod columns;
-mod guess;
 mod order;
 mod prices;
 mod shown;
@@ -11,5 +10,4 @@ mod solution;
 mod sparse;
 mod written;
 
-pub use guess::{Guess, Optimum, Order, Pair};
 pub use shown::optimum_of;

@@ -2,7 +2,7 @@
 ghost use Rattle.std.specs.Prelude.{◌≡◌, ◌≤◌, length, map, All, IsTrue, IfOk, IfSome};
 ghost use Rattle.tableaux.specs.Simplex.{IsOptimal, OptimalAt};
 ghost use Rattle.tableaux.specs.Table.{System, Table};
-ghost use Rattle.vlp_reader.specs.declared.problem.Problem.{Problem as File};
+ghost use Rattle.vlp_problem.specs.declared.problem.Problem.{Problem as File};
 ghost use Rattle.lp_form.specs.Data.{IsDataOf};
 ghost use Rattle.lp_form.specs.Names.{HasWidths, named};
 ghost use Rattle.lp_form.specs.Programs.{named_system};
@@ -11,7 +11,7 @@ ghost use Rattle.shown_program.specs.Program.{IsProgramOf};
 ghost use Rattle.shown_program.specs.Tests.{AreInRange, Passes};
 
 use crate::columns::Columns;
-use crate::guess::{Guess, Optimum};
+use shown_bases::{Guess, Optimum};
 use crate::order::is_shown;
 use crate::prices::are_prices;
 use crate::solution::{are_allowed, solve, spread};

@@ -12,10 +12,10 @@ use Rattle.frac128.specs.Held.{is_held}
 use Rattle.frac128.specs.Text.{frac_text}
 use Rattle.frac128.specs.declared.vectors.Spot.{Spot}
 use Rattle.frac128.proofs.TextLaw.{one_number_per_text}
-use Rattle.vlp_reader.specs.Sides.{is_unsaid}
-use Rattle.vlp_reader.specs.declared.problem.Dir.{Dir}
-use Rattle.vlp_reader.specs.declared.problem.Dir.TheVariants.{Min, Max}
-use Rattle.vlp_reader.specs.declared.problem.Problem.{Problem}
+use Rattle.vlp_problem.specs.Sides.{is_unsaid}
+use Rattle.vlp_problem.specs.declared.problem.Dir.{Dir}
+use Rattle.vlp_problem.specs.declared.problem.Dir.TheVariants.{Min, Max}
+use Rattle.vlp_problem.specs.declared.problem.Problem.{Problem}
 use Rattle.word_lines.specs.Parts.{is_short, is_formed_spot}
 use Rattle.word_lines.specs.Parts.{spot_words, sparse_words}
 use Rattle.word_lines.proofs.Cutting.{Lacks, Lacks-join, slice_split-join}

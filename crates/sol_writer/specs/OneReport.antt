@@ -3,7 +3,7 @@ use Rattle.std.specs.Prelude.{◌≡◌, Bool, ◌&&◌, List, length, IsTrue}
 use Rattle.std.specs.List.{list_all}
 use Rattle.frac128.specs.Held.{is_held}
 use Rattle.frac128.specs.declared.vectors.Spot.{Spot}
-use Rattle.vlp_reader.specs.declared.problem.Problem.{Problem}
+use Rattle.vlp_problem.specs.declared.problem.Problem.{Problem}
 use Rattle.word_lines.specs.Parts.{is_short, is_formed_spot}
 use Rattle.log_rules.specs.Report.{report_text}
 use Rattle.log_rules.specs.declared.answer.Answer.{Answer}

@@ -1,6 +1,6 @@
 -- The upgrade of the log of a solution passes a check with the same report.
 use Rattle.std.proofs.Common.{refl, ap, subst, Result, Ok, Err, IfOk, List}
-use Rattle.vlp_reader.specs.declared.problem.Problem.{Problem}
+use Rattle.vlp_problem.specs.declared.problem.Problem.{Problem}
 use Rattle.vlp_reader.proofs.OneProblem.{one_problem}
 use Rattle.deriv_log.specs.declared.entry.Entry.{Entry}
 use Rattle.log_rules.specs.Report.{report_text}

@@ -5,7 +5,7 @@ use Rattle.std.specs.List.{flat_map}
 use Rattle.std.proofs.lemmas.Grind.{flat_map-append}
 use Rattle.src_sink.specs.Texts.{line_text}
 use Rattle.exact_field.specs.Rational.{ℚ}
-use Rattle.vlp_reader.specs.declared.problem.Problem.{Problem}
+use Rattle.vlp_problem.specs.declared.problem.Problem.{Problem}
 use Rattle.log_rules.specs.Report.{report_text, witness_lines}
 use Rattle.log_rules.specs.Right.{IsRight, IsSolution}
 use Rattle.log_rules.specs.declared.answer.Answer.{Answer}

@@ -3,14 +3,14 @@ use Rattle.std.proofs.Common.{◌≡◌, ℕ, List, Some, ap₂, ◌∙◌}
 use Rattle.exact_field.specs.Rational.{ℚ}
 use Rattle.exact_field.specs.declared.op.Left.{Left}
 use Rattle.frac128.specs.Held.{is_held, held_zero}
-use Rattle.vlp_reader.specs.declared.problem.Problem.{Problem}
+use Rattle.vlp_problem.specs.declared.problem.Problem.{Problem}
 use Rattle.deriv_log.specs.declared.entry.Entry.{Entry}
 use Rattle.deriv_log.specs.declared.licence.Place.TheVariants.{Step}
 use Rattle.log_rules.specs.Events.{plain_failure}
 use Rattle.log_rules.specs.Events.Failure.{left as overflows}
-use Rattle.licence.specs.Licence.{IsOverflow}
-use Rattle.licence.specs.Operands.{Setting}
-use Rattle.licence.proofs.Given.{overflow_laws}
+use Rattle.overflow_rules.specs.Licence.{IsOverflow}
+use Rattle.overflow_rules.specs.Operands.{Setting}
+use Rattle.overflow_rules.proofs.Given.{overflow_laws}
 
 -- the overflow of the check of the trail, at its step, is one in any setting with this file and this trail
 pub check_overflows : (s : Setting) (file : Problem) (entries : List Entry) (number k : ℕ) (left : Left ℚ) → s.file ≡ file → s.trail ≡ entries →

@@ -3,15 +3,15 @@ use Rattle.std.proofs.Common.{◌≡◌, sym, subst, Result, Ok, Err, inl}
 use Rattle.std.specs.Prelude.{IsErrAnd, IfErr, Bool}
 use Rattle.exact_field.specs.Rational.{ℚ}
 use Rattle.frac128.specs.Held.{is_held}
-use Rattle.vlp_reader.specs.declared.problem.Problem.{Problem}
+use Rattle.vlp_problem.specs.declared.problem.Problem.{Problem}
 use Rattle.deriv_log.specs.declared.entry.Entry.{Entry}
 use Rattle.std.specs.Prelude.{List, Some}
-use Rattle.licence.specs.Licence.{Licensed, LicensedAnyhow, StandsFor, Completes}
-use Rattle.licence.proofs.Without.{licence_laws}
+use Rattle.overflow_rules.specs.Licence.{Licensed, LicensedAnyhow, StandsFor, Completes}
+use Rattle.overflow_rules.proofs.Without.{licence_laws}
 use Rattle.overflows.specs.Faults.{OnLicence, Overflows}
 use Rattle.overflows.specs.declared.fault.SolveFault.{SolveFault}
 use Rattle.overflows.specs.declared.fault.SolveFault.TheVariants.{Left, NoMemory}
-use Rattle.licence.specs.Operands.{Setting}
+use Rattle.overflow_rules.specs.Operands.{Setting}
 use Rattle.std.proofs.Common.{refl}
 use Rattle.solver.specs.Ends.{IsSameFault}
 use Rattle.benson_primal.specs.Logs.{IsOwnLogAnyhow}

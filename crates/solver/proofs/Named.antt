@@ -1,6 +1,6 @@
 -- The answer of a log that names each of its cuts has this log.
 use Rattle.std.proofs.Common.{◌≡◌, sym, subst, Result, Ok, Err, IfOk, List}
-use Rattle.vlp_reader.specs.declared.problem.Problem.{Problem}
+use Rattle.vlp_problem.specs.declared.problem.Problem.{Problem}
 use Rattle.deriv_log.specs.declared.entry.Entry.{Entry}
 use Rattle.solver.specs.Solving.{NamesAllCuts}
 use Rattle.solver.specs.declared.end.Solution.{Solution}

@@ -3,7 +3,7 @@
 use Rattle.std.proofs.Common.{◌≡◌, List, sym, ◌∙◌, IsTrue, Option}
 use Rattle.std.specs.List.{list_all}
 use Rattle.frac128.specs.Held.{is_held}
-use Rattle.vlp_reader.specs.declared.problem.Problem.{Problem}
+use Rattle.vlp_problem.specs.declared.problem.Problem.{Problem}
 use Rattle.deriv_log.specs.declared.entry.Entry.{Entry}
 use Rattle.log_rules.specs.Events.{Failing, plain_failure}
 use Rattle.log_rules.specs.Proves.{AllMeet, PlainProves}

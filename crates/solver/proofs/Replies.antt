@@ -2,7 +2,7 @@
 -- without a shape, and with a log only where one is wanted.
 use Rattle.std.proofs.Common.{◌≡◌, Bool, false, None, Result, Ok, Err, IfOk, ap, ◌∙◌, sym, inl, inr, arith}
 use Rattle.src_sink.specs.declared.items.NoMemory.{NoMemory}
-use Rattle.vlp_reader.specs.declared.problem.Problem.{Problem}
+use Rattle.vlp_problem.specs.declared.problem.Problem.{Problem}
 use Rattle.deriv_log.specs.declared.licence.Licence.{Licence}
 use Rattle.cone_rules.specs.declared.fault.ConeFault.{ConeFault as AConeFault}
 use Rattle.statuses.specs.Codes.{code_of}

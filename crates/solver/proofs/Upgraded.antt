@@ -1,7 +1,7 @@
 -- The upgrade of the log of a solution: it is accepted with the same answer.
 use Rattle.std.proofs.Common.{◌≡◌, sym, ap, subst, Bool, true, List, ℕ, Some}
 use Rattle.frac128.specs.Held.{is_held}
-use Rattle.vlp_reader.specs.declared.problem.Problem.{Problem}
+use Rattle.vlp_problem.specs.declared.problem.Problem.{Problem}
 use Rattle.deriv_log.specs.Formed.{IsLog}
 use Rattle.deriv_log.specs.Laws.{IsTextOf}
 use Rattle.log_versions.specs.Laws.{IsUpgrade}

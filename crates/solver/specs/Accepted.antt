@@ -2,7 +2,7 @@
 use Rattle.std.specs.Prelude.{◌≡◌, ℕ, List, None}
 use Rattle.frac128.specs.Held.{is_held}
 use Rattle.vlp_reader.specs.FirstFault.{Reads}
-use Rattle.vlp_reader.specs.declared.problem.Problem.{Problem}
+use Rattle.vlp_problem.specs.declared.problem.Problem.{Problem}
 use Rattle.deriv_log.specs.Laws.{IsTextOf}
 use Rattle.deriv_log.specs.LogText.{log_text}
 use Rattle.deriv_log.specs.declared.entry.Entry.{Entry}

@@ -1,7 +1,7 @@
 -- What is replied of a problem: its solution, or why there is none.
 use Rattle.std.specs.Prelude.{◌≡◌, ◌⊎◌, ℕ, Bool, IsTrue, List, Option}
 use Rattle.frac128.specs.Held.{is_held}
-use Rattle.vlp_reader.specs.declared.problem.Problem.{Problem}
+use Rattle.vlp_problem.specs.declared.problem.Problem.{Problem}
 use Rattle.deriv_log.specs.Formed.{IsLog}
 use Rattle.deriv_log.specs.declared.licence.Licence.{Licence}
 use Rattle.log_rules.specs.Report.{report_text}
@@ -9,7 +9,7 @@ use Rattle.log_versions.specs.Upgrade.{upgraded}
 use Rattle.cert_check.specs.Verdict.{Accepts}
 use Rattle.cone_rules.specs.Faults.{HasFault}
 use Rattle.cone_rules.specs.declared.fault.ConeFault.{ConeFault as AConeFault}
-use Rattle.licence.specs.Licence.{LicensedAnyhow}
+use Rattle.overflow_rules.specs.Licence.{LicensedAnyhow}
 use Rattle.statuses.specs.Replies.{TellsFault, log_for}
 use Rattle.statuses.specs.declared.reply.Reply.{Reply}
 use Rattle.statuses.specs.declared.status.Status.TheVariants.{Done, ConeFault, Left}

@@ -6,11 +6,11 @@ use Rattle.deriv_log.specs.Formed.{IsLog}
 use Rattle.word_lines.specs.declared.part.EndKind.TheVariants as kind
 use Rattle.deriv_log.specs.declared.entry.Entry.{Entry}
 use Rattle.deriv_log.specs.declared.entry.Entry.TheVariants.{End}
-use Rattle.vlp_reader.specs.declared.problem.Problem.{Problem}
+use Rattle.vlp_problem.specs.declared.problem.Problem.{Problem}
 use Rattle.cone_rules.specs.Faults.{IsSound, HasFault}
 use Rattle.log_rules.specs.Proves.{PlainProves}
 use Rattle.cert_check.specs.Verdict.{Accepts}
-use Rattle.licence.specs.Licence.{LicensedAnyhow}
+use Rattle.overflow_rules.specs.Licence.{LicensedAnyhow}
 use Rattle.benson_dual.specs.Logs.{AreAllNamed, IsFacetLog}
 use Rattle.solver.specs.declared.end.Solution.{Solution}
 use Rattle.solver.specs.declared.end.SolveEnd.{SolveEnd}

@@ -16,7 +16,7 @@ use frac128::Frac;
 use lp_form::{Data, DataFault};
 use src_sink::NoMemory;
 use std::alloc::Global;
-use vlp_reader::Problem;
+use vlp_problem::Problem;
 
 /// That a number is held, which the reading of its parts says.
 fn is_read(number: &Frac)

@@ -3,22 +3,22 @@ ghost use Rattle.std.specs.Prelude.{◌≡◌, ◌⊎◌, IfOk, IfErr, OnOk};
 ghost use Rattle.benson_primal.specs.Logs.{IsOwnLogAnyhow};
 ghost use Rattle.cone_dual.specs.Fitting.{IsDualityOf};
 ghost use Rattle.cone_rules.specs.Faults.{IsSound};
-ghost use Rattle.licence.specs.Licence.{LicensedAnyhow};
+ghost use Rattle.overflow_rules.specs.Licence.{LicensedAnyhow};
 ghost use Rattle.lp_form.specs.Data.{IsDataOf};
 ghost use Rattle.overflows.specs.Faults.{OnLicence};
 ghost use Rattle.solver.specs.Solving.{EndsIn, IsFacetLogAnyhow};
 
-use crate::end::SolveEnd;
 use benson_dual::dual;
 use benson_primal::primal;
 use cone_dual::{Duality, cone_facts};
+use crate::end::SolveEnd;
 use deriv_log::{Entries, Licence};
 use exact_field::Field;
 use lp_form::Data;
 use overflows::SolveFault;
 use src_sink::{Items, NoMemory};
 use std::alloc::Global;
-use vlp_reader::Problem;
+use vlp_problem::Problem;
 
 /// A copy of a duality vector, with lists of its own.
 fn copy_duality<F: Field>(alloc: Global, duality: &Duality<F>) -> Result<Duality<F>, NoMemory>

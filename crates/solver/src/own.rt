@@ -3,17 +3,17 @@ ghost use Rattle.std.specs.Prelude.{◌≡◌, IfErr, IfOk};
 ghost use Rattle.frac128.specs.Held.{is_held};
 ghost use Rattle.deriv_log.specs.Formed.{IsLog};
 ghost use Rattle.log_rules.specs.Proves.{AllMeet, PlainProves};
-ghost use Rattle.licence.specs.Operands.{Setting};
+ghost use Rattle.overflow_rules.specs.Operands.{Setting};
 ghost use Rattle.overflows.specs.Faults.{OnLicence, Overflows};
 ghost use Rattle.cert_check.specs.Verdict.{Accepts};
 ghost use Rattle.solver.specs.Own.{IsStepLicence};
 
-use crate::end::Solution;
 use cert_check::{Refusal, check};
+use crate::end::Solution;
 use deriv_log::{Entries, Licence, Place};
 use overflows::SolveFault;
 use std::alloc::Global;
-use vlp_reader::Problem;
+use vlp_problem::Problem;
 
 /// The answer of a plain log that meets its rules. Where a step of the check overflows, the fault's
 /// licence has the whole log as its trail.

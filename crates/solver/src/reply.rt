@@ -3,7 +3,7 @@ ghost use Rattle.std.specs.Prelude.{◌≡◌, IfOk};
 ghost use Rattle.log_rules.specs.Report.{report_text};
 ghost use Rattle.solver.specs.Replies.{DualVerdict, IsLogged, SolveVerdict, Unsolved};
 ghost use Rattle.solver.specs.Solving.{EndsSolving, IsSolutionOf};
-ghost use Rattle.vlp_reader.specs.declared.problem.Problem.{Problem as AProblem};
+ghost use Rattle.vlp_problem.specs.declared.problem.Problem.{Problem as AProblem};
 
 use crate::answering::{solve, solve_dual};
 use crate::end::{Solution, SolveEnd};
@@ -12,7 +12,7 @@ use sol_writer::report;
 use src_sink::{Bytes, NoMemory};
 use statuses::{Reply, Status, fault_reply};
 use std::alloc::Global;
-use vlp_reader::Problem;
+use vlp_problem::Problem;
 
 /// The log of a solution, where one is wanted: the text of the upgrade of its entries to version 2,
 /// which costs a check of the log once more. Where none is wanted it costs nothing.

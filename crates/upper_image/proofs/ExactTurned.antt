@@ -11,7 +11,7 @@ use Rattle.upper_image.specs.Laws.{ExactInFile}
 use Rattle.upper_image.specs.UpperImage.{IsInWorkingImage, IsWorkingDirection, IsInImage, IsDirection, IsExactFor, turned, working}
 use Rattle.upper_image.proofs.Coordinates.{signed-twice}
 use Rattle.upper_image.proofs.TurnedSets.{AreMapped, are_turned, turned-same}
-use Rattle.vlp_reader.specs.declared.problem.Problem.{Problem}
+use Rattle.vlp_problem.specs.declared.problem.Problem.{Problem}
 
 -- ---- inequalities in working coordinates
 pub working-twice : (file : Problem) (e : Inequality) → working file (working file e) ≡ e

@@ -17,8 +17,8 @@ use Rattle.upper_image.specs.UpperImage.{objectives, normals, IsWorkingDirection
 use Rattle.upper_image.proofs.Preimages.{direction_preimage_shows}
 use Rattle.upper_image.proofs.Shown.{nonneg-dense, dual_shown}
 use Rattle.upper_image.proofs.Widths.{length-dense}
-use Rattle.vlp_reader.specs.Sides.{sides}
-use Rattle.vlp_reader.specs.declared.problem.Problem.{Problem}
+use Rattle.vlp_problem.specs.Sides.{sides}
+use Rattle.vlp_problem.specs.declared.problem.Problem.{Problem}
 use Rattle.std.proofs.lemmas.List.{length-map}
 
 pub line_shown : LineShown

@@ -15,8 +15,8 @@ use Rattle.upper_image.specs.UpperImage.{IsInWorkingImage, IsWorkingDirection, I
 use Rattle.upper_image.specs.Witnesses.{IsInfeasible, IsWhole}
 use Rattle.exact_field.specs.Vector.{dot}
 use Rattle.frac128.specs.declared.vectors.Spot.{Spot}
-use Rattle.vlp_reader.specs.Sides.{IsFeasible}
-use Rattle.vlp_reader.specs.declared.problem.Problem.{Problem}
+use Rattle.vlp_problem.specs.Sides.{IsFeasible}
+use Rattle.vlp_problem.specs.declared.problem.Problem.{Problem}
 
 -- ---- the cone
 -- the ordering cone is a convex cone

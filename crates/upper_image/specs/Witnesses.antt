@@ -11,8 +11,8 @@ use Rattle.upper_image.specs.OrderingCone.{IsInOrderingCone, Fits}
 use Rattle.upper_image.specs.Spots.{dense, IsVector}
 use Rattle.upper_image.specs.UpperImage.{normals, IsPreimage, IsDirectionPreimage, IsDualVectorOf, rest}
 use Rattle.frac128.specs.declared.vectors.Spot.{Spot}
-use Rattle.vlp_reader.specs.Sides.{sides, side_bounds, IsFeasible, IsRecession}
-use Rattle.vlp_reader.specs.declared.problem.Problem.{Problem}
+use Rattle.vlp_problem.specs.Sides.{sides, side_bounds, IsFeasible, IsRecession}
+use Rattle.vlp_problem.specs.declared.problem.Problem.{Problem}
 
 -- ---- pre-images
 -- x is a sparse pre-image of the point y

@@ -19,16 +19,16 @@ use Rattle.polyhedra.specs.Sparse.{value_at, values_from}
 use Rattle.upper_image.specs.Spots.{IsVector, dense, column, entry_of}
 use Rattle.upper_image.specs.UpperImage.{signed, normals, objectives, objective_column}
 use Rattle.upper_image.proofs.Widths.{entry-made, side_columns}
-use Rattle.vlp_reader.specs.Cells.{are_cells, cells_behind, place_before, is_within, coefficient}
-use Rattle.vlp_reader.specs.Sides.{numbers_from, sides, sides_of, sides_from, side_column, side_bounds, row_vector, unit}
-use Rattle.vlp_reader.specs.declared.problem.Problem.{Problem}
-use Rattle.vlp_reader.specs.declared.problem.Bound.{Bound}
-use Rattle.vlp_reader.specs.declared.problem.Bound.TheVariants.{Unsaid, Free, Lower, Upper, Double, Fixed}
-use Rattle.vlp_reader.specs.declared.problem.Cell.{Cell}
-use Rattle.vlp_reader.specs.declared.problem.Dir.{Dir}
-use Rattle.vlp_reader.specs.declared.problem.Dir.TheVariants.{Min, Max}
-use Rattle.vlp_reader.specs.declared.statement.Axis.{Axis}
-use Rattle.vlp_reader.specs.declared.statement.Axis.TheVariants.{Row, Column}
+use Rattle.vlp_problem.specs.Cells.{are_cells, cells_behind, place_before, is_within, coefficient}
+use Rattle.vlp_problem.specs.Sides.{numbers_from, sides, sides_of, sides_from, side_column, side_bounds, row_vector, unit}
+use Rattle.vlp_problem.specs.declared.problem.Problem.{Problem}
+use Rattle.vlp_problem.specs.declared.problem.Bound.{Bound}
+use Rattle.vlp_problem.specs.declared.problem.Bound.TheVariants.{Unsaid, Free, Lower, Upper, Double, Fixed}
+use Rattle.vlp_problem.specs.declared.problem.Cell.{Cell}
+use Rattle.vlp_problem.specs.declared.problem.Dir.{Dir}
+use Rattle.vlp_problem.specs.declared.problem.Dir.TheVariants.{Min, Max}
+use Rattle.vlp_problem.specs.declared.problem.Axis.{Axis}
+use Rattle.vlp_problem.specs.declared.problem.Axis.TheVariants.{Row, Column}
 use Rattle.vlp_matrices.specs.declared.matrices.Matrices.{Matrices}
 use Rattle.vlp_matrices.specs.Matrices.{AreMatricesOf, StandFor, key_of, place_of, spot_of, spots_in, row_cells, cells_from, turned_spot, side_spots, side_values, all_side_spots, unit_spots}
 

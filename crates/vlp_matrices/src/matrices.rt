@@ -2,18 +2,18 @@
 //! by columns.
 ghost use Rattle.std.specs.Prelude.{◌≡◌, ◌≤◌, map, length, All, IfOk, IsTrue};
 ghost use Rattle.vlp_matrices.specs.Matrices.{cells_from, spots_in};
-ghost use Rattle.vlp_reader.specs.Cells.{are_cells};
+ghost use Rattle.vlp_problem.specs.Cells.{are_cells};
 ghost use Rattle.upper_image.specs.Spots.{IsVector, dense};
 ghost use Rattle.upper_image.specs.UpperImage.{normals};
-ghost use Rattle.vlp_reader.specs.Sides.{numbers_from, side_bounds};
-ghost use Rattle.vlp_reader.specs.declared.problem.Dir.TheVariants as dir;
-ghost use Rattle.vlp_reader.specs.declared.statement.Axis.TheVariants as axis;
+ghost use Rattle.vlp_problem.specs.Sides.{numbers_from, side_bounds};
+ghost use Rattle.vlp_problem.specs.declared.problem.Dir.TheVariants as dir;
+ghost use Rattle.vlp_problem.specs.declared.problem.Axis.TheVariants as axis;
 
 use crate::matrix::{Sides, cells_of, spots_by, units};
 use frac128::{Sparse, Vector};
 use src_sink::{Items, NoMemory};
 use std::alloc::Global;
-use vlp_reader::{Axis, Cell, Dir, Problem};
+use vlp_problem::{Axis, Cell, Dir, Problem};
 
 /// The vectors of a matrix.
 #[derive(Debug, Drop)]

@@ -2,13 +2,13 @@
 ghost use Rattle.std.specs.Prelude.{◌≡◌, ℕ, suc, ◌+◌, ◌<◌, ◌≤◌, replicate, map, length, All, IfOk, OnOk, List, [], ◌∷◌, ◌++◌};
 ghost use Rattle.vlp_matrices.specs.Matrices.{key_of, spot_of, spots_in, row_cells, cells_from, turned_spot, unit_spots};
 ghost use Rattle.upper_image.specs.UpperImage.{signed};
-ghost use Rattle.vlp_reader.specs.Sides.{numbers_from};
+ghost use Rattle.vlp_problem.specs.Sides.{numbers_from};
 
 use exact_field::Field;
 use frac128::{Frac, Sparse, Spot, Vector};
 use src_sink::{Items, NoMemory};
 use std::alloc::Global;
-use vlp_reader::{Axis, Bound, Cell, Dir};
+use vlp_problem::{Axis, Bound, Cell, Dir};
 
 /// So many empty lists.
 fn empty_lists(alloc: Global, count: u32) -> Result<Vec<Sparse>, NoMemory>

@@ -9,10 +9,10 @@ use Rattle.std.proofs.lemmas.List.Folds.{list_all-append, list_any-append}
 use Rattle.std.proofs.lemmas.List.Sums.{sum_by-append}
 use Rattle.exact_field.specs.Rational.{ℚ}
 use Rattle.vlp_reader.specs.Grammar.{first_given, given_entry, given_bound, same_matrix, same_axis, number_value, bound_value}
-use Rattle.vlp_reader.specs.Sides.{numbers_from}
+use Rattle.vlp_problem.specs.Sides.{numbers_from}
 use Rattle.vlp_reader.specs.declared.fault.FileKind.{FileKind}
-use Rattle.vlp_reader.specs.declared.problem.Bound.{Bound}
-use Rattle.vlp_reader.specs.declared.statement.Axis.{Axis}
+use Rattle.vlp_problem.specs.declared.problem.Bound.{Bound}
+use Rattle.vlp_problem.specs.declared.problem.Axis.{Axis}
 use Rattle.vlp_reader.specs.declared.statement.Matrix.{Matrix}
 use Rattle.vlp_reader.specs.declared.statement.Statement.{Statement}
 use Rattle.vlp_reader.specs.declared.statement.Statement.TheVariants.{Silent, Heading, Entry, Limit, End}

@@ -2,8 +2,8 @@
 use Rattle.std.proofs.Common.{◌≡◌, refl, ℕ, zero, suc, ◌+◌, ◌-◌, ◌<◌, arith, ap, ◌∙◌, sym, Bool, List, [], ◌∷◌, ◌++◌, length, get_or, Option, None}
 use Rattle.std.specs.List.{flat_map, find}
 use Rattle.std.proofs.lemmas.List.{append_assoc}
-use Rattle.vlp_reader.specs.Sides.{numbers_from}
-use Rattle.vlp_reader.proofs.Pieces.{flat_map-one, behind_none}
+use Rattle.vlp_problem.specs.Sides.{numbers_from}
+use Rattle.vlp_problem.proofs.Pieces.{flat_map-one, behind_none}
 
 numbers-push : (k n : ℕ) → numbers_from k (suc n) ≡ numbers_from k n ++ (k + n) ∷ []
 numbers-push k zero = ap (λ (m : ℕ). m ∷ []) (omega arith)

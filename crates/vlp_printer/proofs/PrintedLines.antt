@@ -12,7 +12,7 @@ use Rattle.std.proofs.lemmas.List.Folds.{list_all-append}
 use Rattle.exact_field.specs.Rational.{ℚ}
 use Rattle.vlp_reader.specs.Grammar.{first_given, given_sizes, words_fault, kind_fault, is_kind, formed, statement_fault, sizes_fault}
 use Rattle.vlp_reader.specs.Number.{natural, number_of}
-use Rattle.vlp_reader.specs.Sides.{is_unsaid}
+use Rattle.vlp_problem.specs.Sides.{is_unsaid}
 use Rattle.vlp_reader.specs.Statements.{statement_of, words_statement, entry_of, entry_from, limit_of, limit_from, single_bound, double_bound, in_cone, sizes_of, sizes_from, cone_sizes, cone_from, direction}
 use Rattle.vlp_reader.specs.declared.sizes.ConeSizes.{ConeSizes}
 use Rattle.vlp_reader.specs.declared.sizes.Sizes.{Sizes}
@@ -22,18 +22,18 @@ use Rattle.vlp_reader.specs.declared.statement.Matrix.TheVariants.{Constraints, 
 use Rattle.vlp_reader.specs.declared.statement.Statement.TheVariants.{Silent, Heading, Entry, Limit, End}
 use Rattle.vlp_reader.specs.declared.fault.FileKind.{FileKind}
 use Rattle.vlp_reader.specs.declared.fault.FileKind.TheVariants.{BadLine, Twice}
-use Rattle.vlp_reader.specs.declared.problem.Bound.{Bound}
-use Rattle.vlp_reader.specs.declared.problem.Bound.TheVariants.{Unsaid, Free, Lower, Upper, Double, Fixed}
-use Rattle.vlp_reader.specs.declared.problem.Cone.{Cone}
-use Rattle.vlp_reader.specs.declared.problem.Cone.TheVariants.{Orthant, Gens, Dual}
-use Rattle.vlp_reader.specs.declared.problem.Dir.{Dir}
-use Rattle.vlp_reader.specs.declared.problem.Dir.TheVariants.{Min, Max}
-use Rattle.vlp_reader.specs.declared.problem.Problem.{Problem}
-use Rattle.vlp_reader.specs.declared.statement.Axis.{Axis}
-use Rattle.vlp_reader.specs.declared.statement.Axis.TheVariants.{Row, Column}
+use Rattle.vlp_problem.specs.declared.problem.Bound.{Bound}
+use Rattle.vlp_problem.specs.declared.problem.Bound.TheVariants.{Unsaid, Free, Lower, Upper, Double, Fixed}
+use Rattle.vlp_problem.specs.declared.problem.Cone.{Cone}
+use Rattle.vlp_problem.specs.declared.problem.Cone.TheVariants.{Orthant, Gens, Dual}
+use Rattle.vlp_problem.specs.declared.problem.Dir.{Dir}
+use Rattle.vlp_problem.specs.declared.problem.Dir.TheVariants.{Min, Max}
+use Rattle.vlp_problem.specs.declared.problem.Problem.{Problem}
+use Rattle.vlp_problem.specs.declared.problem.Axis.{Axis}
+use Rattle.vlp_problem.specs.declared.problem.Axis.TheVariants.{Row, Column}
 use Rattle.vlp_reader.proofs.Digits.{digit_range}
 use Rattle.vlp_printer.specs.Decimal.{mantissa, is_short, decimal_text, number_text, is_decimal}
-use Rattle.vlp_reader.specs.Values.{bound_numbers, cone_vectors}
+use Rattle.vlp_problem.specs.Values.{bound_numbers, cone_vectors}
 use Rattle.vlp_printer.specs.Printing.{bound_words, cone_words, entry_count, printed_cone, printed_sizes, heading_words, direction_word}
 use Rattle.vlp_printer.proofs.ReadDigits.{all_digits, some_digit, natural_back}
 use Rattle.vlp_printer.proofs.ReadNumbers.{has_decimal, first_power, below_37, number_back}

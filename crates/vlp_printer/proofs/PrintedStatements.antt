@@ -7,22 +7,22 @@ use Rattle.std.proofs.lemmas.List.Folds.{list_all-append, list_any-append}
 use Rattle.exact_field.specs.Rational.{ℚ}
 use Rattle.exact_field.specs.Vector.{entry}
 use Rattle.frac128.specs.Sparse.{is_zero}
-use Rattle.vlp_reader.specs.Cells.{place_before, rises_behind}
+use Rattle.vlp_problem.specs.Cells.{place_before, rises_behind}
 use Rattle.vlp_reader.specs.Grammar.{same_matrix, same_axis}
-use Rattle.vlp_reader.specs.Sides.{numbers_from, is_unsaid}
+use Rattle.vlp_problem.specs.Sides.{numbers_from, is_unsaid}
 use Rattle.vlp_reader.specs.declared.fault.FileKind.{FileKind}
-use Rattle.vlp_reader.specs.declared.problem.Bound.{Bound}
-use Rattle.vlp_reader.specs.declared.problem.Bound.TheVariants.{Unsaid}
-use Rattle.vlp_reader.specs.declared.problem.Cell.{Cell}
-use Rattle.vlp_reader.specs.declared.problem.Problem.{Problem}
-use Rattle.vlp_reader.specs.declared.statement.Axis.{Axis}
-use Rattle.vlp_reader.specs.declared.statement.Axis.TheVariants.{Row, Column}
+use Rattle.vlp_problem.specs.declared.problem.Bound.{Bound}
+use Rattle.vlp_problem.specs.declared.problem.Bound.TheVariants.{Unsaid}
+use Rattle.vlp_problem.specs.declared.problem.Cell.{Cell}
+use Rattle.vlp_problem.specs.declared.problem.Problem.{Problem}
+use Rattle.vlp_problem.specs.declared.problem.Axis.{Axis}
+use Rattle.vlp_problem.specs.declared.problem.Axis.TheVariants.{Row, Column}
 use Rattle.vlp_reader.specs.declared.statement.Matrix.{Matrix}
 use Rattle.vlp_reader.specs.declared.statement.Matrix.TheVariants.{Constraints, Objectives, ConeVectors, Duality}
 use Rattle.vlp_reader.specs.declared.statement.Statement.{Statement}
 use Rattle.vlp_reader.specs.declared.statement.Statement.TheVariants.{Silent, Heading, Entry, Limit, End}
 use Rattle.vlp_reader.proofs.Drafts.{matrix_from}
-use Rattle.vlp_reader.specs.Values.{duality_entries, cone_vectors}
+use Rattle.vlp_problem.specs.Values.{duality_entries, cone_vectors}
 use Rattle.vlp_printer.specs.Printing.{printed_sizes}
 use Rattle.vlp_printer.proofs.Apart.{clashes, apart, Keys, Numbered, has_key, apart_alone}
 

@@ -9,24 +9,24 @@ use Rattle.exact_field.specs.Rational.{ℚ, zero_ℚ}
 use Rattle.exact_field.specs.Vector.{entry}
 use Rattle.frac128.specs.Sparse.{is_zero}
 use Rattle.src_sink.specs.Texts.{line_text}
-use Rattle.vlp_reader.specs.Cells.{place_before, is_within, cells_behind}
-use Rattle.vlp_reader.specs.Cones.{each_has, are_vectors, cone_fits, duality_fits}
+use Rattle.vlp_problem.specs.Cells.{place_before, is_within, cells_behind}
+use Rattle.vlp_problem.specs.Cones.{each_has, are_vectors, cone_fits, duality_fits}
 use Rattle.vlp_reader.specs.Grammar.{matrix_rows, matrix_cols, axis_length}
-use Rattle.vlp_reader.specs.Sides.{numbers_from, is_unsaid}
-use Rattle.vlp_reader.specs.declared.problem.Bound.{Bound}
-use Rattle.vlp_reader.specs.declared.problem.Bound.TheVariants.{Unsaid}
-use Rattle.vlp_reader.specs.declared.problem.Cell.{Cell}
-use Rattle.vlp_reader.specs.declared.problem.Cone.{Cone}
-use Rattle.vlp_reader.specs.declared.problem.Cone.TheVariants.{Orthant, Gens, Dual}
-use Rattle.vlp_reader.specs.declared.problem.Problem.{Problem}
+use Rattle.vlp_problem.specs.Sides.{numbers_from, is_unsaid}
+use Rattle.vlp_problem.specs.declared.problem.Bound.{Bound}
+use Rattle.vlp_problem.specs.declared.problem.Bound.TheVariants.{Unsaid}
+use Rattle.vlp_problem.specs.declared.problem.Cell.{Cell}
+use Rattle.vlp_problem.specs.declared.problem.Cone.{Cone}
+use Rattle.vlp_problem.specs.declared.problem.Cone.TheVariants.{Orthant, Gens, Dual}
+use Rattle.vlp_problem.specs.declared.problem.Problem.{Problem}
 use Rattle.vlp_reader.specs.declared.sizes.Sizes.{Sizes}
-use Rattle.vlp_reader.specs.declared.statement.Axis.{Axis}
-use Rattle.vlp_reader.specs.declared.statement.Axis.TheVariants.{Row, Column}
+use Rattle.vlp_problem.specs.declared.problem.Axis.{Axis}
+use Rattle.vlp_problem.specs.declared.problem.Axis.TheVariants.{Row, Column}
 use Rattle.vlp_reader.specs.declared.statement.Matrix.TheVariants.{Constraints, Objectives, ConeVectors, Duality}
 use Rattle.vlp_reader.specs.declared.statement.Statement.{Statement}
 use Rattle.vlp_reader.specs.declared.statement.Statement.TheVariants.{Silent, Heading, Entry, Limit, End}
 use Rattle.vlp_printer.specs.Decimal.{is_decimal, number_text}
-use Rattle.vlp_reader.specs.Values.{bound_numbers, cone_vectors, duality_entries, printed_numbers}
+use Rattle.vlp_problem.specs.Values.{bound_numbers, cone_vectors, duality_entries, printed_numbers}
 use Rattle.vlp_printer.specs.Printing.{bound_words, bound_line, bounds_text, cells_text, duality_text, entry_line, printed_cone, printed_sizes, vector_entry, vector_text, vectors_text}
 use Rattle.vlp_printer.proofs.PrintedLines.{Line, constraint_line, objective_line, duality_line, vector_line, limit_line, end_line, axis_letter}
 use Rattle.vlp_printer.proofs.PrintedStatements.{cells_say, duality_says, entry_says, vector_says, vectors_say, bound_says, bounds_say, part}

@@ -9,26 +9,26 @@ use Rattle.std.proofs.lemmas.List.Sums.{sum_by-append}
 use Rattle.exact_field.specs.Rational.{ℚ, zero_ℚ}
 use Rattle.exact_field.specs.Vector.{entry}
 use Rattle.frac128.specs.Sparse.{is_zero}
-use Rattle.vlp_reader.specs.Cells.{coefficient}
-use Rattle.vlp_reader.specs.Cones.{each_has, are_vectors, cone_fits, duality_fits}
+use Rattle.vlp_problem.specs.Cells.{coefficient}
+use Rattle.vlp_problem.specs.Cones.{each_has, are_vectors, cone_fits, duality_fits}
 use Rattle.vlp_reader.specs.Grammar.{first_given, given_sizes, given_entry, given_bound, gives_entry, same_matrix, same_axis, number_value, bound_value, value_at, bound_at, column_of, cone_of, duality_of, cone_counts, counts_fit, Gives}
-use Rattle.vlp_reader.specs.Sides.{numbers_from, is_unsaid}
-use Rattle.vlp_reader.specs.declared.problem.Bound.{Bound}
-use Rattle.vlp_reader.specs.declared.problem.Bound.TheVariants.{Unsaid, Free, Lower, Upper, Double, Fixed}
-use Rattle.vlp_reader.specs.declared.problem.Cell.{Cell}
-use Rattle.vlp_reader.specs.declared.problem.Cone.{Cone}
-use Rattle.vlp_reader.specs.declared.problem.Cone.TheVariants.{Orthant, Gens, Dual}
-use Rattle.vlp_reader.specs.declared.problem.Problem.{Problem}
-use Rattle.vlp_reader.specs.declared.statement.Axis.{Axis}
-use Rattle.vlp_reader.specs.declared.statement.Axis.TheVariants.{Row, Column}
+use Rattle.vlp_problem.specs.Sides.{numbers_from, is_unsaid}
+use Rattle.vlp_problem.specs.declared.problem.Bound.{Bound}
+use Rattle.vlp_problem.specs.declared.problem.Bound.TheVariants.{Unsaid, Free, Lower, Upper, Double, Fixed}
+use Rattle.vlp_problem.specs.declared.problem.Cell.{Cell}
+use Rattle.vlp_problem.specs.declared.problem.Cone.{Cone}
+use Rattle.vlp_problem.specs.declared.problem.Cone.TheVariants.{Orthant, Gens, Dual}
+use Rattle.vlp_problem.specs.declared.problem.Problem.{Problem}
+use Rattle.vlp_problem.specs.declared.problem.Axis.{Axis}
+use Rattle.vlp_problem.specs.declared.problem.Axis.TheVariants.{Row, Column}
 use Rattle.vlp_reader.specs.declared.statement.Matrix.{Matrix}
 use Rattle.vlp_reader.specs.declared.statement.Matrix.TheVariants.{Constraints, Objectives, ConeVectors, Duality}
 use Rattle.vlp_reader.specs.declared.statement.Statement.{Statement}
 use Rattle.vlp_reader.specs.declared.statement.Statement.TheVariants.{Silent, Heading, Entry, Limit, End}
 use Rattle.vlp_reader.proofs.Drafts.{matrix_from, same_matrix_itself}
-use Rattle.vlp_reader.proofs.Numbers.{length-numbers, number_at}
-use Rattle.vlp_reader.proofs.Tables.{zero_is}
-use Rattle.vlp_reader.specs.Values.{duality_entries, cone_vectors}
+use Rattle.vlp_problem.proofs.Numbers.{length-numbers, number_at}
+use Rattle.vlp_problem.proofs.Zero.{zero_is}
+use Rattle.vlp_problem.specs.Values.{duality_entries, cone_vectors}
 use Rattle.vlp_printer.specs.Printing.{entry_count, printed_cone, printed_sizes}
 use Rattle.vlp_printer.proofs.Apart.{given_numbers, count_numbers, count-append, count-cons}
 use Rattle.vlp_printer.proofs.PrintedStatements.{cells_say, duality_says, entry_says, vector_says, vectors_say, bound_says, bounds_say, part, statements, kind, matrix_kind, axis_kind, place_row, place_col, axis_from, part_key, duality_numbered, vectors_numbered, vector_numbered, bounds_numbered}

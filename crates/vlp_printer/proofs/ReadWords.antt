@@ -7,29 +7,29 @@ use Rattle.std.proofs.lemmas.Bool.{and_parts, cases_Bool, cond-true, cond-false}
 use Rattle.std.proofs.lemmas.Bool.Decides.{nat_tests}
 use Rattle.std.proofs.lemmas.List.Elements.{All-nil, All-cons, All-append}
 use Rattle.exact_field.specs.Rational.{ℚ, zero_ℚ}
-use Rattle.vlp_reader.specs.Cells.{coefficient, place_before, rises_behind}
+use Rattle.vlp_problem.specs.Cells.{coefficient, place_before, rises_behind}
 use Rattle.vlp_reader.specs.FirstFault.{file_lines, Reads}
 use Rattle.vlp_reader.specs.Grammar.{first_given, given_entry, given_bound, same_matrix, same_axis, value_at, bound_at, column_of, cone_of, duality_of}
 use Rattle.vlp_reader.specs.Lines.{words_of, letter}
 use Rattle.vlp_reader.specs.Number.{natural, number_of}
-use Rattle.vlp_reader.specs.Sides.{numbers_from}
+use Rattle.vlp_problem.specs.Sides.{numbers_from}
 use Rattle.vlp_reader.specs.Statements.{sizes_of, entry_from, entry_of, in_cone, bound_by, double_bound, single_bound, bound_of, limit_from, limit_of, statement_of, words_statement, statement_on}
-use Rattle.vlp_reader.specs.Values.{bound_numbers, cone_vectors, duality_entries, printed_numbers}
+use Rattle.vlp_problem.specs.Values.{bound_numbers, cone_vectors, duality_entries, printed_numbers}
 use Rattle.vlp_reader.specs.declared.fault.FileKind.{FileKind}
-use Rattle.vlp_reader.specs.declared.problem.Bound.{Bound}
-use Rattle.vlp_reader.specs.declared.problem.Bound.TheVariants.{Unsaid, Free, Lower, Upper, Fixed}
-use Rattle.vlp_reader.specs.declared.problem.Cell.{Cell}
-use Rattle.vlp_reader.specs.declared.problem.Cone.TheVariants.{Gens, Dual}
-use Rattle.vlp_reader.specs.declared.problem.Problem.{Problem}
+use Rattle.vlp_problem.specs.declared.problem.Bound.{Bound}
+use Rattle.vlp_problem.specs.declared.problem.Bound.TheVariants.{Unsaid, Free, Lower, Upper, Fixed}
+use Rattle.vlp_problem.specs.declared.problem.Cell.{Cell}
+use Rattle.vlp_problem.specs.declared.problem.Cone.TheVariants.{Gens, Dual}
+use Rattle.vlp_problem.specs.declared.problem.Problem.{Problem}
 use Rattle.vlp_reader.specs.declared.sizes.ConeSizes.{ConeSizes}
 use Rattle.vlp_reader.specs.declared.sizes.Sizes.{Sizes}
-use Rattle.vlp_reader.specs.declared.statement.Axis.{Axis}
-use Rattle.vlp_reader.specs.declared.statement.Axis.TheVariants.{Row, Column}
+use Rattle.vlp_problem.specs.declared.problem.Axis.{Axis}
+use Rattle.vlp_problem.specs.declared.problem.Axis.TheVariants.{Row, Column}
 use Rattle.vlp_reader.specs.declared.statement.Matrix.{Matrix}
 use Rattle.vlp_reader.specs.declared.statement.Matrix.TheVariants.{Constraints, Objectives, ConeVectors, Duality}
 use Rattle.vlp_reader.specs.declared.statement.Statement.{Statement}
 use Rattle.vlp_reader.specs.declared.statement.Statement.TheVariants.{Silent, Heading, Entry, Limit, End}
-use Rattle.vlp_reader.proofs.CellPlaces.{coefficient_behind, not_before_itself, rises_from_cells}
+use Rattle.vlp_problem.proofs.CellPlaces.{coefficient_behind, not_before_itself, rises_from_cells}
 use Rattle.vlp_printer.specs.Printing.{HasWord}
 use Rattle.vlp_printer.proofs.WordNumbers.{own_word, zero_decimal}
 

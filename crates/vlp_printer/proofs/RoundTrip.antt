@@ -5,25 +5,25 @@ use Rattle.std.specs.Option.{option_or}
 use Rattle.std.proofs.lemmas.Bool.{and_parts, and_from, cond-true, cond-false, leb-true, le-ltb, lt-ltb, not-true, eqb-true, cases_Bool, false≢true}
 use Rattle.std.proofs.lemmas.List.{append_assoc, append-nil, length-append, length-map}
 use Rattle.src_sink.specs.Texts.{words_text, line_text}
-use Rattle.vlp_reader.specs.Cells.{is_within}
-use Rattle.vlp_reader.specs.Cones.{cone_fits}
+use Rattle.vlp_problem.specs.Cells.{is_within}
+use Rattle.vlp_problem.specs.Cones.{cone_fits}
 use Rattle.vlp_reader.specs.FirstFault.{is_end, ends, looked_at, file_lines, Passes, fault_behind, HasNoFault, Reads}
 use Rattle.vlp_reader.specs.Grammar.{first_given, given_sizes, given_entry, given_bound, line_fault, words_fault, statement_fault, sizes_fault, must, closing_fault, counts_fit, are_positive, are_within_limits, cone_count, cone_entries, some_vector, matrix_rows, matrix_cols, axis_length, Gives}
 use Rattle.vlp_reader.specs.Lines.{lines_of, words_of}
 use Rattle.vlp_reader.specs.Statements.{statement_on, words_statement}
 use Rattle.vlp_reader.specs.declared.fault.FileKind.{FileKind}
 use Rattle.vlp_reader.specs.declared.fault.FileKind.TheVariants.{LineLong, OutOfRange, Twice, CountWrong, LimitPassed}
-use Rattle.vlp_reader.specs.declared.problem.Cone.{Cone}
-use Rattle.vlp_reader.specs.declared.problem.Cone.TheVariants.{Orthant, Gens, Dual}
-use Rattle.vlp_reader.specs.declared.problem.Problem.{Problem}
+use Rattle.vlp_problem.specs.declared.problem.Cone.{Cone}
+use Rattle.vlp_problem.specs.declared.problem.Cone.TheVariants.{Orthant, Gens, Dual}
+use Rattle.vlp_problem.specs.declared.problem.Problem.{Problem}
 use Rattle.vlp_reader.specs.declared.sizes.Sizes.{Sizes}
 use Rattle.vlp_reader.specs.declared.statement.Statement.{Statement}
 use Rattle.vlp_reader.specs.declared.statement.Statement.TheVariants.{Silent, Heading, Entry, Limit, End}
-use Rattle.vlp_reader.proofs.CellPlaces.{rises_from_cells}
+use Rattle.vlp_problem.proofs.CellPlaces.{rises_from_cells}
 use Rattle.vlp_reader.proofs.MoreStatements.{first_given-kept}
 use Rattle.vlp_reader.proofs.Readings.{passes-push, map-push}
 use Rattle.vlp_printer.specs.Decimal.{is_decimal}
-use Rattle.vlp_reader.specs.Values.{cone_vectors, printed_numbers}
+use Rattle.vlp_problem.specs.Values.{cone_vectors, printed_numbers}
 use Rattle.vlp_printer.specs.Printing.{entry_count, HasWord, heading_words, printed_cone, printed_sizes, problem_text, Prints}
 use Rattle.vlp_printer.proofs.Apart.{clashes, apart, has_key, entry_fresh, bound_fresh}
 use Rattle.vlp_printer.proofs.PlainWords.{is_plain, words_back, lines_back}

@@ -4,7 +4,7 @@ use Rattle.std.proofs.lemmas.Grind.{flat_map-append}
 use Rattle.std.proofs.lemmas.List.{append-nil, append_assoc}
 use Rattle.src_sink.specs.Texts.{words_text, line_text}
 use Rattle.vlp_printer.specs.Printing.{behind}
-use Rattle.vlp_reader.proofs.Pieces.{flat_map-one}
+use Rattle.vlp_problem.proofs.Pieces.{flat_map-one}
 
 words_behind : (w : List ℕ) (ws : List (List ℕ)) → words_text (w ∷ ws) ≡ w ++ behind ws
 words_behind w [] = sym (append-nil w)

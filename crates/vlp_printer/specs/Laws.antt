@@ -3,9 +3,9 @@ use Rattle.std.specs.Prelude.{◌≡◌, ℕ, true, false, List, Ok, All}
 use Rattle.exact_field.specs.Rational.{ℚ}
 use Rattle.vlp_reader.specs.FirstFault.{Reads}
 use Rattle.vlp_reader.specs.Number.{number_of}
-use Rattle.vlp_reader.specs.declared.problem.Problem.{Problem}
+use Rattle.vlp_problem.specs.declared.problem.Problem.{Problem}
 use Rattle.vlp_printer.specs.Decimal.{is_decimal, number_text}
-use Rattle.vlp_reader.specs.Values.{printed_numbers}
+use Rattle.vlp_problem.specs.Values.{printed_numbers}
 use Rattle.vlp_printer.specs.Printing.{HasWord, IsWithinLimits, problem_text}
 
 -- what is printed reads back, number by number and as a whole

@@ -3,11 +3,11 @@ ghost use Rattle.std.specs.Prelude.{◌≡◌, map, not, find, [], ◌∷◌};
 ghost use Rattle.std.specs.List.{flat_map};
 ghost use Rattle.exact_field.specs.Rational.{ℚ};
 ghost use Rattle.vlp_printer.specs.Decimal.{is_decimal};
-ghost use Rattle.vlp_reader.specs.Values.{bound_numbers, printed_numbers, cone_vectors, duality_entries};
+ghost use Rattle.vlp_problem.specs.Values.{bound_numbers, printed_numbers, cone_vectors, duality_entries};
 
 use crate::decimal::Decimal;
 use frac128::{Frac, Vector};
-use vlp_reader::{Bound, Cell, Cone, Problem};
+use vlp_problem::{Bound, Cell, Cone, Problem};
 
 /// Whether a number has no decimal form.
 fn is_wide(number: Frac) -> bool

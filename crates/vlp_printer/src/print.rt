@@ -2,9 +2,9 @@
 ghost use Rattle.std.specs.Prelude.{◌≡◌, ◌≤◌, ◌++◌, ◌∷◌, [], decimal, length, count_by, not, OnOk, MatchResult};
 ghost use Rattle.frac128.specs.Sparse.{is_zero};
 ghost use Rattle.src_sink.specs.Texts.{line_text};
-ghost use Rattle.vlp_reader.specs.Sides.{is_unsaid};
+ghost use Rattle.vlp_problem.specs.Sides.{is_unsaid};
 ghost use Rattle.vlp_printer.specs.Decimal.{number_text};
-ghost use Rattle.vlp_reader.specs.Values.{cone_vectors, duality_entries};
+ghost use Rattle.vlp_problem.specs.Values.{cone_vectors, duality_entries};
 ghost use Rattle.vlp_printer.specs.Printing.{behind, bound_line, bound_words, bounds_text, cells_text, cone_words, direction_word, duality_text, entry_count, entry_line, heading_words, vector_entry, vector_text, vectors_text, Prints, RefusesText};
 
 use crate::decimal::Decimal;
@@ -14,7 +14,7 @@ use frac128::{Frac, Vector, Vectors, is_zero};
 use itoa::Buffer;
 use src_sink::{Bytes, Items, NoMemory};
 use std::alloc::Global;
-use vlp_reader::{Bound, Cell, Cone, Dir, Problem};
+use vlp_problem::{Bound, Cell, Cone, Dir, Problem};
 
 /// Appends a blank and a word.
 fn put_word(word: &[u8], into: &mut Bytes) -> Result<(), NoMemory>

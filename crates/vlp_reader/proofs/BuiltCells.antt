@@ -4,9 +4,9 @@ use Rattle.std.proofs.lemmas.Bool.{and_from, cond-true, cond-false, cond_both, c
 use Rattle.std.proofs.lemmas.Bool.Decides.{nat_tests}
 use Rattle.exact_field.specs.Rational.{ℚ, zero_ℚ}
 use Rattle.frac128.specs.Sparse.{is_zero}
-use Rattle.vlp_reader.specs.Cells.{place_before, is_within, cells_behind, are_cells, coefficient}
-use Rattle.vlp_reader.specs.declared.problem.Cell.{Cell}
-use Rattle.vlp_reader.proofs.Tables.{zero_is}
+use Rattle.vlp_problem.specs.Cells.{place_before, is_within, cells_behind, are_cells, coefficient}
+use Rattle.vlp_problem.specs.declared.problem.Cell.{Cell}
+use Rattle.vlp_problem.proofs.Zero.{zero_is}
 
 abbrev pub cell_at : (ℕ → ℕ → ℚ) → ℕ → ℕ → Cell
 cell_at f row col = record { row = row; col = col; value = f row col }

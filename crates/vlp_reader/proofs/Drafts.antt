@@ -7,11 +7,11 @@ use Rattle.std.proofs.lemmas.Bool.{and_parts, cond-true, cond-false, cases_Bool,
 use Rattle.std.proofs.lemmas.Option.{none-some}
 use Rattle.std.proofs.lemmas.List.{get_or-set_same, get_or-set_other, length-set, same_lists, length-map, get_or-map}
 use Rattle.exact_field.specs.Rational.{ℚ, zero_ℚ}
-use Rattle.vlp_reader.specs.Cells.{is_within}
-use Rattle.vlp_reader.specs.Cones.{each_has, are_vectors, cone_fits, duality_fits}
+use Rattle.vlp_problem.specs.Cells.{is_within}
+use Rattle.vlp_problem.specs.Cones.{each_has, are_vectors, cone_fits, duality_fits}
 use Rattle.vlp_reader.specs.Ends.{ComesFrom}
 use Rattle.vlp_reader.specs.Grammar.{first_given, given_sizes, given_entry, given_bound, gives_entry, number_value, bound_value, wrong, must, entry_fault, limit_fault, statement_fault, same_matrix, same_axis, matrix_rows, matrix_cols, axis_length, counts_fit, cone_counts, column_of, value_at, bound_at, cone_of, duality_of, sizes_fault, are_positive, are_within_limits, some_vector, cone_count}
-use Rattle.vlp_reader.specs.Sides.{numbers_from}
+use Rattle.vlp_problem.specs.Sides.{numbers_from}
 use Rattle.vlp_reader.specs.Places.{given}
 use Rattle.vlp_reader.specs.Tables.{HasEntries, HasBounds, Adds, place_fault, slot_fault, table_column}
 use Rattle.vlp_reader.specs.Drafts.{is_silent, draft_cone, draft_duality, table_of, bounds_of, Has, SameButTable, SameButBounds}
@@ -19,19 +19,19 @@ use Rattle.vlp_reader.specs.declared.draft.Draft.{Draft}
 use Rattle.vlp_reader.specs.declared.fault.FileKind.{FileKind}
 use Rattle.vlp_reader.specs.declared.fault.FileKind.TheVariants.{OutOfRange, Twice, LimitPassed}
 use Rattle.vlp_reader.specs.declared.fault.LineEnd.{LineEnd}
-use Rattle.vlp_reader.specs.declared.problem.Bound.{Bound}
-use Rattle.vlp_reader.specs.declared.problem.Bound.TheVariants.{Unsaid}
-use Rattle.vlp_reader.specs.declared.problem.Cone.TheVariants.{Gens, Dual}
+use Rattle.vlp_problem.specs.declared.problem.Bound.{Bound}
+use Rattle.vlp_problem.specs.declared.problem.Bound.TheVariants.{Unsaid}
+use Rattle.vlp_problem.specs.declared.problem.Cone.TheVariants.{Gens, Dual}
 use Rattle.vlp_reader.specs.declared.sizes.ConeSizes.{ConeSizes}
 use Rattle.vlp_reader.specs.declared.sizes.Sizes.{Sizes}
-use Rattle.vlp_reader.specs.declared.statement.Axis.{Axis}
-use Rattle.vlp_reader.specs.declared.statement.Axis.TheVariants.{Row, Column}
+use Rattle.vlp_problem.specs.declared.problem.Axis.{Axis}
+use Rattle.vlp_problem.specs.declared.problem.Axis.TheVariants.{Row, Column}
 use Rattle.vlp_reader.specs.declared.statement.Matrix.{Matrix}
 use Rattle.vlp_reader.specs.declared.statement.Matrix.TheVariants.{Constraints, Objectives, ConeVectors, Duality}
 use Rattle.vlp_reader.specs.declared.statement.Statement.{Statement}
 use Rattle.vlp_reader.specs.declared.statement.Statement.TheVariants.{Silent, Heading, Entry, Limit, End}
 use Rattle.vlp_reader.specs.declared.table.Table.{Table}
-use Rattle.vlp_reader.proofs.Numbers.{length-numbers, number_at}
+use Rattle.vlp_problem.proofs.Numbers.{length-numbers, number_at}
 use Rattle.vlp_reader.proofs.MoreStatements.{first_given-same, first_given-new, first_given-kept, count-push, silent_gives, silent_counts}
 
 -- ---- matrices and axes

@@ -3,7 +3,7 @@ use Rattle.std.proofs.Common.{◌≡◌, refl, ℕ, zero, suc, ◌<◌, ◌≤�
 use Rattle.std.proofs.lemmas.Option.{none-some}
 use Rattle.vlp_reader.specs.FirstFault.{file_lines, fault_at, Passes, fault_behind, closing_line, FailsOnLine, FirstFault, HasNoFault, Reads}
 use Rattle.vlp_reader.specs.declared.fault.FileKind.{FileKind}
-use Rattle.vlp_reader.specs.declared.problem.Problem.{Problem}
+use Rattle.vlp_problem.specs.declared.problem.Problem.{Problem}
 use Rattle.vlp_reader.proofs.Readings.{le_cases}
 
 next_line : (lines : List (List ℕ)) (n : ℕ) → n < length lines → Passes lines n → (o : Option FileKind) → fault_at lines n ≡ o

@@ -1,14 +1,10 @@
-pub mod CellPlaces
 pub mod Digits
 pub mod Drafts
 pub mod Exponents
 pub mod LineTests
 pub mod MoreStatements
-pub mod Numbers
-pub mod Pieces
 pub mod Powers
 pub mod Readings
-pub mod SideCount
 pub mod Tables
 pub mod Texts
 pub mod Zeros

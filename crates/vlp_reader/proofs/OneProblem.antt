@@ -9,16 +9,16 @@ use Rattle.std.proofs.Math.Nat.{ℕ_set}
 use mathlib.Core.HLevel.{is_prop→PathP}
 use Rattle.exact_field.specs.Rational.{ℚ, whole, zero_ℚ}
 use Rattle.frac128.specs.Sparse.{is_zero}
-use Rattle.vlp_reader.specs.Cells.{place_before, is_within, cells_behind, are_cells, coefficient}
-use Rattle.vlp_reader.specs.Cones.{cone_fits, duality_fits}
+use Rattle.vlp_problem.specs.Cells.{place_before, is_within, cells_behind, are_cells, coefficient}
+use Rattle.vlp_problem.specs.Cones.{cone_fits, duality_fits}
 use Rattle.vlp_reader.specs.FirstFault.{file_lines, Reads}
 use Rattle.vlp_reader.specs.Grammar.{Gives}
 use Rattle.vlp_reader.specs.Statements.{statement_on}
 use Rattle.vlp_reader.specs.declared.sizes.Sizes.{Sizes}
 use Rattle.vlp_reader.specs.declared.statement.Statement.{Statement}
-use Rattle.vlp_reader.specs.declared.problem.Problem.{Problem}
-use Rattle.vlp_reader.specs.declared.problem.Cell.{Cell}
-use Rattle.vlp_reader.proofs.CellPlaces.{coefficient_behind, not_before_itself, rises_from_cells}
+use Rattle.vlp_problem.specs.declared.problem.Problem.{Problem}
+use Rattle.vlp_problem.specs.declared.problem.Cell.{Cell}
+use Rattle.vlp_problem.proofs.CellPlaces.{coefficient_behind, not_before_itself, rises_from_cells}
 
 same_cell : (c d : Cell) → c.row ≡ d.row → c.col ≡ d.col → c.value ≡ d.value → c ≡ d
 same_cell c d r k v = λ i. record { row = r i; col = k i; value = v i }

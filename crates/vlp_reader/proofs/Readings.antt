@@ -15,7 +15,7 @@ use Rattle.vlp_reader.specs.declared.draft.Draft.{Draft}
 use Rattle.vlp_reader.specs.declared.fault.LineEnd.{LineEnd}
 use Rattle.vlp_reader.specs.declared.fault.LineEnd.TheVariants.{Kind, NoMemory}
 use Rattle.vlp_reader.specs.declared.fault.VlpEnd.{VlpEnd}
-use Rattle.vlp_reader.specs.declared.problem.Problem.{Problem}
+use Rattle.vlp_problem.specs.declared.problem.Problem.{Problem}
 use Rattle.vlp_reader.specs.declared.statement.Statement.{Statement}
 
 -- ---- lists

@@ -6,22 +6,22 @@ use Rattle.std.proofs.lemmas.Bool.{and_parts, and_from, cond-true, cond-false, c
 use Rattle.std.proofs.lemmas.List.{take_more, take_all, map-append, length-map}
 use Rattle.std.proofs.lemmas.Option.{none-some}
 use Rattle.exact_field.specs.Rational.{ℚ, zero_ℚ}
-use Rattle.vlp_reader.specs.Cells.{is_within}
-use Rattle.vlp_reader.specs.Cones.{each_has, are_vectors, cone_fits, duality_fits}
+use Rattle.vlp_problem.specs.Cells.{is_within}
+use Rattle.vlp_problem.specs.Cones.{each_has, are_vectors, cone_fits, duality_fits}
 use Rattle.vlp_reader.specs.Drafts.{is_silent}
-use Rattle.vlp_reader.specs.FileSizes.{HasFileSizes}
+use Rattle.vlp_problem.specs.FileSizes.{HasFileSizes}
 use Rattle.vlp_reader.specs.FirstFault.{file_lines, Passes, FirstFault, HasNoFault, Reads}
 use Rattle.vlp_reader.specs.Grammar.{first_given, given_sizes, given_entry, same_matrix, line_fault, words_fault, kind_fault, is_kind, formed, sizes_fault, statement_fault, wrong, number_value, matrix_rows, matrix_cols, value_at, bound_at, column_of, cone_of, duality_of, some_vector, cone_count, closing_fault, gives_entry, Gives}
 use Rattle.vlp_reader.specs.Lines.{words_of, letter}
-use Rattle.vlp_reader.specs.Sides.{numbers_from}
+use Rattle.vlp_problem.specs.Sides.{numbers_from}
 use Rattle.vlp_reader.specs.Statements.{statement_on, statement_of, words_statement, sizes_of}
 use Rattle.vlp_reader.specs.declared.fault.FileKind.{FileKind}
 use Rattle.vlp_reader.specs.declared.fault.FileKind.TheVariants.{NoProblem, BadLine, Twice, LineLong}
-use Rattle.vlp_reader.specs.declared.problem.Cone.TheVariants.{Gens, Dual}
-use Rattle.vlp_reader.specs.declared.problem.Problem.{Problem}
+use Rattle.vlp_problem.specs.declared.problem.Cone.TheVariants.{Gens, Dual}
+use Rattle.vlp_problem.specs.declared.problem.Problem.{Problem}
 use Rattle.vlp_reader.specs.declared.sizes.ConeSizes.{ConeSizes}
 use Rattle.vlp_reader.specs.declared.sizes.Sizes.{Sizes}
-use Rattle.vlp_reader.specs.declared.statement.Axis.TheVariants.{Row, Column}
+use Rattle.vlp_problem.specs.declared.problem.Axis.TheVariants.{Row, Column}
 use Rattle.vlp_reader.specs.declared.statement.Matrix.{Matrix}
 use Rattle.vlp_reader.specs.declared.statement.Matrix.TheVariants.{Constraints, Objectives, ConeVectors, Duality}
 use Rattle.vlp_reader.specs.declared.statement.Statement.{Statement}
@@ -30,7 +30,7 @@ use Rattle.vlp_reader.proofs.BuiltCells.{built_cells, built_are_cells, built_ent
 use Rattle.vlp_reader.proofs.Drafts.{is_free, matrix_from, within_limits, WithinLimits}
 use Rattle.vlp_reader.proofs.Faults.{fault_or_none}
 use Rattle.vlp_reader.proofs.MoreStatements.{first_given-same, first_given-new, first_given-kept, first_given-push, silent_gives, silent_push}
-use Rattle.vlp_reader.proofs.Numbers.{length-numbers}
+use Rattle.vlp_problem.proofs.Numbers.{length-numbers}
 
 -- ---- what statements without a fault have
 -- their sizes are within the limits, and each place that they give is one of its matrix

@@ -15,12 +15,13 @@ use Rattle.std.proofs.Math.Nat.{eq-one_of_dvd-one, dvd_refl}
 use Rattle.std.proofs.lemmas.Nat.Gcd.{dvd-zero}
 use Rattle.exact_field.specs.Rational.{ℚ, whole, zero_ℚ, same_parts}
 use Rattle.frac128.specs.Sparse.{is_zero}
-use Rattle.vlp_reader.specs.Cells.{place_before, is_within, cells_behind, are_cells, coefficient}
+use Rattle.vlp_problem.proofs.Zero.{zero_is}
+use Rattle.vlp_problem.specs.Cells.{place_before, is_within, cells_behind, are_cells, coefficient}
 use Rattle.vlp_reader.specs.Grammar.{must, wrong}
 use Rattle.vlp_reader.specs.Places.{place_cmp, given}
 use Rattle.vlp_reader.specs.declared.fault.FileKind.{FileKind}
 use Rattle.vlp_reader.specs.declared.fault.FileKind.TheVariants.{OutOfRange, Twice}
-use Rattle.vlp_reader.specs.declared.problem.Cell.{Cell}
+use Rattle.vlp_problem.specs.declared.problem.Cell.{Cell}
 
 abbrev pub Values : Type 0
 Values = List ((ℕ × ℕ) × ℚ)
@@ -44,18 +45,6 @@ from_start rows cols row col h = grind (arith, nat_tests)
 
 same_at_itself : (row col : ℕ) → is_eq (place_cmp (row, col) (row, col)) ≡ true
 same_at_itself row col = grind (arith, nat_tests)
-
-abs_zero : (z : ℤ) → unsigned_abs z ≡ 0 → z ≡ pos 0
-abs_zero (pos n) h = ap pos h
-abs_zero (negsuc n) h = absurd (omega arith)
-
--- a number with the numerator 0 is 0
-pub zero_is : (q : ℚ) → is_zero q ≡ true → q ≡ zero_ℚ
-unfolding whole
-zero_is q h =
-    let none : unsigned_abs q.num ≡ 0 = eqb-true (unsigned_abs q.num) 0 h in
-    let all : q.den ∣ unsigned_abs q.num = subst (λ (n : ℕ). q.den ∣ n) (sym none) (dvd-zero q.den) in
-    same_parts q (whole (pos 0)) (abs_zero q.num none) (eq-one_of_dvd-one (q.lowest.2 q.den all (dvd_refl q.den)))
 
 -- ---- the values of an ordered map
 -- each of these has its place within the sizes

@@ -3,17 +3,17 @@ use Rattle.std.specs.Prelude.{◌≡◌, ℕ, ◌==◌, if◌then◌else◌, Boo
 use Rattle.std.specs.List.{list_all}
 use Rattle.std.specs.BTreeMap.{btree_map_len}
 use Rattle.exact_field.specs.Rational.{ℚ}
-use Rattle.vlp_reader.specs.Sides.{numbers_from}
+use Rattle.vlp_problem.specs.Sides.{numbers_from}
 use Rattle.vlp_reader.specs.Grammar.{first_given, given_sizes, same_matrix, same_axis, formed, sizes_fault}
 use Rattle.vlp_reader.specs.Statements.{sizes_of}
 use Rattle.vlp_reader.specs.Tables.{HasEntries, HasBounds, table_column}
 use Rattle.vlp_reader.specs.declared.draft.Draft.{Draft}
-use Rattle.vlp_reader.specs.declared.problem.Bound.{Bound}
-use Rattle.vlp_reader.specs.declared.problem.Cone.{Cone}
-use Rattle.vlp_reader.specs.declared.problem.Cone.TheVariants.{Orthant, Gens, Dual}
+use Rattle.vlp_problem.specs.declared.problem.Bound.{Bound}
+use Rattle.vlp_problem.specs.declared.problem.Cone.{Cone}
+use Rattle.vlp_problem.specs.declared.problem.Cone.TheVariants.{Orthant, Gens, Dual}
 use Rattle.vlp_reader.specs.declared.sizes.ConeSizes.{ConeSizes}
-use Rattle.vlp_reader.specs.declared.statement.Axis.{Axis}
-use Rattle.vlp_reader.specs.declared.statement.Axis.TheVariants.{Row, Column}
+use Rattle.vlp_problem.specs.declared.problem.Axis.{Axis}
+use Rattle.vlp_problem.specs.declared.problem.Axis.TheVariants.{Row, Column}
 use Rattle.vlp_reader.specs.declared.statement.Matrix.{Matrix}
 use Rattle.vlp_reader.specs.declared.statement.Matrix.TheVariants.{Constraints, Objectives, ConeVectors, Duality}
 use Rattle.vlp_reader.specs.declared.statement.Statement.{Statement}

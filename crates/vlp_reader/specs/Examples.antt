@@ -7,9 +7,9 @@ use Rattle.vlp_reader.specs.Lines.{lines_of, words_of}
 use Rattle.vlp_reader.specs.Number.{natural, number_of}
 use Rattle.vlp_reader.specs.Statements.{statement_on}
 use Rattle.vlp_reader.specs.declared.fault.FileKind.TheVariants.{NoProblem, BadLine, BadNumber, NumberWide, Digits, OutOfRange, Twice, CountWrong, LimitPassed, LineLong}
-use Rattle.vlp_reader.specs.declared.problem.Bound.TheVariants.{Free, Lower, Upper, Double, Fixed}
-use Rattle.vlp_reader.specs.declared.problem.Dir.TheVariants.{Min, Max}
-use Rattle.vlp_reader.specs.declared.statement.Axis.TheVariants.{Row, Column}
+use Rattle.vlp_problem.specs.declared.problem.Bound.TheVariants.{Free, Lower, Upper, Double, Fixed}
+use Rattle.vlp_problem.specs.declared.problem.Dir.TheVariants.{Min, Max}
+use Rattle.vlp_problem.specs.declared.problem.Axis.TheVariants.{Row, Column}
 use Rattle.vlp_reader.specs.declared.statement.Matrix.TheVariants.{Constraints, Objectives, ConeVectors, Duality}
 use Rattle.vlp_reader.specs.declared.statement.Statement.{Statement}
 use Rattle.vlp_reader.specs.declared.statement.Statement.TheVariants.{Silent, Heading, Entry, Limit, End}

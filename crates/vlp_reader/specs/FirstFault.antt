@@ -5,7 +5,7 @@ use Rattle.vlp_reader.specs.Lines.{lines_of}
 use Rattle.vlp_reader.specs.Statements.{statement_on}
 use Rattle.vlp_reader.specs.Grammar.{line_fault, first_given, given_sizes, closing_fault, Gives}
 use Rattle.vlp_reader.specs.declared.fault.FileKind.{FileKind}
-use Rattle.vlp_reader.specs.declared.problem.Problem.{Problem}
+use Rattle.vlp_problem.specs.declared.problem.Problem.{Problem}
 use Rattle.vlp_reader.specs.declared.sizes.Sizes.{Sizes}
 use Rattle.vlp_reader.specs.declared.statement.Statement.{Statement}
 use Rattle.vlp_reader.specs.declared.statement.Statement.TheVariants.{End}

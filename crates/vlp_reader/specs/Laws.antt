@@ -1,9 +1,9 @@
 -- The laws of the grammar, which the crate's law functions state.
 use Rattle.std.specs.Prelude.{◌≡◌, ℕ, ◌⊎◌, List}
-use Rattle.vlp_reader.specs.FileSizes.{HasFileSizes}
+use Rattle.vlp_problem.specs.FileSizes.{HasFileSizes}
 use Rattle.vlp_reader.specs.FirstFault.{FirstFault, Reads}
 use Rattle.vlp_reader.specs.declared.fault.FileKind.{FileKind}
-use Rattle.vlp_reader.specs.declared.problem.Problem.{Problem}
+use Rattle.vlp_problem.specs.declared.problem.Problem.{Problem}
 
 -- bytes read as a problem, or have a first fault; not both; and one problem, or one line and one
 -- kind; what was read is within the limits

@@ -1,8 +1,5 @@
--- The subject: Cells, Cones, Values, Sides (a problem); Lines, Number, Statements, Grammar,
--- FirstFault (the grammar of files), with Laws and Examples; Faults. What only serves proofs: Ends,
--- Tables, Drafts, Places, Reading, FileSizes.
-pub mod Cells
-pub mod Cones
+-- The subject: Lines, Number, Statements, Grammar, FirstFault (the grammar of files), with Laws and Examples; Faults.
+-- What only serves proofs: Ends, Tables, Drafts, Places, Reading.
 pub mod Drafts
 pub mod Ends
 pub mod Examples
@@ -13,9 +10,6 @@ pub mod Lines
 pub mod Number
 pub mod Places
 pub mod Reading
-pub mod Sides
 pub mod Statements
 pub mod Tables
-pub mod Values
 pub mod Laws
-pub mod FileSizes

@@ -6,16 +6,16 @@ use Rattle.exact_field.specs.Rational.{ℚ}
 use Rattle.vlp_reader.specs.Lines.{words_of, letter}
 use Rattle.vlp_reader.specs.Number.{natural, number_of}
 use Rattle.vlp_reader.specs.declared.fault.FileKind.{FileKind}
-use Rattle.vlp_reader.specs.declared.problem.Bound.{Bound}
-use Rattle.vlp_reader.specs.declared.problem.Bound.TheVariants.{Free, Lower, Upper, Double, Fixed}
-use Rattle.vlp_reader.specs.declared.problem.Dir.{Dir}
-use Rattle.vlp_reader.specs.declared.problem.Dir.TheVariants.{Min, Max}
+use Rattle.vlp_problem.specs.declared.problem.Bound.{Bound}
+use Rattle.vlp_problem.specs.declared.problem.Bound.TheVariants.{Free, Lower, Upper, Double, Fixed}
+use Rattle.vlp_problem.specs.declared.problem.Dir.{Dir}
+use Rattle.vlp_problem.specs.declared.problem.Dir.TheVariants.{Min, Max}
 use Rattle.vlp_reader.specs.declared.sizes.ConeSizes.{ConeSizes}
 use Rattle.vlp_reader.specs.declared.sizes.Sizes.{Sizes}
 use Rattle.vlp_reader.specs.declared.statement.Matrix.{Matrix}
 use Rattle.vlp_reader.specs.declared.statement.Matrix.TheVariants.{Constraints, Objectives, ConeVectors, Duality}
-use Rattle.vlp_reader.specs.declared.statement.Axis.{Axis}
-use Rattle.vlp_reader.specs.declared.statement.Axis.TheVariants.{Row, Column}
+use Rattle.vlp_problem.specs.declared.problem.Axis.{Axis}
+use Rattle.vlp_problem.specs.declared.problem.Axis.TheVariants.{Row, Column}
 use Rattle.vlp_reader.specs.declared.statement.Statement.{Statement}
 use Rattle.vlp_reader.specs.declared.statement.Statement.TheVariants.{Silent, Heading, Entry, Limit, End}
 

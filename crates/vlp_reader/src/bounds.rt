@@ -5,9 +5,9 @@ ghost use Rattle.vlp_reader.specs.Ends.{ComesFrom};
 ghost use Rattle.vlp_reader.specs.Tables.{slot_fault};
 
 use crate::fault::{FileKind, LineEnd};
-use crate::problem::Bound;
 use src_sink::{Items, NoMemory};
 use std::alloc::{AllocError, Global};
+use vlp_problem::Bound;
 
 /// Bounds of which none is given.
 pub(crate) fn no_bounds(alloc: Global, count: u32) -> Result<Vec<Option<Bound>>, AllocError>

@@ -5,13 +5,13 @@ ghost use Rattle.vlp_reader.specs.declared.statement.Matrix.TheVariants as matri
 
 use crate::bounds::{all_bounds, give_bound, no_bounds};
 use crate::fault::{FileKind, LineEnd};
-use crate::problem::{Bound, Cone, Problem};
 use crate::sizes::Sizes;
-use crate::statement::{Axis, Matrix, Statement};
+use crate::statement::{Matrix, Statement};
 use crate::table::Table;
 use frac128::{Frac, Vector, Vectors};
 use src_sink::{Items, NoMemory};
 use std::alloc::{AllocError, Global};
+use vlp_problem::{Axis, Bound, Cone, Problem};
 
 /// What the lines so far give.
 #[derive(Drop)]

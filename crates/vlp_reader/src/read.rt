@@ -11,12 +11,12 @@ ghost use Rattle.vlp_reader.specs.declared.statement.Statement.{Statement};
 
 use crate::draft::Draft;
 use crate::fault::{FileKind, LineEnd, VlpEnd};
-use crate::problem::Problem;
 use crate::sizes::Sizes;
 use crate::statement::Statement;
 use crate::text::{letter, next_line, next_word};
 use src_sink::MOST_ITEMS;
 use std::alloc::Global;
+use vlp_problem::Problem;
 
 /// A line has at most so many bytes.
 const LINE_BYTES: usize = 4_096;

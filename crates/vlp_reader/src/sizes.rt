@@ -4,8 +4,8 @@ ghost use Rattle.vlp_reader.specs.Statements.{direction, cone_word, cone_sizes, 
 ghost use Rattle.vlp_reader.specs.Lines.{words_of};
 
 use crate::fault::FileKind;
-use crate::problem::Dir;
 use crate::text::{natural, next_word};
+use vlp_problem::Dir;
 
 /// The sizes of a cone, and whether its vectors are those of the dual cone.
 #[derive(Clone, Copy, Debug)]
@@ -27,16 +27,14 @@ pub struct Sizes {
     pub cone: Option<ConeSizes>,
 }
 
-impl Dir {
-    /// `min` or `max`.
-    fn read(word: &[u8]) -> Option<Dir>
-        ensures { result ≡ direction word.now }
-    {
-        match word {
-            b"min" => Some(Dir::Min),
-            b"max" => Some(Dir::Max),
-            _ => None,
-        }
+/// `min` or `max`.
+fn read_direction(word: &[u8]) -> Option<Dir>
+    ensures { result ≡ direction word.now }
+{
+    match word {
+        b"min" => Some(Dir::Min),
+        b"max" => Some(Dir::Max),
+        _ => None,
     }
 }
 
@@ -92,7 +90,7 @@ impl Sizes {
             return None;
         }
         Some(Sizes {
-            dir: Dir::read(dir)?,
+            dir: read_direction(dir)?,
             rows: natural(rows)?,
             cols: natural(cols)?,
             entries: natural(entries)?,

@@ -5,10 +5,10 @@ ghost use Rattle.vlp_reader.specs.Statements.{single_bound, double_bound, bound_
 
 use crate::fault::FileKind;
 use crate::number::number;
-use crate::problem::Bound;
 use crate::sizes::Sizes;
 use crate::text::{letter, natural, next_word};
 use frac128::Frac;
+use vlp_problem::{Axis, Bound};
 
 /// The matrices whose entries lines give. The duality vector is one of a single column.
 #[derive(Clone, Copy, Debug)]
@@ -17,13 +17,6 @@ pub enum Matrix {
     Objectives,
     ConeVectors,
     Duality,
-}
-
-/// Rows, or columns.
-#[derive(Clone, Copy, Debug)]
-pub enum Axis {
-    Row,
-    Column,
 }
 
 /// What the words of a line say. Where a word should be a number, this is its value, or what is

@@ -2,16 +2,16 @@
 ghost use Rattle.std.specs.Prelude.{◌≡◌, ◌^◌, ◌<◌, ℕ, IsTrue, IfOk, is_some, unwrap_or, None, MatchResult};
 ghost use Rattle.std.specs.BTreeMap.{btree_map_len};
 ghost use Rattle.exact_field.specs.Rational.{zero_ℚ};
-ghost use Rattle.vlp_reader.specs.Cells.{is_within, are_cells, coefficient};
+ghost use Rattle.vlp_problem.specs.Cells.{is_within, are_cells, coefficient};
 ghost use Rattle.vlp_reader.specs.Places.{given};
 
 use crate::fault::{FileKind, LineEnd};
-use crate::problem::Cell;
 use exact_field::Field;
 use frac128::{Frac, Vector};
 use src_sink::{Items, NoMemory};
 use std::alloc::Global;
 use std::collections::BTreeMap;
+use vlp_problem::Cell;
 
 /// The values given so far, zeros too, by row and column.
 #[derive(Drop)]

@@ -9,7 +9,7 @@ use Rattle.exact_field.specs.Rational.{ℚ, zero_ℚ, ◌≤ℚ◌, ◌<ℚ◌, 
 use Rattle.exact_field.proofs.Comparison.{cmp_ℚ-less, less-cmp_ℚ}
 use Rattle.polyhedra.proofs.Laws.{le_trans, le_of_lt, le_refl}
 use Rattle.polyhedra.proofs.Order.{le_or_lt, difference_nonneg}
-use Rattle.vlp_reader.specs.declared.problem.Dir.{Dir}
+use Rattle.vlp_problem.specs.declared.problem.Dir.{Dir}
 use Rattle.upper_image.specs.UpperImage.{signed}
 use Rattle.weighing.specs.Walk.{IsNoLess}
 use Rattle.weighing.proofs.Lowest.{signed_difference}

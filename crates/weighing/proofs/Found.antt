@@ -6,7 +6,7 @@ use Rattle.exact_field.specs.Vector.{dot}
 use Rattle.exact_field.proofs.Comparison.{same_ℚ-is}
 use Rattle.polyhedra.proofs.Lists.{all_from_map, Contains-cases, Contains-nil}
 use Rattle.std.proofs.lemmas.List.Elements.{All-weaker}
-use Rattle.vlp_reader.specs.declared.problem.Dir.{Dir}
+use Rattle.vlp_problem.specs.declared.problem.Dir.{Dir}
 use Rattle.upper_image.specs.UpperImage.{signed}
 use Rattle.log_rules.specs.Right.{places_from}
 use Rattle.log_rules.specs.declared.answer.Gen.{Gen}

@@ -20,8 +20,8 @@ use Rattle.polyhedra.proofs.Tests.{same_tests}
 use Rattle.representations.proofs.Faces.{hull_value}
 use Rattle.upper_image.specs.UpperImage.{signed, turned}
 use Rattle.upper_image.proofs.Coordinates.{dot-turned}
-use Rattle.vlp_reader.specs.declared.problem.Dir.{Dir}
-use Rattle.vlp_reader.specs.declared.problem.Dir.TheVariants.{Min, Max}
+use Rattle.vlp_problem.specs.declared.problem.Dir.{Dir}
+use Rattle.vlp_problem.specs.declared.problem.Dir.TheVariants.{Min, Max}
 use Rattle.log_rules.specs.declared.answer.Gen.{Gen}
 use Rattle.log_rules.specs.declared.answer.LineGen.{LineGen}
 use Rattle.weighing.specs.Laws.{PointsAreEnough}

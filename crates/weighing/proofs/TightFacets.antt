@@ -12,7 +12,7 @@ use Rattle.representations.proofs.Weights.{weights_are_facets}
 use Rattle.upper_image.specs.UpperImage.{signed, turned, working, IsInImage, IsInWorkingImage, IsWorkingDirection}
 use Rattle.upper_image.proofs.Coordinates.{dot-turned, turned-twice}
 use Rattle.upper_image.proofs.SameSolution.{solved_alike}
-use Rattle.vlp_reader.specs.declared.problem.Problem.{Problem}
+use Rattle.vlp_problem.specs.declared.problem.Problem.{Problem}
 use Rattle.deriv_log.specs.declared.entry.Entry.{Entry}
 use Rattle.log_rules.specs.Laws.{listed, named_cuts}
 use Rattle.log_rules.specs.Live.{state, in_use, live_vectors, lines}

@@ -2,7 +2,7 @@
 use Rattle.std.proofs.Common.{◌≡◌, List, Result, sym, subst}
 use Rattle.std.specs.Prelude.{IfOk, IfErr}
 use Rattle.exact_field.specs.Rational.{ℚ}
-use Rattle.vlp_reader.specs.declared.problem.Problem.{Problem}
+use Rattle.vlp_problem.specs.declared.problem.Problem.{Problem}
 use Rattle.log_rules.specs.Right.{IsRight}
 use Rattle.log_rules.specs.declared.answer.Answer.{Answer}
 use Rattle.log_rules.specs.declared.answer.Answer.TheVariants.{Solved}

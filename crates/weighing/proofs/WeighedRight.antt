@@ -8,7 +8,7 @@ use Rattle.polyhedra.specs.Negatives.{negated}
 use Rattle.polyhedra.proofs.Lists.{all_from_map, Contains-here}
 use Rattle.polyhedra.proofs.Members.{all_of_members, member_of, Contains-map, Contains-map_source}
 use Rattle.upper_image.specs.UpperImage.{signed, IsDirection}
-use Rattle.vlp_reader.specs.declared.problem.Problem.{Problem}
+use Rattle.vlp_problem.specs.declared.problem.Problem.{Problem}
 use Rattle.log_rules.specs.Right.{IsSolution}
 use Rattle.log_rules.specs.declared.answer.Answer.TheVariants.{Infeasible, Whole as WholeImage, Solved}
 use Rattle.log_rules.specs.declared.answer.Facet.{Facet}

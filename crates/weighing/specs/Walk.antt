@@ -4,8 +4,8 @@ use Rattle.exact_field.specs.Rational.{ℚ, zero_ℚ, lt_ℚ, ◌≤ℚ◌}
 use Rattle.polyhedra.specs.Negatives.{negated}
 use Rattle.frac128.specs.Held.{is_held}
 use Rattle.lin_rows.specs.Sums.{IsDotLeft}
-use Rattle.vlp_reader.specs.declared.problem.Dir.{Dir}
-use Rattle.vlp_reader.specs.declared.problem.Problem.{Problem}
+use Rattle.vlp_problem.specs.declared.problem.Dir.{Dir}
+use Rattle.vlp_problem.specs.declared.problem.Problem.{Problem}
 use Rattle.upper_image.specs.UpperImage.{signed}
 use Rattle.log_rules.specs.declared.answer.Answer.{Answer}
 use Rattle.log_rules.specs.declared.answer.Gen.{Gen}

@@ -5,7 +5,7 @@ ghost use Rattle.exact_field.specs.Rational.{◌<ℚ◌};
 ghost use Rattle.exact_field.specs.Vector.{dot};
 ghost use Rattle.log_rules.specs.Right.{IsRight, places_from};
 ghost use Rattle.upper_image.specs.UpperImage.{signed};
-ghost use Rattle.vlp_reader.specs.declared.problem.Dir.{Dir as ADir};
+ghost use Rattle.vlp_problem.specs.declared.problem.Dir.{Dir as ADir};
 ghost use Rattle.weighing.specs.Stages.{IsPassed, IsWeighedFrom, point_items};
 ghost use Rattle.weighing.specs.Walk.{AreAllWide, IsFoundFrom, IsNoLess, StopsWalk, WeighStops, WeighsTo, all_items, cone_items};
 ghost use Rattle.weighing.specs.Weighing.{IsWeighed};
@@ -16,7 +16,7 @@ use frac128::Frac;
 use log_rules::{Answer, Gen, LineGen};
 use src_sink::{Items, NoMemory};
 use std::alloc::Global;
-use vlp_reader::{Dir, Problem};
+use vlp_problem::{Dir, Problem};
 
 /// The products of the weights with points, before which so many items come.
 fn point_products(

@@ -15,7 +15,7 @@ use lin_rows::dot;
 use log_rules::{Gen, LineGen};
 use src_sink::{Items, NoMemory};
 use std::alloc::Global;
-use vlp_reader::Dir;
+use vlp_problem::Dir;
 
 /// The product of the weights with an item, by its number.
 pub(crate) fn product(w: &[Frac], v: &[Frac], item: u64) -> Result<Frac, WeighEnd>

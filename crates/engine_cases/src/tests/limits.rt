@@ -5,7 +5,8 @@ use deriv_log::{LogFault, LogKind};
 use src_sink::{Bytes, Items, MemSource, NoMemory};
 use std::alloc::Global;
 use std::test::Fail;
-use vlp_reader::{Problem, read_vlp};
+use vlp_problem::Problem;
+use vlp_reader::read_vlp;
 
 /// A file whose sides contradict each other: x is at most 0 by its row, and at least 1 by its
 /// column.

@@ -1,7 +1,7 @@
 //! Lines and texts of what no small run has: an overflow at each kind of place, and a number that
 //! no file has.
 
-use deriv_log::{Family, Licence, Place, Program};
+use deriv_log::{Family, Licence, Place};
 use exact_field::{Left, Op};
 use frac128::Frac;
 use src_sink::{Items, NoMemory};
@@ -9,7 +9,7 @@ use statuses::licence_line;
 use std::alloc::Global;
 use std::test::Fail;
 use vlp_printer::{PrintFault, print_vlp};
-use vlp_reader::{Bound, Cone, Dir, Problem};
+use vlp_problem::{Bound, Cone, Dir, Problem, Program};
 
 /// Operations at the places that `place` makes, and their lines.
 const PLACE_LINES: [(Op, &str); 8] = [

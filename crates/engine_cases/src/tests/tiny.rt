@@ -1,7 +1,7 @@
 //! Files whose logs over `Tiny`, by either engine, prove the answers of `solve`, and files whose
 //! logs are given up.
 use cert_check::check;
-use deriv_log::{Family, Place, Program};
+use deriv_log::{Family, Place};
 use exact_field::{Field, Left, Op};
 use frac128::{Frac, Tiny};
 use lin_rows::cells::is_zero;
@@ -12,7 +12,8 @@ use src_sink::{Bytes, Items, NoMemory};
 use std::alloc::Global;
 use std::process::Abort;
 use std::test::Fail;
-use vlp_reader::{Problem, read_vlp};
+use vlp_problem::{Problem, Program};
+use vlp_reader::read_vlp;
 
 /// Files that are given up over `Tiny`, and where.
 const GIVEN_UP: [(&str, &str); 8] = [

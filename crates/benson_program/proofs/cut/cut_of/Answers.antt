@@ -1,10 +1,10 @@
 use Rattle.std.proofs.Common.{List, map, subst, sym, ap, ◌∙◌, refl, rules, length}
 use Rattle.exact_field.specs.Rational.{ℚ}
 use Rattle.exact_field.specs.Vector.{dot}
-use Rattle.vlp_reader.specs.Sides.{side_bounds}
+use Rattle.vlp_problem.specs.Sides.{side_bounds}
 use Rattle.lp_form.specs.declared.name.LpName.{LpName}
 use Rattle.lp_form.specs.Reading.{AreParts, HasColumns}
-use Rattle.licence.specs.Operands.{IsBaseU}
+use Rattle.overflow_rules.specs.Operands.{IsBaseU}
 use Rattle.benson_program.proofs.Made.{made}
 use Rattle.benson_program.proofs.Read.{base_u, columns_in, sides_in, wide_in}
 use Rattle.benson_program.proofs.cut.cut_of.Goals as goal

@@ -1,6 +1,6 @@
 use Rattle.std.proofs.Common.{ℕ, List, ap, subst, ◌∙◌}
 use Rattle.deriv_log.specs.declared.entry.Entry.{Entry}
-use Rattle.deriv_log.specs.declared.licence.Program.TheVariants.{Interior}
+use Rattle.vlp_problem.specs.declared.program.Program.TheVariants.{Interior}
 use Rattle.lin_rows.specs.System.{system_of}
 use Rattle.lp_form.specs.Data.{cone_of, duality_of}
 use Rattle.lp_form.specs.Programs.{interior_system}

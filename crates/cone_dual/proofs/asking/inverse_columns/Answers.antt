@@ -2,12 +2,12 @@ use Rattle.std.proofs.Common.{◌≡◌, ℕ, List, length, map, ap, ap₂, sym,
 use Rattle.std.proofs.lemmas.List.{length-map}
 use Rattle.exact_field.specs.Rational.{ℚ}
 use Rattle.deriv_log.specs.declared.entry.Entry.{Entry}
-use Rattle.licence.specs.Operands.{IsElimTable}
+use Rattle.overflow_rules.specs.Operands.{IsElimTable}
 use Rattle.lin_rows.specs.Read.{numbers}
 use Rattle.lp_form.proofs.Figures.{objective_number}
 use Rattle.overflows.specs.Faults.{Overflows}
 use Rattle.tableaux.specs.Table.{beside_unit, row_of}
-use Rattle.vlp_reader.specs.Values.{cone_vectors}
+use Rattle.vlp_problem.specs.Values.{cone_vectors}
 use Rattle.cone_dual.proofs.Asked.{rows_licensed}
 use Rattle.cone_dual.proofs.Picks.{picks_among}
 use Rattle.cone_dual.proofs.asking.inverse_columns.Goals as goal

@@ -1,6 +1,6 @@
 use Rattle.std.proofs.Common.{ℕ, List, ap, subst, ◌∙◌}
 use Rattle.deriv_log.specs.declared.entry.Entry.{Entry}
-use Rattle.deriv_log.specs.declared.licence.Program.TheVariants.{Pointed}
+use Rattle.vlp_problem.specs.declared.program.Program.TheVariants.{Pointed}
 use Rattle.lin_rows.specs.System.{system_of}
 use Rattle.lp_form.specs.Data.{cone_of}
 use Rattle.lp_form.specs.Programs.{pointed_system}

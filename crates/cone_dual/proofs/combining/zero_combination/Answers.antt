@@ -5,7 +5,7 @@ use Rattle.lp_form.specs.Data.{cone_of}
 use Rattle.lp_form.specs.Programs.{nonzero_vectors, pointed_system}
 use Rattle.tableaux.specs.Simplex.{IsUnbounded}
 use Rattle.tableaux.specs.Table.{System}
-use Rattle.vlp_reader.specs.declared.problem.Cone.TheVariants.{Gens}
+use Rattle.vlp_problem.specs.declared.problem.Cone.TheVariants.{Gens}
 use Rattle.cone_rules.proofs.Pointed.{pointed_program}
 use Rattle.cone_dual.proofs.combining.zero_combination.Goals as goal
 

@@ -5,8 +5,8 @@ use Rattle.double_descr.specs.State.{State}
 use Rattle.lin_rows.specs.Read.{numbers}
 use Rattle.lin_rows.proofs.Building.{numbers_long}
 use Rattle.lin_rows.proofs.Errors.{err_holds}
-use Rattle.licence.specs.Operands.{IsAddition, IsMadeOver}
-use Rattle.licence.proofs.Making.{generator_laws}
+use Rattle.overflow_rules.specs.Operands.{IsAddition, IsMadeOver}
+use Rattle.overflow_rules.proofs.Making.{generator_laws}
 use Rattle.cone_dual.proofs.Licences.{front_listed, told_more}
 use Rattle.cone_dual.proofs.Reading.{front_is, next_may, read_row}
 use Rattle.cone_dual.proofs.described.add_all.Goals as goal

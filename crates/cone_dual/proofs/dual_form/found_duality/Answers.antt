@@ -3,7 +3,7 @@ use Rattle.exact_field.specs.Rational.{ℚ}
 use Rattle.lin_rows.specs.Read.{numbers}
 use Rattle.lp_form.specs.Data.{duality_of}
 use Rattle.lp_form.proofs.Figures.{objective_number}
-use Rattle.vlp_reader.specs.declared.problem.Cone.TheVariants as form_of
+use Rattle.vlp_problem.specs.declared.problem.Cone.TheVariants as form_of
 use Rattle.cone_rules.specs.Faults.{HasInterior, HasNoLine}
 use Rattle.cone_rules.proofs.Fitting.{fitting_laws}
 use Rattle.cone_dual.specs.Fitting.{IsInsideRows}

@@ -6,8 +6,8 @@ use Rattle.lin_rows.specs.Read.{numbers}
 use Rattle.lp_form.specs.Data.{duality_of}
 use Rattle.lp_form.specs.declared.data.ConeOf.TheVariants.{Dual}
 use Rattle.lp_form.proofs.Figures.{objective_number}
-use Rattle.vlp_reader.specs.declared.problem.Cone.{Cone}
-use Rattle.vlp_reader.specs.declared.problem.Cone.TheVariants as form_of
+use Rattle.vlp_problem.specs.declared.problem.Cone.{Cone}
+use Rattle.vlp_problem.specs.declared.problem.Cone.TheVariants as form_of
 use Rattle.cone_rules.specs.Faults.{HasInterior, HasNoLine, IsGivenInside}
 use Rattle.cone_rules.specs.Laws.{at_last_one}
 use Rattle.cone_rules.proofs.Fitting.{fitting_laws}

@@ -2,7 +2,7 @@ use Rattle.std.proofs.Common.{ℕ, List, length, Option, None}
 use Rattle.exact_field.specs.Rational.{ℚ}
 use Rattle.lp_form.specs.Data.{cone_of}
 use Rattle.lp_form.specs.declared.data.ConeOf.TheVariants.{Dual}
-use Rattle.vlp_reader.specs.declared.problem.Cone.{Cone}
+use Rattle.vlp_problem.specs.declared.problem.Cone.{Cone}
 use Rattle.cone_rules.specs.Faults.{HasInterior, HasNoLine, IsGivenInside, ShowsLast}
 use Rattle.cone_dual.proofs.ByRows.{apart, bounded, first, inside, read_off}
 use Rattle.cone_dual.proofs.Ending.{licensed_end}

@@ -8,9 +8,9 @@ use Rattle.frac128.specs.declared.vectors.Spot.{Spot}
 use Rattle.polyhedra.proofs.Members.{member_of}
 use Rattle.lin_rows.specs.Read.{numbers}
 use Rattle.tableaux.specs.Table.{row_of}
-use Rattle.vlp_reader.specs.Values.{cone_vectors}
-use Rattle.vlp_reader.specs.declared.problem.Cone.{Cone}
-use Rattle.vlp_reader.specs.declared.problem.Cone.TheVariants as form_of
+use Rattle.vlp_problem.specs.Values.{cone_vectors}
+use Rattle.vlp_problem.specs.declared.problem.Cone.{Cone}
+use Rattle.vlp_problem.specs.declared.problem.Cone.TheVariants as form_of
 use Rattle.lp_form.specs.Data.{cone_of}
 use Rattle.lp_form.specs.declared.data.ConeOf.TheVariants.{Dual}
 use Rattle.lp_form.proofs.Steps.{row_at}

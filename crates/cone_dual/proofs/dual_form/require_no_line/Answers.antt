@@ -4,7 +4,7 @@ use Rattle.lin_rows.specs.Answers.{IsIndep}
 use Rattle.lin_rows.specs.Read.{numbers}
 use Rattle.lp_form.specs.declared.data.ConeOf.TheVariants.{Dual}
 use Rattle.tableaux.specs.Elimination.{AreIndependent, IsOrthogonal}
-use Rattle.vlp_reader.specs.declared.problem.Cone.{Cone}
+use Rattle.vlp_problem.specs.declared.problem.Cone.{Cone}
 use Rattle.cone_rules.specs.Faults.{HasInterior, HasNoLine, ShowsLine}
 use Rattle.cone_rules.proofs.Ranks.{rank_laws}
 use Rattle.cone_dual.proofs.ByVectors.{rows_wide}

@@ -2,15 +2,15 @@ use Rattle.std.proofs.Common.{◌≡◌, ℕ, List, length, map, ap, sym, subst,
 use Rattle.std.proofs.lemmas.List.Elements.{All-weaker}
 use Rattle.exact_field.specs.Rational.{ℚ, zero_ℚ, ◌≤ℚ◌, ◌<ℚ◌}
 use Rattle.exact_field.proofs.Inequalities.{lt-le_ℚ}
-use Rattle.licence.specs.Operands.{AreBaseShares}
-use Rattle.licence.specs.Trails.{IsMuOff}
+use Rattle.overflow_rules.specs.Operands.{AreBaseShares}
+use Rattle.overflow_rules.specs.Trails.{IsMuOff}
 use Rattle.lin_rows.specs.Read.{numbers}
 use Rattle.lp_form.proofs.Figures.{objective_number}
 use Rattle.lp_form.specs.Programs.{generators}
 use Rattle.polyhedra.specs.Vectors.{AreWide, AtLeastZero, combination}
 use Rattle.tableaux.specs.Elimination.{AreInverse}
 use Rattle.tableaux.specs.Table.{row_of}
-use Rattle.vlp_reader.specs.declared.problem.Cone.{Cone}
+use Rattle.vlp_problem.specs.declared.problem.Cone.{Cone}
 use Rattle.cone_dual.proofs.ByVectors.{cone_at, vectors_at, wide}
 use Rattle.cone_dual.proofs.Ending.{licensed_end}
 use Rattle.cone_dual.proofs.GeneratorsFit.{found_fits, found_off, solid}

@@ -1,7 +1,7 @@
 use Rattle.std.proofs.Common.{length}
 use Rattle.lin_rows.specs.Read.{numbers}
 use Rattle.lp_form.specs.declared.data.ConeOf.TheVariants.{Gens}
-use Rattle.vlp_reader.specs.declared.problem.Cone.{Cone}
+use Rattle.vlp_problem.specs.declared.problem.Cone.{Cone}
 use Rattle.cone_rules.specs.Faults.{HasInterior}
 use Rattle.cone_rules.proofs.Ranks.{rank_laws}
 use Rattle.cone_dual.proofs.ByVectors.{wide}

@@ -2,7 +2,7 @@ use Rattle.std.proofs.Common.{◌≡◌, ℕ, List, ◌-◌, ◌+◌, length, ma
 use Rattle.exact_field.specs.Rational.{ℚ, zero_ℚ, inverse_ℚ, ◌<ℚ◌}
 use Rattle.exact_field.specs.Vector.{entry}
 use Rattle.exact_field.proofs.Inequalities.{positive-not-zero}
-use Rattle.licence.specs.Operands.{IsDivisor, IsScaled}
+use Rattle.overflow_rules.specs.Operands.{IsDivisor, IsScaled}
 use Rattle.lin_rows.specs.Read.{numbers}
 use Rattle.lin_rows.proofs.Summing.{entry_read}
 use Rattle.lp_form.specs.Data.{duality_of}
@@ -11,8 +11,8 @@ use Rattle.polyhedra.specs.Vectors.{scaled}
 use Rattle.std.proofs.lemmas.List.{length-map}
 use Rattle.tableaux.specs.Elimination.{AreInverse}
 use Rattle.tableaux.specs.Table.{row_of}
-use Rattle.vlp_reader.specs.declared.problem.Cone.{Cone}
-use Rattle.vlp_reader.specs.declared.problem.Cone.TheVariants as form_of
+use Rattle.vlp_problem.specs.declared.problem.Cone.{Cone}
+use Rattle.vlp_problem.specs.declared.problem.Cone.TheVariants as form_of
 use Rattle.cone_rules.specs.Faults.{IsGivenInside}
 use Rattle.cone_rules.proofs.Ranks.{rank_laws}
 use Rattle.cone_dual.proofs.ByVectors.{vectors_at, wide}

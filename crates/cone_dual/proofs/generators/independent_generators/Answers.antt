@@ -4,7 +4,7 @@ use Rattle.lin_rows.specs.Answers.{IsIndep}
 use Rattle.lin_rows.specs.Read.{numbers}
 use Rattle.lp_form.specs.declared.data.ConeOf.TheVariants.{Gens}
 use Rattle.tableaux.specs.Elimination.{IsOrthogonal}
-use Rattle.vlp_reader.specs.declared.problem.Cone.{Cone}
+use Rattle.vlp_problem.specs.declared.problem.Cone.{Cone}
 use Rattle.cone_rules.specs.Faults.{ShowsFlat}
 use Rattle.cone_dual.proofs.ByVectors.{wide}
 use Rattle.cone_dual.proofs.Standing.{as_cone, at_file}

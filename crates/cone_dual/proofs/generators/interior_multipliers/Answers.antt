@@ -10,7 +10,7 @@ use Rattle.lp_form.specs.declared.data.ConeOf.TheVariants.{Gens}
 use Rattle.polyhedra.specs.Vectors.{combination}
 use Rattle.tableaux.specs.Simplex.{IsOptimal, IsInfeasible, IsUnbounded, OptimalAt}
 use Rattle.tableaux.specs.Table.{System, Table}
-use Rattle.vlp_reader.specs.declared.problem.Cone.{Cone}
+use Rattle.vlp_problem.specs.declared.problem.Cone.{Cone}
 use Rattle.cone_rules.specs.Faults.{HasInterior, HasNoLine, IsGivenInside, ShowsLast}
 use Rattle.cone_rules.specs.Laws.{IsPositiveCombination}
 use Rattle.cone_rules.proofs.FoundGenerators.{found_program}

@@ -2,7 +2,7 @@ use Rattle.std.proofs.Common.{◌≡◌, ℕ, List, [], length, map, drop, sym, 
 use Rattle.std.proofs.lemmas.Result.{IfOk-weaker}
 use Rattle.exact_field.specs.Rational.{ℚ}
 use Rattle.frac128.specs.declared.vectors.Spot.{Spot}
-use Rattle.vlp_reader.specs.declared.problem.Cone.{Cone}
+use Rattle.vlp_problem.specs.declared.problem.Cone.{Cone}
 use Rattle.cone_rules.specs.Faults.{HasFault, HasInterior, HasNoLine, IsGivenOutside}
 use Rattle.cone_rules.specs.declared.fault.ConeFault.{ConeFault}
 use Rattle.cone_rules.specs.declared.fault.ConeFault.TheVariants.{NotInterior}

@@ -5,8 +5,8 @@ use Rattle.lin_rows.specs.Read.{numbers}
 use Rattle.lp_form.specs.Programs.{nonzero_vectors, zero_combination}
 use Rattle.lp_form.specs.declared.data.ConeOf.TheVariants.{Gens}
 use Rattle.tableaux.specs.Simplex.{IsInfeasible}
-use Rattle.vlp_reader.specs.declared.problem.Cone.{Cone}
-use Rattle.vlp_reader.specs.declared.problem.Cone.TheVariants as form_of
+use Rattle.vlp_problem.specs.declared.problem.Cone.{Cone}
+use Rattle.vlp_problem.specs.declared.problem.Cone.TheVariants as form_of
 use Rattle.cone_rules.specs.Faults.{HasInterior, HasNoLine, IsZeroCombination, ShowsLine}
 use Rattle.cone_rules.proofs.Pointed.{pointed_program}
 use Rattle.cone_dual.proofs.ByVectors.{wide}

@@ -2,10 +2,10 @@ use Rattle.std.proofs.Common.{◌≡◌, ℕ, List, ◌-◌, ◌+◌, length, ma
 use Rattle.std.proofs.lemmas.List.{length-map}
 use Rattle.exact_field.specs.Rational.{ℚ, zero_ℚ, ◌≤ℚ◌}
 use Rattle.exact_field.specs.Vector.{entry}
-use Rattle.licence.specs.Operands.{IsDivisor, IsScaled}
+use Rattle.overflow_rules.specs.Operands.{IsDivisor, IsScaled}
 use Rattle.lin_rows.proofs.Summing.{entry_read}
 use Rattle.lp_form.specs.Data.{cone_of}
-use Rattle.vlp_reader.specs.declared.problem.Cone.{Cone}
+use Rattle.vlp_problem.specs.declared.problem.Cone.{Cone}
 use Rattle.cone_rules.specs.Faults.{HasInterior, HasNoLine, IsGivenInside, ShowsLast}
 use Rattle.cone_dual.proofs.Ending.{licensed_end}
 use Rattle.cone_dual.proofs.Signs.{not_positive}

@@ -4,8 +4,8 @@ use Rattle.std.proofs.lemmas.List.{length-map}
 use Rattle.lp_form.specs.Data.{cone_of, duality_of}
 use Rattle.lp_form.proofs.Figures.{objective_number}
 use Rattle.lp_form.specs.declared.data.ConeOf.TheVariants.{Orthant}
-use Rattle.vlp_reader.specs.declared.problem.Cone.{Cone}
-use Rattle.vlp_reader.specs.declared.problem.Cone.TheVariants as form_of
+use Rattle.vlp_problem.specs.declared.problem.Cone.{Cone}
+use Rattle.vlp_problem.specs.declared.problem.Cone.TheVariants as form_of
 use Rattle.cone_rules.specs.Faults.{HasInterior, HasNoLine, IsGivenInside}
 use Rattle.cone_rules.specs.Laws.{at_last_one}
 use Rattle.cone_rules.proofs.Fitting.{fitting_laws}

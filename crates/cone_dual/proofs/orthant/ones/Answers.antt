@@ -3,8 +3,8 @@ use Rattle.std.proofs.lemmas.Result.{IfOk-weaker}
 use Rattle.exact_field.specs.Rational.{one_ℚ}
 use Rattle.lp_form.specs.Data.{cone_of, duality_of}
 use Rattle.lp_form.proofs.Figures.{objective_number}
-use Rattle.vlp_reader.specs.declared.problem.Cone.{Cone}
-use Rattle.vlp_reader.specs.declared.problem.Cone.TheVariants as form_of
+use Rattle.vlp_problem.specs.declared.problem.Cone.{Cone}
+use Rattle.vlp_problem.specs.declared.problem.Cone.TheVariants as form_of
 use Rattle.cone_rules.specs.Faults.{HasInterior, HasNoLine}
 use Rattle.cone_rules.proofs.Fitting.{fitting_laws}
 use Rattle.cone_rules.proofs.Ranks.{orthant_laws}

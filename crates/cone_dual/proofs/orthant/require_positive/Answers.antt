@@ -4,8 +4,8 @@ use Rattle.frac128.specs.declared.vectors.Spot.{Spot}
 use Rattle.lp_form.specs.Data.{duality_of}
 use Rattle.lp_form.specs.declared.data.ConeOf.TheVariants.{Orthant}
 use Rattle.tableaux.specs.Table.{unit}
-use Rattle.vlp_reader.specs.declared.problem.Cone.{Cone}
-use Rattle.vlp_reader.specs.declared.problem.Cone.TheVariants as form_of
+use Rattle.vlp_problem.specs.declared.problem.Cone.{Cone}
+use Rattle.vlp_problem.specs.declared.problem.Cone.TheVariants as form_of
 use Rattle.cone_rules.specs.Faults.{HasFault, HasInterior, HasNoLine, IsGivenOutside, ShowsOutside}
 use Rattle.cone_rules.proofs.Ranks.{orthant_laws}
 use Rattle.cone_dual.proofs.Standing.{as_cone, as_duality, at_file, given_long}

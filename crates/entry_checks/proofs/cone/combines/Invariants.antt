@@ -1,7 +1,7 @@
 use Rattle.entry_checks.specs.Parts.{entry_events}
 use Rattle.std.proofs.Common.{length}
 use Rattle.exact_field.specs.Vector.{entry}
-use Rattle.vlp_reader.specs.Sides.{numbers_from}
+use Rattle.vlp_problem.specs.Sides.{numbers_from}
 use Rattle.entry_checks.proofs.Going.{IsAt}
 use Rattle.entry_checks.proofs.cone.combines.Given as goal
 

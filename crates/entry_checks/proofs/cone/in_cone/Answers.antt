@@ -3,7 +3,7 @@ use Rattle.std.specs.Prelude.{⊤}
 use Rattle.frac128.specs.Held.{is_held}
 use Rattle.log_rules.specs.Events.{in_cone}
 use Rattle.log_rules.specs.Runs.{Runs}
-use Rattle.vlp_reader.specs.declared.problem.Cone.{Cone}
+use Rattle.vlp_problem.specs.declared.problem.Cone.{Cone}
 use Rattle.entry_checks.proofs.cone.in_cone.Goals as goal
 
 pub returns-in-Orthant : goal.returns-in-Orthant

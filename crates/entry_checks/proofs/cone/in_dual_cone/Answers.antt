@@ -4,7 +4,7 @@ use Rattle.frac128.specs.Held.{is_held}
 use Rattle.log_rules.specs.Events.{in_cone}
 use Rattle.log_rules.specs.Runs.{Runs}
 use Rattle.upper_image.specs.OrderingCone.{dual_of}
-use Rattle.vlp_reader.specs.declared.problem.Cone.{Cone}
+use Rattle.vlp_problem.specs.declared.problem.Cone.{Cone}
 use Rattle.entry_checks.proofs.cone.in_dual_cone.Goals as goal
 
 pub returns-in-Orthant : goal.returns-in-Orthant

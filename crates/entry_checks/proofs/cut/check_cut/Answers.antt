@@ -10,13 +10,13 @@ use Rattle.log_rules.specs.declared.rule.Rule.TheVariants as rule
 use Rattle.upper_image.specs.Spots.{dense}
 use Rattle.upper_image.specs.OrderingCone.{dual_of}
 use Rattle.upper_image.proofs.Widths.{length-dense}
-use Rattle.vlp_reader.specs.Sides.{sides, side_bounds}
+use Rattle.vlp_problem.specs.Sides.{sides, side_bounds}
 use Rattle.entry_checks.specs.Parts.{balances_events, bound_events, scaled_events}
 use Rattle.entry_checks.proofs.Going.{Passed, Stopped, stopped-in, stopped-later, Ran, ran-after, spots-within, room-in, room-after}
 use Rattle.entry_checks.proofs.Going.{whole-run}
 use Rattle.entry_checks.proofs.MatrixEvents.{balances-as, columns-columns, length-bounds, cut-matrices, vectors-as}
 use Rattle.std.specs.Prelude.{Ok}
-use Rattle.vlp_reader.specs.Cones.{cone_fits}
+use Rattle.vlp_problem.specs.Cones.{cone_fits}
 use Rattle.deriv_log.specs.declared.entry.Entry.{Entry}
 use Rattle.deriv_log.specs.declared.entry.Entry.TheVariants as entry
 use Rattle.log_rules.specs.Live.{duality_vector}

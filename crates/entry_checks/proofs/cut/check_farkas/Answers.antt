@@ -6,7 +6,7 @@ use Rattle.log_rules.specs.Events.{Event, places_within, values_positive, farkas
 use Rattle.log_rules.specs.Runs.{Runs, Stops, steps}
 use Rattle.upper_image.specs.Spots.{dense}
 use Rattle.upper_image.proofs.Widths.{length-dense}
-use Rattle.vlp_reader.specs.Sides.{sides, side_bounds}
+use Rattle.vlp_problem.specs.Sides.{sides, side_bounds}
 use Rattle.entry_checks.specs.Parts.{contradiction_events, positive_events}
 use Rattle.entry_checks.proofs.Going.{Passed, Stopped, stopped-in, stopped-later, Ran, ran-after, spots-within, room-in, room-after}
 use Rattle.entry_checks.proofs.Going.{whole-run}

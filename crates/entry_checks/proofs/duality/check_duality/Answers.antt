@@ -16,7 +16,7 @@ use Rattle.log_rules.specs.Events.{duality_events, follows_given, interior, has_
 use Rattle.polyhedra.proofs.Tests.{both_true}
 use Rattle.std.specs.Prelude.{◌&&◌}
 use Rattle.std.proofs.lemmas.Bool.{eqb-true}
-use Rattle.vlp_reader.specs.Cones.{cone_fits, duality_fits}
+use Rattle.vlp_problem.specs.Cones.{cone_fits, duality_fits}
 use Rattle.entry_checks.proofs.StepBounds.{steps-duality}
 use Rattle.entry_checks.proofs.duality.check_duality.Goals as goal
 

@@ -12,8 +12,8 @@ use Rattle.entry_checks.proofs.Going.{test-as}
 use Rattle.log_rules.specs.Events.{follows_given}
 use Rattle.std.specs.Prelude.{Option, None}
 use Rattle.std.proofs.lemmas.Bool.{eqb-true}
-use Rattle.vlp_reader.specs.declared.problem.Cone.{Cone}
-use Rattle.vlp_reader.specs.Cones.{duality_fits}
+use Rattle.vlp_problem.specs.declared.problem.Cone.{Cone}
+use Rattle.vlp_problem.specs.Cones.{duality_fits}
 use Rattle.entry_checks.proofs.MatrixEvents.{follow-as}
 use Rattle.entry_checks.proofs.duality.follows_given.Goals as goal
 

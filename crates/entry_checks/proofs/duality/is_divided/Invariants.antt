@@ -1,6 +1,6 @@
 use Rattle.std.proofs.Common.{length}
 use Rattle.exact_field.specs.Vector.{entry}
-use Rattle.vlp_reader.specs.Sides.{numbers_from}
+use Rattle.vlp_problem.specs.Sides.{numbers_from}
 use Rattle.entry_checks.specs.Parts.{quotient_events}
 use Rattle.entry_checks.proofs.Going.{IsAt}
 use Rattle.entry_checks.proofs.duality.is_divided.Given as goal

@@ -8,8 +8,8 @@ use Rattle.log_rules.specs.declared.rule.Rule.TheVariants as rule
 use Rattle.upper_image.proofs.Widths.{vectors_wide}
 use Rattle.entry_checks.proofs.Going.{test-as}
 use Rattle.log_rules.specs.Events.{interior}
-use Rattle.vlp_reader.specs.declared.problem.Cone.{Cone}
-use Rattle.vlp_reader.specs.Cones.{cone_fits}
+use Rattle.vlp_problem.specs.declared.problem.Cone.{Cone}
+use Rattle.vlp_problem.specs.Cones.{cone_fits}
 use Rattle.entry_checks.proofs.duality.is_interior.Goals as goal
 
 pub is_solid-requires-clause-widths : goal.is_solid-requires-clause-widths

@@ -14,7 +14,7 @@ use Rattle.entry_checks.proofs.MatrixEvents.{above-matrices, rest-matrices, rows
 use Rattle.upper_image.proofs.WorkingImage.{rest_wide}
 use Rattle.entry_checks.proofs.MatrixEvents.{vectors-as, rest-as, differences-as}
 use Rattle.std.specs.Prelude.{Ok}
-use Rattle.vlp_reader.specs.Cones.{cone_fits}
+use Rattle.vlp_problem.specs.Cones.{cone_fits}
 use Rattle.entry_checks.proofs.image.above.Goals as goal
 
 pub returns-in_err-values : goal.returns-in_err-values

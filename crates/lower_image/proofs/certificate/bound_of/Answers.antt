@@ -1,8 +1,8 @@
 use Rattle.std.proofs.Common.{◌≡◌, List, map, subst, inl, refl}
 use Rattle.exact_field.specs.Rational.{ℚ}
-use Rattle.vlp_reader.specs.Sides.{side_bounds}
+use Rattle.vlp_problem.specs.Sides.{side_bounds}
 use Rattle.deriv_log.specs.declared.entry.Entry.{Entry}
-use Rattle.licence.specs.Operands.{AreMultiplied}
+use Rattle.overflow_rules.specs.Operands.{AreMultiplied}
 use Rattle.overflows.specs.Faults.{IsTermAt, Overflows}
 use Rattle.benson_program.proofs.Read.{bounds_in}
 use Rattle.lower_image.proofs.certificate.bound_of.Goals as goal

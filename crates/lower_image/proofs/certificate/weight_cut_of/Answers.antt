@@ -1,10 +1,10 @@
 use Rattle.std.proofs.Common.{List, map, subst, sym, ap, ◌∙◌, refl, rules, length}
 use Rattle.exact_field.specs.Rational.{ℚ}
 use Rattle.exact_field.specs.Vector.{dot}
-use Rattle.vlp_reader.specs.Sides.{side_bounds}
+use Rattle.vlp_problem.specs.Sides.{side_bounds}
 use Rattle.lp_form.specs.declared.name.LpName.{LpName}
 use Rattle.lp_form.specs.Reading.{AreParts, HasColumns}
-use Rattle.licence.specs.Operands.{IsBaseU}
+use Rattle.overflow_rules.specs.Operands.{IsBaseU}
 use Rattle.lower_image.proofs.WeightEnds.{weight_cut}
 use Rattle.lower_image.proofs.Read.{base_u, columns_in, made, sides_in, wide_in}
 use Rattle.lower_image.proofs.certificate.weight_cut_of.Goals as goal

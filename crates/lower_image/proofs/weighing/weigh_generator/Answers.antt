@@ -4,13 +4,13 @@ use Rattle.std.proofs.lemmas.List.{length-map}
 use Rattle.exact_field.specs.Rational.{ℚ}
 use Rattle.exact_field.specs.Vector.{dot, entry}
 use Rattle.exact_field.proofs.Comparison.{same_ℚ-is}
-use Rattle.vlp_reader.specs.Sides.{side_bounds}
+use Rattle.vlp_problem.specs.Sides.{side_bounds}
 use Rattle.lp_form.specs.Programs.{u_of}
 use Rattle.lp_form.proofs.Figures.{objective_number}
 use Rattle.upper_image.specs.OrderingCone.{IsInDualCone}
-use Rattle.licence.specs.Base.{IsBaseRow, IsBaseWeight, weight_of}
-use Rattle.licence.specs.Operands.{IsBaseX}
-use Rattle.licence.specs.Turns.{IsRowTurn}
+use Rattle.overflow_rules.specs.Base.{IsBaseRow, IsBaseWeight, weight_of}
+use Rattle.overflow_rules.specs.Operands.{IsBaseX}
+use Rattle.overflow_rules.specs.Turns.{IsRowTurn}
 use Rattle.outer_approx.specs.Task.{behind}
 use Rattle.lower_image.proofs.WeightEnds.{weight_cut}
 use Rattle.lower_image.proofs.Weights.{bound_entry, c_wide, certifies, choice, choice_turns, empty_said, long_enough, optimum_said, ray, ray_turns, told, wide}

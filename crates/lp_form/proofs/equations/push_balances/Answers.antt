@@ -8,7 +8,7 @@ use Rattle.lin_rows.specs.Lines.{entries, sum_at}
 use Rattle.lin_rows.specs.declared.cells.Cell.{Cell}
 use Rattle.lp_form.specs.declared.data.SideOf.{SideOf}
 use Rattle.upper_image.specs.UpperImage.{objective_column}
-use Rattle.vlp_reader.specs.Sides.{side_column}
+use Rattle.vlp_problem.specs.Sides.{side_column}
 use Rattle.lp_form.specs.Building.{joined}
 use Rattle.lp_form.specs.Programs.{on_parts}
 use Rattle.lp_form.specs.Shapes.{are_places}

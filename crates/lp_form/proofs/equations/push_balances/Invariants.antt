@@ -3,8 +3,8 @@ use Rattle.polyhedra.specs.Negatives.{negated}
 use Rattle.polyhedra.specs.Vectors.{zeros}
 use Rattle.tableaux.specs.Table.{listed}
 use Rattle.upper_image.specs.UpperImage.{objective_column}
-use Rattle.vlp_reader.specs.Sides.{side_column}
-use Rattle.vlp_reader.specs.declared.problem.Problem.{Problem}
+use Rattle.vlp_problem.specs.Sides.{side_column}
+use Rattle.vlp_problem.specs.declared.problem.Problem.{Problem}
 use Rattle.lp_form.specs.Building.{joined}
 use Rattle.lp_form.specs.Data.{IsDataOf}
 use Rattle.lp_form.specs.Programs.{on_parts}

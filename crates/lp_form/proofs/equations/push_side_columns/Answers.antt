@@ -4,7 +4,7 @@ use Rattle.exact_field.specs.Rational.{ℚ}
 use Rattle.tableaux.specs.Table.{listed}
 use Rattle.lin_rows.specs.Lines.{entries, sum_at}
 use Rattle.lp_form.specs.declared.data.SideOf.{SideOf}
-use Rattle.vlp_reader.specs.Sides.{side_column}
+use Rattle.vlp_problem.specs.Sides.{side_column}
 use Rattle.lp_form.specs.Building.{joined}
 use Rattle.lp_form.specs.Shapes.{are_places}
 use Rattle.lp_form.proofs.Joined.{joined_more}

@@ -1,7 +1,7 @@
 use Rattle.std.proofs.Common.{◌≡◌, ◌++◌, map}
 use Rattle.tableaux.specs.Table.{listed}
-use Rattle.vlp_reader.specs.Sides.{side_column}
-use Rattle.vlp_reader.specs.declared.problem.Problem.{Problem}
+use Rattle.vlp_problem.specs.Sides.{side_column}
+use Rattle.vlp_problem.specs.declared.problem.Problem.{Problem}
 use Rattle.lp_form.specs.Building.{joined}
 use Rattle.lp_form.specs.Data.{IsDataOf}
 use Rattle.lp_form.proofs.equations.push_side_columns.Given as goal

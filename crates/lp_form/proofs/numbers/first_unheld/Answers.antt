@@ -1,5 +1,5 @@
 use Rattle.std.proofs.Common.{not, sym, ap, ◌∙◌}
-use Rattle.vlp_reader.proofs.Pieces.{not_yet_element, found_element}
+use Rattle.vlp_problem.proofs.Pieces.{not_yet_element, found_element}
 use Rattle.lp_form.proofs.numbers.first_unheld.Goals as goal
 
 pub returns-then-not-is_held : goal.returns-then-not-is_held

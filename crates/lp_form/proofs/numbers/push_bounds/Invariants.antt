@@ -1,6 +1,6 @@
 use Rattle.std.proofs.Common.{◌≡◌, ◌++◌, take}
 use Rattle.std.specs.List.{flat_map}
-use Rattle.vlp_reader.specs.Values.{bound_numbers}
+use Rattle.vlp_problem.specs.Values.{bound_numbers}
 use Rattle.lp_form.proofs.numbers.push_bounds.Given as goal
 
 abbrev pub invariant-loop-bound : goal.invariant-loop-bound

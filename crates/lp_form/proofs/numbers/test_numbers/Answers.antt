@@ -1,6 +1,6 @@
 use Rattle.std.proofs.Common.{not, sym, ap, ◌∙◌}
 use Rattle.std.specs.List.{find}
-use Rattle.vlp_reader.specs.Values.{printed_numbers}
+use Rattle.vlp_problem.specs.Values.{printed_numbers}
 use Rattle.lp_form.proofs.Held.{all_held, first_unheld}
 use Rattle.lp_form.proofs.numbers.test_numbers.Goals as goal
 

@@ -3,7 +3,7 @@ use Rattle.std.specs.Prelude.{if◌then◌else◌}
 use Rattle.exact_field.specs.Rational.{ℚ}
 use Rattle.polyhedra.specs.Negatives.{negated}
 use Rattle.polyhedra.specs.Vectors.{zeros}
-use Rattle.vlp_reader.specs.Sides.{side_bounds}
+use Rattle.vlp_problem.specs.Sides.{side_bounds}
 use Rattle.lp_form.specs.Programs.{on_parts, dual_unknowns, side_total}
 use Rattle.lp_form.proofs.Figures.{objective_number}
 use Rattle.lp_form.proofs.Joined.{parts_pushed}

@@ -1,7 +1,7 @@
 use Rattle.std.proofs.Common.{◌++◌, map, ap, ◌∙◌}
 use Rattle.polyhedra.specs.Vectors.{zeros}
 use Rattle.tableaux.specs.Table.{listed}
-use Rattle.vlp_reader.specs.Sides.{side_column, side_bounds}
+use Rattle.vlp_problem.specs.Sides.{side_column, side_bounds}
 use Rattle.lp_form.specs.Building.{joined}
 use Rattle.lp_form.specs.Programs.{feasible_system}
 use Rattle.lp_form.proofs.Systems.{feasible_ok}

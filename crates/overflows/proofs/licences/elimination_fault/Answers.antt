@@ -1,7 +1,7 @@
 use Rattle.std.proofs.Common.{List, ap, ◌∙◌, subst}
 use Rattle.exact_field.specs.Rational.{ℚ}
 use Rattle.deriv_log.specs.declared.licence.Place.TheVariants.{Elim}
-use Rattle.licence.specs.Steps.{in_numbers}
+use Rattle.overflow_rules.specs.Steps.{in_numbers}
 use Rattle.lin_rows.specs.Eliminate.{IsElimFault}
 use Rattle.lin_rows.specs.Read.{numbers}
 use Rattle.overflows.specs.declared.fault.SolveFault.TheVariants.{Left}

@@ -1,9 +1,9 @@
 use Rattle.std.proofs.Common.{ap, ◌∙◌, subst}
-use Rattle.deriv_log.specs.declared.licence.Program.{Program}
+use Rattle.vlp_problem.specs.declared.program.Program.{Program}
 use Rattle.deriv_log.specs.declared.licence.Place.TheVariants.{Pivot}
 use Rattle.exact_simplex.specs.Ends.{IsLpFault}
-use Rattle.licence.specs.Operands.{system_in}
-use Rattle.licence.specs.Steps.{in_numbers}
+use Rattle.overflow_rules.specs.Operands.{system_in}
+use Rattle.overflow_rules.specs.Steps.{in_numbers}
 use Rattle.lp_form.specs.Names.{named}
 use Rattle.overflows.specs.declared.fault.SolveFault.TheVariants.{Left}
 use Rattle.overflows.proofs.Licensed.{program_overflows}

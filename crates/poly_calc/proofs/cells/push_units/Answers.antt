@@ -1,7 +1,7 @@
 use Rattle.std.proofs.Common.{◌+◌, List, [], ◌∷◌, ◌++◌, sym, ap, ap₂, ◌∙◌, append_assoc}
 use Rattle.exact_field.specs.Rational.{ℚ, one_ℚ}
-use Rattle.vlp_reader.specs.declared.problem.Cell.{Cell}
-use Rattle.vlp_reader.proofs.Numbers.{map_numbers-push}
+use Rattle.vlp_problem.specs.declared.problem.Cell.{Cell}
+use Rattle.vlp_problem.proofs.Numbers.{map_numbers-push}
 use Rattle.projection.specs.Associated.{cell}
 use Rattle.poly_calc.specs.Made.{unit_cells}
 use Rattle.poly_calc.proofs.cells.push_units.Goals as goal

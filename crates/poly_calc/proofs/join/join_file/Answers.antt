@@ -1,7 +1,7 @@
 use Rattle.std.proofs.Common.{◌≡◌, ℕ, ◌+◌, IsTrue, sym, ap₂, ◌∙◌, subst, List, length}
-use Rattle.vlp_reader.specs.Cells.{are_cells}
-use Rattle.vlp_reader.specs.Sides.{sides}
-use Rattle.vlp_reader.specs.declared.problem.Cell.{Cell}
+use Rattle.vlp_problem.specs.Cells.{are_cells}
+use Rattle.vlp_problem.specs.Sides.{sides}
+use Rattle.vlp_problem.specs.declared.problem.Cell.{Cell}
 use Rattle.poly_calc.specs.Made.{join_cells, join_row_bounds, join_col_bounds, IsMade}
 use Rattle.poly_calc.proofs.JoinBlocks.{join_block}
 use Rattle.poly_calc.proofs.Parts.{same_parts}

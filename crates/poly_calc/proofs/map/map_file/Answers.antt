@@ -1,8 +1,8 @@
 use Rattle.std.proofs.Common.{◌+◌, ◌++◌, IsTrue, sym, subst, List, replicate}
 use Rattle.exact_field.specs.Rational.{zero_ℚ}
-use Rattle.vlp_reader.specs.Cells.{are_cells}
-use Rattle.vlp_reader.specs.declared.problem.Bound.TheVariants.{Free, Fixed}
-use Rattle.vlp_reader.specs.declared.problem.Cell.{Cell}
+use Rattle.vlp_problem.specs.Cells.{are_cells}
+use Rattle.vlp_problem.specs.declared.problem.Bound.TheVariants.{Free, Fixed}
+use Rattle.vlp_problem.specs.declared.problem.Cell.{Cell}
 use Rattle.poly_calc.specs.Made.{map_cells}
 use Rattle.poly_calc.proofs.Blocks.{map_block}
 use Rattle.poly_calc.proofs.Parts.{same_parts}

@@ -1,7 +1,7 @@
 use Rattle.std.proofs.Common.{◌≡◌, ◌+◌, ℕ, List, ◌++◌, All, sym, ap, ◌∙◌, subst, arith}
 use Rattle.std.specs.List.{flat_map}
-use Rattle.vlp_reader.specs.Sides.{numbers_from}
-use Rattle.vlp_reader.specs.declared.problem.Cell.{Cell}
+use Rattle.vlp_problem.specs.Sides.{numbers_from}
+use Rattle.vlp_problem.specs.declared.problem.Cell.{Cell}
 use Rattle.poly_calc.specs.Made.{value_row, IsNear}
 use Rattle.poly_calc.proofs.Blocks.{near, rows-more}
 use Rattle.poly_calc.proofs.map.map_matrix.Goals as goal

@@ -1,6 +1,6 @@
 use Rattle.std.proofs.Common.{◌+◌, ◌++◌, IsTrue, sym, subst, List}
-use Rattle.vlp_reader.specs.Cells.{are_cells}
-use Rattle.vlp_reader.specs.declared.problem.Cell.{Cell}
+use Rattle.vlp_problem.specs.Cells.{are_cells}
+use Rattle.vlp_problem.specs.declared.problem.Cell.{Cell}
 use Rattle.poly_calc.specs.Made.{meet_cells}
 use Rattle.poly_calc.proofs.Blocks.{meet_block}
 use Rattle.poly_calc.proofs.Parts.{same_parts}

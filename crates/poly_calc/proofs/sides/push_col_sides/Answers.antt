@@ -1,8 +1,8 @@
 use Rattle.std.proofs.Common.{◌≡◌, ℕ, ◌+◌, ◌<◌, ◌≤◌, List, ◌++◌, take, length, slice_index_or, sym, ap, ◌∙◌, subst, arith}
 use Rattle.exact_field.specs.Rational.{ℚ}
 use Rattle.polyhedra.specs.Inequality.{Inequality}
-use Rattle.vlp_reader.specs.Sides.{unit, sides_of, sides_from}
-use Rattle.vlp_reader.specs.declared.problem.Bound.{Bound}
+use Rattle.vlp_problem.specs.Sides.{unit, sides_of, sides_from}
+use Rattle.vlp_problem.specs.declared.problem.Bound.{Bound}
 use Rattle.poly_calc.specs.Made.{side_rows}
 use Rattle.poly_calc.proofs.Parts.{numbers_length}
 use Rattle.poly_calc.proofs.SideLists.{rows_then, number_then, sides-more}

@@ -1,5 +1,5 @@
 use Rattle.std.proofs.Common.{◌≡◌, ◌+◌, ◌*◌, ◌≤◌, ◌++◌, take, length}
-use Rattle.vlp_reader.specs.Sides.{unit, sides_from}
+use Rattle.vlp_problem.specs.Sides.{unit, sides_from}
 use Rattle.poly_calc.specs.Made.{side_rows}
 use Rattle.poly_calc.proofs.sides.push_col_sides.Given as goal
 

@@ -1,6 +1,6 @@
 use Rattle.std.proofs.Common.{◌≡◌, ◌+◌, Bool, cond, List, [], ◌∷◌, ◌++◌, take, sym, ap, ◌∙◌, arith, append-nil, append_assoc}
 use Rattle.frac128.specs.Sparse.{is_zero}
-use Rattle.vlp_reader.specs.declared.problem.Cell.{Cell}
+use Rattle.vlp_problem.specs.declared.problem.Cell.{Cell}
 use Rattle.projection.specs.Associated.{cell}
 use Rattle.poly_calc.specs.Made.{row_cells}
 use Rattle.poly_calc.proofs.SideLists.{entries-more}

@@ -1,4 +1,4 @@
-use Rattle.vlp_reader.specs.Sides.{row_vector, unit, sides_from}
+use Rattle.vlp_problem.specs.Sides.{row_vector, unit, sides_from}
 use Rattle.poly_calc.proofs.SideLists.{rows_then}
 use Rattle.poly_calc.proofs.sides.push_sides.Goals as goal
 

@@ -1,7 +1,7 @@
 use Rattle.std.proofs.Common.{List, [], ◌∷◌, ◌++◌, sym, ap₂, ◌∙◌}
 use Rattle.exact_field.specs.Rational.{ℚ}
-use Rattle.vlp_reader.specs.Cells.{coefficient}
-use Rattle.vlp_reader.proofs.Numbers.{map_numbers-push}
+use Rattle.vlp_problem.specs.Cells.{coefficient}
+use Rattle.vlp_problem.proofs.Numbers.{map_numbers-push}
 use Rattle.poly_calc.proofs.sides.row_of.Goals as goal
 
 pub loop-before-preserved : goal.loop-before-preserved

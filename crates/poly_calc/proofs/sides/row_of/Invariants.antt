@@ -1,6 +1,6 @@
 use Rattle.std.proofs.Common.{◌≡◌, map}
-use Rattle.vlp_reader.specs.Cells.{coefficient}
-use Rattle.vlp_reader.specs.Sides.{numbers_from}
+use Rattle.vlp_problem.specs.Cells.{coefficient}
+use Rattle.vlp_problem.specs.Sides.{numbers_from}
 use Rattle.poly_calc.proofs.sides.row_of.Given as goal
 
 abbrev pub invariant-loop-before : goal.invariant-loop-before

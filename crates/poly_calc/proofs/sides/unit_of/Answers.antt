@@ -1,6 +1,6 @@
 use Rattle.std.proofs.Common.{◌==◌, cond, List, [], ◌∷◌, ◌++◌, sym, ap₂, ◌∙◌}
 use Rattle.exact_field.specs.Rational.{ℚ, zero_ℚ, one_ℚ}
-use Rattle.vlp_reader.proofs.Numbers.{map_numbers-push}
+use Rattle.vlp_problem.proofs.Numbers.{map_numbers-push}
 use Rattle.poly_calc.proofs.sides.unit_of.Goals as goal
 
 pub loop-before-preserved : goal.loop-before-preserved

@@ -1,7 +1,7 @@
 use Rattle.std.proofs.Common.{◌≡◌, ◌+◌, ℕ, List, ◌++◌, sym, ap, ◌∙◌, arith, append_assoc}
 use Rattle.std.specs.List.{flat_map}
-use Rattle.vlp_reader.specs.Sides.{numbers_from}
-use Rattle.vlp_reader.specs.declared.problem.Cell.{Cell}
+use Rattle.vlp_problem.specs.Sides.{numbers_from}
+use Rattle.vlp_problem.specs.declared.problem.Cell.{Cell}
 use Rattle.poly_calc.specs.Made.{sum_row}
 use Rattle.poly_calc.proofs.Blocks.{rows-more}
 use Rattle.poly_calc.proofs.sum.push_sum_rows.Goals as goal

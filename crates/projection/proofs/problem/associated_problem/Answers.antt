@@ -1,6 +1,6 @@
 use Rattle.std.proofs.Common.{◌≡◌, List, sym, subst, true}
-use Rattle.vlp_reader.specs.Cells.{are_cells}
-use Rattle.vlp_reader.specs.declared.problem.Cell.{Cell}
+use Rattle.vlp_problem.specs.Cells.{are_cells}
+use Rattle.vlp_problem.specs.declared.problem.Cell.{Cell}
 use Rattle.projection.proofs.AssociatedCells.{made_are_cells}
 use Rattle.projection.proofs.problem.associated_problem.Goals as goal
 

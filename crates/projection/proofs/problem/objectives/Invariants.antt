@@ -1,6 +1,6 @@
 use Rattle.std.proofs.Common.{◌≡◌, ◌++◌, suc, map}
 use Rattle.exact_field.specs.Rational.{one_ℚ, neg_ℚ}
-use Rattle.vlp_reader.specs.Sides.{numbers_from}
+use Rattle.vlp_problem.specs.Sides.{numbers_from}
 use Rattle.projection.specs.Associated.{cell}
 use Rattle.projection.proofs.problem.objectives.Given as goal
 

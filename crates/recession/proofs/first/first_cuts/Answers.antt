@@ -1,5 +1,5 @@
 use Rattle.lin_rows.proofs.Errors.{err_holds}
-use Rattle.licence.specs.Licence.{Licensed}
+use Rattle.overflow_rules.specs.Licence.{Licensed}
 use Rattle.overflows.specs.Faults.{OnLicence}
 use Rattle.outer_approx.specs.Task.{behind}
 use Rattle.benson_program.specs.Ends.{IsFeasibleEnd}

@@ -1,6 +1,6 @@
 use Rattle.std.proofs.Common.{◌≡◌, replicate}
 use Rattle.exact_field.specs.Rational.{zero_ℚ, one_ℚ}
-use Rattle.vlp_reader.specs.declared.problem.Bound.TheVariants.{Double}
+use Rattle.vlp_problem.specs.declared.problem.Bound.TheVariants.{Double}
 use Rattle.sample_file.proofs.file.unit_bounds.Given as goal
 
 abbrev pub invariant-loop : goal.invariant-loop

@@ -4,7 +4,7 @@ use Rattle.std.proofs.lemmas.Result.{IfOk-weaker}
 use Rattle.exact_field.specs.Rational.{ℚ, neg_ℚ, one_ℚ}
 use Rattle.polyhedra.specs.Negatives.{negated}
 use Rattle.tableaux.specs.Table.{row_of}
-use Rattle.vlp_reader.specs.declared.problem.Cone.{Cone}
+use Rattle.vlp_problem.specs.declared.problem.Cone.{Cone}
 use Rattle.lin_rows.specs.Lines.{entries}
 use Rattle.lin_rows.specs.Read.{numbers}
 use Rattle.lin_rows.specs.declared.cells.Cell.{Cell}

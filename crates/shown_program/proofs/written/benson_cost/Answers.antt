@@ -3,7 +3,7 @@ use Rattle.std.proofs.lemmas.List.{length-append, length-map, map-append}
 use Rattle.exact_field.specs.Rational.{neg_ℚ}
 use Rattle.polyhedra.specs.Vectors.{zeros}
 use Rattle.std.specs.Prelude.{if◌then◌else◌}
-use Rattle.vlp_reader.specs.Sides.{side_bounds}
+use Rattle.vlp_problem.specs.Sides.{side_bounds}
 use Rattle.lp_form.specs.Programs.{dual_unknowns, side_total}
 use Rattle.lp_form.proofs.Figures.{objective_number}
 use Rattle.lp_form.proofs.Systems.{length-zeros}

@@ -2,7 +2,7 @@ use Rattle.std.proofs.Common.{◌++◌, ◌∙◌, ap, arith, length, map}
 use Rattle.std.proofs.lemmas.Result.{IfOk-weaker}
 use Rattle.polyhedra.specs.Vectors.{zeros}
 use Rattle.tableaux.proofs.Places.{length-list_from}
-use Rattle.vlp_reader.specs.Sides.{side_column}
+use Rattle.vlp_problem.specs.Sides.{side_column}
 use Rattle.lp_form.specs.Programs.{feasible_system}
 use Rattle.lp_form.proofs.Systems.{feasible_ok}
 use Rattle.shown_program.specs.Entries.{across}

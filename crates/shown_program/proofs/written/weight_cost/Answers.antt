@@ -1,8 +1,8 @@
 use Rattle.std.proofs.Common.{◌≡◌, ◌∙◌, ap, arith, length, map, subst, sym}
 use Rattle.std.proofs.lemmas.List.{length-append, length-map, map-append}
 use Rattle.polyhedra.specs.Vectors.{zeros}
-use Rattle.vlp_reader.specs.Sides.{side_bounds}
-use Rattle.vlp_reader.specs.declared.problem.Cone.{Cone}
+use Rattle.vlp_problem.specs.Sides.{side_bounds}
+use Rattle.vlp_problem.specs.declared.problem.Cone.{Cone}
 use Rattle.lp_form.specs.Programs.{on_parts}
 use Rattle.lp_form.proofs.Figures.{objective_number}
 use Rattle.lp_form.proofs.Systems.{length-zeros}

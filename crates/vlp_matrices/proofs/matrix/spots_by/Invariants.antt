@@ -1,5 +1,5 @@
 use Rattle.std.proofs.Common.{◌≡◌, map, take}
-use Rattle.vlp_reader.specs.Sides.{numbers_from}
+use Rattle.vlp_problem.specs.Sides.{numbers_from}
 use Rattle.vlp_matrices.specs.Matrices.{spots_in}
 use Rattle.vlp_matrices.proofs.matrix.spots_by.Given as goal
 

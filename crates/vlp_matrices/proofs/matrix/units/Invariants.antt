@@ -1,5 +1,5 @@
 use Rattle.std.proofs.Common.{◌≡◌, map}
-use Rattle.vlp_reader.specs.Sides.{numbers_from}
+use Rattle.vlp_problem.specs.Sides.{numbers_from}
 use Rattle.vlp_matrices.specs.Matrices.{unit_spots}
 use Rattle.vlp_matrices.proofs.matrix.units.Given as goal
 

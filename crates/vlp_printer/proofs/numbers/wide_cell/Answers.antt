@@ -1,6 +1,6 @@
 use Rattle.std.proofs.Common.{sym, ◌∙◌, not}
 use Rattle.vlp_printer.specs.Decimal.{is_decimal}
-use Rattle.vlp_reader.proofs.Pieces.{not_yet_value, found_value}
+use Rattle.vlp_problem.proofs.Pieces.{not_yet_value, found_value}
 use Rattle.vlp_printer.proofs.numbers.wide_cell.Goals as goal
 
 pub returns-then-is_wide : goal.returns-then-is_wide

@@ -1,6 +1,6 @@
 use Rattle.std.proofs.Common.{sym, ◌∙◌, not}
 use Rattle.vlp_printer.specs.Decimal.{is_decimal}
-use Rattle.vlp_reader.proofs.Pieces.{not_yet_element, found_element}
+use Rattle.vlp_problem.proofs.Pieces.{not_yet_element, found_element}
 use Rattle.vlp_printer.proofs.numbers.wide_entry.Goals as goal
 
 pub returns-then-is_wide : goal.returns-then-is_wide

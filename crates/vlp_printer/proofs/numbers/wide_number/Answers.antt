@@ -1,11 +1,11 @@
 use Rattle.std.proofs.Common.{sym, ◌∙◌, ◌++◌, not, ap, map, Some, List}
 use Rattle.std.specs.List.{find, flat_map}
 use Rattle.exact_field.specs.Rational.{ℚ}
-use Rattle.vlp_reader.specs.declared.problem.Bound.{Bound}
-use Rattle.vlp_reader.specs.declared.problem.Cell.{Cell}
+use Rattle.vlp_problem.specs.declared.problem.Bound.{Bound}
+use Rattle.vlp_problem.specs.declared.problem.Cell.{Cell}
 use Rattle.vlp_printer.specs.Decimal.{is_decimal}
-use Rattle.vlp_reader.specs.Values.{bound_numbers, cone_vectors, duality_entries}
-use Rattle.vlp_reader.proofs.Pieces.{found_first}
+use Rattle.vlp_problem.specs.Values.{bound_numbers, cone_vectors, duality_entries}
+use Rattle.vlp_problem.proofs.Pieces.{found_first}
 use Rattle.vlp_printer.proofs.Lists.{found_behind}
 use Rattle.vlp_printer.proofs.numbers.wide_number.Goals as goal
 

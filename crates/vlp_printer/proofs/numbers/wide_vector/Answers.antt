@@ -1,7 +1,7 @@
 use Rattle.std.proofs.Common.{sym, ◌∙◌, not, ap}
 use Rattle.std.specs.List.{find}
 use Rattle.vlp_printer.specs.Decimal.{is_decimal}
-use Rattle.vlp_reader.proofs.Pieces.{not_yet, found_at}
+use Rattle.vlp_problem.proofs.Pieces.{not_yet, found_at}
 use Rattle.vlp_printer.proofs.numbers.wide_vector.Goals as goal
 
 pub returns-in-Some : goal.returns-in-Some

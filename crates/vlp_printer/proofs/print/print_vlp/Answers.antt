@@ -1,6 +1,6 @@
 use Rattle.std.proofs.Common.{◌≡◌, arith, sym, ◌∙◌}
 use Rattle.std.proofs.lemmas.Grind.{common_steps}
-use Rattle.vlp_reader.specs.Values.{printed_numbers}
+use Rattle.vlp_problem.specs.Values.{printed_numbers}
 use Rattle.vlp_printer.specs.Printing.{problem_text}
 use Rattle.vlp_printer.proofs.RoundTrip.{prints_problem}
 use Rattle.vlp_printer.proofs.WordNumbers.{first_without_word}

@@ -1,6 +1,6 @@
 use Rattle.std.proofs.Common.{sym, ◌∙◌, ◌++◌, ◌∷◌, [], ap, decimal, List, ℕ}
 use Rattle.std.proofs.lemmas.Bool.{cond-false}
-use Rattle.vlp_reader.specs.Sides.{is_unsaid}
+use Rattle.vlp_problem.specs.Sides.{is_unsaid}
 use Rattle.vlp_printer.specs.Printing.{bound_words}
 use Rattle.vlp_printer.proofs.WordByWord.{Has, first_word, next_word, more_words, ended_line}
 use Rattle.vlp_printer.proofs.print.put_bound.Goals as goal

@@ -1,6 +1,6 @@
 use Rattle.std.proofs.Common.{sym, ◌∷◌, [], ◌+◌, ◌-◌, ap, slice_index_or}
-use Rattle.vlp_reader.specs.declared.problem.Bound.{Bound}
-use Rattle.vlp_reader.specs.declared.problem.Bound.TheVariants.{Unsaid}
+use Rattle.vlp_problem.specs.declared.problem.Bound.{Bound}
+use Rattle.vlp_problem.specs.declared.problem.Bound.TheVariants.{Unsaid}
 use Rattle.vlp_printer.specs.Printing.{bound_line}
 use Rattle.vlp_printer.proofs.Lists.{at_number, numbers_more}
 use Rattle.vlp_printer.proofs.print.put_bounds.Goals as goal

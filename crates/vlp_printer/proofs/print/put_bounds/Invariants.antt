@@ -1,7 +1,7 @@
 use Rattle.std.proofs.Common.{◌≡◌, ◌++◌, ◌∷◌, [], ◌-◌, slice_index_or}
 use Rattle.std.specs.List.{flat_map}
-use Rattle.vlp_reader.specs.Sides.{numbers_from}
-use Rattle.vlp_reader.specs.declared.problem.Bound.TheVariants.{Unsaid}
+use Rattle.vlp_problem.specs.Sides.{numbers_from}
+use Rattle.vlp_problem.specs.declared.problem.Bound.TheVariants.{Unsaid}
 use Rattle.vlp_printer.specs.Printing.{bound_line}
 use Rattle.vlp_printer.proofs.print.put_bounds.Given as goal
 

@@ -1,7 +1,7 @@
 use Rattle.std.proofs.Common.{◌≡◌, ◌++◌}
 use Rattle.std.specs.List.{flat_map}
 use Rattle.exact_field.specs.Vector.{entry}
-use Rattle.vlp_reader.specs.Sides.{numbers_from}
+use Rattle.vlp_problem.specs.Sides.{numbers_from}
 use Rattle.std.proofs.Common.{codes}
 use Rattle.vlp_printer.specs.Printing.{entry_line}
 use Rattle.vlp_printer.proofs.print.put_duality.Given as goal

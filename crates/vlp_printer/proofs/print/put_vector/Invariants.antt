@@ -1,7 +1,7 @@
 use Rattle.std.proofs.Common.{◌≡◌, ◌++◌}
 use Rattle.std.specs.List.{flat_map}
 use Rattle.exact_field.specs.Vector.{entry}
-use Rattle.vlp_reader.specs.Sides.{numbers_from}
+use Rattle.vlp_problem.specs.Sides.{numbers_from}
 use Rattle.vlp_printer.specs.Printing.{vector_entry}
 use Rattle.vlp_printer.proofs.print.put_vector.Given as goal
 

@@ -1,6 +1,6 @@
 use Rattle.std.proofs.Common.{◌≡◌, ◌++◌, [], ◌-◌, slice_index_or}
 use Rattle.std.specs.List.{flat_map}
-use Rattle.vlp_reader.specs.Sides.{numbers_from}
+use Rattle.vlp_problem.specs.Sides.{numbers_from}
 use Rattle.vlp_printer.specs.Printing.{vector_text}
 use Rattle.vlp_printer.proofs.print.put_vectors.Given as goal
 

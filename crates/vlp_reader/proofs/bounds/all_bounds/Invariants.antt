@@ -1,5 +1,5 @@
 use Rattle.std.proofs.Common.{◌≡◌, map, take, unwrap_or}
-use Rattle.vlp_reader.specs.declared.problem.Bound.TheVariants.{Unsaid}
+use Rattle.vlp_problem.specs.declared.problem.Bound.TheVariants.{Unsaid}
 use Rattle.vlp_reader.proofs.bounds.all_bounds.Given as goal
 
 abbrev pub invariant-loop-bound : goal.invariant-loop-bound

@@ -4,7 +4,7 @@ use Rattle.exact_field.specs.Vector.{dot}
 use Rattle.lin_rows.proofs.Errors.{err_holds}
 use Rattle.log_rules.specs.declared.answer.Gen.{Gen}
 use Rattle.std.proofs.lemmas.List.Elements.{All-map}
-use Rattle.vlp_reader.specs.declared.problem.Dir.{Dir}
+use Rattle.vlp_problem.specs.declared.problem.Dir.{Dir}
 use Rattle.weighing.specs.Stages.{point, point_items, IsPassed, IsTaken}
 use Rattle.weighing.specs.Walk.{IsProductLeft, StopsWalk}
 use Rattle.weighing.proofs.Walks.{all_more, all_done, map_more, points_passed, stuck_at}

@@ -1,5 +1,5 @@
 use Rattle.std.proofs.Common.{◌≡◌, map}
-use Rattle.vlp_reader.specs.Sides.{numbers_from}
+use Rattle.vlp_problem.specs.Sides.{numbers_from}
 use Rattle.weighing.specs.Sets.{lists_with}
 use Rattle.weighing.proofs.sets.weight_sets.Given as goal
 

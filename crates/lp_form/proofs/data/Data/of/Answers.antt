@@ -11,7 +11,7 @@ use Rattle.upper_image.proofs.Widths.{map-map, length-numbers}
 use Rattle.upper_image.specs.Spots.{dense}
 use Rattle.upper_image.specs.UpperImage.{objective}
 use Rattle.polyhedra.specs.Sparse as sparse
-use Rattle.vlp_reader.specs.Sides.{numbers_from}
+use Rattle.vlp_problem.specs.Sides.{numbers_from}
 use Rattle.vlp_matrices.proofs.Cells.{few_sides}
 use Rattle.lp_form.proofs.data.Data.of.Goals as goal
 

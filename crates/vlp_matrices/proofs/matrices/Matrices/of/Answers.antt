@@ -3,14 +3,14 @@ use Rattle.std.proofs.lemmas.List.{length-map}
 use Rattle.exact_field.specs.Rational.{ℚ}
 use Rattle.frac128.specs.declared.vectors.Spot.{Spot}
 use Rattle.upper_image.specs.Spots.{IsVector, dense}
-use Rattle.vlp_reader.specs.Sides.{sides, numbers_from}
+use Rattle.vlp_problem.specs.Sides.{sides, numbers_from}
 use Rattle.vlp_matrices.specs.Matrices.{spots_in, cells_from}
-use Rattle.vlp_reader.specs.declared.problem.Cell.{Cell}
+use Rattle.vlp_problem.specs.declared.problem.Cell.{Cell}
 use Rattle.vlp_matrices.proofs.Cells.{matrices-stands}
 use Rattle.vlp_matrices.proofs.Cells.{few_sides}
-use Rattle.vlp_reader.specs.declared.problem.Dir.TheVariants.{Min}
-use Rattle.vlp_reader.specs.declared.statement.Axis.TheVariants.{Row, Column}
-use Rattle.vlp_reader.specs.Cells.{are_cells}
+use Rattle.vlp_problem.specs.declared.problem.Dir.TheVariants.{Min}
+use Rattle.vlp_problem.specs.declared.problem.Axis.TheVariants.{Row, Column}
+use Rattle.vlp_problem.specs.Cells.{are_cells}
 use Rattle.vlp_matrices.proofs.matrices.Matrices.of.Goals as goal
 
 pub of_rows-requires-clause-rows : goal.of_rows-requires-clause-rows

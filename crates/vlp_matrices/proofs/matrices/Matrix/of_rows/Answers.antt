@@ -1,6 +1,6 @@
 use Rattle.std.proofs.Common.{sym, subst, ap, ◌∙◌, ◌≤◌, List, length, All}
 use Rattle.vlp_matrices.specs.Matrices.{cells_from}
-use Rattle.vlp_reader.specs.declared.problem.Cell.{Cell}
+use Rattle.vlp_problem.specs.declared.problem.Cell.{Cell}
 use Rattle.vlp_matrices.proofs.Cells.{each_cell, cells_from-are}
 use Rattle.vlp_matrices.proofs.matrices.Matrix.of_rows.Goals as goal
 

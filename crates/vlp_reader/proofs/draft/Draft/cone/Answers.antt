@@ -1,9 +1,9 @@
 use Rattle.std.proofs.Common.{ap, ◌∙◌, sym, ◌++◌, ◌∷◌, [], List, map, ℕ, arith}
 use Rattle.exact_field.specs.Rational.{ℚ}
-use Rattle.vlp_reader.specs.Sides.{numbers_from}
+use Rattle.vlp_problem.specs.Sides.{numbers_from}
 use Rattle.vlp_reader.specs.Tables.{table_column}
 use Rattle.vlp_reader.proofs.Drafts.{cone_if_dual, cone_if_not}
-use Rattle.vlp_reader.proofs.Numbers.{map_numbers-push}
+use Rattle.vlp_problem.proofs.Numbers.{map_numbers-push}
 use Rattle.vlp_reader.proofs.draft.Draft.cone.Goals as goal
 
 pub loop-before-preserved : goal.loop-before-preserved

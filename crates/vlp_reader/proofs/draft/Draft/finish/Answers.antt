@@ -1,12 +1,12 @@
 use Rattle.std.proofs.Common.{refl, ℕ, IsTrue, length, map, unwrap_or, ap, sym, ◌∙◌, subst, arith}
 use Rattle.std.proofs.lemmas.List.{length-map}
 use Rattle.exact_field.specs.Rational.{zero_ℚ}
-use Rattle.vlp_reader.specs.Cells.{are_cells}
-use Rattle.vlp_reader.specs.Cones.{cone_fits, duality_fits}
+use Rattle.vlp_problem.specs.Cells.{are_cells}
+use Rattle.vlp_problem.specs.Cones.{cone_fits, duality_fits}
 use Rattle.vlp_reader.specs.Grammar.{must}
 use Rattle.vlp_reader.specs.declared.fault.FileKind.TheVariants.{CountWrong}
-use Rattle.vlp_reader.specs.declared.problem.Bound.TheVariants.{Unsaid}
-use Rattle.vlp_reader.specs.declared.statement.Axis.TheVariants.{Row, Column}
+use Rattle.vlp_problem.specs.declared.problem.Bound.TheVariants.{Unsaid}
+use Rattle.vlp_problem.specs.declared.problem.Axis.TheVariants.{Row, Column}
 use Rattle.vlp_reader.specs.declared.statement.Matrix.TheVariants.{Constraints, Objectives}
 use Rattle.vlp_reader.proofs.Drafts.{within_limits, draft_cone_fits, draft_duality_fits, cone_same, duality_same, bounds_same}
 use Rattle.vlp_reader.proofs.draft.Draft.finish.Goals as goal

@@ -1,5 +1,5 @@
 use Rattle.std.proofs.Common.{refl, ◌∙◌, ap, List, Option, get_or, None}
-use Rattle.vlp_reader.specs.declared.problem.Bound.{Bound}
+use Rattle.vlp_problem.specs.declared.problem.Bound.{Bound}
 use Rattle.vlp_reader.proofs.Drafts.{has_begun, by_matrix, by_axis, nothing_at}
 use Rattle.vlp_reader.proofs.draft.Draft.new.Goals as goal
 

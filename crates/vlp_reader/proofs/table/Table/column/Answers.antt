@@ -1,8 +1,8 @@
 use Rattle.std.proofs.Common.{ap, ◌∙◌, sym, ◌++◌, ◌∷◌, [], List, map, unwrap_or}
 use Rattle.exact_field.specs.Rational.{ℚ, zero_ℚ}
 use Rattle.vlp_reader.specs.Places.{given}
-use Rattle.vlp_reader.specs.Sides.{numbers_from}
-use Rattle.vlp_reader.proofs.Numbers.{map_numbers-push}
+use Rattle.vlp_problem.specs.Sides.{numbers_from}
+use Rattle.vlp_problem.proofs.Numbers.{map_numbers-push}
 use Rattle.vlp_reader.proofs.table.Table.column.Goals as goal
 
 pub loop-before-preserved : goal.loop-before-preserved

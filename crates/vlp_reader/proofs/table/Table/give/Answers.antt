@@ -1,7 +1,7 @@
 use Rattle.std.proofs.Common.{◌&&◌, ◌==◌, ◌+◌, if◌then◌else◌, Some, is_some, ap, sym, ◌∙◌}
 use Rattle.std.specs.BTreeMap.{btree_map_len}
 use Rattle.exact_field.specs.Rational.{ℚ}
-use Rattle.vlp_reader.specs.Cells.{is_within}
+use Rattle.vlp_problem.specs.Cells.{is_within}
 use Rattle.vlp_reader.specs.Grammar.{number_value}
 use Rattle.vlp_reader.specs.Places.{given}
 use Rattle.vlp_reader.proofs.Tables.{given_more, within_insert, entry_passes}

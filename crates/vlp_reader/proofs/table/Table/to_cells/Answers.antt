@@ -3,8 +3,8 @@ use Rattle.std.specs.Prelude.{unsigned_abs}
 use Rattle.std.proofs.lemmas.Bool.{eq-eqb, ne_eqb}
 use Rattle.std.proofs.lemmas.Int.{ints}
 use Rattle.std.proofs.lemmas.List.{append_assoc, append-nil}
-use Rattle.vlp_reader.specs.Cells.{are_cells, coefficient}
-use Rattle.vlp_reader.specs.declared.problem.Cell.{Cell}
+use Rattle.vlp_problem.specs.Cells.{are_cells, coefficient}
+use Rattle.vlp_problem.specs.declared.problem.Cell.{Cell}
 use Rattle.vlp_reader.proofs.Tables.{cells_of, are_cells_of, coefficient_of, cells_of-zero, cells_of-some}
 use Rattle.vlp_reader.proofs.table.Table.to_cells.Goals as goal
 
