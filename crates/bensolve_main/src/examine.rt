@@ -6,8 +6,8 @@ ghost use Rattle.bensolve_main.specs.World.{channel};
 ghost use Rattle.bensolve_main.specs.Stages.{HaltsEnd, HaltsReading, LogTold, TellsEnd};
 ghost use Rattle.bensolve_main.specs.Reading.{log_limit};
 
-use cert_check::{Answer, Refusal, StreamEnd, check_from};
 use crate::reading::long_reply;
+use cert_check::{Answer, Refusal, StreamEnd, check_from};
 use sol_writer::report;
 use src_sink::{NoMemory, Source};
 use statuses::{LogRefusal, Reply, Status, refused_reply, step_reply};

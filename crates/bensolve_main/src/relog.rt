@@ -12,8 +12,8 @@ ghost use Rattle.bensolve_main.specs.Reading.{log_limit};
 ghost use Rattle.bensolve_main.specs.Relog.{Relogged};
 ghost use Rattle.bensolve_main.specs.Stages.{HaltsReading, LogTold};
 
-use cert_check::{Refusal, StreamEnd, check};
 use crate::examine::{LOG_LIMIT, end_reply};
+use cert_check::{Refusal, StreamEnd, check};
 use deriv_log::{Entries, LogEnd, read_log};
 use log_upgrade::upgrade_text;
 use src_sink::{Source, read_all};

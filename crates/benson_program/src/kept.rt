@@ -12,8 +12,8 @@ use crate::written::Written;
 use bounded_simplex::Engine;
 use exact_field::Field;
 use lp_form::{Data, LpName};
-use shown_program::optimum_of;
 use shown_bases::{Guess, Optimum};
+use shown_program::optimum_of;
 use src_sink::NoMemory;
 use std::alloc::Global;
 

@@ -156,7 +156,8 @@ impl Engine {
     }
 
     /// A guess at the optimum of the program of the weight `w`. There is none where a number is too
-    /// long, the steps are too many, or there is no solution; and none where the cone is in dual form.
+    /// long, the steps are too many, or there is no solution; and none where the cone is in dual
+    /// form.
     pub fn guess_weight<F: Field>(
         &mut self,
         form: &Data<F>,

@@ -63,8 +63,8 @@ impl Dual {
         Ok(basis)
     }
 
-    /// The columns of the program of a weight that the variables outside the basis name, and those of
-    /// the weight.
+    /// The columns of the program of a weight that the variables outside the basis name, and those
+    /// of the weight.
     fn basis_at<'a, F: Field>(&self, form: &'a Data<F>, w: &[F]) -> Result<Basis<'a, F>, Stop> {
         let mut basis = Basis::new(self.solver.alloc, form, Layout::of_weight(form));
         let mut no_weights = Vec::new(self.solver.alloc);
@@ -166,8 +166,8 @@ impl Dual {
         Ok(())
     }
 
-    /// The multipliers of the equations of the program of a weight: those of the entries of w are the
-    /// values of the objectives.
+    /// The multipliers of the equations of the program of a weight: those of the entries of w are
+    /// the values of the objectives.
     fn multipliers_of_weight<F: Field>(&self, form: &Data<F>) -> Result<Items<F>, Stop> {
         let values = self.values()?;
         let mut y = self.choice(form, &values)?;

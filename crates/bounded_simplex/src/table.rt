@@ -153,7 +153,8 @@ impl<'a, F: Field> Basis<'a, F> {
         self.push_signed(i, value)
     }
 
-    /// The same where the entry is given: it is in the equation that says so, and in none of the cone.
+    /// The same where the entry is given: it is in the equation that says so, and in none of the
+    /// cone.
     pub(crate) fn push_given(&mut self, i: usize, value: F) -> Result<(), Stop> {
         let form = self.form;
         push_places(&mut self.lists, item(form.p.as_slice(), i)?.as_slice())?;

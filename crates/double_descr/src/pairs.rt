@@ -91,8 +91,8 @@ pub fn share_enough<F: Field>(plus: &Generator<F>, minus: &Generator<F>) -> bool
     plus.tight.shares(&minus.tight, least)
 }
 
-/// Whether no third generator covers the pair. None does where at most one tight row of either is not
-/// tight at the other; so many pairs need no scan.
+/// Whether no third generator covers the pair. None does where at most one tight row of either is
+/// not tight at the other; so many pairs need no scan.
 pub fn are_adjacent<F: Field>(
     generators: &[Generator<F>],
     plus: &Generator<F>,

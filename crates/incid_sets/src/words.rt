@@ -102,8 +102,8 @@ pub fn have_at_least(words: &[u64], count: u32) -> bool
     missing == 0
 }
 
-/// How many numbers of a word the word `i` of others has too. That one is not read for a word without
-/// a number.
+/// How many numbers of a word the word `i` of others has too. That one is not read for a word
+/// without a number.
 fn common_count(word: u64, other: &[u64], i: usize) -> usize
     ensures { result ≡ count_ones (bit_and word (slice_index other.now i)) }
 {
@@ -113,7 +113,8 @@ fn common_count(word: u64, other: &[u64], i: usize) -> usize
     (word & word_at(other, i)).count_ones() as usize
 }
 
-/// Whether the two have at least as many common numbers as `count`. It stops at the first words that do.
+/// Whether the two have at least as many common numbers as `count`. It stops at the first words
+/// that do.
 pub fn share_at_least(a: &[u64], b: &[u64], count: usize) -> bool
     ensures { (bound : ℕ) → AreBounded (common_words a.now b.now) bound
         → IsTrue result ↔ (count ≤ size (marks_below bound (common_words a.now b.now))) }

@@ -15,8 +15,8 @@ mod repeats;
 mod vectors;
 mod walk;
 
-use cert_check::{Refusal, check};
 use crate::logs::{copy_log, is_second, make_upgrade, make_upgrade_text};
+use cert_check::{Refusal, check};
 use deriv_log::{Entries, print_log};
 use src_sink::{Bytes, NoMemory};
 use std::alloc::Global;

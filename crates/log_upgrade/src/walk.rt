@@ -13,8 +13,8 @@ ghost use Rattle.log_upgrade.specs.Repeats.{AreStandings};
 ghost use Rattle.log_upgrade.specs.Walk.{in_place, placed, IsFirst, IsNext, IsPut, StandsAt, IsUpgraded, IsWhole, IsWholeText};
 ghost use Rattle.log_upgrade.specs.declared.repeats.Repeats.{Repeats};
 
-use cert_check::Checker;
 use crate::repeats::{Place, Repeats, vector_of};
+use cert_check::Checker;
 use deriv_log::{Entries, Entry, LogPair, print_line};
 use frac128::Spot;
 use src_sink::{Bytes, Items, NoMemory};

@@ -89,9 +89,9 @@ pub(crate) fn weight_name<F: Field>(alloc: Global, w: &[F]) -> Result<LpName<F>,
     Ok(LpName::Weight { w: weight })
 }
 
-/// How the program of the weight `w` ends. `c` is the duality vector. From what is kept of the program
-/// of another weight an optimum is guessed; where the guess is not shown to be one, the table is
-/// pivoted from the last basis on, since w stands on the right side alone.
+/// How the program of the weight `w` ends. `c` is the duality vector. From what is kept of the
+/// program of another weight an optimum is guessed; where the guess is not shown to be one, the
+/// table is pivoted from the last basis on, since w stands on the right side alone.
 pub fn weight_end<F: Field>(
     alloc: Global,
     form: &Data<F>,

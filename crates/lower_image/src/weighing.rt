@@ -31,8 +31,8 @@ use std::alloc::Global;
 pub enum Weighed<F: Drop> {
     /// The generator stands for a cut.
     Certified(Cut<F>),
-    /// It stands for none: the row of a point or of a direction of the image, which is negative at the
-    /// generator.
+    /// It stands for none: the row of a point or of a direction of the image, which is negative at
+    /// the generator.
     Row(Items<F>),
 }
 

@@ -11,13 +11,13 @@ ghost use Rattle.shown_program.specs.Program.{IsProgramOf};
 ghost use Rattle.shown_program.specs.Tests.{AreInRange, Passes};
 
 use crate::columns::Columns;
-use shown_bases::{Guess, Optimum};
 use crate::order::is_shown;
 use crate::prices::are_prices;
 use crate::solution::{are_allowed, solve, spread};
 use crate::written::columns_of;
 use exact_field::Field;
 use lp_form::{Data, LpName};
+use shown_bases::{Guess, Optimum};
 use src_sink::{Items, NoMemory};
 use std::alloc::Global;
 
@@ -121,10 +121,10 @@ fn optimum_at<F: Field>(
     Ok(Some(Optimum { x, dual, basis }))
 }
 
-/// The optimum that a guess shows for a named program, whose columns are not written into one table.
-/// There is none where a test fails, or a number is not held that a test calculates; and none for the
-/// programs of the cone, and for that of a weight where the cone is in dual form, which are not tested.
-/// `c` is the duality vector, which only `Benson` uses.
+/// The optimum that a guess shows for a named program, whose columns are not written into one
+/// table. There is none where a test fails, or a number is not held that a test calculates; and
+/// none for the programs of the cone, and for that of a weight where the cone is in dual form,
+/// which are not tested. `c` is the duality vector, which only `Benson` uses.
 ///
 /// The cost is linear in the entries of the columns that are not 0, but for the columns that leave
 /// equations together: these are eliminated.

@@ -376,8 +376,8 @@ fn benson_columns<'a, F: Field>(
     assembled(alloc, form, others, right, cost)
 }
 
-/// The column of unknown `i` of w in the program of a weight: the negative of its objective, and 1 in
-/// the equation that gives its entry.
+/// The column of unknown `i` of w in the program of a weight: the negative of its objective, and 1
+/// in the equation that gives its entry.
 fn given_column<F: Field>(alloc: Global, form: &Data<F>, i: u32) -> Result<Items<Cell<F>>, NoMemory>
     requires low { 1 ≤ i }
     requires high { i ≤ length form.now.p }
@@ -474,8 +474,8 @@ fn weight_columns<'a, F: Field>(
     }
 }
 
-/// A named program by its columns: none for the programs of the cone, and for that of a weight where
-/// the cone is in dual form.
+/// A named program by its columns: none for the programs of the cone, and for that of a weight
+/// where the cone is in dual form.
 pub(crate) fn columns_of<'a, F: Field>(
     alloc: Global,
     form: &'a Data<F>,

@@ -8,10 +8,10 @@ ghost use Rattle.lp_form.specs.Data.{IsDataOf};
 ghost use Rattle.overflows.specs.Faults.{OnLicence};
 ghost use Rattle.solver.specs.Solving.{EndsIn, IsFacetLogAnyhow};
 
+use crate::end::SolveEnd;
 use benson_dual::dual;
 use benson_primal::primal;
 use cone_dual::{Duality, cone_facts};
-use crate::end::SolveEnd;
 use deriv_log::{Entries, Licence};
 use exact_field::Field;
 use lp_form::Data;

@@ -8,8 +8,8 @@ ghost use Rattle.overflows.specs.Faults.{OnLicence, Overflows};
 ghost use Rattle.cert_check.specs.Verdict.{Accepts};
 ghost use Rattle.solver.specs.Own.{IsStepLicence};
 
-use cert_check::{Refusal, check};
 use crate::end::Solution;
+use cert_check::{Refusal, check};
 use deriv_log::{Entries, Licence, Place};
 use overflows::SolveFault;
 use std::alloc::Global;

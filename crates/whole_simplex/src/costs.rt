@@ -70,7 +70,8 @@ impl Solver {
         Ok(multipliers)
     }
 
-    /// Writes the costs: the multiple of each variable outside the basis, less what the row has there.
+    /// Writes the costs: the multiple of each variable outside the basis, less what the row has
+    /// there.
     fn write_costs(&mut self, factors: &[i128]) -> Result<(), Stop> {
         for j in 0..self.variables.len() {
             let cost = if item(&self.variables, j)?.place == Place::Basic {

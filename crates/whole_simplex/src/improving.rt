@@ -8,13 +8,13 @@ use std::cmp::Ordering;
 /// A bound that ends a step.
 #[derive(Clone, Copy, Debug)]
 struct Barrier {
-    /// The row whose variable comes to a bound. There is none where the variable that moves comes to
-    /// its other bound.
+    /// The row whose variable comes to a bound. There is none where the variable that moves comes
+    /// to its other bound.
     row: Option<usize>,
     /// Whether it is the bound from below.
     below: bool,
-    /// How far the variable is from the bound, and by how much it comes nearer: the step's length is
-    /// their quotient.
+    /// How far the variable is from the bound, and by how much it comes nearer: the step's length
+    /// is their quotient.
     gap: u128,
     size: u128,
 }
@@ -60,8 +60,9 @@ fn gap_of(gap: i128) -> u128 {
 
 impl Solver {
     /// Goes to a basis at which the costs have the signs that the bounds ask for, from one whose
-    /// values keep the bounds, and answers whether there is one: if not, the sum has no least value.
-    /// Declines where a number is too long, or the steps are too many; then the solver is given up.
+    /// values keep the bounds, and answers whether there is one: if not, the sum has no least
+    /// value. Declines where a number is too long, or the steps are too many; then the solver is
+    /// given up.
     pub fn improve(&mut self) -> Result<bool, Stop> {
         for _turn in 0..self.most_turns() {
             let Some(variable) = self.gaining()? else {
@@ -88,8 +89,8 @@ impl Solver {
         Ok(best)
     }
 
-    /// Moves a variable that gains until it or another one comes to a bound: if none does, it is not
-    /// moved.
+    /// Moves a variable that gains until it or another one comes to a bound: if none does, it is
+    /// not moved.
     fn advance(&mut self, variable: usize) -> Result<bool, Stop> {
         let rises = at(&self.costs, variable)? < 0;
         let column = self.column(variable)?;
