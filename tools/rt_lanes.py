@@ -4,11 +4,12 @@
     rt_lanes.py WORDS
 
 `rt all check --jobs N` hands N crates at a time to its workers, lowest first, and a worker that has a crate waits until those
-below it are built, while others that could be proved wait for a worker. Here a crate is begun once those below it are built, and
-of several that one first on which the longest chain of others stands, by their lines. The sources of a crate are summed up once:
-some kits sum them up once for each path through the lists of libraries, and nothing writes to the launcher's copy of the sources
-while it builds. The quick pass over all sources that comes before the proofs, and proves nothing, is left out. What is proved,
-and how, is the kit's. Where `rt` is no such program, it runs itself.
+below it are built, while others that could be proved wait for a worker. Here a crate is begun once those below it are built, of
+several that one first on which the longest chain of others stands, by their lines; and where fewer crates are ready than there
+are processors, each is proved by more jobs, four at most. The sources of a crate are summed up once: some kits sum them up once
+for each path through the lists of libraries, and nothing writes to the launcher's copy of the sources while it builds. The quick
+pass over all sources that comes before the proofs, and proves nothing, is left out. What is proved, and how, is the kit's. Where
+`rt` is no such program, it runs itself.
 """
 import functools
 import importlib.machinery
@@ -44,6 +45,12 @@ def lines_of(folder):
     return count
 
 
+# The most jobs by which one crate is proved.
+MOST_JOBS = 4
+# How many jobs each crate that is being proved may use.
+JOBS = {}
+
+
 class Lanes(ThreadPoolExecutor):
     """Workers for calls on crates, which are handed in lowest first: a call is begun once those on the crates below have ended."""
 
@@ -60,7 +67,8 @@ class Lanes(ThreadPoolExecutor):
         task = call, given[0], Future()
         with self.lock:
             self.waiting.append(task)
-            self.begin()
+            # (others are handed in at once, so each of the first gets one job)
+            self.begin(1)
         return task[-1]
 
     def chains(self):
@@ -71,14 +79,16 @@ class Lanes(ThreadPoolExecutor):
             chains[crate] = lines_of(crate.folder) + max(above, default=0)
         return chains
 
-    def begin(self):
-        """Begins as many calls as there are idle workers."""
+    def begin(self, most):
+        """Begins as many calls as there are idle workers, those first that the longest chains wait for, with at most so many jobs each."""
         is_ready = lambda task: self.ended.issuperset(task[1].below())
         ready, chains = list(filter(is_ready, self.waiting)), self.chains()
         ready.sort(key=lambda task: -chains[task[1]])
-        for task in ready[: self.idle]:
+        for at, task in enumerate(ready[: self.idle]):
+            jobs = max(1, min(most, self.idle // (len(ready) - at)))
             self.waiting.remove(task)
-            self.idle -= 1
+            self.idle -= jobs
+            JOBS[task[1]] = jobs
             super().submit(self.work, *task)
 
     def work(self, call, crate, future):
@@ -88,8 +98,19 @@ class Lanes(ThreadPoolExecutor):
             future.set_exception(fault)
         with self.lock:
             self.ended.add(crate)
-            self.idle += 1
-            self.begin()
+            self.idle += JOBS.pop(crate)
+            self.begin(MOST_JOBS)
+
+
+def in_jobs(method):
+    """The method of a crate that takes rattle's flags, with as many jobs as the crate may use in place of one."""
+
+    def call(crate, flags, *given, **named):
+        if flags == ["--jobs", "1"]:
+            flags = ["--jobs", str(JOBS.get(crate, 1))]
+        return method(crate, flags, *given, **named)
+
+    return call
 
 
 def loaded(path):
@@ -102,6 +123,7 @@ def loaded(path):
     crate.stamp = kept(crate.stamp, str)
     crate.below = kept(crate.below, list)
     crate.front_end = lambda _: 0
+    crate.build_rlib, crate.check = in_jobs(crate.build_rlib), in_jobs(crate.check)
     module.rtlib.ThreadPoolExecutor = Lanes
     return module
 
