@@ -44,7 +44,6 @@ def lines_of(folder):
     return count
 
 
-
 # The most jobs by which one crate is proved.
 MOST_JOBS = 4
 # How many jobs each crate that is being proved may use.
