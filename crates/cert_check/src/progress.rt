@@ -26,13 +26,8 @@ use std::alloc::Global;
 use vlp_problem::{Dir, Problem};
 
 /// What is known of a log's entries so far, none of whose events fails. After an error of `take`
-/// the value is of no use. It takes memory for the cuts, the lines, the shared vectors, and the
-/// live generators with their tight sets and pre-images, and none for what is live no more.
-///
-/// Each entry costs what the tests and operations of its kind cost, and a copy of what it gives.
-/// The most is that of an `add`: at the worst its opposite pairs times the generators times the
-/// words of a tight set. The first entry that compares rows makes their sets, once: rows times
-/// generators.
+/// the value is of no use. It takes memory for what the entries gave, and none for what is live no
+/// more.
 #[derive(Debug, Drop)]
 pub struct Progress {
     pub known: Known,
