@@ -78,8 +78,8 @@ fn put_duality(duality: &Vector, into: &mut Bytes) -> Result<(), NoMemory>
     ensures { OnOk result (into.new ≡ into.old ++ duality_text duality.now) }
 {
     let entries = duality.as_slice();
-    for before in 0..entries.len() {
-        put_entry(b'k', before as u128 + 1, 0, entries[before], into)?;
+    for (before, entry) in entries.iter().enumerate() {
+        put_entry(b'k', before as u128 + 1, 0, *entry, into)?;
     }
     Ok(())
 }
@@ -99,8 +99,8 @@ fn put_vector(col: u128, vector: &Vector, into: &mut Bytes) -> Result<(), NoMemo
     ensures { OnOk result (into.new ≡ into.old ++ vector_text col vector.now) }
 {
     let entries = vector.as_slice();
-    for before in 0..entries.len() {
-        put_vector_entry(before as u128 + 1, col, entries[before], into)?;
+    for (before, entry) in entries.iter().enumerate() {
+        put_vector_entry(before as u128 + 1, col, *entry, into)?;
     }
     Ok(())
 }
@@ -110,8 +110,8 @@ fn put_vectors(vectors: &Vectors, into: &mut Bytes) -> Result<(), NoMemory>
     ensures { OnOk result (into.new ≡ into.old ++ vectors_text vectors.now) }
 {
     let list = vectors.as_slice();
-    for before in 0..list.len() {
-        put_vector(before as u128 + 1, &list[before], into)?;
+    for (before, vector) in list.iter().enumerate() {
+        put_vector(before as u128 + 1, vector, into)?;
     }
     Ok(())
 }
@@ -169,8 +169,8 @@ fn put_bounds(letter: u8, bounds: &Items<Bound>, into: &mut Bytes) -> Result<(),
     ensures { OnOk result (into.new ≡ into.old ++ bounds_text (letter ∷ []) bounds.now) }
 {
     let list = bounds.as_slice();
-    for before in 0..list.len() {
-        put_bound(letter, before as u128 + 1, &list[before], into)?;
+    for (before, bound) in list.iter().enumerate() {
+        put_bound(letter, before as u128 + 1, bound, into)?;
     }
     Ok(())
 }
