@@ -76,7 +76,7 @@ pub(crate) fn push_bounds(
 ) -> Result<(), NoMemory>
     ensures { OnOk result (bounds.new ≡ bounds.old ++ replicate count bound.now) }
 {
-    for _i in 0..count {
+    for _ in 0..count {
         bounds.push(*bound)?;
     }
     Ok(())

@@ -161,9 +161,9 @@ fn push_row_sides(
 {
     let bounds = problem.row_bounds.as_slice();
     let mut next = from;
-    for i in 0..bounds.len() {
+    for (i, bound) in bounds.iter().enumerate() {
         let normal = row_of(alloc, problem, i as u32 + 1)?;
-        next = push_bound(alloc, cells, next, columns, normal.as_slice(), &bounds[i])?;
+        next = push_bound(alloc, cells, next, columns, normal.as_slice(), bound)?;
     }
     Ok(next)
 }
@@ -187,9 +187,9 @@ fn push_col_sides(
 {
     let bounds = problem.col_bounds.as_slice();
     let mut next = from;
-    for i in 0..bounds.len() {
+    for (i, bound) in bounds.iter().enumerate() {
         let normal = unit_of(alloc, problem.cols, i as u32 + 1)?;
-        next = push_bound(alloc, cells, next, columns, normal.as_slice(), &bounds[i])?;
+        next = push_bound(alloc, cells, next, columns, normal.as_slice(), bound)?;
     }
     Ok(next)
 }
