@@ -1,13 +1,19 @@
 //! The duals of Benson's program and of that of a weight, and their part on the sides alone.
 use crate::meaning::{Bound, Dual, Kind, Meaning};
 use exact_field::Field;
-use lp_form::{At, ConeOf, Data};
+use lp_form::{At, ConeOf, Data, SideOf};
 use src_sink::Items;
 use std::alloc::Global;
-use whole_simplex::{Program, Ratio, Solver, Stop, Term, at, item, put};
+use whole_programs::{Program, Ratio, Stop, Term, at, item, put};
+use whole_simplex::Solver;
 
 pub(crate) fn is_zero<F: Field>(x: F) -> bool {
     x.sign() == 0
+}
+
+/// The place of an entry, from 0.
+pub(crate) fn place_of<F: Field>(cell: &At<F>) -> usize {
+    (cell.at as usize).saturating_sub(1)
 }
 
 /// Whether a vector is the negative of another.
@@ -15,8 +21,8 @@ fn are_opposite<F: Field>(one: &[At<F>], other: &[At<F>]) -> bool {
     if one.len() != other.len() {
         return false;
     }
-    for k in 0..one.len() {
-        if one[k].at != other[k].at || one[k].value != other[k].value.neg() {
+    for (x, y) in one.iter().zip(other) {
+        if x.at != y.at || x.value != y.value.neg() {
             return false;
         }
     }
@@ -25,14 +31,13 @@ fn are_opposite<F: Field>(one: &[At<F>], other: &[At<F>]) -> bool {
 
 /// The column that a side bounds alone, by its number from 0, and whether from below.
 fn bounded_column<F: Field>(g: &[At<F>]) -> Option<(usize, bool)> {
-    if g.len() != 1 {
+    let [cell] = g else {
         return None;
-    }
-    let column = (g[0].at as usize).saturating_sub(1);
-    if g[0].value == F::one() {
-        Some((column, true))
-    } else if g[0].value == F::one().neg() {
-        Some((column, false))
+    };
+    if cell.value == F::one() {
+        Some((place_of(cell), true))
+    } else if cell.value == F::one().neg() {
+        Some((place_of(cell), false))
     } else {
         None
     }
@@ -41,9 +46,8 @@ fn bounded_column<F: Field>(g: &[At<F>]) -> Option<(usize, bool)> {
 /// Appends the terms of a vector on the columns.
 fn push_vector<F: Field>(terms: &mut Vec<Term<F>>, vector: &[At<F>]) -> Result<(), Stop> {
     for cell in vector {
-        let at = (cell.at as usize).saturating_sub(1);
         terms.push(Term {
-            at,
+            at: place_of(cell),
             value: cell.value,
         })?;
     }
@@ -69,8 +73,8 @@ fn push_generators<F: Field>(
         ConeOf::Orthant | ConeOf::Dual(_) => return Ok(()),
         ConeOf::Gens(vectors) => vectors.as_slice(),
     };
-    for g in 0..vectors.len() {
-        let value = at(vectors[g].as_slice(), i)?;
+    for (g, vector) in vectors.iter().enumerate() {
+        let value = at(vector.as_slice(), i)?;
         push_term(terms, multipliers.saturating_add(g), value)?;
     }
     Ok(())
@@ -191,41 +195,40 @@ impl Draft {
     /// bounds a column is none.
     fn push_sides<F: Field>(&mut self, form: &Data<F>) -> Result<(), Stop> {
         let mut last = None;
-        for h in 0..form.sides.len() {
-            last = self.push_side(form, h, last)?;
+        for (h, side) in form.sides.as_slice().iter().enumerate() {
+            last = self.push_side(h, side, last)?;
         }
         Ok(())
     }
 
-    /// One side, after another whose row has no bound from above yet. The row of this one, if it
-    /// has one of which the same is true.
-    fn push_side<F: Field>(
+    /// One side, after another whose row has no bound from above yet. The variable and the vector
+    /// of its own row, if it has one of which the same is true.
+    fn push_side<'a, F: Field>(
         &mut self,
-        form: &Data<F>,
         h: usize,
-        last: Option<usize>,
-    ) -> Result<Option<usize>, Stop> {
-        let side = item(form.sides.as_slice(), h)?;
+        side: &'a SideOf<F>,
+        last: Option<(usize, &'a [At<F>])>,
+    ) -> Result<Option<(usize, &'a [At<F>])>, Stop> {
         let g = side.g.as_slice();
-        if self.is_bounding(g, h, side.beta)? {
+        if self.bound_column(g, h, side.beta)? {
             return Ok(None);
         }
-        if let Some(variable) = last {
-            let before = item(form.sides.as_slice(), h.saturating_sub(1))?;
-            if are_opposite(before.g.as_slice(), g) {
-                self.bound(variable, h, side.beta, false)?;
-                return Ok(None);
-            }
+        if let Some((variable, before)) = last
+            && are_opposite(before, g)
+        {
+            self.bound(variable, h, side.beta, false)?;
+            return Ok(None);
         }
         let mut terms = Vec::new(self.alloc);
         push_vector(&mut terms, g)?;
         let variable = self.push_row(Kind::Side, h, &terms)?;
         self.bound(variable, h, side.beta, true)?;
-        Ok(Some(variable))
+        Ok(Some((variable, g)))
     }
 
-    /// Makes a side the bound of a column, if it is one and the column has none of its kind yet.
-    fn is_bounding<F: Field>(&mut self, g: &[At<F>], h: usize, beta: F) -> Result<bool, Stop> {
+    /// Makes a side the bound of a column, if it is one and the column has none of its kind yet,
+    /// and answers whether it did.
+    fn bound_column<F: Field>(&mut self, g: &[At<F>], h: usize, beta: F) -> Result<bool, Stop> {
         let Some((column, below)) = bounded_column(g) else {
             return Ok(false);
         };
@@ -266,9 +269,9 @@ impl Draft {
         c: &[F],
         multipliers: usize,
     ) -> Result<(), Stop> {
-        for i in 0..form.p.len() {
+        for (i, objective) in form.p.as_slice().iter().enumerate() {
             let mut terms = Vec::new(self.alloc);
-            push_vector(&mut terms, item(form.p.as_slice(), i)?.as_slice())?;
+            push_vector(&mut terms, objective.as_slice())?;
             push_term(&mut terms, form.cols as usize, at(c, i)?.neg())?;
             push_generators(&mut terms, &form.cone, multipliers, i)?;
             let _variable = self.push_row(Kind::Objective, i, &terms)?;
@@ -278,9 +281,9 @@ impl Draft {
 
     /// The rows of the values of the objectives.
     fn push_values<F: Field>(&mut self, form: &Data<F>) -> Result<(), Stop> {
-        for i in 0..form.p.len() {
+        for (i, objective) in form.p.as_slice().iter().enumerate() {
             let mut terms = Vec::new(self.alloc);
-            push_vector(&mut terms, item(form.p.as_slice(), i)?.as_slice())?;
+            push_vector(&mut terms, objective.as_slice())?;
             let _variable = self.push_row(Kind::Value, i, &terms)?;
         }
         Ok(())
@@ -293,11 +296,11 @@ impl Draft {
         c: &[F],
         vectors: &[Items<F>],
     ) -> Result<(), Stop> {
-        for d in 0..vectors.len() {
-            let sums = product_sums(self.alloc, form, c, vectors[d].as_slice())?;
+        for (d, vector) in vectors.iter().enumerate() {
+            let sums = product_sums(self.alloc, form, c, vector.as_slice())?;
             let mut terms = Vec::new(self.alloc);
-            for j in 0..sums.len() {
-                push_term(&mut terms, j, sums[j])?;
+            for (j, sum) in sums.iter().enumerate() {
+                push_term(&mut terms, j, *sum)?;
             }
             let _variable = self.push_row(Kind::Objective, d, &terms)?;
         }
@@ -314,13 +317,13 @@ fn product_sums<F: Field>(
     vector: &[F],
 ) -> Result<Vec<F>, Stop> {
     let mut sums = vec![in alloc; F::zero(); form.cols as usize + 1]?;
-    for i in 0..form.p.len() {
+    let last = form.cols as usize;
+    for (i, objective) in form.p.as_slice().iter().enumerate() {
         let factor = at(vector, i)?;
         if is_zero(factor) {
             continue;
         }
-        add_multiple(&mut sums, factor, item(form.p.as_slice(), i)?.as_slice())?;
-        let last = form.cols as usize;
+        add_multiple(&mut sums, factor, objective.as_slice())?;
         let value = at(&sums, last)?.sub(factor.mul(at(c, i)?)?)?;
         put(&mut sums, last, value)?;
     }
@@ -330,7 +333,7 @@ fn product_sums<F: Field>(
 /// Adds a multiple of a vector on the columns.
 fn add_multiple<F: Field>(sums: &mut [F], factor: F, vector: &[At<F>]) -> Result<(), Stop> {
     for cell in vector {
-        let j = (cell.at as usize).saturating_sub(1);
+        let j = place_of(cell);
         let value = at(sums, j)?.add(factor.mul(cell.value)?)?;
         put(sums, j, value)?;
     }

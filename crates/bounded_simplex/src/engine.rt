@@ -7,7 +7,7 @@ use lp_form::{ConeOf, Data};
 use shown_bases::Guess;
 use src_sink::NoMemory;
 use std::alloc::Global;
-use whole_simplex::{Stop, Term};
+use whole_programs::{Stop, Term};
 
 /// An engine for guesses over one problem and one duality vector. With another problem it makes
 /// guesses that fail their test, if any.
@@ -20,17 +20,17 @@ pub struct Engine {
     weighed: Option<Dual>,
 }
 
-/// What came of a question.
-fn answered<F: Field>(guess: Result<Guess<F>, Stop>) -> Result<Option<Guess<F>>, NoMemory> {
-    match guess {
-        Ok(guess) => Ok(Some(guess)),
+/// What came of a question: none where it was declined.
+fn answer_of<T>(end: Result<T, Stop>) -> Result<Option<T>, NoMemory> {
+    match end {
+        Ok(answer) => Ok(Some(answer)),
         Err(Stop::Declined) => Ok(None),
         Err(Stop::NoMemory) => Err(NoMemory),
     }
 }
 
 /// The dual at a basis at which its costs have the right signs.
-fn started<F: Field>(alloc: Global, form: &Data<F>, c: &[F], v: &[F]) -> Result<Dual, Stop> {
+fn start_dual<F: Field>(alloc: Global, form: &Data<F>, c: &[F], v: &[F]) -> Result<Dual, Stop> {
     let mut dual = dual_of_benson(alloc, form, c)?;
     let limits = limits_at(&dual, form, v, true)?;
     dual.solver.start(&limits)?;
@@ -38,7 +38,7 @@ fn started<F: Field>(alloc: Global, form: &Data<F>, c: &[F], v: &[F]) -> Result<
 }
 
 /// The guess at a question, from a basis at which the costs have the right signs.
-fn asked<F: Field>(
+fn ask<F: Field>(
     dual: &mut Dual,
     form: &Data<F>,
     c: &[F],
@@ -51,20 +51,20 @@ fn asked<F: Field>(
 }
 
 /// The guess at the first question.
-fn begun<F: Field>(
+fn begin<F: Field>(
     alloc: Global,
     form: &Data<F>,
     c: &[F],
     v: &[F],
     t: bool,
 ) -> Result<(Dual, Guess<F>), Stop> {
-    let mut dual = started(alloc, form, c, v)?;
-    let guess = asked(&mut dual, form, c, v, t)?;
+    let mut dual = start_dual(alloc, form, c, v)?;
+    let guess = ask(&mut dual, form, c, v, t)?;
     Ok((dual, guess))
 }
 
 /// A guess at a point of the sides.
-fn asked_feasible<F: Field>(alloc: Global, form: &Data<F>) -> Result<Guess<F>, Stop> {
+fn ask_feasible<F: Field>(alloc: Global, form: &Data<F>) -> Result<Guess<F>, Stop> {
     let mut dual = dual_of_sides(alloc, form)?;
     let limits = limits_at(&dual, form, &[], true)?;
     dual.solver.solve(&limits)?;
@@ -72,7 +72,7 @@ fn asked_feasible<F: Field>(alloc: Global, form: &Data<F>) -> Result<Guess<F>, S
 }
 
 /// The dual of the program of a weight at a basis whose values keep the bounds.
-fn weighable<F: Field>(alloc: Global, form: &Data<F>) -> Result<Dual, Stop> {
+fn start_weighing<F: Field>(alloc: Global, form: &Data<F>) -> Result<Dual, Stop> {
     let mut dual = dual_of_weight(alloc, form)?;
     let limits = limits_at(&dual, form, &[], true)?;
     dual.solver.solve(&limits)?;
@@ -81,15 +81,15 @@ fn weighable<F: Field>(alloc: Global, form: &Data<F>) -> Result<Dual, Stop> {
 
 /// The guess at a weight, from a basis whose values keep the bounds: none where the program has no
 /// solution.
-fn asked_weight<F: Field>(
+fn ask_weight<F: Field>(
     dual: &mut Dual,
     form: &Data<F>,
     w: &[F],
 ) -> Result<Option<Guess<F>>, Stop> {
     let mut terms = Vec::new(dual.solver.alloc);
-    for i in 0..w.len() {
+    for (i, weight) in w.iter().enumerate() {
         let at = dual.objectives.saturating_add(i);
-        terms.push(Term { at, value: w[i] })?;
+        terms.push(Term { at, value: *weight })?;
     }
     dual.solver.minimise_sum(&terms)?;
     if !dual.solver.improve()? {
@@ -128,7 +128,7 @@ impl Engine {
         t: bool,
     ) -> Result<Option<Guess<F>>, NoMemory> {
         if let Some(mut dual) = self.dual.take() {
-            let guess = answered(asked(&mut dual, form, c, v, t))?;
+            let guess = answer_of(ask(&mut dual, form, c, v, t))?;
             if guess.is_some() {
                 self.dual = Some(dual);
                 return Ok(guess);
@@ -145,14 +145,11 @@ impl Engine {
         v: &[F],
         t: bool,
     ) -> Result<Option<Guess<F>>, NoMemory> {
-        match begun(self.alloc, form, c, v, t) {
-            Ok((dual, guess)) => {
-                self.dual = Some(dual);
-                Ok(Some(guess))
-            }
-            Err(Stop::Declined) => Ok(None),
-            Err(Stop::NoMemory) => Err(NoMemory),
-        }
+        let Some((dual, guess)) = answer_of(begin(self.alloc, form, c, v, t))? else {
+            return Ok(None);
+        };
+        self.dual = Some(dual);
+        Ok(Some(guess))
     }
 
     /// A guess at the optimum of the program of the weight `w`. There is none where a number is too
@@ -166,24 +163,16 @@ impl Engine {
         if let ConeOf::Dual(_) = &form.cone {
             return Ok(None);
         }
-        match self.weighed_guess(form, w) {
-            Ok(guess) => Ok(guess),
-            Err(Stop::Declined) => Ok(None),
-            Err(Stop::NoMemory) => Err(NoMemory),
-        }
+        Ok(answer_of(self.ask_weighed(form, w))?.flatten())
     }
 
     /// The same, where the basis is given up if it declines.
-    fn weighed_guess<F: Field>(
-        &mut self,
-        form: &Data<F>,
-        w: &[F],
-    ) -> Result<Option<Guess<F>>, Stop> {
+    fn ask_weighed<F: Field>(&mut self, form: &Data<F>, w: &[F]) -> Result<Option<Guess<F>>, Stop> {
         let mut dual = match self.weighed.take() {
             Some(dual) => dual,
-            None => weighable(self.alloc, form)?,
+            None => start_weighing(self.alloc, form)?,
         };
-        let guess = asked_weight(&mut dual, form, w)?;
+        let guess = ask_weight(&mut dual, form, w)?;
         self.weighed = Some(dual);
         Ok(guess)
     }
@@ -191,6 +180,6 @@ impl Engine {
     /// A guess at a point of the sides, as one at the optimum of the program `Feasible`, or none.
     /// It takes a basis of its own.
     pub fn guess_feasible<F: Field>(&self, form: &Data<F>) -> Result<Option<Guess<F>>, NoMemory> {
-        answered(asked_feasible(self.alloc, form))
+        answer_of(ask_feasible(self.alloc, form))
     }
 }

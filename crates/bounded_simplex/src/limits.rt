@@ -1,9 +1,9 @@
 //! The bounds of the variables at a question, which alone change from one to the next.
 use crate::building::is_zero;
-use crate::meaning::{Bound, Dual, Kind};
+use crate::meaning::{Bound, Dual, Kind, Meaning};
 use exact_field::Field;
 use lp_form::{ConeOf, Data};
-use whole_simplex::{Limits, Ratio, Stop, at, item};
+use whole_programs::{Limits, Ratio, Stop, at, item};
 
 /// A side's bound, which is 0 where the question is asked at a direction.
 fn side_limit(bound: Option<Bound>, t: bool) -> Option<Ratio> {
@@ -18,10 +18,9 @@ fn side_limit(bound: Option<Bound>, t: bool) -> Option<Ratio> {
 /// The product of two vectors.
 fn product<F: Field>(one: &[F], other: &[F]) -> Result<F, Stop> {
     let mut sum = F::zero();
-    for i in 0..one.len() {
-        let factor = one[i];
-        if !is_zero(factor) {
-            sum = sum.add(factor.mul(at(other, i)?)?)?;
+    for (x, y) in one.iter().zip(other) {
+        if !is_zero(*x) {
+            sum = sum.add(x.mul(*y)?)?;
         }
     }
     Ok(sum)
@@ -60,8 +59,8 @@ fn limits_of<F: Field>(
     v: &[F],
     t: bool,
     variable: usize,
+    meaning: &Meaning,
 ) -> Result<Limits, Stop> {
-    let meaning = at(&dual.meanings, variable)?;
     match meaning.kind {
         Kind::Column | Kind::Side => Ok(Limits {
             low: side_limit(meaning.low, t),
@@ -90,8 +89,8 @@ pub(crate) fn limits_at<F: Field>(
     t: bool,
 ) -> Result<Vec<Limits>, Stop> {
     let mut limits = Vec::new(dual.solver.alloc);
-    for variable in 0..dual.meanings.len() {
-        limits.push(limits_of(dual, form, v, t, variable)?)?;
+    for (variable, meaning) in dual.meanings.iter().enumerate() {
+        limits.push(limits_of(dual, form, v, t, variable, meaning)?)?;
     }
     Ok(limits)
 }

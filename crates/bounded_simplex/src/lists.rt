@@ -1,12 +1,21 @@
 //! Lists of places, one after the other.
 use std::alloc::Global;
-use whole_simplex::{Stop, at, put};
+use whole_programs::{Stop, at, put};
 
 /// The sum of a first number and a place after it, as a number from 1.
-pub(crate) fn numbered(base: usize, i: usize) -> Result<u32, Stop> {
+pub(crate) fn number_of(base: usize, i: usize) -> Result<u32, Stop> {
     let k = base.saturating_add(i);
     if k < 4_294_967_294 {
         Ok(k as u32 + 1)
+    } else {
+        Err(Stop::Declined)
+    }
+}
+
+/// So many items of a list, from a first one on, or a decline.
+pub(crate) fn part<T>(list: &[T], first: usize, count: usize) -> Result<&[T], Stop> {
+    if first <= list.len() && count <= list.len() - first {
+        Ok(&list[first..first + count])
     } else {
         Err(Stop::Declined)
     }
@@ -48,21 +57,17 @@ impl Lists {
 
     /// List `k`, from 0.
     pub(crate) fn list(&self, k: usize) -> Result<&[usize], Stop> {
-        let end = at(&self.ends, k)?;
         let start = start_of(&self.ends, k)?;
-        if start <= end && end <= self.members.len() {
-            Ok(&self.members[start..end])
-        } else {
-            Err(Stop::Declined)
-        }
+        let count = at(&self.ends, k)?.saturating_sub(start);
+        part(&self.members, start, count)
     }
 
     /// For each of the places below `n` the lists that have it.
-    pub(crate) fn turned(&self, alloc: Global, n: usize) -> Result<Lists, Stop> {
+    pub(crate) fn transpose(&self, alloc: Global, n: usize) -> Result<Lists, Stop> {
         let mut next = starts(alloc, &self.members, n)?;
         let mut ends = Vec::new(alloc);
-        for k in 0..n {
-            ends.push(at(&next, k + 1)?)?;
+        for end in next.iter().skip(1) {
+            ends.push(*end)?;
         }
         let mut members = vec![in alloc; 0; self.members.len()]?;
         for k in 0..self.count() {

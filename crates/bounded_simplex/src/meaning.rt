@@ -1,5 +1,6 @@
 //! What the variables of the duals stand for.
-use whole_simplex::{Ratio, Solver};
+use whole_programs::Ratio;
+use whole_simplex::Solver;
 
 /// What a variable stands for.
 #[derive(Clone, Copy, Debug, PartialEq, Eq)]

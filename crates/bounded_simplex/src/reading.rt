@@ -1,12 +1,14 @@
 //! The basis of the large program that a basis of the small one names, and what is read off it.
-use crate::building::is_zero;
-use crate::meaning::{Bound, Dual, Kind};
+use crate::building::{is_zero, place_of};
+use crate::lists::part;
+use crate::meaning::{Bound, Dual, Kind, Meaning};
 use crate::table::{Basis, Layout, magnitude};
 use exact_field::Field;
 use lp_form::{ConeOf, Data};
 use shown_bases::Guess;
 use src_sink::Items;
-use whole_simplex::{Place, Stop, at, item, put};
+use whole_programs::{Stop, at, item, put};
+use whole_simplex::Place;
 
 /// The side of two bounds that a cost asks for, or that a variable stands at.
 fn side_of(low: Option<Bound>, high: Option<Bound>, sign: i8, place: Place) -> Option<usize> {
@@ -37,10 +39,9 @@ fn add_weights<F: Field>(
         ConeOf::Dual(vectors) => vectors.as_slice(),
     };
     let vector = item(vectors, number)?.as_slice();
-    for i in 0..weights.len() {
-        let entry = at(vector, i)?;
-        if !is_zero(entry) {
-            weights[i] = weights[i].add(value.mul(entry)?)?;
+    for (weight, entry) in weights.iter_mut().zip(vector) {
+        if !is_zero(*entry) {
+            *weight = weight.add(value.mul(*entry)?)?;
         }
     }
     Ok(())
@@ -69,8 +70,8 @@ impl Dual {
         let mut basis = Basis::new(self.solver.alloc, form, Layout::of_weight(form));
         let mut no_weights = Vec::new(self.solver.alloc);
         self.push_columns(&mut basis, &[], &mut no_weights)?;
-        for i in 0..w.len() {
-            basis.push_given(i, w[i])?;
+        for (i, weight) in w.iter().enumerate() {
+            basis.push_given(i, *weight)?;
         }
         Ok(basis)
     }
@@ -82,8 +83,8 @@ impl Dual {
         c: &[F],
         weights: &mut [F],
     ) -> Result<(), Stop> {
-        for k in 0..self.meanings.len() {
-            self.push_column(basis, c, weights, k)?;
+        for (variable, meaning) in self.meanings.iter().enumerate() {
+            self.push_column(basis, c, weights, variable, meaning)?;
         }
         Ok(())
     }
@@ -94,15 +95,15 @@ impl Dual {
         basis: &mut Basis<'_, F>,
         c: &[F],
         weights: &mut [F],
-        k: usize,
+        variable: usize,
+        meaning: &Meaning,
     ) -> Result<(), Stop> {
-        let place = self.solver.place(k)?;
+        let place = self.solver.place(variable)?;
         if place == Place::Basic {
             return Ok(());
         }
-        let meaning = at(&self.meanings, k)?;
         let number = meaning.number;
-        let cost: F = self.solver.cost(k)?;
+        let cost: F = self.solver.cost(variable)?;
         match meaning.kind {
             Kind::Column | Kind::Side => {
                 match side_of(meaning.low, meaning.high, cost.sign(), place) {
@@ -114,7 +115,7 @@ impl Dual {
                 let last = basis.layout.equations.saturating_sub(1);
                 basis.push_artificial(last)
             }
-            Kind::Multiplier => basis.push_behind(number, cost),
+            Kind::Multiplier => basis.push_unknown(number, cost),
             Kind::Objective => push_objective(basis, c, weights, number, cost.neg()),
             Kind::Value => Err(Stop::Declined),
         }
@@ -132,9 +133,7 @@ impl Dual {
     /// The multipliers of the equations of the file's columns.
     fn choice<F: Field>(&self, form: &Data<F>, values: &[F]) -> Result<Items<F>, Stop> {
         let mut y = Items::new(self.solver.alloc);
-        for j in 0..form.cols as usize {
-            y.push(at(values, j)?)?;
-        }
+        y.append(part(values, 0, form.cols as usize)?)?;
         Ok(y)
     }
 
@@ -146,9 +145,8 @@ impl Dual {
         match &form.cone {
             ConeOf::Orthant => self.push_gaps(&mut y, &values, v)?,
             ConeOf::Gens(vectors) => {
-                for g in 0..vectors.len() {
-                    let place = self.multipliers.saturating_add(g);
-                    y.push(at(&values, place)?.neg())?;
+                for value in part(&values, self.multipliers, vectors.len())? {
+                    y.push(value.neg())?;
                 }
             }
             ConeOf::Dual(_) => push_products(&mut y, form, c, v, share)?,
@@ -159,9 +157,8 @@ impl Dual {
 
     /// Appends by how much each variable of an objective is above its bound.
     fn push_gaps<F: Field>(&self, y: &mut Items<F>, values: &[F], v: &[F]) -> Result<(), Stop> {
-        for i in 0..v.len() {
-            let value = at(values, self.objectives.saturating_add(i))?;
-            y.push(value.sub(v[i])?)?;
+        for (value, bound) in part(values, self.objectives, v.len())?.iter().zip(v) {
+            y.push(value.sub(*bound)?)?;
         }
         Ok(())
     }
@@ -171,9 +168,7 @@ impl Dual {
     fn multipliers_of_weight<F: Field>(&self, form: &Data<F>) -> Result<Items<F>, Stop> {
         let values = self.values()?;
         let mut y = self.choice(form, &values)?;
-        for i in 0..form.p.len() {
-            y.push(at(&values, self.objectives.saturating_add(i))?)?;
-        }
+        y.append(part(&values, self.objectives, form.p.len())?)?;
         Ok(y)
     }
 
@@ -215,7 +210,7 @@ fn push_objective<F: Field>(
         return basis.push_weight(c, number, value);
     }
     add_weights(basis.form, weights, number, value)?;
-    basis.push_behind(number, value)
+    basis.push_unknown(number, value)
 }
 
 /// The columns of the weight vector, where the cone's generators name none.
@@ -227,8 +222,8 @@ fn push_all_weights<F: Field>(
     if let ConeOf::Gens(_) = &basis.form.cone {
         return Ok(());
     }
-    for i in 0..weights.len() {
-        basis.push_weight(c, i, weights[i])?;
+    for (i, weight) in weights.iter().enumerate() {
+        basis.push_weight(c, i, *weight)?;
     }
     Ok(())
 }
@@ -242,11 +237,11 @@ fn push_products<F: Field>(
     v: &[F],
     share: F,
 ) -> Result<(), Stop> {
-    for i in 0..form.p.len() {
+    for (i, objective) in form.p.as_slice().iter().enumerate() {
         let offset = at(v, i)?.add(share.mul(at(c, i)?)?)?;
         let mut sum = offset.neg();
-        for cell in item(form.p.as_slice(), i)?.as_slice() {
-            let x = at(y.as_slice(), (cell.at as usize).saturating_sub(1))?;
+        for cell in objective.as_slice() {
+            let x = at(y.as_slice(), place_of(cell))?;
             if !is_zero(x) {
                 sum = sum.add(cell.value.mul(x)?)?;
             }

@@ -1,13 +1,13 @@
 //! The columns of a program, as a guess lists them.
-use crate::building::is_zero;
-use crate::lists::{Lists, numbered};
+use crate::building::{is_zero, place_of};
+use crate::lists::{Lists, number_of};
 use crate::ordering::order_of;
 use exact_field::Field;
 use lp_form::{At, ConeOf, Data};
 use shown_bases::Guess;
 use src_sink::Items;
 use std::alloc::Global;
-use whole_simplex::{Stop, at, item};
+use whole_programs::{Stop, at, item};
 
 /// How the large program is laid out: the first number, from 0, of each kind of column, and how
 /// many equations there are.
@@ -15,7 +15,7 @@ use whole_simplex::{Stop, at, item};
 pub(crate) struct Layout {
     weights: usize,
     negatives: usize,
-    behind: usize,
+    unknowns: usize,
     artificial: usize,
     /// The first equation of the cone.
     pub(crate) cone: usize,
@@ -23,53 +23,42 @@ pub(crate) struct Layout {
 }
 
 impl Layout {
-    /// That of the program of the sides alone.
-    pub(crate) fn of_sides<F: Field>(form: &Data<F>) -> Layout {
-        let sides = form.sides.len();
-        let cols = form.cols as usize;
+    /// That with so many sides, objectives, unknowns after the weight vector, and equations before
+    /// and from the first of the cone on.
+    fn new(sides: usize, objectives: usize, unknowns: usize, cone: usize, more: usize) -> Layout {
+        let negatives = sides.saturating_add(objectives);
+        let first_unknown = negatives.saturating_add(objectives);
         Layout {
             weights: sides,
-            negatives: sides,
-            behind: sides,
-            artificial: sides,
-            cone: cols,
-            equations: cols,
+            negatives,
+            unknowns: first_unknown,
+            artificial: first_unknown.saturating_add(unknowns),
+            cone,
+            equations: cone.saturating_add(more),
         }
+    }
+
+    /// That of the program of the sides alone.
+    pub(crate) fn of_sides<F: Field>(form: &Data<F>) -> Layout {
+        Layout::new(form.sides.len(), 0, 0, form.cols as usize, 0)
     }
 
     /// That of the program of a weight, where the cone is not in dual form.
     pub(crate) fn of_weight<F: Field>(form: &Data<F>) -> Layout {
-        let sides = form.sides.len();
         let q = form.p.len();
-        let cols = form.cols as usize;
-        Layout {
-            weights: sides,
-            negatives: sides + q,
-            behind: sides + q + q,
-            artificial: sides + q + q,
-            cone: cols,
-            equations: cols.saturating_add(q),
-        }
+        Layout::new(form.sides.len(), q, 0, form.cols as usize, q)
     }
 
     /// That of Benson's program.
     pub(crate) fn of_benson<F: Field>(form: &Data<F>) -> Layout {
-        let sides = form.sides.len();
         let q = form.p.len();
-        let cols = form.cols as usize;
         let (unknowns, equations) = match &form.cone {
             ConeOf::Orthant => (q, q),
             ConeOf::Gens(vectors) => (vectors.len(), vectors.len()),
             ConeOf::Dual(vectors) => (vectors.len(), q),
         };
-        Layout {
-            weights: sides,
-            negatives: sides + q,
-            behind: sides + q + q,
-            artificial: (sides + q + q).saturating_add(unknowns),
-            cone: cols,
-            equations: cols.saturating_add(equations).saturating_add(1),
-        }
+        let more = equations.saturating_add(1);
+        Layout::new(form.sides.len(), q, unknowns, form.cols as usize, more)
     }
 }
 
@@ -81,15 +70,15 @@ pub(crate) fn magnitude<F: Field>(x: F) -> F {
 /// Appends the places of a vector's entries.
 fn push_places<F: Field>(lists: &mut Lists, vector: &[At<F>]) -> Result<(), Stop> {
     for cell in vector {
-        lists.push((cell.at as usize).saturating_sub(1))?;
+        lists.push(place_of(cell))?;
     }
     Ok(())
 }
 
 /// Appends the places of a list's numbers that are not 0, after a first one.
 fn push_nonzero<F: Field>(lists: &mut Lists, base: usize, vector: &[F]) -> Result<(), Stop> {
-    for i in 0..vector.len() {
-        if !is_zero(vector[i]) {
+    for (i, x) in vector.iter().enumerate() {
+        if !is_zero(*x) {
             lists.push(base.saturating_add(i))?;
         }
     }
@@ -120,7 +109,7 @@ impl<'a, F: Field> Basis<'a, F> {
     /// Ends the list of equations of a column, and appends it with its value.
     fn push(&mut self, base: usize, number: usize, value: F) -> Result<(), Stop> {
         self.lists.end()?;
-        self.columns.push(numbered(base, number)?)?;
+        self.columns.push(number_of(base, number)?)?;
         self.x.push(value)?;
         Ok(())
     }
@@ -180,9 +169,8 @@ impl<'a, F: Field> Basis<'a, F> {
         match &form.cone {
             ConeOf::Orthant | ConeOf::Dual(_) => self.lists.push(base.saturating_add(i)),
             ConeOf::Gens(vectors) => {
-                let vectors = vectors.as_slice();
-                for g in 0..vectors.len() {
-                    if !is_zero(at(vectors[g].as_slice(), i)?) {
+                for (g, vector) in vectors.as_slice().iter().enumerate() {
+                    if !is_zero(at(vector.as_slice(), i)?) {
                         self.lists.push(base.saturating_add(g))?;
                     }
                 }
@@ -192,10 +180,10 @@ impl<'a, F: Field> Basis<'a, F> {
     }
 
     /// The column of an unknown after the weight vector.
-    pub(crate) fn push_behind(&mut self, d: usize, value: F) -> Result<(), Stop> {
+    pub(crate) fn push_unknown(&mut self, d: usize, value: F) -> Result<(), Stop> {
         let form = self.form;
         let base = self.layout.cone;
-        let behind = self.layout.behind;
+        let unknowns = self.layout.unknowns;
         match &form.cone {
             ConeOf::Orthant | ConeOf::Gens(_) => self.lists.push(base.saturating_add(d))?,
             ConeOf::Dual(vectors) => {
@@ -203,7 +191,7 @@ impl<'a, F: Field> Basis<'a, F> {
                 push_nonzero(&mut self.lists, base, vector)?;
             }
         }
-        self.push(behind, d, value)
+        self.push(unknowns, d, value)
     }
 
     /// The guess with these multipliers, if there are as many columns as equations.

@@ -1,30 +1,25 @@
 //! What is minimised, where it changes from question to question.
-use crate::lists::{at, item, put};
-use crate::program::Term;
-use crate::solver::{Place, Solver};
-use crate::stop::Stop;
-use crate::whole::{Ratio, common_multiple, difference, kept, plus_product, product, sum};
+use crate::pricing::write_sum;
+use crate::solver::Solver;
 use exact_field::Field;
-use std::alloc::Global;
+use whole_programs::{Ratio, Stop, Term, at, difference, keep, plus_product, product, put, sum};
 
 /// The least common denominator of ratios.
 fn unit_of(ratios: &[Ratio]) -> Result<i128, Stop> {
     let mut unit = 1;
     for ratio in ratios {
-        unit = kept(common_multiple(unit, ratio.den())?)?;
+        unit = ratio.unit_with(unit)?;
     }
     Ok(unit)
 }
 
 /// Adds a multiple of a row of the inverse.
-fn add_multiple(total: &mut [i128], factor: i128, line: &[i128]) -> Result<(), Stop> {
-    for k in 0..total.len() {
-        let entry = at(line, k)?;
-        if entry != 0 {
-            total[k] = plus_product(total[k], factor, entry);
+fn add_multiple(total: &mut [i128], factor: i128, line: &[i128]) {
+    for (sum, entry) in total.iter_mut().zip(line) {
+        if *entry != 0 {
+            *sum = plus_product(*sum, factor, *entry);
         }
     }
-    Ok(())
 }
 
 impl Solver {
@@ -33,12 +28,7 @@ impl Solver {
     pub fn minimise_sum<F: Field>(&mut self, terms: &[Term<F>]) -> Result<(), Stop> {
         let factors = self.factors(terms)?;
         let multipliers = self.multipliers(&factors)?;
-        self.row.clear()?;
-        for k in 0..multipliers.len() {
-            if multipliers[k] != 0 {
-                self.add_to_row(k, multipliers[k])?;
-            }
-        }
+        write_sum(&mut self.row, &self.program, &self.variables, &multipliers)?;
         self.write_costs(&factors)
     }
 
@@ -46,25 +36,25 @@ impl Solver {
     fn factors<F: Field>(&mut self, terms: &[Term<F>]) -> Result<Vec<i128>, Stop> {
         let mut ratios = Vec::new(self.alloc);
         for term in terms {
-            ratios.push(Ratio::divided(term.value, self.program.scale(term.at)?)?)?;
+            ratios.push(Ratio::over(term.value, self.program.scale(term.at)?)?)?;
         }
         self.cost_unit = unit_of(&ratios)?;
         let mut factors = vec![in self.alloc; 0; self.variables.len()]?;
-        for k in 0..terms.len() {
-            let factor = at(&ratios, k)?.over(self.cost_unit)?;
-            let old = at(&factors, terms[k].at)?;
-            put(&mut factors, terms[k].at, sum(old, factor)?)?;
+        for (term, ratio) in terms.iter().zip(&ratios) {
+            let factor = ratio.at_unit(self.cost_unit)?;
+            let old = at(&factors, term.at)?;
+            put(&mut factors, term.at, sum(old, factor)?)?;
         }
         Ok(factors)
     }
 
     /// By how much each row of the program is in the sum, by its variables that are basic.
     fn multipliers(&self, factors: &[i128]) -> Result<Vec<i128>, Stop> {
-        let mut multipliers = vec![in self.alloc; 0; self.program.rows.len()]?;
-        for row in 0..self.basis.len() {
-            let factor = at(factors, at(&self.basis, row)?)?;
+        let mut multipliers = vec![in self.alloc; 0; self.program.rows().len()]?;
+        for (variable, line) in self.basis.iter().zip(&self.inverse) {
+            let factor = at(factors, *variable)?;
             if factor != 0 {
-                add_multiple(&mut multipliers, factor, item(&self.inverse, row)?)?;
+                add_multiple(&mut multipliers, factor, line);
             }
         }
         Ok(multipliers)
@@ -73,12 +63,12 @@ impl Solver {
     /// Writes the costs: the multiple of each variable outside the basis, less what the row has
     /// there.
     fn write_costs(&mut self, factors: &[i128]) -> Result<(), Stop> {
-        for j in 0..self.variables.len() {
-            let cost = if item(&self.variables, j)?.place == Place::Basic {
+        for (j, variable) in self.variables.iter().enumerate() {
+            let cost = if variable.is_basic() {
                 0
             } else {
                 let own = product(at(factors, j)?, self.by)?;
-                kept(difference(own, at(&self.row.numbers, j)?)?)?
+                keep(difference(own, at(&self.row.numbers, j)?)?)?
             };
             put(&mut self.costs, j, cost)?;
         }

@@ -1,9 +1,7 @@
 //! The primal method: from values that keep the bounds to costs with the right signs.
-use crate::lists::{at, item};
-use crate::solver::{Place, Solver, Variable};
-use crate::stop::Stop;
-use crate::whole::{compare_ratios, difference, product};
-use std::cmp::Ordering;
+use crate::solver::Solver;
+use crate::variable::Variable;
+use whole_programs::{StepLength, Stop, at, difference, item, product};
 
 /// A bound that ends a step.
 #[derive(Clone, Copy, Debug)]
@@ -13,44 +11,8 @@ struct Barrier {
     row: Option<usize>,
     /// Whether it is the bound from below.
     below: bool,
-    /// How far the variable is from the bound, and by how much it comes nearer: the step's length
-    /// is their quotient.
-    gap: u128,
-    size: u128,
-}
-
-/// Whether a step ends here before it ends there, and of equal ones whether the entry is greater.
-fn is_nearer(one: Barrier, other: Barrier) -> bool {
-    match compare_ratios(one.gap, one.size, other.gap, other.size) {
-        Ordering::Less => true,
-        Ordering::Equal => one.size > other.size,
-        Ordering::Greater => false,
-    }
-}
-
-/// The nearer one of two.
-fn nearer(best: Option<Barrier>, next: Option<Barrier>) -> Option<Barrier> {
-    match (best, next) {
-        (Some(best), Some(next)) => {
-            if is_nearer(next, best) {
-                Some(next)
-            } else {
-                Some(best)
-            }
-        }
-        (Some(best), None) => Some(best),
-        (None, next) => next,
-    }
-}
-
-/// Whether a variable outside the basis lessens what is minimised where it moves.
-fn gains(variable: &Variable, cost: i128) -> bool {
-    match variable.place {
-        Place::Basic => false,
-        Place::Free => cost != 0,
-        Place::Low => cost < 0 && variable.low != variable.high,
-        Place::High => cost > 0 && variable.low != variable.high,
-    }
+    /// By how far the variable is from the bound, and by how much it comes nearer.
+    length: StepLength,
 }
 
 /// The magnitude of a gap: none where the bound is passed.
@@ -65,7 +27,7 @@ impl Solver {
     /// given up.
     pub fn improve(&mut self) -> Result<bool, Stop> {
         for _turn in 0..self.most_turns() {
-            let Some(variable) = self.gaining()? else {
+            let Some(variable) = self.gaining() else {
                 return Ok(true);
             };
             if !self.advance(variable)? {
@@ -75,18 +37,18 @@ impl Solver {
         Err(Stop::Declined)
     }
 
-    /// The variable with the greatest cost of those that gain.
-    fn gaining(&self) -> Result<Option<usize>, Stop> {
+    /// The variable with the greatest cost of those that lessen what is minimised where they move.
+    fn gaining(&self) -> Option<usize> {
         let mut best = None;
         let mut most = 0;
-        for j in 0..self.variables.len() {
-            let cost = at(&self.costs, j)?;
-            if cost.unsigned_abs() > most && gains(&self.variables[j], cost) {
+        for (j, (variable, cost)) in self.variables.iter().zip(&self.costs).enumerate() {
+            let size = cost.unsigned_abs();
+            if size > most && variable.can_move(*cost < 0) {
                 best = Some(j);
-                most = cost.unsigned_abs();
+                most = size;
             }
         }
-        Ok(best)
+        best
     }
 
     /// Moves a variable that gains until it or another one comes to a bound: if none does, it is
@@ -115,11 +77,12 @@ impl Solver {
         column: &[i128],
     ) -> Result<Option<Barrier>, Stop> {
         let mut best = own_barrier(item(&self.variables, variable)?)?;
-        for row in 0..column.len() {
-            let entry = column[row];
-            if entry != 0 {
-                let below = (entry > 0) == rises;
-                best = nearer(best, self.barrier_at(row, below, entry)?);
+        for (row, entry) in column.iter().enumerate() {
+            if *entry != 0
+                && let Some(next) = self.barrier_at(row, (*entry > 0) == rises, *entry)?
+                && best.is_none_or(|best| next.length.is_shorter(best.length))
+            {
+                best = Some(next);
             }
         }
         Ok(best)
@@ -129,8 +92,7 @@ impl Solver {
     fn barrier_at(&self, row: usize, below: bool, entry: i128) -> Result<Option<Barrier>, Stop> {
         let variable = item(&self.variables, at(&self.basis, row)?)?;
         let value = at(&self.values, row)?;
-        let bound = if below { variable.low } else { variable.high };
-        let Some(bound) = bound else {
+        let Some(bound) = variable.bound(below) else {
             return Ok(None);
         };
         let goal = product(bound, self.by)?;
@@ -142,8 +104,10 @@ impl Solver {
         Ok(Some(Barrier {
             row: Some(row),
             below,
-            gap: gap_of(gap),
-            size: entry.unsigned_abs(),
+            length: StepLength {
+                gap: gap_of(gap),
+                size: entry.unsigned_abs(),
+            },
         }))
     }
 }
@@ -156,7 +120,9 @@ fn own_barrier(variable: &Variable) -> Result<Option<Barrier>, Stop> {
     Ok(Some(Barrier {
         row: None,
         below: false,
-        gap: gap_of(difference(high, low)?),
-        size: 1,
+        length: StepLength {
+            gap: gap_of(difference(high, low)?),
+            size: 1,
+        },
     }))
 }

@@ -1,9 +1,9 @@
 //! Which variable leaves the basis, and which one enters it.
-use crate::lists::{at, item};
-use crate::solver::{Place, Solver, Variable};
-use crate::stop::Stop;
-use crate::whole::{compare_ratios, difference, less_product, product};
-use std::cmp::Ordering;
+use crate::solver::Solver;
+use crate::variable::Variable;
+use whole_programs::{
+    Line, Program, Row, StepLength, Stop, at, difference, item, less_product, product,
+};
 
 /// A row whose basic variable is beyond one of its bounds.
 #[derive(Clone, Copy, Debug)]
@@ -19,10 +19,8 @@ pub(crate) struct Leaving {
 #[derive(Clone, Copy, Debug)]
 struct Candidate {
     variable: usize,
-    /// The magnitude of its cost.
-    cost: u128,
-    /// The magnitude of its entry in the row.
-    size: u128,
+    /// By the magnitudes of its cost and of its entry in the row.
+    length: StepLength,
 }
 
 /// A variable that enters the basis, and those that change to their other bounds before.
@@ -32,68 +30,26 @@ pub(crate) struct Entering {
     pub(crate) flipped: Vec<usize>,
 }
 
-/// Of two rows the one whose variable is farther beyond its bound, and of equal ones the first.
-fn farther(best: Option<Leaving>, next: Option<Leaving>) -> Option<Leaving> {
-    match (best, next) {
-        (Some(best), Some(next)) => {
-            if next.far > best.far {
-                Some(next)
-            } else {
-                Some(best)
-            }
+/// The candidate with the shortest step, and its place in the list.
+fn best_of(list: &[Candidate]) -> Option<(usize, Candidate)> {
+    let mut best: Option<(usize, Candidate)> = None;
+    for (place, next) in list.iter().enumerate() {
+        if best.is_none_or(|(_, best)| next.length.is_shorter(best.length)) {
+            best = Some((place, *next));
         }
-        (Some(best), None) => Some(best),
-        (None, next) => next,
-    }
-}
-
-/// Whether the ratio of cost to entry is less, and of equal ones the entry greater.
-fn is_better(one: Candidate, other: Candidate) -> bool {
-    match compare_ratios(one.cost, one.size, other.cost, other.size) {
-        Ordering::Less => true,
-        Ordering::Equal => one.size > other.size,
-        Ordering::Greater => false,
-    }
-}
-
-/// The place of the best candidate in a list.
-fn best_of(list: &[Candidate]) -> Option<usize> {
-    let mut best = None;
-    for k in 0..list.len() {
-        best = better_of(list, best, k);
     }
     best
-}
-
-fn better_of(list: &[Candidate], best: Option<usize>, k: usize) -> Option<usize> {
-    let Some(b) = best else {
-        return Some(k);
-    };
-    if b < list.len() && k < list.len() && is_better(list[k], list[b]) {
-        Some(k)
-    } else {
-        best
-    }
 }
 
 /// Whether a variable outside the basis can move so that the row's variable comes nearer to its
 /// bound, by the entry of the row.
 fn can_enter(variable: &Variable, entry: i128, below: bool) -> bool {
-    if entry == 0 {
-        return false;
-    }
-    let rises = (entry < 0) == below;
-    match variable.place {
-        Place::Basic => false,
-        Place::Free => true,
-        Place::Low => rises && variable.low != variable.high,
-        Place::High => !rises && variable.low != variable.high,
-    }
+    entry != 0 && variable.can_move((entry < 0) == below)
 }
 
 /// How far the row's variable still is beyond its bound once a variable went to its other bound:
 /// none where it has none, or goes too far.
-fn after_flip(variable: Variable, size: u128, far: i128) -> Result<Option<i128>, Stop> {
+fn after_flip(variable: &Variable, size: u128, far: i128) -> Result<Option<i128>, Stop> {
     let (Some(low), Some(high)) = (variable.low, variable.high) else {
         return Ok(None);
     };
@@ -105,19 +61,63 @@ fn after_flip(variable: Variable, size: u128, far: i128) -> Result<Option<i128>,
     Ok(if rest > 0 { Some(rest) } else { None })
 }
 
+/// Takes a product from the number of a variable, unless it is basic.
+fn take_product(
+    line: &mut Line,
+    variables: &[Variable],
+    variable: usize,
+    x: i128,
+    y: i128,
+) -> Result<(), Stop> {
+    if item(variables, variable)?.is_basic() {
+        return Ok(());
+    }
+    line.take_product(variable, x, y)
+}
+
+/// Adds a multiple of a row of the program, outside the basis.
+fn add_row(line: &mut Line, variables: &[Variable], row: &Row, factor: i128) -> Result<(), Stop> {
+    take_product(line, variables, row.variable, factor, -1)?;
+    for entry in &row.entries {
+        take_product(line, variables, entry.at, factor, entry.value)?;
+    }
+    Ok(())
+}
+
+/// Writes the sum of these multiples of the program's rows, outside the basis.
+pub(crate) fn write_sum(
+    line: &mut Line,
+    program: &Program,
+    variables: &[Variable],
+    factors: &[i128],
+) -> Result<(), Stop> {
+    line.clear()?;
+    for (row, factor) in program.rows().iter().zip(factors) {
+        if *factor != 0 {
+            add_row(line, variables, row, *factor)?;
+        }
+    }
+    Ok(())
+}
+
 impl Solver {
-    /// The row whose variable is farthest beyond a bound, if there is one.
+    /// The row whose variable is farthest beyond a bound, if there is one, and of equal ones the
+    /// first.
     pub(crate) fn leaving(&self) -> Result<Option<Leaving>, Stop> {
-        let mut best = None;
-        for row in 0..self.basis.len() {
-            best = farther(best, self.violation(row)?);
+        let mut best: Option<Leaving> = None;
+        for (row, variable) in self.basis.iter().enumerate() {
+            if let Some(next) = self.violation(row, *variable)?
+                && best.is_none_or(|best| next.far > best.far)
+            {
+                best = Some(next);
+            }
         }
         Ok(best)
     }
 
     /// By how much the variable of a row is beyond a bound.
-    fn violation(&self, row: usize) -> Result<Option<Leaving>, Stop> {
-        let variable = item(&self.variables, at(&self.basis, row)?)?;
+    fn violation(&self, row: usize, variable: usize) -> Result<Option<Leaving>, Stop> {
+        let variable = item(&self.variables, variable)?;
         let value = at(&self.values, row)?;
         if let Some(low) = variable.low {
             let far = difference(product(low, self.by)?, value)?;
@@ -138,28 +138,8 @@ impl Solver {
 
     /// Calculates a row of the tableau, outside the basis.
     pub(crate) fn write_row(&mut self, row: usize) -> Result<(), Stop> {
-        self.row.clear()?;
-        for k in 0..self.program.rows.len() {
-            let factor = at(item(&self.inverse, row)?, k)?;
-            if factor != 0 {
-                self.add_to_row(k, factor)?;
-            }
-        }
-        Ok(())
-    }
-
-    /// Adds a multiple of row `k` of the program.
-    pub(crate) fn add_to_row(&mut self, k: usize, factor: i128) -> Result<(), Stop> {
-        let line = item(&self.program.rows, k)?;
-        if item(&self.variables, line.variable)?.place != Place::Basic {
-            self.row.take_product(line.variable, factor, -1)?;
-        }
-        for entry in &line.entries {
-            if item(&self.variables, entry.at)?.place != Place::Basic {
-                self.row.take_product(entry.at, factor, entry.value)?;
-            }
-        }
-        Ok(())
+        let factors = item(&self.inverse, row)?;
+        write_sum(&mut self.row, &self.program, &self.variables, factors)
     }
 
     /// The variables that may enter the basis.
@@ -168,51 +148,60 @@ impl Solver {
         for variable in &self.row.places {
             let entry = at(&self.row.numbers, *variable)?;
             if can_enter(item(&self.variables, *variable)?, entry, below) {
+                let gap = at(&self.costs, *variable)?.unsigned_abs();
+                let size = entry.unsigned_abs();
                 list.push(Candidate {
                     variable: *variable,
-                    cost: at(&self.costs, *variable)?.unsigned_abs(),
-                    size: entry.unsigned_abs(),
+                    length: StepLength { gap, size },
                 })?;
             }
         }
         Ok(list)
     }
 
-    /// The variable with the least ratio that brings the row's variable to its bound; those before
-    /// it change to their other bounds. There is none where no variable moves it the right way.
+    /// The variable with the shortest step that brings the row's variable to its bound; those
+    /// before it change to their other bounds. There is none where no variable moves it the right
+    /// way.
     pub(crate) fn entering(&self, leaving: Leaving) -> Result<Entering, Stop> {
         let mut list = self.candidates(leaving.below)?;
         let mut far = leaving.far;
         let mut flipped = Vec::new(self.alloc);
         for _turn in 0..list.len() {
-            let Some(best) = best_of(&list) else {
+            let Some((place, best)) = best_of(&list) else {
                 return Err(Stop::Declined);
             };
-            let candidate = at(&list, best)?;
-            let variable = candidate.variable;
+            let variable = best.variable;
             if list.len() == 1 {
                 return Ok(Entering { variable, flipped });
             }
-            match after_flip(at(&self.variables, variable)?, candidate.size, far)? {
+            match after_flip(item(&self.variables, variable)?, best.length.size, far)? {
                 None => return Ok(Entering { variable, flipped }),
                 Some(rest) => {
                     far = rest;
                     flipped.push(variable)?;
-                    take_out(&mut list, best)?;
+                    take_out(&mut list, place)?;
                 }
             }
         }
         Err(Stop::Declined)
     }
 
-    /// The entry of the tableau in a row at a variable, over `by`.
-    pub(crate) fn entry(&self, row: usize, variable: usize) -> Result<i128, Stop> {
-        let line = item(&self.inverse, row)?;
+    /// A column of the tableau, over `by`.
+    pub(crate) fn column(&self, variable: usize) -> Result<Vec<i128>, Stop> {
+        let mut column = Vec::new(self.alloc);
+        for line in &self.inverse {
+            column.push(self.entry(line, variable)?)?;
+        }
+        Ok(column)
+    }
+
+    /// The entry of the tableau at a variable, in the row of this row of the inverse.
+    fn entry(&self, line: &[i128], variable: usize) -> Result<i128, Stop> {
         if let Some(k) = self.program.own_row(variable)? {
             return at(line, k);
         }
         let mut sum = 0;
-        for entry in item(&self.program.columns, variable)? {
+        for entry in self.program.column(variable)? {
             sum = less_product(sum, at(line, entry.at)?, entry.value);
         }
         Ok(sum)

@@ -1,25 +1,24 @@
 //! The values at a new question.
-use crate::limits::Limits;
-use crate::lists::{at, item, put};
-use crate::program::{Entry, Program};
-use crate::solver::{Place, Solver, Variable};
-use crate::stop::Stop;
-use crate::whole::{Ratio, common_multiple, difference, kept, plus_product};
+use crate::solver::Solver;
+use crate::variable::{Place, Variable};
 use std::alloc::Global;
+use whole_programs::{
+    Entry, Limits, Program, Ratio, Stop, at, difference, item, plus_product, put,
+};
 
-/// A multiple of a common denominator that is one of a bound's too.
+/// A multiple of a unit that is one of a bound's denominator too.
 fn unit_with(unit: i128, limit: Option<Ratio>) -> Result<i128, Stop> {
     match limit {
         None => Ok(unit),
-        Some(limit) => kept(common_multiple(unit, limit.den())?),
+        Some(limit) => limit.unit_with(unit),
     }
 }
 
 /// A bound over the unit.
-fn over(limit: Option<Ratio>, unit: i128) -> Result<Option<i128>, Stop> {
+fn limit_at(limit: Option<Ratio>, unit: i128) -> Result<Option<i128>, Stop> {
     match limit {
         None => Ok(None),
-        Some(limit) => Ok(Some(limit.over(unit)?)),
+        Some(limit) => Ok(Some(limit.at_unit(unit)?)),
     }
 }
 
@@ -41,7 +40,7 @@ fn place_outside(low: Option<i128>, high: Option<i128>, cost: i128) -> (Place, i
 
 /// A variable with these bounds: outside the basis it goes to one, and of two to that which its
 /// cost asks for.
-fn settled(place: Place, low: Option<i128>, high: Option<i128>, cost: i128) -> Variable {
+fn settle_at(place: Place, low: Option<i128>, high: Option<i128>, cost: i128) -> Variable {
     let (place, at) = if place == Place::Basic {
         (place, 0)
     } else {
@@ -61,10 +60,9 @@ fn right_sides(
     program: &Program,
     variables: &[Variable],
 ) -> Result<Vec<i128>, Stop> {
-    let mut right = vec![in alloc; 0; program.rows.len()]?;
-    for j in 0..variables.len() {
-        let variable = variables[j];
-        if variable.place == Place::Basic || variable.at == 0 {
+    let mut right = vec![in alloc; 0; program.rows().len()]?;
+    for (j, variable) in variables.iter().enumerate() {
+        if variable.is_basic() || variable.at == 0 {
             continue;
         }
         match program.own_row(j)? {
@@ -72,7 +70,7 @@ fn right_sides(
                 let old = at(&right, row)?;
                 put(&mut right, row, difference(old, variable.at)?)?;
             }
-            None => add_column(&mut right, item(&program.columns, j)?, variable.at)?,
+            None => add_column(&mut right, program.column(j)?, variable.at)?,
         }
     }
     Ok(right)
@@ -88,14 +86,14 @@ fn add_column(right: &mut [i128], column: &[Entry], value: i128) -> Result<(), S
 }
 
 /// The product of two vectors.
-fn product(one: &[i128], other: &[i128]) -> Result<i128, Stop> {
+fn dot(one: &[i128], other: &[i128]) -> i128 {
     let mut sum = 0;
-    for k in 0..one.len() {
-        if one[k] != 0 {
-            sum = plus_product(sum, one[k], at(other, k)?);
+    for (x, y) in one.iter().zip(other) {
+        if *x != 0 {
+            sum = plus_product(sum, *x, *y);
         }
     }
-    Ok(sum)
+    sum
 }
 
 impl Solver {
@@ -111,7 +109,7 @@ impl Solver {
         let right = right_sides(self.alloc, &self.program, &self.variables)?;
         let mut values = Vec::new(self.alloc);
         for row in &self.inverse {
-            values.push(product(row, &right)?)?;
+            values.push(dot(row, &right))?;
         }
         self.values = values;
         Ok(())
@@ -119,12 +117,12 @@ impl Solver {
 
     fn settle_variables(&mut self, limits: &[Limits]) -> Result<(), Stop> {
         let mut variables = Vec::new(self.alloc);
-        for j in 0..limits.len() {
-            let low = over(limits[j].low, self.unit)?;
-            let high = over(limits[j].high, self.unit)?;
+        for (j, limits) in limits.iter().enumerate() {
+            let low = limit_at(limits.low, self.unit)?;
+            let high = limit_at(limits.high, self.unit)?;
             let place = item(&self.variables, j)?.place;
             let cost = at(&self.costs, j)?;
-            variables.push(settled(place, low, high, cost))?;
+            variables.push(settle_at(place, low, high, cost))?;
         }
         self.variables = variables;
         Ok(())

@@ -15,18 +15,18 @@ pub struct Term<F> {
 
 /// A whole number at a place, from 0.
 #[derive(Clone, Copy, Debug)]
-pub(crate) struct Entry {
-    pub(crate) at: usize,
-    pub(crate) value: i128,
+pub struct Entry {
+    pub at: usize,
+    pub value: i128,
 }
 
 /// A row: its own variable is the product of the entries with the variables at their places.
 #[derive(Debug, Drop)]
-pub(crate) struct Row {
-    pub(crate) variable: usize,
+pub struct Row {
+    pub variable: usize,
     /// What makes the entries whole.
-    pub(crate) scale: i128,
-    pub(crate) entries: Vec<Entry>,
+    pub scale: i128,
+    pub entries: Vec<Entry>,
 }
 
 /// The rows of a program, and its variables. Each is the value of a row, or has a column.
@@ -36,8 +36,8 @@ pub struct Program {
     /// For each variable the row that it is the value of.
     own_rows: Vec<Option<usize>>,
     /// For each variable its entries in the rows, if it is not the value of one.
-    pub(crate) columns: Vec<Vec<Entry>>,
-    pub(crate) rows: Vec<Row>,
+    columns: Vec<Vec<Entry>>,
+    rows: Vec<Row>,
 }
 
 /// The least common denominator of terms.
@@ -75,8 +75,23 @@ impl Program {
         self.own_rows.len()
     }
 
+    /// The rows.
+    pub fn rows(&self) -> &[Row] {
+        self.rows.as_slice()
+    }
+
+    /// For each variable the row that it is the value of.
+    pub fn own_rows(&self) -> &[Option<usize>] {
+        self.own_rows.as_slice()
+    }
+
+    /// The entries of a variable that is not the value of a row.
+    pub fn column(&self, variable: usize) -> Result<&[Entry], Stop> {
+        Ok(item(&self.columns, variable)?.as_slice())
+    }
+
     /// The row that a variable is the value of.
-    pub(crate) fn own_row(&self, variable: usize) -> Result<Option<usize>, Stop> {
+    pub fn own_row(&self, variable: usize) -> Result<Option<usize>, Stop> {
         at(&self.own_rows, variable)
     }
 
@@ -100,7 +115,7 @@ impl Program {
         let mut entries = Vec::new(self.alloc);
         for term in terms {
             let at = term.at;
-            let value = entry(Ratio::times(term.value, scale)?.over(1)?)?;
+            let value = entry(Ratio::times(term.value, scale)?.at_unit(1)?)?;
             entries.push(Entry { at, value })?;
             push_at(&mut self.columns, at, Entry { at: row, value })?;
         }

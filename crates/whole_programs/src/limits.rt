@@ -11,22 +11,19 @@ pub struct Limits {
 }
 
 /// A bound that is there as 0, and one that is not as another number.
-fn boxed_limit(limit: Option<Ratio>, otherwise: i128) -> Option<Ratio> {
-    if limit.is_some() {
-        Some(Ratio::whole(0))
-    } else {
-        Some(Ratio::whole(otherwise))
-    }
+fn box_limit(limit: Option<Ratio>, otherwise: i128) -> Option<Ratio> {
+    let bound = if limit.is_some() { 0 } else { otherwise };
+    Some(Ratio::whole(bound))
 }
 
 /// The bounds of the program from whose optimum the costs' signs are seen to be right: those that
 /// are there are 0, and the others -1 and 1.
-pub(crate) fn boxed(alloc: Global, limits: &[Limits]) -> Result<Vec<Limits>, Stop> {
+pub fn boxes_of(alloc: Global, limits: &[Limits]) -> Result<Vec<Limits>, Stop> {
     let mut boxes = Vec::new(alloc);
     for limit in limits {
         boxes.push(Limits {
-            low: boxed_limit(limit.low, -1),
-            high: boxed_limit(limit.high, 1),
+            low: box_limit(limit.low, -1),
+            high: box_limit(limit.high, 1),
         })?;
     }
     Ok(boxes)
