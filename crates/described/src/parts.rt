@@ -7,16 +7,16 @@ ghost use Rattle.statuses.specs.declared.reply.Reply.{Reply as AReply};
 ghost use Rattle.vlp_problem.specs.declared.problem.Problem.{Problem as AProblem};
 
 use benson_program::{FeasibleEnd, feasible_end};
-use frac128::Frac;
 use overflows::{SolveFault, spots_of};
 use solver::data_of;
 use src_sink::{Items, NoMemory};
 use statuses::{Reply, Status, fault_reply};
 use std::alloc::Global;
+use tier_frac::Tier;
 use vlp_problem::Problem;
 
 /// The reply of a part whose sides contradict each other by these multipliers.
-fn empty_reply(alloc: Global, second: bool, u: &Items<Frac>) -> Result<Reply, NoMemory>
+fn empty_reply(alloc: Global, second: bool, u: &Items<Tier>) -> Result<Reply, NoMemory>
     ensures { (part : AProblem) → IsContradiction part (map (λ q. q) u.now) →
         IfOk result (EmptyTold second part) }
 {

@@ -16,6 +16,7 @@ use frac128::Frac;
 use lp_form::{Data, DataFault};
 use src_sink::NoMemory;
 use std::alloc::Global;
+use tier_frac::Tier;
 use vlp_problem::Problem;
 
 /// That a number is held, which the reading of its parts says.
@@ -38,11 +39,11 @@ fn no_memory(fault: &DataFault) -> NoMemory
     }
 }
 
-/// The data of a problem in fractions, which hold each of its numbers.
-pub fn data_of(alloc: Global, problem: &Problem) -> Result<Data<Frac>, NoMemory>
+/// The data of a problem in fractions of two sizes, which hold each of its numbers.
+pub fn data_of(alloc: Global, problem: &Problem) -> Result<Data<Tier>, NoMemory>
     ensures { IfOk result (IsDataOf (λ q. q) problem.now) }
 {
-    match Data::<Frac>::of(alloc, problem) {
+    match Data::<Tier>::of(alloc, problem) {
         Ok(form) => Ok(form),
         Err(fault) => Err(no_memory(&fault)),
     }
