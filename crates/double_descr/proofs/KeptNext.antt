@@ -2,15 +2,17 @@
 use Rattle.std.proofs.Common.{◌≡◌, ℕ, ◌<◌, List, [], ◌∷◌, ◌++◌, map, length, All, sym, ap, ◌∙◌, subst}
 use Rattle.std.proofs.lemmas.List.{map-append, length-map}
 use Rattle.exact_field.specs.Rational.{ℚ}
-use Rattle.polyhedra.specs.LiveList.{LiveList, step}
+use Rattle.exact_field.specs.Vector.{dot}
+use Rattle.polyhedra.specs.LiveList.{LiveList, Numbered, numbers, staying, step, tight_set}
 use Rattle.polyhedra.specs.LiveSteps.{IsLive}
 use Rattle.polyhedra.proofs.Lists.{wide-nil, wide-cons}
 use Rattle.polyhedra.proofs.LiveSteps.{are_live}
-use Rattle.double_descr.specs.Making.{IsAddition, addition_of}
+use Rattle.double_descr.specs.Making.{AreValuesAt, IsAddition, IsNext, addition_of}
 use Rattle.double_descr.specs.Steps.{values}
-use Rattle.double_descr.specs.State.{State, list_of, HasTightSet, IsKept, IsNext}
+use Rattle.double_descr.specs.State.{State, list_of, live_of, tight_sets, HasTightSet, IsKept}
 use Rattle.double_descr.specs.declared.generator.Generator.{Generator}
 use Rattle.double_descr.specs.declared.next.Next.{Next}
+use Rattle.double_descr.proofs.NextLists.{list_after, one_each}
 
 module _ {F : Type 0} (value : F → ℚ) (width : ℕ) (rows : List (List F)) (nums : List ℕ) (gens : List (Generator F)) (next : ℕ)
     (k : IsKept value width rows nums gens next) (row : List F) (w : length row ≡ width) where
@@ -28,14 +30,17 @@ module _ {F : Type 0} (value : F → ℚ) (width : ℕ) (rows : List (List F)) (
   pub rows_is : (after : List (List F)) → after ≡ rows ++ row ∷ [] → map (values value) after ≡ map (values value) rows ++ values value row ∷ []
   rows_is after e = ap (map (values value)) e ∙ map-append (values value) rows (row ∷ [])
 
-  pub kept_next : (after : List (List F)) → after ≡ rows ++ row ∷ [] → (made : Next F) →
-      IsNext value (map (values value) rows ++ values value row ∷ []) (step (map (values value) rows) (list_of value gens next) (values value row)) made →
-      IsKept value width after made.numbers made.generators made.next
-  kept_next after e made m = record {
-    live = subst (λ (p : List (List ℚ) × LiveList). IsLive width p.0 p.1) (λ i. (sym (rows_is after e) i, sym m.is i))
+  -- what is kept of generators that are the live list after the row
+  pub kept_next : (after : List (List F)) → after ≡ rows ++ row ∷ [] → (now : List (Generator F)) (next' : ℕ) →
+      list_of value now next' ≡ step (map (values value) rows) (list_of value gens next) (values value row) →
+      (nums' : List ℕ) → nums' ≡ numbers (step (map (values value) rows) (list_of value gens next) (values value row)).live →
+      All (HasTightSet value (map (values value) rows ++ values value row ∷ [])) now →
+      IsKept value width after nums' now next'
+  kept_next after e now next' is nums' ns tight = record {
+    live = subst (λ (p : List (List ℚ) × LiveList). IsLive width p.0 p.1) (λ i. (sym (rows_is after e) i, sym is i))
         (are_live.after width (map (values value) rows) (list_of value gens next) (values value row ∷ []) (wide-cons width (values value row) [] wide (wide-nil width)) k.live);
-    numbers_are = m.numbers_are;
-    tight = subst (λ (rs : List (List ℚ)). All (HasTightSet value rs) made.generators) (sym (rows_is after e)) m.tight;
+    numbers_are = ns ∙ ap (λ (l : LiveList). numbers l.live) (sym is);
+    tight = subst (λ (rs : List (List ℚ)). All (HasTightSet value rs) now) (sym (rows_is after e)) tight;
     narrow = k.narrow;
   }
 
@@ -46,10 +51,36 @@ module _ {F : Type 0} (value : F → ℚ) (width : ℕ) (rows : List (List F)) (
   abbrev pub state_of : List (List F) → LiveList → State
   state_of rs list = record { width = width; rows = map (values value) rs; list = list }
 
-  pub view_next : (after : List (List F)) → after ≡ rows ++ row ∷ [] → (made : Next F) →
-      IsNext value (map (values value) rows ++ values value row ∷ []) (step (map (values value) rows) (list_of value gens next) (values value row)) made →
-      (old : State) → state_of rows (list_of value gens next) ≡ old → state_of after (list_of value made.generators made.next) ≡ with_row old
-  view_next after e made m old h = same ∙ ap with_row h
+  pub view_next : (after : List (List F)) → after ≡ rows ++ row ∷ [] → (now : List (Generator F)) (next' : ℕ) →
+      list_of value now next' ≡ step (map (values value) rows) (list_of value gens next) (values value row) →
+      (old : State) → state_of rows (list_of value gens next) ≡ old → state_of after (list_of value now next') ≡ with_row old
+  view_next after e now next' is old h = same ∙ ap with_row h
     where
-      same : state_of after (list_of value made.generators made.next) ≡ with_row (state_of rows (list_of value gens next))
-      same = λ i. record { width = width; rows = rows_is after e i; list = m.is i }
+      same : state_of after (list_of value now next') ≡ with_row (state_of rows (list_of value gens next))
+      same = λ i. record { width = width; rows = rows_is after e i; list = is i }
+
+  -- generators that were moved, from what was made aside
+  module _ (made : Next F) (m : IsNext value (addition_of value rows row next) gens made) (before : List (Generator F)) (same : before ≡ gens) (vals : List F)
+      (read : vals ≡ made.values) (now : List (Generator F)) where
+    at_row : AreValuesAt value (values value row) before vals
+    at_row = ap (map value) read ∙ m.at_row ∙ ap (λ gs. map (λ (g : Numbered). dot (values value row) g.vector) (live_of value gs)) (sym same)
+
+    sets_are : made.sets ≡ tight_sets value (map (values value) rows ++ values value row ∷ []) before
+    sets_are = m.sets ∙ ap (tight_sets value (map (values value) rows ++ values value row ∷ [])) (sym same)
+
+    pub moved_list : ((r : List ℚ) → AreValuesAt value r before vals → (rs : List (List ℚ)) → made.sets ≡ tight_sets value rs before →
+        live_of value now ≡ staying r (live_of value before) ++ live_of value made.generators) →
+        list_of value now made.next ≡ step (map (values value) rows) (list_of value gens next) (values value row)
+    moved_list h = list_after value (addition_of value rows row next) gens made m now
+        (h (values value row) at_row (map (values value) rows ++ values value row ∷ []) sets_are
+        ∙ ap (λ gs. staying (values value row) (live_of value gs) ++ live_of value made.generators) same)
+
+    pub moved_tight : ((rs : List (List ℚ)) → made.sets ≡ tight_sets value rs before → All (HasTightSet value rs) made.generators → All (HasTightSet value rs) now) →
+        All (HasTightSet value (map (values value) rows ++ values value row ∷ [])) now
+    moved_tight h = h (map (values value) rows ++ values value row ∷ []) sets_are m.tight
+
+    pub many_values : length vals ≡ length before
+    many_values = one_each value (values value row) before vals at_row
+
+    pub many_sets : length made.sets ≡ length before
+    many_sets = ap length sets_are ∙ length-map before (λ (g : Generator F). tight_set (map (values value) rows ++ values value row ∷ []) (values value g.vector.items))

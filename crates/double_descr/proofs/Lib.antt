@@ -1,4 +1,5 @@
 pub mod Covering
+pub mod InPlace
 pub mod KeptNext
 pub mod MadePairs
 pub mod MarkedSoFar
@@ -8,6 +9,7 @@ pub mod NormedCorners
 pub mod NormingLeft
 pub mod NotZero
 pub mod Reading
+pub mod Sifting
 pub mod SignTests
 pub mod StartState
 pub mod StepLists

@@ -83,10 +83,9 @@ module _ {F : Type 0} (value : F → ℚ) (holds : ℚ → Bool) (d : Addition) 
           ∙ ap (λ l. l ++ live_numbers (pair_of value p m) ∷ []) h.pairs_are ∙ sym (map-append live_numbers h.done (pair_of value p m ∷ []));
       new_are = ap (live_of value) t.added ∙ map-append (numbered_of value) old.generators (t.generator ∷ [])
           ∙ ap₂ (λ l g. l ++ g ∷ []) h.new_are (t.is ∙ ap₂ (λ k v. record { number = k; vector = v }) number same_point)
-          ∙ append_assoc (staying d.row (live_of value gens)) (numbered d.first (made d.row (map without_numbers h.done))) (record { number = d.first + length (made d.row (map without_numbers h.done)); vector = normed (meeting d.row (values value p.vector.items) (values value m.vector.items)) } ∷ [])
-          ∙ ap (λ l. (staying d.row (live_of value gens)) ++ l) (sym (numbered_push d.first (made d.row (map without_numbers h.done)) (normed (meeting d.row (values value p.vector.items) (values value m.vector.items))))
+          ∙ sym (numbered_push d.first (made d.row (map without_numbers h.done)) (normed (meeting d.row (values value p.vector.items) (values value m.vector.items))))
           ∙ ap (numbered d.first) (sym (ap (made d.row) (map-append without_numbers h.done (pair_of value p m ∷ []))
-          ∙ map-append (λ q. normed (meeting d.row q.plus_side q.minus_side)) (map without_numbers h.done) (without_numbers (pair_of value p m) ∷ []))));
+          ∙ map-append (λ q. normed (meeting d.row q.plus_side q.minus_side)) (map without_numbers h.done) (without_numbers (pair_of value p m) ∷ [])));
       tight = subst (λ (gs : List (Generator F)). All (HasTightSet value (d.rows ++ d.row ∷ [])) gs) (sym t.added)
           (All-append (HasTightSet value (d.rows ++ d.row ∷ [])) old.generators (t.generator ∷ []) h.tight
           (All-cons (HasTightSet value (d.rows ++ d.row ∷ [])) t.generator []
@@ -221,6 +220,12 @@ pub staying_on : (row : List ℚ) (m : Numbered) (rest rest' old new whole : Lis
     old ++ staying row rest ≡ whole → new ++ staying row rest' ≡ whole
 staying_on row m rest rest' old new whole e n h = ap (λ l. l ++ staying row rest') n ∙ append_assoc old (staying row (m ∷ [])) (staying row rest')
     ∙ ap (λ l. old ++ l) (filter_one (λ g. le_ℚ zero_ℚ (dot row g.vector)) m rest' ∙ ap (staying row) (sym e)) ∙ h
+
+pub numbers_on : (row : List ℚ) (m : Numbered) (rest rest' : List Numbered) (old new whole : List ℕ) → rest ≡ m ∷ rest' → new ≡ old ++ numbers (staying row (m ∷ [])) →
+    old ++ numbers (staying row rest) ≡ whole → new ++ numbers (staying row rest') ≡ whole
+numbers_on row m rest rest' old new whole e n h = ap (λ l. l ++ numbers (staying row rest')) n ∙ append_assoc old (numbers (staying row (m ∷ []))) (numbers (staying row rest'))
+    ∙ ap (λ l. old ++ l) (sym (map-append (λ (g : Numbered). g.number) (staying row (m ∷ [])) (staying row rest'))
+    ∙ ap (map (λ (g : Numbered). g.number)) (filter_one (λ g. le_ℚ zero_ℚ (dot row g.vector)) m rest' ∙ ap (staying row) (sym e))) ∙ h
 
 pub dropped_on : (row : List ℚ) (m : Numbered) (rest rest' : List Numbered) (old new whole : List ℕ) → rest ≡ m ∷ rest' → new ≡ old ++ dropped row (m ∷ []) →
     old ++ dropped row rest ≡ whole → new ++ dropped row rest' ≡ whole

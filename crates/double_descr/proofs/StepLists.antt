@@ -196,3 +196,7 @@ on_ok_map (Err e) P Q h f = tt
 pub if_err_map : {T E : Type 0} (r : Result T E) (P Q : E → Type 0) → IfErr r P → ((e : E) → P e → Q e) → IfErr r Q
 if_err_map (Ok x) P Q h f = tt
 if_err_map (Err e) P Q h f = f e h
+
+pub if_ok_map : {T E : Type 0} (r : Result T E) (P Q : T → Type 0) → IfOk r P → ((x : T) → P x → Q x) → IfOk r Q
+if_ok_map (Ok x) P Q h f = f x h
+if_ok_map (Err e) P Q h f = tt

@@ -3,16 +3,17 @@ use Rattle.std.specs.Prelude.{ℕ, suc, ◌+◌, ◌<◌, ◌≡◌, List, [], �
 use Rattle.exact_field.specs.Rational.{ℚ, zero_ℚ, lt_ℚ, ◌<ℚ◌}
 use Rattle.exact_field.specs.Vector.{dot}
 use Rattle.polyhedra.specs.DoubleDescription.{normed, made}
-use Rattle.polyhedra.specs.LiveList.{Numbered, LivePair, numbered, staying, without_numbers, is_uncovered_live, live_pairs}
+use Rattle.polyhedra.specs.LiveList.{Numbered, LivePair, numbers, numbered, without_numbers, is_uncovered_live, live_pairs, new_vectors, step}
 use Rattle.polyhedra.specs.LiveSteps.{IsLive}
 use Rattle.double_descr.specs.Steps.{values, between}
-use Rattle.double_descr.specs.State.{numbered_of, live_of, list_of, HasTightSet}
+use Rattle.double_descr.specs.State.{numbered_of, live_of, list_of, HasTightSet, tight_sets}
 use Rattle.double_descr.specs.Adding.{Block, AreHeld, IsFault, add_blocks, block_of, pair_block, pair_blocks}
 use Rattle.double_descr.specs.declared.generator.Generator.{Generator}
 use Rattle.double_descr.specs.declared.fault.Pair.{Pair}
 use Rattle.double_descr.specs.declared.fault.DdFault.{DdFault}
 use Rattle.double_descr.specs.declared.fault.DdFault.TheVariants.{Elim, Left as Stuck, NoMemory}
 use Rattle.double_descr.specs.declared.made.Made.{Made}
+use Rattle.double_descr.specs.declared.next.Next.{Next}
 use Rattle.incid_sets.specs.Marks.{IsMeet}
 
 -- the addition of a row to some rows: these, the row, and the number that the first new generator gets
@@ -101,12 +102,12 @@ pair_numbers p = (p.plus, p.minus)
 abbrev pub live_numbers : LivePair → ℕ × ℕ
 live_numbers pair = (pair.plus_side.number, pair.minus_side.number)
 
--- of all pairs some are made, after the generators that stay, and the candidates that are left give the others
+-- of all pairs some are made, with their new generators, and the candidates that are left give the others
 pub record IsMadeSoFar {F : Type 0} (value : F → ℚ) (holds : ℚ → Bool) (a : Addition) (gens : List (Generator F)) (left : List LivePair) (m : Made F) : Type 0 where
   pub done : List LivePair
   pub split : live_pairs a.rows (live_of value gens) a.row ≡ done ++ filter (is_uncovered_live a.rows (live_of value gens)) left
   pub pairs_are : map pair_numbers m.pairs ≡ map live_numbers done
-  pub new_are : live_of value m.generators ≡ staying a.row (live_of value gens) ++ numbered a.first (made a.row (map without_numbers done))
+  pub new_are : live_of value m.generators ≡ numbered a.first (made a.row (map without_numbers done))
   pub tight : All (HasTightSet value (a.rows ++ a.row ∷ [])) m.generators
   pub held : All (AreHeld holds) (map (pair_block a.row) done)
   pub from : m.first_new ≡ a.first
@@ -128,3 +129,13 @@ pub record IsPlus {F : Type 0} (value : F → ℚ) (a : Addition) (gens : List (
   pub listed : Contains gens plus
   pub valued : value at ≡ dot a.row (values value plus.vector.items)
   pub positive : zero_ℚ <ℚ value at
+
+-- what is made aside for an addition: the values of the row at the generators, their sets of tight rows with it, the new generators,
+-- and the numbers of the next live list with the one that the next new generator gets
+pub record IsNext {F : Type 0} (value : F → ℚ) (a : Addition) (gens : List (Generator F)) (next : Next F) : Type 0 where
+  pub at_row : AreValuesAt value a.row gens next.values
+  pub sets : next.sets ≡ tight_sets value (a.rows ++ a.row ∷ []) gens
+  pub new_are : live_of value next.generators ≡ numbered a.first (new_vectors a.rows (live_of value gens) a.row)
+  pub tight : All (HasTightSet value (a.rows ++ a.row ∷ [])) next.generators
+  pub numbers_are : next.numbers ≡ numbers (step a.rows (list_of value gens a.first) a.row).live
+  pub next_is : next.next ≡ (step a.rows (list_of value gens a.first) a.row).next

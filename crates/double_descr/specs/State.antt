@@ -7,7 +7,6 @@ use Rattle.polyhedra.specs.LiveList.{Numbered, LiveList, LivePair, numbers, tigh
 use Rattle.polyhedra.specs.LiveSteps.{IsLive}
 use Rattle.double_descr.specs.Steps.{values}
 use Rattle.double_descr.specs.declared.generator.Generator.{Generator}
-use Rattle.double_descr.specs.declared.next.Next.{Next}
 
 -- the width of the rows, the rows, and the live list
 pub record State : Type 0 where
@@ -40,6 +39,14 @@ live_of value gs = map (numbered_of value) gs
 abbrev pub HasTightSet : {F : Type 0} → (F → ℚ) → List (List ℚ) → Generator F → Type 0
 HasTightSet value rows g = g.tight ≡ tight_set rows (values value g.vector.items)
 
+-- for each generator the set of the rows that are tight at it
+abbrev pub tight_sets : {F : Type 0} → (F → ℚ) → List (List ℚ) → List (Generator F) → List (List Bool)
+tight_sets value rows gens = map (λ g. tight_set rows (values value g.vector.items)) gens
+
+-- a generator with the set of the rows that are tight at it
+abbrev pub with_tight_set : {F : Type 0} → (F → ℚ) → List (List ℚ) → Generator F → Generator F
+with_tight_set value rows g = record g { tight = tight_set rows (values value g.vector.items) }
+
 -- a pair of generators in numbers
 abbrev pub pair_of : {F : Type 0} → (F → ℚ) → Generator F → Generator F → LivePair
 pair_of value p m = record { plus_side = numbered_of value p; minus_side = numbered_of value m }
@@ -68,9 +75,3 @@ pub record IsKept {F : Type 0} (value : F → ℚ) (width : ℕ) (rows : List (L
 -- generators with the number that the next new one gets, as a live list
 abbrev pub list_of : {F : Type 0} → (F → ℚ) → List (Generator F) → ℕ → LiveList
 list_of value gens next = record { live = live_of value gens; next = next }
-
--- what is made is this live list over these rows, with its numbers and tight sets
-pub record IsNext {F : Type 0} (value : F → ℚ) (rows : List (List ℚ)) (list : LiveList) (next : Next F) : Type 0 where
-  pub is : list_of value next.generators next.next ≡ list
-  pub numbers_are : next.numbers ≡ numbers (live_of value next.generators)
-  pub tight : All (HasTightSet value rows) next.generators

@@ -11,8 +11,9 @@ ghost use Rattle.double_descr.specs.Steps.{values};
 
 use crate::fault::{Change, DdFault};
 use crate::generator::{Generator, place_of};
+use crate::moves::advance;
 use crate::next::{Next, next_list};
-use crate::parts::numbers_of;
+use crate::parts::push_numbers;
 use crate::starting::{copy_rows, normed_all};
 use exact_field::Field;
 use incid_sets::Marks;
@@ -30,7 +31,7 @@ pub struct Dd<F: Field> {
     width: u32,
     rows: Items<Items<F>>,
     numbers: Items<u32>,
-    generators: Items<Generator<F>>,
+    generators: Vec<Generator<F>>,
     next: u32,
     alloc: Global,
 }
@@ -49,10 +50,11 @@ impl<F: Field> Model for Dd<F> {
     ghost view = { λ d. record {
       width = d.width;
       rows = map (values F.value) d.rows;
-      list = record { live = live_of F.value d.generators; next = d.next };
+      list = record { live = live_of F.value d.generators.items; next = d.next };
     } };
 
-    ghost invariant = { λ d. IsKept F.value d.width d.rows d.numbers d.generators d.next };
+    ghost invariant = { λ d.
+        IsKept F.value d.width d.rows d.numbers d.generators.items d.next };
 }
 
 impl<F: Field> Dd<F> {
@@ -68,14 +70,15 @@ impl<F: Field> Dd<F> {
     {
         let vectors = corners(alloc, rows)?;
         let generators = normed_all(alloc, &vectors)?;
-        let numbers = numbers_of(alloc, generators.as_slice())?;
+        let mut numbers = Items::new(alloc);
+        push_numbers(&mut numbers, generators.as_slice())?;
         let lines = copy_rows(alloc, rows)?;
         let next = generators.len() as u32 + 1;
         Ok(Dd {
             width: rows.width(),
             rows: lines,
             numbers,
-            generators,
+            generators: generators.into_vec(),
             next,
             alloc,
         })
@@ -130,9 +133,9 @@ impl<F: Field> Dd<F> {
 
     /// Adds a row of this width, as its next one. The generators at which it is negative are
     /// dropped, and each opposite pair that no third live generator covers gives a new one, where
-    /// the row is 0 between the two. After a refusal all is as before: the next live list is made
-    /// aside, with a copy of each generator that stays. The cost is at the worst that of the
-    /// opposite pairs times the live generators times the words of a set of rows.
+    /// the row is 0 between the two. After a refusal all is as before: what takes memory is made
+    /// aside first, and then the generators that stay are moved. The cost is at the worst that of
+    /// the opposite pairs times the live generators times the words of a set of rows.
     pub fn add(&mut self, row: &[F]) -> Result<Change, DdFault<F>>
         requires { length row.now ≡ self.old.width }
         ensures ok { OnOk result (self.new
@@ -158,15 +161,18 @@ impl<F: Field> Dd<F> {
         )?;
         let mut line = Items::new(self.alloc);
         line.append(row)?;
+        self.generators.reserve(made.generators.len())?;
         self.rows.push(line)?;
         let Next {
-            numbers,
+            values,
+            sets,
             generators,
+            numbers,
             next,
             change,
         } = made;
+        advance(&mut self.generators, values.as_slice(), sets, generators);
         self.numbers = numbers;
-        self.generators = generators;
         self.next = next;
         Ok(change)
     }

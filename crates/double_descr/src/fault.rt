@@ -3,6 +3,7 @@
 use exact_field::Left;
 use lin_rows::RowFault;
 use src_sink::{Items, NoMemory};
+use std::alloc::AllocError;
 
 /// Two generators, by number: at the new row the one is positive and the other negative.
 #[derive(Clone, Copy, Debug, PartialEq, Eq)]
@@ -55,6 +56,17 @@ impl<F: Drop> From<NoMemory> for DdFault<F> {
     ghost from_gives = { λ _ e. e ≡ NoMemory };
 
     fn from(_e: NoMemory) -> DdFault<F> {
+        DdFault::NoMemory
+    }
+}
+
+impl<F: Drop> From<AllocError> for DdFault<F> {
+    ghost use Rattle.std.specs.Prelude.{◌≡◌};
+    ghost use Rattle.double_descr.specs.declared.fault.DdFault.TheVariants.{NoMemory};
+
+    ghost from_gives = { λ _ e. e ≡ NoMemory };
+
+    fn from(_e: AllocError) -> DdFault<F> {
         DdFault::NoMemory
     }
 }

@@ -1,7 +1,7 @@
 //! Live generators.
 ghost use Rattle.std.specs.Prelude.{◌≡◌, ◌≢◌, ◌+◌, ◌<◌, List, Bool, true, [], ◌∷◌, ◌++◌, AllPairs, Contains, IfErr, IfOk, length, slice_index};
 ghost use Rattle.exact_field.specs.Rational.{zero_ℚ, ◌<ℚ◌};
-ghost use Rattle.polyhedra.specs.DoubleDescription.{norming, normed};
+ghost use Rattle.polyhedra.specs.DoubleDescription.{is_zero, norming, normed};
 ghost use Rattle.incid_sets.specs.Marks.{IsMeet};
 ghost use Rattle.double_descr.specs.Adding.{AreHeld, IsFault, block_of};
 ghost use Rattle.double_descr.specs.State.{numbered_of};
@@ -9,6 +9,7 @@ ghost use Rattle.double_descr.specs.Steps.{between, values};
 
 use crate::fault::DdFault;
 use crate::points::meeting_point;
+use crate::signs::is_none;
 use crate::steps::Stop;
 use exact_field::Field;
 use incid_sets::Marks;
@@ -55,24 +56,13 @@ fn with_row(alloc: Global, a: &Marks, b: &Marks, tight: bool) -> Result<Marks, N
     Ok(marks)
 }
 
-/// A generator that stays, with a next row.
-pub fn keep<F: Copy>(
-    alloc: Global,
-    generator: &Generator<F>,
-    tight: bool,
-) -> Result<Generator<F>, NoMemory>
+/// The set of the rows that are tight at a generator, with the next row, from its value there.
+pub fn next_set<F: Field>(alloc: Global, generator: &Generator<F>, at: F) -> Result<Marks, NoMemory>
     requires { length generator.now.tight + 1 < 4294967296 }
-    ensures number { IfOk result (λ g. g.number ≡ generator.now.number) }
-    ensures vector { IfOk result (λ g. g.vector.items ≡ generator.now.vector.items) }
-    ensures tight { IfOk result (λ g. g.tight ≡ generator.now.tight ++ tight ∷ []) }
+    ensures { IfOk result
+        (λ marks. marks ≡ generator.now.tight ++ is_zero (F.value at) ∷ []) }
 {
-    let vector = Vec::from_slice(alloc, &generator.vector)?;
-    let tight = with_row(alloc, &generator.tight, &generator.tight, tight)?;
-    Ok(Generator {
-        number: generator.number,
-        vector,
-        tight,
-    })
+    with_row(alloc, &generator.tight, &generator.tight, is_none(at))
 }
 
 /// The new generator between two, from the values of the row there.

@@ -5,6 +5,7 @@ mod dd;
 mod fault;
 mod generator;
 mod made;
+mod moves;
 mod next;
 mod pairs;
 mod parts;

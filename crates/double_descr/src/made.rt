@@ -22,7 +22,7 @@ use std::alloc::Global;
 pub struct Made<F: Drop> {
     /// The pairs so far, by the numbers of their generators.
     pub pairs: Items<Pair>,
-    /// The generators that stay, and then a new one for each pair.
+    /// The new generator of each pair.
     pub generators: Items<Generator<F>>,
     /// Where the common tight rows of a pair are written.
     pub common: Marks,

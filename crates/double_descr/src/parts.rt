@@ -1,18 +1,19 @@
-//! The parts of an addition: the values of the row, the places of those below 0, and the generators
-//! that stay.
+//! The parts of an addition: the values of the row, the places of those below 0, the next sets of
+//! tight rows, and the numbers of the generators that stay.
 ghost use Rattle.std.specs.Prelude.{◌≡◌, ◌+◌, ◌<◌, ◌++◌, List, All, [], ◌∷◌, IfErr, IfOk, MatchResult, OnOk, length, map};
 ghost use Rattle.exact_field.specs.Vector.{dot};
-ghost use Rattle.polyhedra.specs.LiveList.{dropped, staying};
+ghost use Rattle.polyhedra.specs.LiveList.{dropped, numbers, staying};
 ghost use Rattle.double_descr.specs.Adding.{AreHeld, IsAddFault, IsFault, value_block};
 ghost use Rattle.double_descr.specs.Making.{Addition, AreValuesAt, negative_places};
-ghost use Rattle.double_descr.specs.State.{HasTightSet, live_of, numbered_of};
+ghost use Rattle.double_descr.specs.State.{HasTightSet, live_of, numbered_of, tight_sets};
 ghost use Rattle.double_descr.specs.Steps.{values};
 
 use crate::fault::DdFault;
-use crate::generator::{Generator, keep};
-use crate::signs::{is_below, is_none};
+use crate::generator::{Generator, next_set};
+use crate::signs::is_below;
 use crate::steps::{Stop, product};
 use exact_field::Field;
+use incid_sets::Marks;
 use src_sink::{Items, NoMemory};
 use std::alloc::Global;
 
@@ -53,7 +54,7 @@ pub fn values_at<F: Field>(
     ensures left { IfErr result (λ fault. IsAddFault F.value F.holds
         (map (value_block (values F.value row.now)) (live_of F.value generators.now)) fault) }
 {
-    let mut out = Items::new(alloc);
+    let mut out = Items::with_room(alloc, generators.len())?;
     for generator in generators {
         out.push(value_at(row, generator)?)?;
     }
@@ -73,73 +74,81 @@ pub fn places_below<F: Field>(alloc: Global, values: &[F]) -> Result<Items<usize
     Ok(out)
 }
 
-/// Lists a generator among those that stay, with the new row, or among the dropped ones.
-fn keep_one<F: Field>(
-    alloc: Global,
-    generator: &Generator<F>,
-    at: F,
-    stays: &mut Items<Generator<F>>,
-    gone: &mut Items<u32>,
-) -> Result<(), NoMemory>
-    ghost addition: { Addition }
-    requires at { F.value at ≡ dot addition.row (values F.value generator.now.vector.items) }
-    requires tight { HasTightSet F.value addition.rows generator.now }
-    requires room { length generator.now.tight + 1 < 4294967296 }
-    ensures stays { OnOk result (live_of F.value stays.new ≡ live_of F.value stays.old
-        ++ staying addition.row (numbered_of F.value generator.now ∷ [])) }
-    ensures gone { OnOk result (gone.new
-        ≡ gone.old ++ dropped addition.row (numbered_of F.value generator.now ∷ [])) }
-    ensures tight { All (HasTightSet F.value (addition.rows ++ addition.row ∷ [])) stays.old
-        → OnOk result
-        (All (HasTightSet F.value (addition.rows ++ addition.row ∷ [])) stays.new) }
-{
-    if is_below(at) {
-        gone.push(generator.number)?;
-        return Ok(());
-    }
-    let copy = keep(alloc, generator, is_none(at))?;
-    stays.push(copy)?;
-    Ok(())
-}
-
-/// Lists the generators that stay, with the new row, and the numbers of the dropped ones.
-pub fn keep_all<F: Field>(
+/// The sets of the rows that are tight at generators, with the next row.
+pub fn next_sets<F: Field>(
     alloc: Global,
     generators: &[Generator<F>],
     vals: &[F],
-    stays: &mut Items<Generator<F>>,
-    gone: &mut Items<u32>,
-) -> Result<(), NoMemory>
+) -> Result<Items<Marks>, NoMemory>
     ghost addition: { Addition }
     requires values { AreValuesAt F.value addition.row generators.now vals.now }
     requires tight { All (HasTightSet F.value addition.rows) generators.now }
     requires same { length vals.now ≡ length generators.now }
     requires room { All (λ g. length g.tight + 1 < 4294967296) generators.now }
+    ensures { IfOk result (λ sets. sets
+        ≡ tight_sets F.value (addition.rows ++ addition.row ∷ []) generators.now) }
+{
+    let mut sets = Items::with_room(alloc, generators.len())?;
+    for i in 0..generators.len() {
+        sets.push(next_set(alloc, &generators[i], vals[i])?)?;
+    }
+    Ok(sets)
+}
+
+/// Lists the number of a generator among those that stay, or among the dropped ones.
+fn list_number<F: Field>(
+    generator: &Generator<F>,
+    at: F,
+    stays: &mut Items<u32>,
+    gone: &mut Items<u32>,
+) -> Result<(), NoMemory>
+    ghost addition: { Addition }
+    requires { F.value at ≡ dot addition.row (values F.value generator.now.vector.items) }
+    ensures stays { OnOk result (stays.new ≡ stays.old
+        ++ numbers (staying addition.row (numbered_of F.value generator.now ∷ []))) }
+    ensures gone { OnOk result (gone.new
+        ≡ gone.old ++ dropped addition.row (numbered_of F.value generator.now ∷ [])) }
+{
+    if is_below(at) {
+        gone.push(generator.number)?;
+        return Ok(());
+    }
+    stays.push(generator.number)?;
+    Ok(())
+}
+
+/// Lists the numbers of the generators that stay, and those of the dropped ones.
+pub fn list_numbers<F: Field>(
+    generators: &[Generator<F>],
+    vals: &[F],
+    stays: &mut Items<u32>,
+    gone: &mut Items<u32>,
+) -> Result<(), NoMemory>
+    ghost addition: { Addition }
+    requires values { AreValuesAt F.value addition.row generators.now vals.now }
+    requires same { length vals.now ≡ length generators.now }
     requires none { stays.old ≡ [] }
     requires none_gone { gone.old ≡ [] }
     ensures stays { OnOk result
-        (live_of F.value stays.new ≡ staying addition.row (live_of F.value generators.now)) }
+        (stays.new ≡ numbers (staying addition.row (live_of F.value generators.now))) }
     ensures gone { OnOk result
         (gone.new ≡ dropped addition.row (live_of F.value generators.now)) }
-    ensures tight { OnOk result
-        (All (HasTightSet F.value (addition.rows ++ addition.row ∷ [])) stays.new) }
 {
     for i in 0..generators.len() {
-        keep_one(alloc, &generators[i], vals[i], stays, gone)?;
+        list_number(&generators[i], vals[i], stays, gone)?;
     }
     Ok(())
 }
 
-/// The numbers of generators.
-pub fn numbers_of<F: Drop>(
-    alloc: Global,
+/// Appends the numbers of generators.
+pub fn push_numbers<F: Drop>(
+    list: &mut Items<u32>,
     generators: &[Generator<F>],
-) -> Result<Items<u32>, NoMemory>
-    ensures { IfOk result (λ ns. ns ≡ map (λ g. g.number) generators.now) }
+) -> Result<(), NoMemory>
+    ensures { OnOk result (list.new ≡ list.old ++ map (λ g. g.number) generators.now) }
 {
-    let mut out = Items::new(alloc);
     for generator in generators {
-        out.push(generator.number)?;
+        list.push(generator.number)?;
     }
-    Ok(out)
+    Ok(())
 }

@@ -1,26 +1,22 @@
-use Rattle.std.proofs.Common.{◌≡◌, ℕ, ◌+◌, ◌<◌, List, [], ◌∷◌, ◌++◌, length, map, All, sym, ap, ◌∙◌, subst, arith}
+use Rattle.std.proofs.Common.{◌≡◌, ℕ, ◌+◌, ◌<◌, List, [], ◌∷◌, ◌++◌, length, map, All, refl, sym, ap, ap₂, ◌∙◌, subst, arith}
 use Rattle.std.proofs.lemmas.List.{length-map}
 use Rattle.exact_field.specs.Rational.{ℚ}
 use Rattle.exact_field.specs.Vector.{dot}
-use Rattle.polyhedra.specs.LiveList.{Numbered, step}
+use Rattle.polyhedra.specs.LiveList.{Numbered}
 use Rattle.double_descr.specs.Adding.{AreHeld, IsAddFault, IsChange, value_block}
-use Rattle.double_descr.specs.State.{live_of, list_of, numbered_of, IsNext}
+use Rattle.double_descr.specs.State.{live_of, list_of}
 use Rattle.double_descr.specs.Making.{Addition, AreValuesAt, negative_places}
 use Rattle.double_descr.specs.declared.generator.Generator.{Generator}
 use Rattle.double_descr.proofs.next.next_list.Goals as goal
 use Rattle.polyhedra.proofs.Members.{all_of_members}
 use Rattle.lin_rows.proofs.Errors.{err_holds}
-use Rattle.double_descr.proofs.MadePairs.{wide_of}
-use Rattle.double_descr.proofs.NextLists.{after_values, among_values, next_is, changed, all_held}
+use Rattle.double_descr.proofs.MadePairs.{bound_of, wide_of}
+use Rattle.double_descr.proofs.NextLists.{after_values, all_held, among_values, changed, new_are, next_is, next_numbers, one_each}
 
 -- the values of a row, read from any list of them
 values_read : {F : Type 0} (value : F → ℚ) (row row' : List ℚ) (gens : List (Generator F)) (vals read : List F) → row ≡ row' → AreValuesAt value row' gens vals → read ≡ vals →
     AreValuesAt value row gens read
 values_read value row row' gens vals read e at r = ap (map value) r ∙ at ∙ ap (λ (q : List ℚ). map (λ (h : Numbered). dot q h.vector) (live_of value gens)) (sym e)
-
-one_each : {F : Type 0} (value : F → ℚ) (row : List ℚ) (gens : List (Generator F)) (vals : List F) → AreValuesAt value row gens vals → length vals ≡ length gens
-one_each value row gens vals at = sym (length-map vals value) ∙ ap length at ∙ length-map (live_of value gens) (λ (h : Numbered). dot row h.vector)
-    ∙ length-map gens (numbered_of value)
 
 pub values_at-requires-clause-same : goal.values_at-requires-clause-same
 values_at-requires-clause-same g c =
@@ -37,42 +33,67 @@ values_at-requires-clause-narrow g c = subst (λ (n : ℕ). n < 4294967296)
     (ap (λ (a : Addition). length a.row) c.requires.1.0 ∙ length-map c.args.row.now g.F.Field.value) c.requires.1.1.narrow
 
 pub begin-requires : goal.begin-requires
-begin-requires g c κs within =
-    let value = g.F.Field.value in
-    let holds = g.F.Field.holds in
-    let d = g.addition in
-    let gens = c.args.generators.now in
-    let is = c.requires.1.0 in
-    let at = values_read value d.row (map value c.args.row.now) gens _ c.as_slice.result.now (ap (λ (a : Addition). a.row) is) c.in_ok-vals.ensures.values c.as_slice.ensures.items in
-    let count : c.len-count.result ≡ length d.rows = c.len-count.ensures.value ∙ sym (ap (λ (a : Addition). length a.rows) is ∙ length-map c.args.rows.now (map value)) in (
-      within,
-      (
-        c.requires.1.1,
-        (at, (one_each value d.row gens c.as_slice.result.now at, (count, (omega arith, sym (ap (λ (a : Addition). a.first) is))))),
-      ),
-    )
+begin-requires g c κs within = (
+  within,
+  (
+    c.len-count.ensures.value ∙ sym (ap (λ (a : Addition). length a.rows) c.requires.1.0 ∙ length-map c.args.rows.now (map g.F.Field.value)),
+    sym (ap (λ (a : Addition). a.first) c.requires.1.0),
+  ),
+)
 
 pub meet_all-requires : goal.meet_all-requires
 meet_all-requires g c κs within =
     let value = g.F.Field.value in
-    let holds = g.F.Field.holds in
     let d = g.addition in
     let gens = c.args.generators.now in
     let is = c.requires.1.0 in
-    let vals = c.as_slice-3.result.now in
-    let at = values_read value d.row (map value c.args.row.now) gens _ vals (ap (λ (a : Addition). a.row) is) c.in_ok-vals.ensures.values c.as_slice-3.ensures.items in
+    let vals = c.as_slice-2.result.now in
+    let at = values_read value d.row (map value c.args.row.now) gens _ vals (ap (λ (a : Addition). a.row) is) c.in_ok-vals.ensures.values c.as_slice-2.ensures.items in
     let count : c.len-count.result ≡ length d.rows = c.len-count.ensures.value ∙ sym (ap (λ (a : Addition). length a.rows) is ∙ length-map c.args.rows.now (map value)) in (
       within,
       (
         record {
           addition = c.requires.1.1;
           at_row = at;
-          places = c.as_slice-4.ensures.items ∙ c.in_ok-below.ensures ∙ ap (λ l. negative_places 0 (map value l)) (c.as_slice-2.ensures.items ∙ sym c.as_slice-3.ensures.items);
+          places = c.as_slice-3.ensures.items ∙ c.in_ok-below.ensures ∙ ap (λ l. negative_places 0 (map value l)) (c.as_slice.ensures.items ∙ sym c.as_slice-2.ensures.items);
           room = omega (arith, count);
         },
-        (one_each value d.row gens vals at, c.in_ok-so_far.ensures.made),
+        (one_each value d.row gens vals at, c.in_ok-so_far.ensures gens),
       ),
     )
+
+pub next_sets-requires : goal.next_sets-requires
+next_sets-requires g c κs within =
+    let value = g.F.Field.value in
+    let d = g.addition in
+    let gens = c.args.generators.now in
+    let is = c.requires.1.0 in
+    let vals = c.as_slice-4.result.now in
+    let at = values_read value d.row (map value c.args.row.now) gens _ vals (ap (λ (a : Addition). a.row) is) c.in_ok-vals.ensures.values c.as_slice-4.ensures.items in
+    let count : c.len-count.result ≡ length d.rows = c.len-count.ensures.value ∙ sym (ap (λ (a : Addition). length a.rows) is ∙ length-map c.args.rows.now (map value)) in
+    let room : length d.rows + 1 < 4294967296 = omega (arith, count) in (
+      within,
+      (
+        at,
+        (
+          c.requires.1.1.tight,
+          (
+            one_each value d.row gens vals at,
+            all_of_members (λ (h : Generator _). length h.tight + 1 < 4294967296) gens
+                (λ h k. subst (λ (n : ℕ). n + 1 < 4294967296) (sym (bound_of value d gens c.requires.1.1 h k)) room),
+          ),
+        ),
+      ),
+    )
+
+pub list_numbers-requires : goal.list_numbers-requires
+list_numbers-requires g c κs within =
+    let value = g.F.Field.value in
+    let d = g.addition in
+    let gens = c.args.generators.now in
+    let vals = c.as_slice-5.result.now in
+    let at = values_read value d.row (map value c.args.row.now) gens _ vals (ap (λ (a : Addition). a.row) c.requires.1.0) c.in_ok-vals.ensures.values c.as_slice-5.ensures.items in
+    (within, (at, (one_each value d.row gens vals at, (c.in_ok-numbers.ensures, c.new-dropped.ensures))))
 
 pub returns-in_err-vals-clause-left : goal.returns-in_err-vals-clause-left
 returns-in_err-vals-clause-left g c =
@@ -101,18 +122,18 @@ returns-clause-next g c =
     let holds = g.F.Field.holds in
     let d = g.addition in
     let gens = c.args.generators.now in
+    let is = c.requires.1.0 in
     let made = c.meet_all.new.so_far in
-    let numbers = c.in_ok-numbers.numbers in
-    let gone = c.in_ok-so_far.dropped in
-    subst (λ (p : ℕ × ℕ). IsNext value (d.rows ++ d.row ∷ []) (step d.rows (list_of value gens d.first) d.row) (record {
-      numbers = numbers;
-      generators = made.generators;
-      next = p.0 + p.1;
-      change = record { dropped = gone; pairs = made.pairs; first_new = p.0 };
-    })) (λ i. ((c.requires.1.0 i).first, sym c.len.ensures.value i))
-    (next_is value holds d gens made c.in_ok-meet_all.ensures.ok numbers
-    (c.in_ok-numbers.ensures ∙ ap (map (λ (u : Generator _). u.number)) c.as_slice-5.ensures.items)
-    (record { dropped = gone; pairs = made.pairs; first_new = d.first }))
+    let done = c.in_ok-meet_all.ensures.ok in
+    record {
+      at_row = values_read value d.row (map value c.args.row.now) gens _ c.in_ok-vals.vals (ap (λ (a : Addition). a.row) is) c.in_ok-vals.ensures.values refl;
+      sets = c.in_ok-sets.ensures;
+      new_are = new_are value holds d gens made done;
+      tight = done.tight;
+      numbers_are = next_numbers value holds d gens made done c.list_numbers.new.stays c.push_numbers.new.list c.in_ok-list_numbers.ensures.stays
+          (c.in_ok-push_numbers.ensures ∙ ap (λ gs. c.list_numbers.new.stays ++ map (λ (u : Generator _). u.number) gs) c.as_slice-6.ensures.items);
+      next_is = ap₂ (λ a b. a + b) (sym (ap (λ (a : Addition). a.first) is)) c.len.ensures.value ∙ next_is value holds d gens made done;
+    }
 
 pub returns-clause-change : goal.returns-clause-change
 returns-clause-change g c =
@@ -121,9 +142,9 @@ returns-clause-change g c =
     let d = g.addition in
     let gens = c.args.generators.now in
     let made = c.meet_all.new.so_far in
-    let gone = c.in_ok-so_far.dropped in
+    let gone = c.list_numbers.new.gone in
     subst (λ (n : ℕ). IsChange d.rows (list_of value gens d.first) d.row (record { dropped = gone; pairs = made.pairs; first_new = n })) (ap (λ (a : Addition). a.first) c.requires.1.0)
-    (changed value holds d gens made c.in_ok-meet_all.ensures.ok gone c.in_ok-so_far.ensures.gone)
+    (changed value holds d gens made c.in_ok-meet_all.ensures.ok gone c.in_ok-list_numbers.ensures.gone)
 
 pub returns-clause-held : goal.returns-clause-held
 returns-clause-held g c =

@@ -5,3 +5,9 @@ ghost-begin g a = g.addition
 
 abbrev pub ghost-meet_all : goal.ghost-meet_all
 ghost-meet_all g a = g.addition
+
+abbrev pub ghost-next_sets : goal.ghost-next_sets
+ghost-next_sets g a = g.addition
+
+abbrev pub ghost-list_numbers : goal.ghost-list_numbers
+ghost-list_numbers g a = g.addition

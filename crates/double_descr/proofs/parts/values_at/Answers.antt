@@ -16,7 +16,7 @@ returns-in_err-value_at-clause-left g c =
     let m = c.generator-item.result in
     let e = drop_value (numbered_of value) c.args.generators.now i m c.loop-generator-test.true c.generator-item.is in
     let row = map value c.args.row.now in
-    err_holds c.from_residual.result c.in_err-value_at.field-0.0 _ c.from_residual.ensures.1
+    err_holds c.from_residual-in_err-value_at.result c.in_err-value_at.field-0.0 _ c.from_residual-in_err-value_at.ensures.1
     (fault_at value g.F.Field.holds _ c.loop-generator.invariant.done (map (value_block row) (drop (i + 1) (live_of value c.args.generators.now))) (value_block row (numbered_of value m)) c.in_err-value_at.field-0.0
     (c.loop-generator.invariant.split ∙ ap (λ l. c.loop-generator.invariant.done ++ map (value_block row) l) e) c.loop-generator.invariant.held c.in_err-value_at.ensures)
 
