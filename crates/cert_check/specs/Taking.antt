@@ -1,6 +1,7 @@
 -- How one entry is taken. For the clauses of the code alone.
-use Rattle.std.specs.Prelude.{◌≡◌, ⊤, IsTrue, List, [], ◌∷◌, ◌++◌, Result}
+use Rattle.std.specs.Prelude.{◌≡◌, ⊤, ℕ, IsTrue, List, [], ◌∷◌, ◌++◌, Result}
 use Rattle.frac128.specs.Held.{is_held}
+use Rattle.frac128.specs.declared.vectors.Spot.{Spot}
 use Rattle.vlp_problem.specs.declared.problem.Problem.{Problem}
 use Rattle.deriv_log.specs.declared.entry.Entry.{Entry}
 use Rattle.deriv_log.specs.declared.entry.Entry.TheVariants as entry
@@ -8,6 +9,8 @@ use Rattle.log_rules.specs.Order.{Kind}
 use Rattle.log_rules.specs.Runs.{Runs, steps}
 use Rattle.log_rules.specs.declared.stop.Stop.{Stop}
 use Rattle.log_solved.specs.Solving.{IsSolving, StandsBefore}
+use Rattle.log_solved.specs.declared.shown.GenKind.{GenKind}
+use Rattle.log_solved.specs.declared.shown.GenKind.TheVariants.{Point, Direction}
 use Rattle.log_solved.specs.declared.solving.Solving.{Solving}
 use Rattle.log_versions.specs.Plain.{plain}
 use Rattle.log_versions.specs.Written.{may_follow}
@@ -26,6 +29,11 @@ abbrev pub Takes : Problem → List Entry → Entry → Solving → Result (Unit
 Takes file before e solving result =
     Runs is_held (written_kind_events file before e) 0 (steps (written_kind_events file before e))
     (λ _. IsSolving file (plain (before ++ e ∷ [])) solving) result
+
+-- the entry of a pre-image that names a shared vector
+abbrev pub sharing_entry : GenKind → ℕ → ℕ → List Spot → Entry
+sharing_entry Point generator share m = entry.PointOf generator share m
+sharing_entry Direction generator share m = entry.RayOf generator share m
 
 -- an entry that shows something of the problem, and one that shows directions of the image
 abbrev pub IsWitness : Entry → Type 0

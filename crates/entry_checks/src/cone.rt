@@ -149,8 +149,8 @@ fn combines(counter: &mut Steps, vectors: &[Vector], e: &[Frac], m: &[Spot]) -> 
     ensures { Runs is_held (combination_events vectors.now e.now m.now) counter.old.taken
         counter.new.taken (λ _. ⊤) result }
 {
-    for i in 0..e.len() {
-        combines_at(counter, vectors, i, m, e[i])?;
+    for (i, entry) in e.iter().enumerate() {
+        combines_at(counter, vectors, i, m, *entry)?;
     }
     Ok(())
 }

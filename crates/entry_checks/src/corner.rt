@@ -51,7 +51,7 @@ fn is_normed(v: &[Frac]) -> bool
 }
 
 /// Whether each of so many rows of `objs` numbers is 0 at the place of each line.
-fn rows_reduced(lines: &[Vector], count: usize, objs: usize, directions: &[Frac]) -> bool
+fn are_rows_reduced(lines: &[Vector], count: usize, objs: usize, directions: &[Frac]) -> bool
     requires few { objs ≤ 100000 }
     requires many { count ≤ 100000 }
     requires entries { length directions.now ≡ count * objs }
@@ -80,7 +80,7 @@ fn are_reduced(
     requires entries { length directions.now ≡ count * objs }
     ensures { result ≡ all_reduced lines.now (point.now ∷ pieces count objs directions.now) }
 {
-    is_reduced(lines, point) && rows_reduced(lines, count, objs, directions)
+    is_reduced(lines, point) && are_rows_reduced(lines, count, objs, directions)
 }
 
 /// Whether the first entry that is not 0 of each of so many rows of `objs` numbers is 1 or -1.
@@ -121,8 +121,8 @@ fn are_tight(counter: &mut Steps, cuts: &[Cut], named: &[u32], point: &[Frac]) -
     ensures { Runs is_held (tights_events point.now (named_from (map stated cuts.now) named.now))
         counter.old.taken counter.new.taken (λ _. ⊤) result }
 {
-    for k in 0..named.len() {
-        let cut = &cuts[named[k] as usize - 1];
+    for number in named {
+        let cut = &cuts[*number as usize - 1];
         is_tight(counter, cut.w.as_slice(), cut.gamma, point)?;
     }
     Ok(())
@@ -203,8 +203,8 @@ fn meet_directions(
         (named_from (map stated cuts.now) named.now)) counter.old.taken counter.new.taken (λ _. ⊤)
         result }
 {
-    for k in 0..named.len() {
-        let cut = &cuts[named[k] as usize - 1];
+    for (k, number) in named.iter().enumerate() {
+        let cut = &cuts[*number as usize - 1];
         meets_directions(counter, count, objs, directions, cut.w.as_slice(), k + 1)?;
     }
     Ok(())

@@ -66,8 +66,8 @@ fn are_balanced(
         (map (dense (length w.now)) objectives.now) u.now w.now) counter.old.taken counter.new.taken
         (λ _. ⊤) result }
 {
-    for j in 0..sides.len() {
-        let column = sides[j].as_slice();
+    for (j, side) in sides.iter().enumerate() {
+        let column = side.as_slice();
         let weights = objectives[j].as_slice();
         is_balanced(counter, column, weights, u, w)?;
     }

@@ -94,8 +94,8 @@ fn is_divided(counter: &mut Steps, f: &[Frac], c: &[Frac], divisor: Frac) -> Res
     ensures { Runs is_held (quotients_events f.now c.now divisor) counter.old.taken
         counter.new.taken (λ _. ⊤) result }
 {
-    for i in 0..f.len() {
-        is_quotient(counter, f[i], divisor, c[i])?;
+    for (i, x) in f.iter().enumerate() {
+        is_quotient(counter, *x, divisor, c[i])?;
     }
     Ok(())
 }
@@ -144,8 +144,8 @@ fn column_product(
         (λ t. t ≡ dot (column vectors.now (place + 1)) weights.now) result }
 {
     let mut total = Frac::from(0);
-    for i in 0..vectors.len() {
-        let entry = vectors[i].as_slice()[place];
+    for (i, vector) in vectors.iter().enumerate() {
+        let entry = vector.as_slice()[place];
         total = counter.plus_product(total, entry, weights[i])?;
     }
     Ok(total)
@@ -180,8 +180,8 @@ fn weighs(counter: &mut Steps, vectors: &[Vector], weights: &[Frac], c: &[Frac])
     ensures { Runs is_held (weights_events vectors.now weights.now c.now) counter.old.taken
         counter.new.taken (λ _. ⊤) result }
 {
-    for i in 0..c.len() {
-        weighs_at(counter, vectors, i, weights, c[i])?;
+    for (i, entry) in c.iter().enumerate() {
+        weighs_at(counter, vectors, i, weights, *entry)?;
     }
     Ok(())
 }
@@ -220,8 +220,8 @@ fn has_units(
     ensures { Runs is_held (units_events (picked vectors.now picks.now) number row.now)
         counter.old.taken counter.new.taken (λ _. ⊤) result }
 {
-    for b in 0..picks.len() {
-        let v = vectors[picks[b] as usize - 1].as_slice();
+    for (b, pick) in picks.iter().enumerate() {
+        let v = vectors[*pick as usize - 1].as_slice();
         has_unit(counter, row, number == b + 1, v)?;
     }
     Ok(())

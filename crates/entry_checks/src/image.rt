@@ -12,9 +12,10 @@ ghost use Rattle.vlp_matrices.specs.Matrices.{AreMatricesOf};
 ghost use Rattle.upper_image.specs.Spots.{IsVector, dense};
 
 use crate::cone::{in_cone, places_within};
-use crate::steps::{Steps, is_nonnegative, pass};
-use frac128::{Frac, Sparse, Spot};
+use crate::steps::{Steps, append, pass};
+use frac128::{Frac, Sparse, Spot, Vector};
 use log_rules::{Rule, Stop};
+use src_sink::Items;
 use std::alloc::Global;
 use vlp_matrices::Matrices;
 use vlp_problem::Problem;
@@ -72,8 +73,8 @@ fn meets_sides(
     ensures { Runs is_held (sides_events (map (dense (length x.now)) rows.now) bounds.now x.now)
         counter.old.taken counter.new.taken (λ _. ⊤) result }
 {
-    for i in 0..rows.len() {
-        meets_side(counter, rows[i].as_slice(), x, bounds[i])?;
+    for (i, row) in rows.iter().enumerate() {
+        meets_side(counter, row.as_slice(), x, bounds[i])?;
     }
     Ok(())
 }
@@ -132,16 +133,6 @@ pub fn in_recession(
     keeps_sides(counter, matrices.sides.rows.as_slice(), values.as_slice())
 }
 
-pub fn append(list: &mut Vec<Frac>, value: Frac) -> Result<(), Stop>
-    ensures { (taken : ℕ)
-        → Runs is_held [] taken taken (λ _. list.new.items ≡ list.old.items ++ value ∷ []) result }
-{
-    match list.push(value) {
-        Ok(()) => Ok(()),
-        Err(_) => Err(Stop::NoMemory),
-    }
-}
-
 /// An entry minus the product of its row with `x`.
 fn difference(counter: &mut Steps, row: &[Spot], x: &[Frac], entry: Frac) -> Result<Frac, Stop>
     requires vector { IsVector (length x.now) row.now }
@@ -163,20 +154,20 @@ fn differences(
     rows: &[Sparse],
     y: &[Frac],
     x: &[Frac],
-) -> Result<Vec<Frac>, Stop>
+) -> Result<Vector, Stop>
     requires vectors { All (IsVector (length x.now)) rows.now }
     requires entries { length rows.now ≡ length y.now }
     requires room { counter.old.taken
         + steps (rest_events (map (dense (length x.now)) rows.now) y.now x.now)
         < 2 ^ 63 }
     ensures { Runs is_held (rest_events (map (dense (length x.now)) rows.now) y.now x.now)
-        counter.old.taken counter.new.taken (λ v. v.items
-        ≡ map (λ p. p.1 -ℚ dot p.0 x.now) (zip (map (dense (length x.now)) rows.now) y.now))
+        counter.old.taken counter.new.taken
+        (λ v. v ≡ map (λ p. p.1 -ℚ dot p.0 x.now) (zip (map (dense (length x.now)) rows.now) y.now))
         result }
 {
-    let mut rest = Vec::new(alloc);
-    for i in 0..rows.len() {
-        let value = difference(counter, rows[i].as_slice(), x, y[i])?;
+    let mut rest = Items::new(alloc);
+    for (i, row) in rows.iter().enumerate() {
+        let value = difference(counter, row.as_slice(), x, y[i])?;
         append(&mut rest, value)?;
     }
     Ok(rest)

@@ -11,20 +11,21 @@ ghost use Rattle.log_rules.specs.Runs.{Runs, RunsAll, steps};
 ghost use Rattle.vlp_matrices.specs.Matrices.{AreMatricesOf};
 ghost use Rattle.polyhedra.specs.DoubleDescription.{leading};
 
-use crate::image::{above, append, in_feasible, in_recession};
-use crate::steps::{Steps, pass};
+use crate::image::{above, in_feasible, in_recession};
+use crate::steps::{Steps, append, pass};
 use exact_field::Field;
 use frac128::{Frac, Spot, Vector, is_zero};
 use log_rules::{Rule, Stop};
+use src_sink::Items;
 use std::alloc::Global;
 use vlp_matrices::Matrices;
 use vlp_problem::Problem;
 
 /// The negative of a vector.
-fn negate(alloc: Global, v: &[Frac]) -> Result<Vec<Frac>, Stop>
-    ensures { (taken : ℕ) → Runs is_held [] taken taken (λ u. u.items ≡ map neg_ℚ v.now) result }
+fn negate(alloc: Global, v: &[Frac]) -> Result<Vector, Stop>
+    ensures { (taken : ℕ) → Runs is_held [] taken taken (λ u. u ≡ map neg_ℚ v.now) result }
 {
-    let mut opposite = Vec::new(alloc);
+    let mut opposite = Items::new(alloc);
     for x in v {
         append(&mut opposite, x.neg())?;
     }
@@ -47,8 +48,8 @@ pub fn leading_entry(v: &[Frac]) -> Frac
 fn leading_place(v: &[Frac]) -> usize
     ensures { result ≡ leading_place v.now }
 {
-    for k in 0..v.len() {
-        if !is_zero(v[k]) {
+    for (k, x) in v.iter().enumerate() {
+        if !is_zero(*x) {
             return k + 1;
         }
     }

@@ -25,14 +25,17 @@ use Rattle.polyhedra.proofs.Tests.{both_true, list_all-true}
 use Rattle.log_versions.proofs.HintedPairs.{exactly_required, listed_is}
 use Rattle.log_versions.proofs.WrittenMeets.{rise_says}
 use Rattle.log_rules.proofs.TightHeld.{pairs_pass}
+use Rattle.log_rules.proofs.TightTests.{pairs_are}
+use Rattle.entry_checks.proofs.Going.{test-passed}
 use Rattle.log_versions.specs.Hints.{named_pair, is_hint, opposite_pairs, are_hints, lists, pairs_rise, unlisted}
 use Rattle.log_versions.specs.Walk.{Walked, is_next, next_covers, walk, all_listed, all_hinted}
 use Rattle.vlp_matrices.proofs.Lists.{drop-next}
 use Rattle.log_live.specs.Adding.{IsAddition, Matches, all_value_events, negatives_of}
-use Rattle.log_live.specs.Hinting.{Walks, are_hinted, are_right, hinted_added_events, pairs_beside, pairs_beside_at}
+use Rattle.log_live.specs.Hinting.{Walks, addition_events, addition_tests, are_hinted, are_right, hinted_added_events, pairs_beside, pairs_beside_at}
 use Rattle.log_live.specs.Live.{live_of}
 use Rattle.log_live.specs.declared.generator.Generator.{Generator}
 use Rattle.log_live.specs.declared.live.Live.{Live}
+use Rattle.log_live.proofs.Added.{parts_at}
 use Rattle.log_live.proofs.Bridges.{values_as}
 use Rattle.log_live.proofs.PairCounts.{rising_of}
 use Rattle.log_live.specs.declared.hinting.Meeting.{Meeting}
@@ -269,6 +272,15 @@ module _ (file : Problem) (s : State) (cut : ℕ) (w : List ℚ) (gamma : ℚ) (
       ∷ flat_map (events.pair_of file.objs (cut_row s cut) l) pairs))
       h.wide h.before.list.live
 
+  -- the events of an addition with hints or without, by their parts
+  pub addition_parts_at : (gs : List Generator) → gs ≡ live.generators.items →
+      (pairs : List LogPair) (hints : Option (List ℕ)) → all_value_events w gamma (length w) gs
+      ++ (addition_tests (rows_in_use file.objs s) (live_of gs) (cut_row s cut) pairs hints
+      ++ flat_map (events.pair_of (length w) (cut_row s cut) (live_of gs)) pairs) ≡ addition_events
+      file.objs s cut pairs hints
+  addition_parts_at gs e pairs None = parts_at file s cut w gamma live h gs e pairs
+  addition_parts_at gs e pairs (Some hints) = hinted_parts_at gs e pairs hints
+
 -- the pairs that passed are those that are required
 pub paired_by : (taken : ℕ) (rows : List (List ℚ)) (row : List ℚ) (gens : List Generator)
     (pairs : List LogPair) (hints : List ℕ) →
@@ -291,6 +303,18 @@ paired_by taken rows row gens pairs hints rises none =
     (member_of (λ q. lists required q ≡ true) pairs p (list_all-true (lists required) pairs k.1)
     c)))
     b.1
+
+-- the same of the pairs of an addition with hints or without
+pub paired_from : (taken : ℕ) (rows : List (List ℚ)) (row : List ℚ) (gens : List Generator)
+    (pairs : List LogPair) (hints : Option (List ℕ)) →
+    AllPairs (λ (g h : Generator). g.number < h.number) gens →
+    first_failure is_held taken (addition_tests rows (live_of gens) row pairs hints) ≡ None →
+    pairs ≡ required_pairs rows (live_of gens) row
+paired_from taken rows row gens pairs None rises none =
+    pairs_are pairs (required_pairs rows (live_of gens) row)
+    (test-passed taken rule.Pairs (same_pairs pairs (required_pairs rows (live_of gens) row)) none)
+paired_from taken rows row gens pairs (Some hints) rises none =
+    paired_by taken rows row gens pairs hints rises none
 
 -- a first test that passes is not seen
 pub first_passes : (r r' : Rule) (a b : Bool) (taken : ℕ) (result : Result (Unit {0}) Stop) →

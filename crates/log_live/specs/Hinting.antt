@@ -1,12 +1,12 @@
--- What an `addh` entry does to the live generators.
-use Rattle.std.specs.Prelude.{◌≡◌, ℕ, Bool, List, [], ◌∷◌, ◌++◌, ◌&&◌, drop, if◌then◌else◌, None}
+-- What an `addh` entry does to the live generators, and what it has in common with an `add` entry.
+use Rattle.std.specs.Prelude.{◌≡◌, ℕ, Bool, List, [], ◌∷◌, ◌++◌, ◌&&◌, drop, if◌then◌else◌, Option, None, Some}
 use Rattle.std.specs.List.{list_all, flat_map}
 use Rattle.exact_field.specs.Rational.{ℚ, zero_ℚ, lt_ℚ}
 use Rattle.frac128.specs.Held.{is_held}
 use Rattle.polyhedra.specs.LiveList.{Numbered, LivePair}
 use Rattle.vlp_problem.specs.declared.problem.Problem.{Problem}
 use Rattle.word_lines.specs.declared.part.LogPair.{LogPair}
-use Rattle.log_rules.specs.Events.{Event, first_failure, pair_of, value_steps}
+use Rattle.log_rules.specs.Events.{Event, first_failure, pair_of, same_pairs, value_steps}
 use Rattle.log_rules.specs.Events.Event.{test}
 use Rattle.log_rules.specs.Live.{State, value, cut_at, cut_row, required_pairs, rows_in_use}
 use Rattle.log_rules.specs.declared.rule.Rule.TheVariants as rule
@@ -37,6 +37,11 @@ hinted_added_events q s cut pairs hints =
     ∷ hints_test q s cut pairs hints
     ∷ flat_map (pair_of q (cut_row s cut) s.list.live) pairs
 
+-- the same of an `add` entry or, with hints, of an `addh` entry
+abbrev pub addition_events : ℕ → State → ℕ → List LogPair → Option (List ℕ) → List Event
+addition_events q s cut pairs None = added_events q s cut pairs
+addition_events q s cut pairs (Some hints) = hinted_added_events q s cut pairs hints
+
 -- an addition of which no event fails
 pub record PassesAddition (file : Problem) (s : State) (cut : ℕ) (w : List ℚ) (gamma : ℚ)
     (pairs : List LogPair) (live : Live) : Type 0 where
@@ -52,6 +57,14 @@ are_right rows live row pairs =
 -- whether each opposite pair that is not listed has its hint
 abbrev pub are_hinted : List (List ℚ) → List Numbered → List ℚ → List LogPair → List ℕ → Bool
 are_hinted rows live row pairs hints = are_hints rows live (unlisted live row pairs) hints
+
+-- the tests of the pairs of an addition and, where it gives them, of its hints
+abbrev pub addition_tests : List (List ℚ) → List Numbered → List ℚ → List LogPair →
+    Option (List ℕ) → List Event
+addition_tests rows live row pairs None =
+    test rule.Pairs (same_pairs pairs (required_pairs rows live row)) ∷ []
+addition_tests rows live row pairs (Some hints) = test rule.Pairs (are_right rows live row pairs)
+    ∷ test rule.Hint (are_hinted rows live row pairs hints) ∷ []
 
 -- a generator with each of a list
 abbrev pub pairs_beside : Numbered → List Numbered → List LivePair

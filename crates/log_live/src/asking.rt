@@ -1,5 +1,5 @@
 //! What a row asks for: the tests of its pairs and hints.
-ghost use Rattle.std.specs.Prelude.{◌≡◌, ⊤, ℕ, List, All, true, [], ◌∷◌, IfOk, length};
+ghost use Rattle.std.specs.Prelude.{◌≡◌, ⊤, ℕ, List, All, true, [], ◌∷◌, IfOk, length, option_copied};
 ghost use Rattle.exact_field.specs.Rational.{ℚ};
 ghost use Rattle.frac128.specs.Held.{is_held};
 ghost use Rattle.log_rules.specs.Events.{same_pairs};
@@ -9,7 +9,7 @@ ghost use Rattle.log_rules.specs.Runs.{Runs};
 ghost use Rattle.log_rules.specs.declared.rule.Rule.TheVariants as rule;
 ghost use Rattle.log_versions.specs.Hints.{least_hints};
 ghost use Rattle.log_live.specs.Adding.{AreAtRow};
-ghost use Rattle.log_live.specs.Hinting.{are_hinted, are_right};
+ghost use Rattle.log_live.specs.Hinting.{addition_tests, are_hinted, are_right};
 ghost use Rattle.log_live.specs.Live.{HasTightSet, live_of};
 
 use crate::counting::least_common;
@@ -57,7 +57,7 @@ fn are_asked(
 }
 
 /// The test that the pairs are those that a row with these values asks for.
-pub fn test_pairs(
+fn test_pairs(
     alloc: Global,
     generators: &[Generator],
     values: &[Frac],
@@ -80,7 +80,7 @@ pub fn test_pairs(
 
 /// Whether the pairs are those that a row with these values asks for, and where they are, whether
 /// each other opposite pair has its hint.
-fn hints_met(
+fn meet_hints(
     alloc: Global,
     generators: &[Generator],
     values: &[Frac],
@@ -117,7 +117,7 @@ fn pass_met(met: Met) -> Result<(), Stop>
 
 /// The tests that the pairs are those that a row with these values asks for, and that each other
 /// opposite pair has its hint.
-pub fn test_hints(
+fn test_hints(
     alloc: Global,
     generators: &[Generator],
     values: &[Frac],
@@ -133,14 +133,36 @@ pub fn test_hints(
         ∷ test rule.Hint (are_hinted rows (live_of generators.now) row pairs.now hints.now) ∷ [])
         taken taken (λ _. ⊤) result }
 {
-    match hints_met(alloc, generators, values, pairs, hints) {
+    match meet_hints(alloc, generators, values, pairs, hints) {
         Ok(met) => pass_met(met),
         Err(_) => Err(Stop::NoMemory),
     }
 }
 
+/// The tests of the pairs of a row with these values and, where there are any, of its hints.
+pub fn test_addition(
+    alloc: Global,
+    generators: &[Generator],
+    values: &[Frac],
+    pairs: &[LogPair],
+    hints: Option<&[u32]>,
+) -> Result<(), Stop>
+    requires { (q : ℕ) × (rows : List (List ℚ)) × (row : List ℚ)
+        × AreAtRow q rows row generators.now values.now }
+    ensures { (q : ℕ) (rows : List (List ℚ)) (row : List ℚ) (taken : ℕ)
+        → AreAtRow q rows row generators.now values.now
+        → Runs is_held
+        (addition_tests rows (live_of generators.now) row pairs.now (option_copied hints.entry))
+        taken taken (λ _. ⊤) result }
+{
+    match hints {
+        Some(hints) => test_hints(alloc, generators, values, pairs, hints),
+        None => test_pairs(alloc, generators, values, pairs),
+    }
+}
+
 /// The least hints of a row with these values, where its pairs are those that it asks for.
-pub fn hints_told(
+pub fn least_hints(
     alloc: Global,
     generators: &[Generator],
     values: &[Frac],

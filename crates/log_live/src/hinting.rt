@@ -175,8 +175,8 @@ fn meet_with(
         → Walks rows (live_of generators.now) pairs.now hints.now meeting.old result meeting.new
         (pairs_beside (numbered_of plus.now) (map (λ g. numbered_of g.now) negatives.now)) }
 {
-    for j in 0..negatives.len() {
-        if !meet_pair(generators, plus, negatives[j], pairs, hints, meeting) {
+    for minus in negatives {
+        if !meet_pair(generators, plus, minus, pairs, hints, meeting) {
             return false;
         }
     }
@@ -247,10 +247,10 @@ pub fn have_hints(
         least,
         last: 0,
     };
-    for i in 0..generators.len() {
+    for (i, generator) in generators.iter().enumerate() {
         if !meet_at(
             generators,
-            &generators[i],
+            generator,
             values[i],
             negatives.as_slice(),
             pairs,

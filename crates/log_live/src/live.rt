@@ -1,5 +1,5 @@
 //! The live generators of a log as one value.
-ghost use Rattle.std.specs.Prelude.{◌≡◌, ◌≤◌, ◌<◌, ◌*◌, ◌==◌, ℕ, List, [], ◌∷◌, ◌++◌, IfOk, OnOk, IfSome, IfNone, length, map, not, false, is_some};
+ghost use Rattle.std.specs.Prelude.{◌≡◌, ◌≤◌, ◌<◌, ◌*◌, ◌==◌, ℕ, List, [], ◌∷◌, ◌++◌, IfOk, OnOk, IfSome, IfNone, length, map, not, false, is_some, option_copied};
 ghost use Rattle.std.specs.List.{list_all};
 ghost use Rattle.exact_field.specs.Rational.{ℚ};
 ghost use Rattle.exact_field.specs.Vector.{dot};
@@ -13,14 +13,14 @@ ghost use Rattle.log_rules.specs.Live.{State, after, cut_row, nothing, preimages
 ghost use Rattle.log_rules.specs.Meets.{MeetsStart};
 ghost use Rattle.log_rules.specs.Runs.{RunsAll, steps};
 ghost use Rattle.log_versions.specs.Hints.{least_hints};
-ghost use Rattle.log_live.specs.Adding.{IsAddition, IsChange, added_events, kept_of};
-ghost use Rattle.log_live.specs.Hinting.{PassesAddition, hinted_added_events};
+ghost use Rattle.log_live.specs.Adding.{IsAddition, IsChange, kept_of};
+ghost use Rattle.log_live.specs.Hinting.{PassesAddition, addition_events};
 ghost use Rattle.log_live.specs.Live.{HasPreimages, IsListOf, IsOpenAt, StandsFor};
 
 use crate::adding::{keep_all, new_generators, number_after};
-use crate::asking::{hints_told, test_hints, test_pairs};
+use crate::asking::{least_hints, test_addition};
 use crate::generator::{Generator, find};
-use crate::starting::{start_direction, start_point};
+use crate::starting::first_generator;
 use crate::values::values_at;
 use deriv_log::LogPair;
 use entry_checks::Steps;
@@ -92,12 +92,13 @@ impl Live {
             → IfOk result (HasPreimages before) }
     {
         let mut generators = Vec::new(alloc);
-        generators.push(start_point(alloc, count, point)?)?;
+        generators.push(first_generator(alloc, count, 0, point, Frac::from(1))?)?;
         let width = q as usize;
         for a in 0..count as usize {
             let from = a * width;
             let direction = &directions[from..from + width];
-            generators.push(start_direction(alloc, count, a as u32, direction)?)?;
+            let place = a as u32 + 1;
+            generators.push(first_generator(alloc, count, place, direction, Frac::from(0))?)?;
         }
         Ok(Live {
             generators,
@@ -105,19 +106,21 @@ impl Live {
         })
     }
 
-    /// What an `add` entry changes, by its events after the test of its number.
+    /// What an addition changes, by its events after the test of its number.
     fn change_at(
         &self,
         alloc: Global,
         w: &[Frac],
         gamma: Frac,
         pairs: &[LogPair],
+        hints: Option<&[u32]>,
     ) -> Result<Change, Stop>
         requires addition { (file : Problem) × (s : State) × (cut : ℕ)
             × IsAddition file s cut w.now gamma self.now }
         ensures { (file : Problem) (s : State) (cut : ℕ)
             → IsAddition file s cut w.now gamma self.now
-            → RunsAll is_held (added_events file.objs s cut pairs.now)
+            → RunsAll is_held
+            (addition_events file.objs s cut pairs.now (option_copied hints.entry))
             (IsChange file.objs s cut pairs.now self.now) result }
     {
         let first_new = self.next;
@@ -125,7 +128,7 @@ impl Live {
         let mut counter = Steps { taken: 0 };
         let values = values_at(alloc, &mut counter, w, gamma, generators)?;
         let at_row = values.as_slice();
-        test_pairs(alloc, generators, at_row, pairs)?;
+        test_addition(alloc, generators, at_row, pairs, hints)?;
         let made = new_generators(
             alloc,
             &mut counter,
@@ -136,41 +139,6 @@ impl Live {
             first_new,
         )?;
         let next = number_after(first_new, pairs.len())?;
-        Ok(Change { values, made, next })
-    }
-
-    /// What an `addh` entry changes, by its events after the test of its number.
-    fn change_hinted(
-        &self,
-        alloc: Global,
-        w: &[Frac],
-        gamma: Frac,
-        pairs: &[LogPair],
-        hints: &[u32],
-    ) -> Result<Change, Stop>
-        requires addition { (file : Problem) × (s : State) × (cut : ℕ)
-            × IsAddition file s cut w.now gamma self.now }
-        ensures { (file : Problem) (s : State) (cut : ℕ)
-            → IsAddition file s cut w.now gamma self.now
-            → RunsAll is_held (hinted_added_events file.objs s cut pairs.now hints.now)
-            (IsChange file.objs s cut pairs.now self.now) result }
-    {
-        let after_all = self.next;
-        let generators = self.generators.as_slice();
-        let mut counter = Steps { taken: 0 };
-        let values = values_at(alloc, &mut counter, w, gamma, generators)?;
-        let at_row = values.as_slice();
-        test_hints(alloc, generators, at_row, pairs, hints)?;
-        let made = new_generators(
-            alloc,
-            &mut counter,
-            w.len(),
-            generators,
-            at_row,
-            pairs,
-            after_all,
-        )?;
-        let next = number_after(after_all, pairs.len())?;
         Ok(Change { values, made, next })
     }
 
@@ -194,57 +162,33 @@ impl Live {
         Ok(())
     }
 
-    /// The events of an `add` entry after the test of its number, for the cut `w.y >= gamma`: its
-    /// values at the live generators, the test of the pairs, and the new generators. Those at which
-    /// it is negative are dropped, and the others keep their pre-images. After an error the value
-    /// is of no use. The cost is at the worst that of the opposite pairs times the generators times
-    /// the words of a tight set; most pairs are decided by counts of tight rows.
+    /// The events of an `add` entry or, with hints, of an `addh` entry, after the test of its
+    /// number and for the cut `w.y >= gamma`: its values at the live generators, the tests of the
+    /// pairs and of the hints, and the new generators. Those at which it is negative are dropped,
+    /// and the others keep their pre-images. After an error the value is of no use. The cost is at
+    /// the worst that of the opposite pairs times the generators times the words of a tight set;
+    /// most pairs are decided by counts of tight rows. An opposite pair that has a hint, a third
+    /// live generator that covers it, is not searched for.
     pub fn add(
         &mut self,
         alloc: Global,
         w: &[Frac],
         gamma: Frac,
         pairs: &[LogPair],
+        hints: Option<&[u32]>,
     ) -> Result<(), Stop>
         requires addition { (file : Problem) × (s : State) × (cut : ℕ)
             × IsAddition file s cut w.now gamma self.old }
         ensures runs { (file : Problem) (s : State) (cut : ℕ)
             → IsAddition file s cut w.now gamma self.old
-            → RunsAll is_held (added_events file.objs s cut pairs.now)
+            → RunsAll is_held
+            (addition_events file.objs s cut pairs.now (option_copied hints.entry))
             (λ _. IsListOf file.objs (after file.objs s (Add cut pairs.now)) self.new) result }
         ensures preimages { (file : Problem) (s : State) (cut : ℕ) (before : List Entry)
             → IsAddition file s cut w.now gamma self.old → HasPreimages before self.old
             → OnOk result (HasPreimages (before ++ Add cut pairs.now ∷ []) self.new) }
     {
-        let change = self.change_at(alloc, w, gamma, pairs)?;
-        match self.take(alloc, change) {
-            Ok(()) => Ok(()),
-            Err(_) => Err(Stop::NoMemory),
-        }
-    }
-
-    /// The events of an `addh` entry after the test of its number: as `add`, but each opposite
-    /// pair that is not listed has a hint, a third live generator that covers it, and is not
-    /// searched for.
-    pub fn add_hinted(
-        &mut self,
-        alloc: Global,
-        w: &[Frac],
-        gamma: Frac,
-        pairs: &[LogPair],
-        hints: &[u32],
-    ) -> Result<(), Stop>
-        requires addition { (file : Problem) × (s : State) × (cut : ℕ)
-            × IsAddition file s cut w.now gamma self.old }
-        ensures runs { (file : Problem) (s : State) (cut : ℕ)
-            → IsAddition file s cut w.now gamma self.old
-            → RunsAll is_held (hinted_added_events file.objs s cut pairs.now hints.now)
-            (λ _. IsListOf file.objs (after file.objs s (Add cut pairs.now)) self.new) result }
-        ensures preimages { (file : Problem) (s : State) (cut : ℕ) (before : List Entry)
-            → IsAddition file s cut w.now gamma self.old → HasPreimages before self.old
-            → OnOk result (HasPreimages (before ++ Add cut pairs.now ∷ []) self.new) }
-    {
-        let change = self.change_hinted(alloc, w, gamma, pairs, hints)?;
+        let change = self.change_at(alloc, w, gamma, pairs, hints)?;
         match self.take(alloc, change) {
             Ok(()) => Ok(()),
             Err(_) => Err(Stop::NoMemory),
@@ -273,7 +217,7 @@ impl Live {
         let generators = self.generators.as_slice();
         let mut counter = Steps { taken: 0 };
         match values_at(alloc, &mut counter, w, gamma, generators) {
-            Ok(values) => hints_told(alloc, generators, values.as_slice(), pairs),
+            Ok(values) => least_hints(alloc, generators, values.as_slice(), pairs),
             Err(_) => Err(NoMemory),
         }
     }

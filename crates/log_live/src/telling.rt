@@ -37,8 +37,7 @@ fn first_cover(generators: &[Generator], plus: &Generator, minus: &Generator, co
         → IsMeet common.now plus.now.tight minus.now.tight
         → result ≡ least_cover rows (pair_of plus.now minus.now) (live_of generators.now) }
 {
-    for i in 0..generators.len() {
-        let third = &generators[i];
+    for third in generators {
         if covers_pair(third, plus, minus, common) {
             return third.number;
         }
@@ -91,8 +90,8 @@ fn tell_with(
         (Tells rows (live_of generators.now) pairs.now telling.old telling.new
         (pairs_beside (numbered_of plus.now) (map (λ g. numbered_of g.now) negatives.now))) }
 {
-    for j in 0..negatives.len() {
-        tell_pair(generators, plus, negatives[j], pairs, telling)?;
+    for minus in negatives {
+        tell_pair(generators, plus, minus, pairs, telling)?;
     }
     Ok(())
 }
@@ -145,10 +144,10 @@ pub fn tell_hints(
         hints: Items::new(alloc),
         common,
     };
-    for i in 0..generators.len() {
+    for (i, generator) in generators.iter().enumerate() {
         tell_at(
             generators,
-            &generators[i],
+            generator,
             values[i],
             negatives.as_slice(),
             pairs,

@@ -1,5 +1,5 @@
 //! What stands of a solved log, entry by entry.
-ghost use Rattle.std.specs.Prelude.{◌≡◌, ◌≤◌, ◌<◌, ◌*◌, ◌&&◌, ◌==◌, ⊤, ℕ, nat_le, not, Option, None, Some, List, [], ◌∷◌, ◌++◌, All, AllPairs, IfOk, OnOk, MatchOption, IsTrue, IsSome, IfErr, length, map};
+ghost use Rattle.std.specs.Prelude.{◌≡◌, ◌≤◌, ◌<◌, ◌*◌, ◌&&◌, ◌==◌, ⊤, ℕ, nat_le, not, Option, None, Some, List, [], ◌∷◌, ◌++◌, All, AllPairs, IfOk, OnOk, MatchOption, IsTrue, IsSome, IfErr, length, map, option_copied};
 ghost use Rattle.std.specs.List.{list_all};
 ghost use Rattle.exact_field.specs.Rational.{ℚ, zero_ℚ, one_ℚ};
 ghost use Rattle.frac128.specs.Held.{is_held};
@@ -10,7 +10,7 @@ ghost use Rattle.deriv_log.specs.declared.entry.Entry.TheVariants as entry;
 ghost use Rattle.word_lines.specs.declared.part.EndKind.TheVariants as end;
 ghost use Rattle.vlp_problem.specs.Sides.{numbers_from};
 ghost use Rattle.vlp_problem.specs.declared.problem.Problem.{Problem};
-ghost use Rattle.log_rules.specs.Events.{add_events, end_events, facet_events, is_accounted, is_largest, is_taken, start_events};
+ghost use Rattle.log_rules.specs.Events.{end_events, facet_events, is_accounted, is_largest, is_taken, start_events};
 ghost use Rattle.log_rules.specs.Live.{contains, cut_row, lines as lines_of, named, preimages, state};
 ghost use Rattle.log_rules.specs.Meets.{Meets};
 ghost use Rattle.log_rules.specs.Order as order;
@@ -19,10 +19,9 @@ ghost use Rattle.vlp_matrices.specs.Matrices.{AreMatricesOf};
 ghost use Rattle.log_live.specs.Live.{IsOpenAt, live_of};
 ghost use Rattle.log_live.specs.Tight.{AreTight, is_accounted_at};
 ghost use Rattle.log_live.specs.declared.generator.Generator.{Generator};
-ghost use Rattle.log_versions.specs.WrittenEvents.{hinted_events};
 ghost use Rattle.log_solved.specs.Places.{place_of};
 ghost use Rattle.log_solved.specs.Shown.{entry_of, kind_of, preimage_events};
-ghost use Rattle.log_solved.specs.Solving.{Enters, IsSolving, PassesAdd, StandsBefore, hints_of};
+ghost use Rattle.log_solved.specs.Solving.{Enters, IsSolving, PassesAdd, StandsBefore, adding_events, hints_of};
 ghost use Rattle.log_solved.specs.Uses.{AreUses};
 
 use crate::shown::{GenKind, t_of, test_preimage};
@@ -198,45 +197,27 @@ impl Solving {
         self.is_cut(cut) && self.uses.place(cut) == 0
     }
 
-    /// The events of an `add` entry.
-    pub fn add(&mut self, alloc: Global, cut: u32, pairs: &[LogPair]) -> Result<(), Stop>
-        requires { (file : Problem)
-            × ((before : List Entry) × StandsBefore file before order.add self.old) }
-        ensures { (file : Problem) (before : List Entry)
-            → StandsBefore file before order.add self.old
-            → Enters file before (entry.Add cut pairs.now)
-            (add_events file (state file.objs before) cut pairs.now) self.new result }
-    {
-        pass(Rule::Index, self.is_unused(cut))?;
-        let row = &self.cuts[cut as usize - 1];
-        self.live.add(alloc, row.w.as_slice(), row.gamma, pairs)?;
-        self.sets = None;
-        match self.uses.bring(cut) {
-            Ok(()) => Ok(()),
-            Err(NoMemory) => Err(Stop::NoMemory),
-        }
-    }
-
-    /// The events of an `addh` entry. What stands after it is what stands after an `add` of its
-    /// pairs.
-    pub fn add_hinted(
+    /// The events of an `add` entry or, with hints, of an `addh` entry. What stands after either is
+    /// what stands after an `add` of its pairs.
+    pub fn add(
         &mut self,
         alloc: Global,
         cut: u32,
         pairs: &[LogPair],
-        hints: &[u32],
+        hints: Option<&[u32]>,
     ) -> Result<(), Stop>
         requires { (file : Problem)
             × ((before : List Entry) × StandsBefore file before order.add self.old) }
         ensures { (file : Problem) (before : List Entry)
             → StandsBefore file before order.add self.old
             → Enters file before (entry.Add cut pairs.now)
-            (hinted_events file (state file.objs before) cut pairs.now hints.now) self.new result }
+            (adding_events file (state file.objs before) cut pairs.now (option_copied hints.entry))
+            self.new result }
     {
         pass(Rule::Index, self.is_unused(cut))?;
         let row = &self.cuts[cut as usize - 1];
         self.live
-            .add_hinted(alloc, row.w.as_slice(), row.gamma, pairs, hints)?;
+            .add(alloc, row.w.as_slice(), row.gamma, pairs, hints)?;
         self.sets = None;
         match self.uses.bring(cut) {
             Ok(()) => Ok(()),

@@ -16,12 +16,11 @@ ghost use Rattle.rep_conv.specs.Adding.{AreAtRow, IsChange, between_steps, quoti
 ghost use Rattle.rep_conv.specs.Events.{added_events, pair_of};
 
 use crate::start::norming_entry;
-use entry_checks::{Steps, magnitude, pass};
+use entry_checks::{Steps, append, magnitude, pass};
 use exact_field::Field;
 use frac128::{Frac, Vector};
 use log_live::{
-    Generator, append, append_generator, common_and_next, divide, has_pairs, no_rows, number_after,
-    place_of, point_between,
+    Generator, common_and_next, divide, has_pairs, no_rows, number_after, place_of, point_between,
 };
 use log_rules::{Rule, Stop};
 use src_sink::{Items, NoMemory};
@@ -188,13 +187,13 @@ fn new_generators(
         counter.old.taken counter.new.taken
         (λ made. AreNew rows row (live_of generators.now) next made.items) result }
 {
-    let mut made = Vec::new(alloc);
+    let mut made = Items::new(alloc);
     for i in 0..pairs.len() {
         let number = number_after(next, i)?;
         let generator = new_generator(alloc, counter, generators, values, pairs[i], number)?;
-        append_generator(&mut made, generator)?;
+        append(&mut made, generator)?;
     }
-    Ok(made)
+    Ok(made.into_vec())
 }
 
 /// What an `add` entry changes, by its events after the test of its number: the values of the row,

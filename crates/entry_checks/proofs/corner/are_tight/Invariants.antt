@@ -4,5 +4,5 @@ use Rattle.entry_checks.specs.Parts.{tight_events}
 use Rattle.entry_checks.proofs.Going.{IsAt}
 use Rattle.entry_checks.proofs.corner.are_tight.Given as goal
 
-abbrev pub invariant-loop-k : goal.invariant-loop-k
-invariant-loop-k l = IsAt (λ cut. tight_events l.fn.point cut.w cut.gamma) (named_from (map stated l.fn.cuts) l.fn.named) l.fn.counter.taken l.k l.counter.taken
+abbrev pub invariant-loop-number : goal.invariant-loop-number
+invariant-loop-number l = IsAt (λ cut. tight_events l.fn.point cut.w cut.gamma) (named_from (map stated l.fn.cuts) l.fn.named) l.fn.counter.taken l.number-index l.counter.taken

@@ -18,7 +18,7 @@ pub meets_directions-requires-clause-room : goal.meets_directions-requires-claus
 meets_directions-requires-clause-room c =
     let all = length-map c.args.named.now (cut_at (map stated c.args.cuts.now)) in
     let long = length-numbered 1 (named_from (map stated c.args.cuts.now) c.args.named.now) in
-    let most = at-room (λ d. corners_events (pieces c.args.count c.args.objs c.args.directions.now) d.1.w d.0) (enumerate_from 1 (named_from (map stated c.args.cuts.now) c.args.named.now)) c.args.counter.now.taken c.loop-k.k c.loop-k.counter.taken ((c.loop-k.k + 1, stated c.index-cuts-named.result)) (omega (arith, all, long)) (numbered-next (named_from (map stated c.args.cuts.now) c.args.named.now) c.loop-k.k (stated c.index-cuts-named.result) (omega (arith, all)) (cut-named c.args.cuts.now c.args.named.now c.loop-k.k c.index-cuts-named.result c.requires.named (omega arith) c.index-cuts-named.is)) c.loop-k.invariant in
+    let most = at-room (λ d. corners_events (pieces c.args.count c.args.objs c.args.directions.now) d.1.w d.0) (enumerate_from 1 (named_from (map stated c.args.cuts.now) c.args.named.now)) c.args.counter.now.taken c.loop-k.k c.loop-k.counter.taken ((c.loop-k.k + 1, stated c.index-cuts-number.result)) (omega (arith, all, long)) (numbered-next (named_from (map stated c.args.cuts.now) c.args.named.now) c.loop-k.k (stated c.index-cuts-number.result) (omega (arith, all)) (cut-named c.args.cuts.now c.args.named.now c.loop-k.k c.index-cuts-number.result c.requires.named (omega arith) c.index-cuts-number.is)) c.loop-k.invariant in
     let same = ap steps (ap (λ (w : List ℚ). corners_events (pieces c.args.count c.args.objs c.args.directions.now) w (c.loop-k.k + 1)) c.as_slice.ensures.items) in
     let room = c.requires.room in
     omega (arith, most, room, same)
@@ -27,14 +27,14 @@ pub returns-in_err-meets_directions : goal.returns-in_err-meets_directions
 returns-in_err-meets_directions c =
     let all = length-map c.args.named.now (cut_at (map stated c.args.cuts.now)) in
     let long = length-numbered 1 (named_from (map stated c.args.cuts.now) c.args.named.now) in
-    let stopped = at-stop (λ d. corners_events (pieces c.args.count c.args.objs c.args.directions.now) d.1.w d.0) (enumerate_from 1 (named_from (map stated c.args.cuts.now) c.args.named.now)) c.args.counter.now.taken c.loop-k.k c.loop-k.counter.taken ((c.loop-k.k + 1, stated c.index-cuts-named.result)) c.in_err-meets_directions.field-0.0 (omega (arith, all, long)) (numbered-next (named_from (map stated c.args.cuts.now) c.args.named.now) c.loop-k.k (stated c.index-cuts-named.result) (omega (arith, all)) (cut-named c.args.cuts.now c.args.named.now c.loop-k.k c.index-cuts-named.result c.requires.named (omega arith) c.index-cuts-named.is)) c.loop-k.invariant (subst (λ (es : List Event). Stops is_held es c.loop-k.counter.taken c.in_err-meets_directions.field-0.0) (ap (λ (w : List ℚ). corners_events (pieces c.args.count c.args.objs c.args.directions.now) w (c.loop-k.k + 1)) c.as_slice.ensures.items) c.in_err-meets_directions.ensures) in
+    let stopped = at-stop (λ d. corners_events (pieces c.args.count c.args.objs c.args.directions.now) d.1.w d.0) (enumerate_from 1 (named_from (map stated c.args.cuts.now) c.args.named.now)) c.args.counter.now.taken c.loop-k.k c.loop-k.counter.taken ((c.loop-k.k + 1, stated c.index-cuts-number.result)) c.in_err-meets_directions.field-0.0 (omega (arith, all, long)) (numbered-next (named_from (map stated c.args.cuts.now) c.args.named.now) c.loop-k.k (stated c.index-cuts-number.result) (omega (arith, all)) (cut-named c.args.cuts.now c.args.named.now c.loop-k.k c.index-cuts-number.result c.requires.named (omega arith) c.index-cuts-number.is)) c.loop-k.invariant (subst (λ (es : List Event). Stops is_held es c.loop-k.counter.taken c.in_err-meets_directions.field-0.0) (ap (λ (w : List ℚ). corners_events (pieces c.args.count c.args.objs c.args.directions.now) w (c.loop-k.k + 1)) c.as_slice.ensures.items) c.in_err-meets_directions.ensures) in
     search (stopped, rules)
 
 pub loop-k-preserved : goal.loop-k-preserved
 loop-k-preserved c =
     let all = length-map c.args.named.now (cut_at (map stated c.args.cuts.now)) in
     let long = length-numbered 1 (named_from (map stated c.args.cuts.now) c.args.named.now) in
-    at-more (λ d. corners_events (pieces c.args.count c.args.objs c.args.directions.now) d.1.w d.0) (enumerate_from 1 (named_from (map stated c.args.cuts.now) c.args.named.now)) c.args.counter.now.taken c.loop-k.k c.loop-k.counter.taken c.meets_directions.new.counter.taken ((c.loop-k.k + 1, stated c.index-cuts-named.result)) (omega (arith, all, long)) (numbered-next (named_from (map stated c.args.cuts.now) c.args.named.now) c.loop-k.k (stated c.index-cuts-named.result) (omega (arith, all)) (cut-named c.args.cuts.now c.args.named.now c.loop-k.k c.index-cuts-named.result c.requires.named (omega arith) c.index-cuts-named.is)) c.loop-k.invariant
+    at-more (λ d. corners_events (pieces c.args.count c.args.objs c.args.directions.now) d.1.w d.0) (enumerate_from 1 (named_from (map stated c.args.cuts.now) c.args.named.now)) c.args.counter.now.taken c.loop-k.k c.loop-k.counter.taken c.meets_directions.new.counter.taken ((c.loop-k.k + 1, stated c.index-cuts-number.result)) (omega (arith, all, long)) (numbered-next (named_from (map stated c.args.cuts.now) c.args.named.now) c.loop-k.k (stated c.index-cuts-number.result) (omega (arith, all)) (cut-named c.args.cuts.now c.args.named.now c.loop-k.k c.index-cuts-number.result c.requires.named (omega arith) c.index-cuts-number.is)) c.loop-k.invariant
     (subst (λ (es : List Event). Passed es c.loop-k.counter.taken c.meets_directions.new.counter.taken) (ap (λ (w : List ℚ). corners_events (pieces c.args.count c.args.objs c.args.directions.now) w (c.loop-k.k + 1)) c.as_slice.ensures.items) record { none = c.in_ok-meets_directions.ensures.0; count = c.in_ok-meets_directions.ensures.1 })
 
 pub returns : goal.returns

@@ -10,5 +10,5 @@ use Rattle.entry_checks.proofs.image.differences.Given as goal
 abbrev pub invariant-loop-i : goal.invariant-loop-i
 invariant-loop-i l = record {
   here : IsAt (λ p. difference_events p.0 l.fn.x p.1) (zip (map (dense (length l.fn.x)) l.fn.rows) l.fn.y) l.fn.counter.taken l.i l.counter.taken;
-  made : l.rest.items ≡ map (λ p. p.1 -ℚ dot p.0 l.fn.x) (take l.i (zip (map (dense (length l.fn.x)) l.fn.rows) l.fn.y));
+  made : l.rest ≡ map (λ p. p.1 -ℚ dot p.0 l.fn.x) (take l.i (zip (map (dense (length l.fn.x)) l.fn.rows) l.fn.y));
 }

@@ -118,7 +118,7 @@ returns-in_err-opposite c =
     search (stopped, rules)
 
 pub above-requires-2-clause-entries : goal.above-requires-2-clause-entries
-above-requires-2-clause-entries c = ap (λ (v : List ℚ). length v) (c.as_slice.ensures.value ∙ (c.in_ok-opposite.ensures 0).2) ∙ length-map c.args.d.now neg_ℚ ∙ (length-tested (length c.args.d.now) c.args.problem.now.objs (c.in_ok-pass.ensures 0).0)
+above-requires-2-clause-entries c = ap (λ (v : List ℚ). length v) (c.as_slice.ensures.items ∙ (c.in_ok-opposite.ensures 0).2) ∙ length-map c.args.d.now neg_ℚ ∙ (length-tested (length c.args.d.now) c.args.problem.now.objs (c.in_ok-pass.ensures 0).0)
 
 pub above-requires-2-clause-vector : goal.above-requires-2-clause-vector
 above-requires-2-clause-vector c = record { sparse = c.requires.back; places = recession-places c.above.new.counter.taken c.args.problem.now c.args.back.now c.in_ok-in_recession-2.ensures.0 }
@@ -133,7 +133,7 @@ above-requires-2-clause-room c =
     let came4 : Passed (above c.args.problem.now c.args.d.now c.args.ray.now c.args.m.now) c.in_recession.new.counter.taken c.above.new.counter.taken = record { none = c.in_ok-above.ensures.0; count = c.in_ok-above.ensures.1 } in
     let came5 : Passed (in_recession c.args.problem.now c.args.back.now) c.above.new.counter.taken c.in_recession-2.new.counter.taken = record { none = c.in_ok-in_recession-2.ensures.0; count = c.in_ok-in_recession-2.ensures.1 } in
     let came6 : Passed ([]) c.in_recession-2.new.counter.taken c.in_recession-2.new.counter.taken = record { none = (c.in_ok-opposite.ensures c.in_recession-2.new.counter.taken).0; count = (c.in_ok-opposite.ensures c.in_recession-2.new.counter.taken).1 } in
-    subst (λ (v : List ℚ). c.in_recession-2.new.counter.taken + steps (above c.args.problem.now v c.args.back.now c.args.n.now) < 9223372036854775808) (sym (c.as_slice.ensures.value ∙ (c.in_ok-opposite.ensures 0).2)) ((room-after (above c.args.problem.now (map neg_ℚ c.args.d.now) c.args.back.now c.args.n.now) _ came6 (room-after (([]) ++ (above c.args.problem.now (map neg_ℚ c.args.d.now) c.args.back.now c.args.n.now)) _ came5 (room-after ((in_recession c.args.problem.now c.args.back.now) ++ (([]) ++ (above c.args.problem.now (map neg_ℚ c.args.d.now) c.args.back.now c.args.n.now))) _ came4 (room-after ((above c.args.problem.now c.args.d.now c.args.ray.now c.args.m.now) ++ ((in_recession c.args.problem.now c.args.back.now) ++ (([]) ++ (above c.args.problem.now (map neg_ℚ c.args.d.now) c.args.back.now c.args.n.now)))) _ came3 (room-after ((in_recession c.args.problem.now c.args.ray.now) ++ ((above c.args.problem.now c.args.d.now c.args.ray.now c.args.m.now) ++ ((in_recession c.args.problem.now c.args.back.now) ++ (([]) ++ (above c.args.problem.now (map neg_ℚ c.args.d.now) c.args.back.now c.args.n.now))))) _ came2 (room-after ((in_feasible c.args.problem.now c.args.x.now) ++ ((in_recession c.args.problem.now c.args.ray.now) ++ ((above c.args.problem.now c.args.d.now c.args.ray.now c.args.m.now) ++ ((in_recession c.args.problem.now c.args.back.now) ++ (([]) ++ (above c.args.problem.now (map neg_ℚ c.args.d.now) c.args.back.now c.args.n.now)))))) _ came1 (room-after ((test rule.Scaled (goes_on c.args.lines.now c.args.d.now) ∷ []) ++ ((in_feasible c.args.problem.now c.args.x.now) ++ ((in_recession c.args.problem.now c.args.ray.now) ++ ((above c.args.problem.now c.args.d.now c.args.ray.now c.args.m.now) ++ ((in_recession c.args.problem.now c.args.back.now) ++ (([]) ++ (above c.args.problem.now (map neg_ℚ c.args.d.now) c.args.back.now c.args.n.now))))))) _ came0 (subst (λ (es : List Event). 0 + steps es < 9223372036854775808) (line-parts (test rule.Length (length c.args.d.now == c.args.problem.now.objs)) (test rule.Scaled (goes_on c.args.lines.now c.args.d.now)) (in_feasible c.args.problem.now c.args.x.now) (in_recession c.args.problem.now c.args.ray.now) (above c.args.problem.now c.args.d.now c.args.ray.now c.args.m.now) (in_recession c.args.problem.now c.args.back.now) (above c.args.problem.now (map neg_ℚ c.args.d.now) c.args.back.now c.args.n.now)) room)))))))))
+    subst (λ (v : List ℚ). c.in_recession-2.new.counter.taken + steps (above c.args.problem.now v c.args.back.now c.args.n.now) < 9223372036854775808) (sym (c.as_slice.ensures.items ∙ (c.in_ok-opposite.ensures 0).2)) ((room-after (above c.args.problem.now (map neg_ℚ c.args.d.now) c.args.back.now c.args.n.now) _ came6 (room-after (([]) ++ (above c.args.problem.now (map neg_ℚ c.args.d.now) c.args.back.now c.args.n.now)) _ came5 (room-after ((in_recession c.args.problem.now c.args.back.now) ++ (([]) ++ (above c.args.problem.now (map neg_ℚ c.args.d.now) c.args.back.now c.args.n.now))) _ came4 (room-after ((above c.args.problem.now c.args.d.now c.args.ray.now c.args.m.now) ++ ((in_recession c.args.problem.now c.args.back.now) ++ (([]) ++ (above c.args.problem.now (map neg_ℚ c.args.d.now) c.args.back.now c.args.n.now)))) _ came3 (room-after ((in_recession c.args.problem.now c.args.ray.now) ++ ((above c.args.problem.now c.args.d.now c.args.ray.now c.args.m.now) ++ ((in_recession c.args.problem.now c.args.back.now) ++ (([]) ++ (above c.args.problem.now (map neg_ℚ c.args.d.now) c.args.back.now c.args.n.now))))) _ came2 (room-after ((in_feasible c.args.problem.now c.args.x.now) ++ ((in_recession c.args.problem.now c.args.ray.now) ++ ((above c.args.problem.now c.args.d.now c.args.ray.now c.args.m.now) ++ ((in_recession c.args.problem.now c.args.back.now) ++ (([]) ++ (above c.args.problem.now (map neg_ℚ c.args.d.now) c.args.back.now c.args.n.now)))))) _ came1 (room-after ((test rule.Scaled (goes_on c.args.lines.now c.args.d.now) ∷ []) ++ ((in_feasible c.args.problem.now c.args.x.now) ++ ((in_recession c.args.problem.now c.args.ray.now) ++ ((above c.args.problem.now c.args.d.now c.args.ray.now c.args.m.now) ++ ((in_recession c.args.problem.now c.args.back.now) ++ (([]) ++ (above c.args.problem.now (map neg_ℚ c.args.d.now) c.args.back.now c.args.n.now))))))) _ came0 (subst (λ (es : List Event). 0 + steps es < 9223372036854775808) (line-parts (test rule.Length (length c.args.d.now == c.args.problem.now.objs)) (test rule.Scaled (goes_on c.args.lines.now c.args.d.now)) (in_feasible c.args.problem.now c.args.x.now) (in_recession c.args.problem.now c.args.ray.now) (above c.args.problem.now c.args.d.now c.args.ray.now c.args.m.now) (in_recession c.args.problem.now c.args.back.now) (above c.args.problem.now (map neg_ℚ c.args.d.now) c.args.back.now c.args.n.now)) room)))))))))
 
 pub returns : goal.returns
 returns c =
@@ -144,5 +144,5 @@ returns c =
     let came4 : Passed (above c.args.problem.now c.args.d.now c.args.ray.now c.args.m.now) c.in_recession.new.counter.taken c.above.new.counter.taken = record { none = c.in_ok-above.ensures.0; count = c.in_ok-above.ensures.1 } in
     let came5 : Passed (in_recession c.args.problem.now c.args.back.now) c.above.new.counter.taken c.in_recession-2.new.counter.taken = record { none = c.in_ok-in_recession-2.ensures.0; count = c.in_ok-in_recession-2.ensures.1 } in
     let came6 : Passed ([]) c.in_recession-2.new.counter.taken c.in_recession-2.new.counter.taken = record { none = (c.in_ok-opposite.ensures c.in_recession-2.new.counter.taken).0; count = (c.in_ok-opposite.ensures c.in_recession-2.new.counter.taken).1 } in
-    let last : Ran {X = Unit {0}} (above c.args.problem.now (map neg_ℚ c.args.d.now) c.args.back.now c.args.n.now) c.in_recession-2.new.counter.taken c.above-2.new.counter.taken (λ _. ⊤) c.above-2.result = record { runs = subst (λ (v : List ℚ). Runs {X = Unit {0}} is_held (above c.args.problem.now v c.args.back.now c.args.n.now) c.in_recession-2.new.counter.taken c.above-2.new.counter.taken (λ _. ⊤) c.above-2.result) (c.as_slice.ensures.value ∙ (c.in_ok-opposite.ensures 0).2) c.above-2.ensures } in
+    let last : Ran {X = Unit {0}} (above c.args.problem.now (map neg_ℚ c.args.d.now) c.args.back.now c.args.n.now) c.in_recession-2.new.counter.taken c.above-2.new.counter.taken (λ _. ⊤) c.above-2.result = record { runs = subst (λ (v : List ℚ). Runs {X = Unit {0}} is_held (above c.args.problem.now v c.args.back.now c.args.n.now) c.in_recession-2.new.counter.taken c.above-2.new.counter.taken (λ _. ⊤) c.above-2.result) (c.as_slice.ensures.items ∙ (c.in_ok-opposite.ensures 0).2) c.above-2.ensures } in
     whole-run (line_events c.args.problem.now c.args.lines.now c.args.d.now c.args.x.now c.args.ray.now c.args.m.now c.args.back.now c.args.n.now) c.above-2.new.counter.taken (λ _. ⊤) c.above-2.result (subst (λ (es : List Event). Runs {X = Unit {0}} is_held es 0 c.above-2.new.counter.taken (λ _. ⊤) c.above-2.result) (sym (line-parts (test rule.Length (length c.args.d.now == c.args.problem.now.objs)) (test rule.Scaled (goes_on c.args.lines.now c.args.d.now)) (in_feasible c.args.problem.now c.args.x.now) (in_recession c.args.problem.now c.args.ray.now) (above c.args.problem.now c.args.d.now c.args.ray.now c.args.m.now) (in_recession c.args.problem.now c.args.back.now) (above c.args.problem.now (map neg_ℚ c.args.d.now) c.args.back.now c.args.n.now))) ((ran-after came0 (ran-after came1 (ran-after came2 (ran-after came3 (ran-after came4 (ran-after came5 (ran-after came6 last))))))).runs))

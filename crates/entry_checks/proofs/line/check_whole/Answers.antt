@@ -43,7 +43,7 @@ returns-in_err-target c =
     search (stopped, rules)
 
 pub above-requires-clause-entries : goal.above-requires-clause-entries
-above-requires-clause-entries c = ap (λ (v : List ℚ). length v) (c.as_slice.ensures.value ∙ (c.in_ok-target.ensures 0).2) ∙ length-map c.args.c.now neg_ℚ ∙ c.requires.scale
+above-requires-clause-entries c = ap (λ (v : List ℚ). length v) (c.as_slice.ensures.items ∙ (c.in_ok-target.ensures 0).2) ∙ length-map c.args.c.now neg_ℚ ∙ c.requires.scale
 
 pub above-requires-clause-vector : goal.above-requires-clause-vector
 above-requires-clause-vector c = record { sparse = c.requires.direction; places = recession-places c.in_feasible.new.counter.taken c.args.problem.now c.args.ray.now c.in_ok-in_recession.ensures.0 }
@@ -54,12 +54,12 @@ above-requires-clause-room c =
     let came0 : Passed (in_feasible c.args.problem.now c.args.x.now) 0 c.in_feasible.new.counter.taken = record { none = c.in_ok-in_feasible.ensures.0; count = c.in_ok-in_feasible.ensures.1 } in
     let came1 : Passed (in_recession c.args.problem.now c.args.ray.now) c.in_feasible.new.counter.taken c.in_recession.new.counter.taken = record { none = c.in_ok-in_recession.ensures.0; count = c.in_ok-in_recession.ensures.1 } in
     let came2 : Passed ([]) c.in_recession.new.counter.taken c.in_recession.new.counter.taken = record { none = (c.in_ok-target.ensures c.in_recession.new.counter.taken).0; count = (c.in_ok-target.ensures c.in_recession.new.counter.taken).1 } in
-    subst (λ (v : List ℚ). c.in_recession.new.counter.taken + steps (above c.args.problem.now v c.args.ray.now c.args.m.now) < 9223372036854775808) (sym (c.as_slice.ensures.value ∙ (c.in_ok-target.ensures 0).2)) ((room-after (above c.args.problem.now (map neg_ℚ c.args.c.now) c.args.ray.now c.args.m.now) _ came2 (room-after (([]) ++ (above c.args.problem.now (map neg_ℚ c.args.c.now) c.args.ray.now c.args.m.now)) _ came1 (room-after ((in_recession c.args.problem.now c.args.ray.now) ++ (([]) ++ (above c.args.problem.now (map neg_ℚ c.args.c.now) c.args.ray.now c.args.m.now))) _ came0 (subst (λ (es : List Event). 0 + steps es < 9223372036854775808) (append_assoc (in_feasible c.args.problem.now c.args.x.now) (in_recession c.args.problem.now c.args.ray.now) (above c.args.problem.now (map neg_ℚ c.args.c.now) c.args.ray.now c.args.m.now)) room)))))
+    subst (λ (v : List ℚ). c.in_recession.new.counter.taken + steps (above c.args.problem.now v c.args.ray.now c.args.m.now) < 9223372036854775808) (sym (c.as_slice.ensures.items ∙ (c.in_ok-target.ensures 0).2)) ((room-after (above c.args.problem.now (map neg_ℚ c.args.c.now) c.args.ray.now c.args.m.now) _ came2 (room-after (([]) ++ (above c.args.problem.now (map neg_ℚ c.args.c.now) c.args.ray.now c.args.m.now)) _ came1 (room-after ((in_recession c.args.problem.now c.args.ray.now) ++ (([]) ++ (above c.args.problem.now (map neg_ℚ c.args.c.now) c.args.ray.now c.args.m.now))) _ came0 (subst (λ (es : List Event). 0 + steps es < 9223372036854775808) (append_assoc (in_feasible c.args.problem.now c.args.x.now) (in_recession c.args.problem.now c.args.ray.now) (above c.args.problem.now (map neg_ℚ c.args.c.now) c.args.ray.now c.args.m.now)) room)))))
 
 pub returns : goal.returns
 returns c =
     let came0 : Passed (in_feasible c.args.problem.now c.args.x.now) 0 c.in_feasible.new.counter.taken = record { none = c.in_ok-in_feasible.ensures.0; count = c.in_ok-in_feasible.ensures.1 } in
     let came1 : Passed (in_recession c.args.problem.now c.args.ray.now) c.in_feasible.new.counter.taken c.in_recession.new.counter.taken = record { none = c.in_ok-in_recession.ensures.0; count = c.in_ok-in_recession.ensures.1 } in
     let came2 : Passed ([]) c.in_recession.new.counter.taken c.in_recession.new.counter.taken = record { none = (c.in_ok-target.ensures c.in_recession.new.counter.taken).0; count = (c.in_ok-target.ensures c.in_recession.new.counter.taken).1 } in
-    let last : Ran {X = Unit {0}} (above c.args.problem.now (map neg_ℚ c.args.c.now) c.args.ray.now c.args.m.now) c.in_recession.new.counter.taken c.above.new.counter.taken (λ _. ⊤) c.above.result = record { runs = subst (λ (v : List ℚ). Runs {X = Unit {0}} is_held (above c.args.problem.now v c.args.ray.now c.args.m.now) c.in_recession.new.counter.taken c.above.new.counter.taken (λ _. ⊤) c.above.result) (c.as_slice.ensures.value ∙ (c.in_ok-target.ensures 0).2) c.above.ensures } in
+    let last : Ran {X = Unit {0}} (above c.args.problem.now (map neg_ℚ c.args.c.now) c.args.ray.now c.args.m.now) c.in_recession.new.counter.taken c.above.new.counter.taken (λ _. ⊤) c.above.result = record { runs = subst (λ (v : List ℚ). Runs {X = Unit {0}} is_held (above c.args.problem.now v c.args.ray.now c.args.m.now) c.in_recession.new.counter.taken c.above.new.counter.taken (λ _. ⊤) c.above.result) (c.as_slice.ensures.items ∙ (c.in_ok-target.ensures 0).2) c.above.ensures } in
     whole-run (whole_events c.args.problem.now c.args.c.now c.args.x.now c.args.ray.now c.args.m.now) c.above.new.counter.taken (λ _. ⊤) c.above.result (subst (λ (es : List Event). Runs {X = Unit {0}} is_held es 0 c.above.new.counter.taken (λ _. ⊤) c.above.result) (sym (append_assoc (in_feasible c.args.problem.now c.args.x.now) (in_recession c.args.problem.now c.args.ray.now) (above c.args.problem.now (map neg_ℚ c.args.c.now) c.args.ray.now c.args.m.now))) ((ran-after came0 (ran-after came1 (ran-after came2 last))).runs))

@@ -3,4 +3,4 @@ use Rattle.exact_field.specs.Rational.{neg_ℚ}
 use Rattle.entry_checks.proofs.line.negate.Given as goal
 
 abbrev pub invariant-loop-x : goal.invariant-loop-x
-invariant-loop-x l = l.opposite.items ≡ map neg_ℚ (take l.x-index l.v)
+invariant-loop-x l = l.opposite ≡ map neg_ℚ (take l.x-index l.v)

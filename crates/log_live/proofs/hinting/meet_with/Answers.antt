@@ -13,13 +13,13 @@ use Rattle.vlp_matrices.proofs.Lists.{map-at}
 use Rattle.log_live.proofs.hinting.meet_with.Goals as goal
 
 pub meet_pair-requires-clause-plus : goal.meet_pair-requires-clause-plus
-meet_pair-requires-clause-plus c = c.loop-j.invariant.common ∙ c.requires.plus
+meet_pair-requires-clause-plus c = c.loop-minus.invariant.common ∙ c.requires.plus
 
 pub meet_pair-requires-clause-minus : goal.meet_pair-requires-clause-minus
-meet_pair-requires-clause-minus c = c.loop-j.invariant.common ∙ c.requires.plus
+meet_pair-requires-clause-minus c = c.loop-minus.invariant.common ∙ c.requires.plus
     ∙ sym (listed (λ (g : Bor Generator). length g.now.tight ≡ length c.args.plus.now.tight)
-    c.args.negatives.now c.loop-j.j c.index-negatives-j.result c.requires.bounds c.loop-j-test.true
-    c.index-negatives-j.is)
+    c.args.negatives.now c.loop-minus.minus-index c.minus-item.result c.requires.bounds c.loop-minus-test.true
+    c.minus-item.is)
 
 pub returns-then-not-meet_pair-clause-walks : goal.returns-then-not-meet_pair-clause-walks
 returns-then-not-meet_pair-clause-walks c = λ q rows all negative.
@@ -27,68 +27,68 @@ returns-then-not-meet_pair-clause-walks c = λ q rows all negative.
       plus_side = numbered_of c.args.plus.now;
       minus_side = m;
     } ∷ [] in
-    let m : Numbered = numbered_of c.index-negatives-j.result.now in
+    let m : Numbered = numbered_of c.minus-item.result.now in
     let ms : List Numbered = map (λ (g : Bor Generator). numbered_of g.now) c.args.negatives.now in
     let live : List Numbered = live_of c.args.generators.now in
-    let here : Walks rows live c.args.pairs.now c.args.hints.now c.loop-j.meeting false
+    let here : Walks rows live c.args.pairs.now c.args.hints.now c.loop-minus.meeting false
     c.meet_pair.new.meeting (beside m) =
-    subst (λ (r : Bool). Walks rows live c.args.pairs.now c.args.hints.now c.loop-j.meeting r
+    subst (λ (r : Bool). Walks rows live c.args.pairs.now c.args.hints.now c.loop-minus.meeting r
     c.meet_pair.new.meeting (beside m)) c.if-not-meet_pair.true
     (c.meet_pair.ensures.walks q rows
     (subst (λ (k : ℕ). AreAtPairs q k rows c.args.generators.now)
-    (sym c.loop-j.invariant.least) all)
+    (sym c.loop-minus.invariant.least) all)
     (listed (λ (g : Bor Generator). AreTwo c.args.generators.now c.args.plus.now g.now)
-    c.args.negatives.now c.loop-j.j c.index-negatives-j.result negative c.loop-j-test.true
-    c.index-negatives-j.is)) in
+    c.args.negatives.now c.loop-minus.minus-index c.minus-item.result negative c.loop-minus-test.true
+    c.minus-item.is)) in
     subst (λ (b : List LivePair). Walks rows live c.args.pairs.now c.args.hints.now
     c.args.meeting.now false c.meet_pair.new.meeting b)
-    (sym (flat-split beside ms c.loop-j.j m
+    (sym (flat-split beside ms c.loop-minus.minus-index m
     (let many = length-map c.args.negatives.now
-    (λ (g : Bor Generator). numbered_of g.now) in let inside = c.loop-j-test.true in omega
+    (λ (g : Bor Generator). numbered_of g.now) in let inside = c.loop-minus-test.true in omega
     (arith, many, inside))
-    (map-at (λ (g : Bor Generator). numbered_of g.now) c.args.negatives.now c.loop-j.j
-    c.index-negatives-j.result c.loop-j-test.true c.index-negatives-j.is)))
+    (map-at (λ (g : Bor Generator). numbered_of g.now) c.args.negatives.now c.loop-minus.minus-index
+    c.minus-item.result c.loop-minus-test.true c.minus-item.is)))
     (walks-stop rows live c.args.pairs.now c.args.hints.now c.args.meeting.now
     c.meet_pair.new.meeting c.meet_pair.new.meeting
-    (flat_map beside (take c.loop-j.j ms) ++ beside m) (flat_map beside (drop (c.loop-j.j + 1) ms))
-    (walks-then rows live c.args.pairs.now c.args.hints.now c.args.meeting.now c.loop-j.meeting
-    c.meet_pair.new.meeting false (flat_map beside (take c.loop-j.j ms)) (beside m)
-    (c.loop-j.invariant.walks q rows all negative) here))
+    (flat_map beside (take c.loop-minus.minus-index ms) ++ beside m) (flat_map beside (drop (c.loop-minus.minus-index + 1) ms))
+    (walks-then rows live c.args.pairs.now c.args.hints.now c.args.meeting.now c.loop-minus.meeting
+    c.meet_pair.new.meeting false (flat_map beside (take c.loop-minus.minus-index ms)) (beside m)
+    (c.loop-minus.invariant.walks q rows all negative) here))
 
-pub loop-j-preserved : goal.loop-j-preserved
-loop-j-preserved c =
+pub loop-minus-preserved : goal.loop-minus-preserved
+loop-minus-preserved c =
     record {
-      common = c.meet_pair.ensures.common ∙ c.loop-j.invariant.common;
-      least = c.meet_pair.ensures.least ∙ c.loop-j.invariant.least;
+      common = c.meet_pair.ensures.common ∙ c.loop-minus.invariant.common;
+      least = c.meet_pair.ensures.least ∙ c.loop-minus.invariant.least;
       walks = λ q rows all negative.
           let beside : Numbered →
           List LivePair = λ m. record { plus_side = numbered_of c.args.plus.now; minus_side = m } ∷
           [] in
-          let m : Numbered = numbered_of c.index-negatives-j.result.now in
+          let m : Numbered = numbered_of c.minus-item.result.now in
           let ms : List Numbered = map (λ (g : Bor Generator). numbered_of g.now)
           c.args.negatives.now in
           let live : List Numbered = live_of c.args.generators.now in
-          let here : Walks rows live c.args.pairs.now c.args.hints.now c.loop-j.meeting true
+          let here : Walks rows live c.args.pairs.now c.args.hints.now c.loop-minus.meeting true
           c.meet_pair.new.meeting (beside m) =
-          subst (λ (r : Bool). Walks rows live c.args.pairs.now c.args.hints.now c.loop-j.meeting r
+          subst (λ (r : Bool). Walks rows live c.args.pairs.now c.args.hints.now c.loop-minus.meeting r
           c.meet_pair.new.meeting (beside m)) c.if-not-meet_pair.false
           (c.meet_pair.ensures.walks q rows
           (subst (λ (k : ℕ). AreAtPairs q k rows c.args.generators.now)
-          (sym c.loop-j.invariant.least) all)
+          (sym c.loop-minus.invariant.least) all)
           (listed (λ (g : Bor Generator). AreTwo c.args.generators.now c.args.plus.now g.now)
-          c.args.negatives.now c.loop-j.j c.index-negatives-j.result negative c.loop-j-test.true
-          c.index-negatives-j.is)) in
+          c.args.negatives.now c.loop-minus.minus-index c.minus-item.result negative c.loop-minus-test.true
+          c.minus-item.is)) in
           subst (λ (b : List LivePair). Walks rows live c.args.pairs.now c.args.hints.now
           c.args.meeting.now true c.meet_pair.new.meeting b)
-          (sym (flat-more beside ms c.loop-j.j m
+          (sym (flat-more beside ms c.loop-minus.minus-index m
           (let many = length-map c.args.negatives.now
-          (λ (g : Bor Generator). numbered_of g.now) in let inside = c.loop-j-test.true in omega
+          (λ (g : Bor Generator). numbered_of g.now) in let inside = c.loop-minus-test.true in omega
           (arith, many, inside))
-          (map-at (λ (g : Bor Generator). numbered_of g.now) c.args.negatives.now c.loop-j.j
-          c.index-negatives-j.result c.loop-j-test.true c.index-negatives-j.is)))
+          (map-at (λ (g : Bor Generator). numbered_of g.now) c.args.negatives.now c.loop-minus.minus-index
+          c.minus-item.result c.loop-minus-test.true c.minus-item.is)))
           (walks-then rows live c.args.pairs.now c.args.hints.now c.args.meeting.now
-          c.loop-j.meeting c.meet_pair.new.meeting true (flat_map beside (take c.loop-j.j ms))
-          (beside m) (c.loop-j.invariant.walks q rows all negative) here);
+          c.loop-minus.meeting c.meet_pair.new.meeting true (flat_map beside (take c.loop-minus.minus-index ms))
+          (beside m) (c.loop-minus.invariant.walks q rows all negative) here);
     }
 
 pub returns-clause-walks : goal.returns-clause-walks
@@ -99,7 +99,7 @@ returns-clause-walks c = λ q rows all negative.
     } ∷ [] in
     let ms : List Numbered = map (λ (g : Bor Generator). numbered_of g.now) c.args.negatives.now in
     subst (λ (b : List LivePair). Walks rows (live_of c.args.generators.now) c.args.pairs.now
-    c.args.hints.now c.args.meeting.now true c.loop-j.meeting b)
-    (flat-whole beside ms c.loop-j.j
+    c.args.hints.now c.args.meeting.now true c.loop-minus.meeting b)
+    (flat-whole beside ms c.loop-minus.minus-index
     (let many = length-map c.args.negatives.now (λ (g : Bor Generator). numbered_of g.now) in omega
-    (arith, many))) (c.loop-j.invariant.walks q rows all negative)
+    (arith, many))) (c.loop-minus.invariant.walks q rows all negative)

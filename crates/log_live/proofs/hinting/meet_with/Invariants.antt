@@ -5,12 +5,12 @@ use Rattle.log_live.specs.Hinting.{Walks, pairs_beside}
 use Rattle.log_live.specs.Live.{live_of, numbered_of}
 use Rattle.log_live.proofs.hinting.meet_with.Given as goal
 
-abbrev pub invariant-loop-j : goal.invariant-loop-j
-invariant-loop-j l = record {
+abbrev pub invariant-loop-minus : goal.invariant-loop-minus
+invariant-loop-minus l = record {
   common : length l.meeting.common ≡ length l.initial.meeting.common;
   least : l.meeting.least ≡ l.initial.meeting.least;
   walks : (q : ℕ) (rows : List (List ℚ)) → AreAtPairs q l.initial.meeting.least rows l.generators →
       All (λ g. AreTwo l.generators l.plus g.now) l.negatives →
       Walks rows (live_of l.generators) l.pairs l.hints l.initial.meeting true l.meeting
-      (pairs_beside (numbered_of l.plus) (take l.j (map (λ g. numbered_of g.now) l.negatives)));
+      (pairs_beside (numbered_of l.plus) (take l.minus-index (map (λ g. numbered_of g.now) l.negatives)));
 }

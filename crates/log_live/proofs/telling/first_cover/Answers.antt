@@ -11,31 +11,31 @@ pub returns-then-covers_pair : goal.returns-then-covers_pair
 returns-then-covers_pair c rows all a b m =
     let live = live_of c.args.generators.now in
     sym (cover_here rows (pair_of c.args.plus.now c.args.minus.now)
-    (numbered_of c.index-generators-i.result) (drop c.loop-i.i live) (drop (c.loop-i.i + 1) live)
-    (drop_value numbered_of c.args.generators.now c.loop-i.i c.index-generators-i.result
-    c.loop-i-test.true c.index-generators-i.is) c.covers_pair.result
+    (numbered_of c.third-item.result) (drop c.loop-third.third-index live) (drop (c.loop-third.third-index + 1) live)
+    (drop_value numbered_of c.args.generators.now c.loop-third.third-index c.third-item.result
+    c.loop-third-test.true c.third-item.is) c.covers_pair.result
     (c.covers_pair.ensures rows
-    (listed (HasTightSet rows) c.args.generators.now c.loop-i.i c.index-generators-i.result all
-    c.loop-i-test.true c.index-generators-i.is) a b m)
+    (listed (HasTightSet rows) c.args.generators.now c.loop-third.third-index c.third-item.result all
+    c.loop-third-test.true c.third-item.is) a b m)
     c.if-covers_pair.true)
-    ∙ c.loop-i.invariant rows all a b m
+    ∙ c.loop-third.invariant rows all a b m
 
-pub loop-i-preserved : goal.loop-i-preserved
-loop-i-preserved c rows all a b m =
+pub loop-third-preserved : goal.loop-third-preserved
+loop-third-preserved c rows all a b m =
     let live = live_of c.args.generators.now in
     sym (cover_later rows (pair_of c.args.plus.now c.args.minus.now)
-    (numbered_of c.index-generators-i.result) (drop c.loop-i.i live) (drop (c.loop-i.i + 1) live)
-    (drop_value numbered_of c.args.generators.now c.loop-i.i c.index-generators-i.result
-    c.loop-i-test.true c.index-generators-i.is) c.covers_pair.result
+    (numbered_of c.third-item.result) (drop c.loop-third.third-index live) (drop (c.loop-third.third-index + 1) live)
+    (drop_value numbered_of c.args.generators.now c.loop-third.third-index c.third-item.result
+    c.loop-third-test.true c.third-item.is) c.covers_pair.result
     (c.covers_pair.ensures rows
-    (listed (HasTightSet rows) c.args.generators.now c.loop-i.i c.index-generators-i.result all
-    c.loop-i-test.true c.index-generators-i.is) a b m)
+    (listed (HasTightSet rows) c.args.generators.now c.loop-third.third-index c.third-item.result all
+    c.loop-third-test.true c.third-item.is) a b m)
     c.if-covers_pair.false)
-    ∙ c.loop-i.invariant rows all a b m
+    ∙ c.loop-third.invariant rows all a b m
 
 pub returns : goal.returns
 returns c rows all a b m =
     ap (first_cover rows (pair_of c.args.plus.now c.args.minus.now))
-    (sym (drop_all c.loop-i.i (live_of c.args.generators.now)
+    (sym (drop_all c.loop-third.third-index (live_of c.args.generators.now)
     (omega (arith, length-map c.args.generators.now numbered_of))))
-    ∙ c.loop-i.invariant rows all a b m
+    ∙ c.loop-third.invariant rows all a b m

@@ -6,9 +6,9 @@ use Rattle.log_live.specs.Adding.{pair_of}
 use Rattle.log_live.specs.Live.{HasTightSet, live_of}
 use Rattle.log_live.proofs.telling.first_cover.Given as goal
 
-abbrev pub invariant-loop-i : goal.invariant-loop-i
-invariant-loop-i l = (rows : List (List ℚ)) → All (HasTightSet rows) l.generators →
+abbrev pub invariant-loop-third : goal.invariant-loop-third
+invariant-loop-third l = (rows : List (List ℚ)) → All (HasTightSet rows) l.generators →
     HasTightSet rows l.plus →
     HasTightSet rows l.minus → IsMeet l.common l.plus.tight l.minus.tight →
-    first_cover rows (pair_of l.plus l.minus) (drop l.i (live_of l.generators)) ≡ first_cover rows
+    first_cover rows (pair_of l.plus l.minus) (drop l.third-index (live_of l.generators)) ≡ first_cover rows
     (pair_of l.plus l.minus) (live_of l.generators)

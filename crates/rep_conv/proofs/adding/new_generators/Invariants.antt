@@ -15,5 +15,5 @@ invariant-loop-i l = record {
   here : (width : ℕ) (rows : List (List ℚ)) (row : List ℚ) → AreAtRow width rows row l.fn.generators → l.fn.values ≡ values_at row l.fn.generators → l.fn.pairs ≡ required_pairs rows (live_of l.fn.generators) row →
       IsAt (pair_of row (live_of l.fn.generators)) l.fn.pairs l.fn.counter.taken l.i l.counter.taken;
   made : (width : ℕ) (rows : List (List ℚ)) (row : List ℚ) → AreAtRow width rows row l.fn.generators → l.fn.values ≡ values_at row l.fn.generators → l.fn.pairs ≡ required_pairs rows (live_of l.fn.generators) row →
-      AreMadeTo rows row (live_pairs rows (live_of l.fn.generators) row) l.fn.next l.i l.made.items;
+      AreMadeTo rows row (live_pairs rows (live_of l.fn.generators) row) l.fn.next l.i l.made;
 }

@@ -31,8 +31,8 @@ values_at-requires-clause-room c =
     let same = ap length E in
     omega (arith, most, many, same)
 
-pub hints_told-requires : goal.hints_told-requires
-hints_told-requires c =
+pub least_hints-requires : goal.least_hints-requires
+least_hints-requires c =
     let file = c.requires.0 in
     let s = c.requires.1 in
     let cut = c.requires.2 in
@@ -63,7 +63,7 @@ returns-in-Ok c file s cut h =
     paired_where file.objs s cut c.args.pairs.now h.passes
     ∙ ap (λ (l : List Numbered). required_pairs (rows_in_use file.objs s) l (cut_row s cut))
     (sym same) in
-    subst (λ (l : List Numbered). IfOk c.hints_told.result
+    subst (λ (l : List Numbered). IfOk c.least_hints.result
     (λ hints. hints ≡ least_hints (rows_in_use file.objs s) l (cut_row s cut) c.args.pairs.now))
     same
-    (c.hints_told.ensures (length c.args.w.now) (rows_in_use file.objs s) (cut_row s cut) at paired)
+    (c.least_hints.ensures (length c.args.w.now) (rows_in_use file.objs s) (cut_row s cut) at paired)

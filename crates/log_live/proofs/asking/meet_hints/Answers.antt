@@ -4,7 +4,7 @@ use Rattle.log_live.specs.Live.{live_of}
 use Rattle.log_versions.specs.Walk.{Decides}
 use Rattle.log_versions.proofs.Walked.{walk_decides}
 use Rattle.log_live.proofs.PairCounts.{at_pairs}
-use Rattle.log_live.proofs.asking.hints_met.Goals as goal
+use Rattle.log_live.proofs.asking.meet_hints.Goals as goal
 
 pub returns-clause-listed : goal.returns-clause-listed
 returns-clause-listed c q rows row a =

@@ -7,7 +7,7 @@ use Rattle.std.proofs.Common.{take}
 use Rattle.upper_image.specs.Spots.{pieces}
 use Rattle.entry_checks.proofs.RisingNumbers.{length-pieces, pieces-at}
 use Rattle.entry_checks.proofs.NamedCuts.{list_all-here, list_all-next, list_all-end}
-use Rattle.entry_checks.proofs.corner.rows_reduced.Goals as goal
+use Rattle.entry_checks.proofs.corner.are_rows_reduced.Goals as goal
 
 pub returns-then-not-is_reduced : goal.returns-then-not-is_reduced
 returns-then-not-is_reduced c =

@@ -7,7 +7,7 @@ use Rattle.log_live.specs.Hinting.{hints_along}
 use Rattle.log_live.specs.Live.{live_of}
 use Rattle.log_live.proofs.LeastHints.{told_are_least}
 use Rattle.log_live.proofs.PairCounts.{rising_of}
-use Rattle.log_live.proofs.asking.hints_told.Goals as goal
+use Rattle.log_live.proofs.asking.least_hints.Goals as goal
 
 along : (told least : List ℕ) → told ≡ least → (result : Result (List ℕ) NoMemory) →
     IfOk result (λ hints. hints ≡ told) → IfOk result (λ hints. hints ≡ least)
