@@ -103,14 +103,18 @@ pub fn have_at_least(words: &[u64], count: u32) -> bool
 }
 
 /// How many numbers of a word the word `i` of others has too. That one is not read for a word
-/// without a number.
+/// without a number, and nothing is counted where they have none in common, as most words do.
 fn common_count(word: u64, other: &[u64], i: usize) -> usize
     ensures { result ≡ count_ones (bit_and word (slice_index other.now i)) }
 {
     if word == 0 {
         return 0;
     }
-    (word & word_at(other, i)).count_ones() as usize
+    let common = word & word_at(other, i);
+    if common == 0 {
+        return 0;
+    }
+    common.count_ones() as usize
 }
 
 /// Whether the two have at least as many common numbers as `count`. It stops at the first words
