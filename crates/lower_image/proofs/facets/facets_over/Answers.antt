@@ -3,6 +3,7 @@ use Rattle.lin_rows.proofs.Errors.{err_holds}
 use Rattle.lp_form.specs.declared.shown.Cut.{Cut}
 use Rattle.outer_approx.specs.Task.{behind}
 use Rattle.overflows.specs.Faults.{Overflows}
+use Rattle.overflows.specs.declared.fault.SolveFault.TheVariants.{NoMemory}
 use Rattle.polyhedra.specs.LiveList.{numbers}
 use Rattle.lower_image.specs.Facets.{AreFacetCuts}
 use Rattle.lower_image.proofs.Certified.{facets_are}
@@ -27,7 +28,9 @@ returns-in_err-approximate-clause-left g c = λ trail.
 
 pub returns-in_err-touching-clause-left : goal.returns-in_err-touching-clause-left
 returns-in_err-touching-clause-left g c = λ trail.
-    search (rules, c.from_residual-in_err-touching.ensures)
+    err_holds c.from_residual-in_err-touching.result NoMemory
+    (Overflows g.F.Field.holds (behind g.task trail) [])
+    c.from_residual-in_err-touching.ensures.1 tt
 
 pub touching_facets-requires-clause-listed : goal.touching_facets-requires-clause-listed
 touching_facets-requires-clause-listed g c =
