@@ -5,11 +5,13 @@
 
 `rt all check --jobs N` hands N crates at a time to its workers, lowest first, and a worker that has a crate waits until those
 below it are built, while others that could be proved wait for a worker. Here a crate is begun once those below it are built, of
-several that one first on which the longest chain of others stands, by their lines; and where fewer crates are ready than there
-are processors, each is proved by more jobs, four at most. The sources of a crate are summed up once: some kits sum them up once
-for each path through the lists of libraries, and nothing writes to the launcher's copy of the sources while it builds. The quick
-pass over all sources that comes before the proofs, and proves nothing, is left out. What is proved, and how, is the kit's. Where
-`rt` is no such program, it runs itself.
+several that one first on which the longest chain of others stands, by their lines. Each is proved by two jobs at least, since a
+job often waits for another of its crate, and by up to four where fewer crates are ready than there are processors. A library
+holds the statements that were proved of it, as in the gate, and not the checked proofs, which no crate above reads: it is built
+and read sooner, and takes little of the disk. The sources of a crate are summed up once: some kits sum them up once for each path
+through the lists of libraries, and nothing writes to the launcher's copy of the sources while it builds. The quick pass over all
+sources that comes before the proofs, and proves nothing, is left out. What is proved, and how, is the kit's. Where `rt` is no
+such program, it runs itself.
 """
 import functools
 import importlib.machinery
@@ -44,10 +46,12 @@ def lines_of(folder):
     return count
 
 
-# The most jobs by which one crate is proved.
-MOST_JOBS = 4
-# How many jobs each crate that is being proved may use.
-JOBS = {}
+# The fewest and the most jobs by which one crate is proved.
+FEWEST_JOBS, MOST_JOBS = 2, 4
+# How long the first crates wait, in seconds, until all are handed in.
+HANDING_IN = 0.5
+# How many of the workers each crate has that is being proved.
+SHARES = {}
 
 
 class Lanes(ThreadPoolExecutor):
@@ -59,6 +63,7 @@ class Lanes(ThreadPoolExecutor):
         self.lock = threading.Lock()
         self.waiting = []
         self.ended = set()
+        self.first = None
 
     def submit(self, call, *given):
         if not given or not hasattr(given[0], "below"):
@@ -66,9 +71,14 @@ class Lanes(ThreadPoolExecutor):
         task = call, given[0], Future()
         with self.lock:
             self.waiting.append(task)
-            # (others are handed in at once, so each of the first gets one job)
-            self.begin(1)
+            if self.first is None:
+                self.first = threading.Timer(HANDING_IN, self.begin_first)
+                self.first.start()
         return task[-1]
+
+    def begin_first(self):
+        with self.lock:
+            self.begin()
 
     def chains(self):
         """For each crate that waits the lines of the longest chain that begins with it, of crates of which each stands on the last."""
@@ -78,16 +88,16 @@ class Lanes(ThreadPoolExecutor):
             chains[crate] = lines_of(crate.folder) + max(above, default=0)
         return chains
 
-    def begin(self, most):
-        """Begins as many calls as there are idle workers, those first that the longest chains wait for, with at most so many jobs each."""
+    def begin(self):
+        """Begins as many calls as there are idle workers, those first that the longest chains wait for."""
         is_ready = lambda task: self.ended.issuperset(task[1].below())
         ready, chains = list(filter(is_ready, self.waiting)), self.chains()
         ready.sort(key=lambda task: -chains[task[1]])
         for at, task in enumerate(ready[: self.idle]):
-            jobs = max(1, min(most, self.idle // (len(ready) - at)))
+            share = max(1, min(MOST_JOBS, self.idle // (len(ready) - at)))
             self.waiting.remove(task)
-            self.idle -= jobs
-            JOBS[task[1]] = jobs
+            self.idle -= share
+            SHARES[task[1]] = share
             super().submit(self.work, *task)
 
     def work(self, call, crate, future):
@@ -97,8 +107,27 @@ class Lanes(ThreadPoolExecutor):
             future.set_exception(fault)
         with self.lock:
             self.ended.add(crate)
-            self.idle += JOBS.pop(crate)
-            self.begin(MOST_JOBS)
+            self.idle += SHARES.pop(crate)
+            self.begin()
+
+
+def in_statements(rtlib, method):
+    """The method that builds a crate's library, where it is not built, with its statements alone."""
+
+    def build_rlib(crate, flags, anew):
+        if anew or crate.is_built():
+            return method(crate, flags, anew)
+        stamp, kept = crate.stamp(), os.path.join(crate.folder, "out", "rlib", "stamp")
+        shutil.rmtree(os.path.dirname(kept), ignore_errors=True)
+        os.makedirs(os.path.dirname(kept))
+        words = [*crate.words(flags, keeps=False), "--statements"]
+        status = crate.call(rtlib.RATTLE, "build", *words, "-o", crate.rlib)
+        if status == 0 and stamp == crate.stamp():
+            with open(kept, "w", encoding="utf-8") as file:
+                file.write(stamp)
+        return status
+
+    return build_rlib
 
 
 def in_jobs(method):
@@ -106,7 +135,7 @@ def in_jobs(method):
 
     def call(crate, flags, *given, **named):
         if flags == ["--jobs", "1"]:
-            flags = ["--jobs", str(JOBS.get(crate, 1))]
+            flags = ["--jobs", str(max(FEWEST_JOBS, SHARES.get(crate, 1)))]
         return method(crate, flags, *given, **named)
 
     return call
@@ -122,6 +151,10 @@ def loaded(path):
     crate.stamp = kept(crate.stamp, str)
     crate.below = kept(crate.below, list)
     crate.front_end = lambda _: 0
+    if "--statements" in module.rtlib.help_of("build"):
+        crate.build_rlib = in_statements(module.rtlib, crate.build_rlib)
+        # Other copies of a repository are not to take these libraries for their own checks.
+        module.offer = lambda *_: None
     crate.build_rlib, crate.check = in_jobs(crate.build_rlib), in_jobs(crate.check)
     module.rtlib.ThreadPoolExecutor = Lanes
     return module
