@@ -5,7 +5,7 @@ use Rattle.std.specs.Prelude.{codes, replicate, take}
 use Rattle.std.proofs.lemmas.List.{length-take-le}
 use Rattle.exact_field.specs.Rational.{ℚ, zero_ℚ, one_ℚ, neg_ℚ, whole, ◌+ℚ◌, ◌*ℚ◌}
 use Rattle.exact_field.specs.Ring.{v0, v1, num, ◌⊕◌, ◌⊗◌, ◌⊝◌}
-use Rattle.exact_field.specs.Vector.{dot, entry}
+use Rattle.exact_field.specs.Vector.{dot, entry, front}
 use Rattle.exact_field.proofs.RingTool.{ring}
 use Rattle.exact_field.proofs.Rationals.{rationals}
 use Rattle.frac128.specs.Text.{frac_text}
@@ -20,7 +20,7 @@ use Rattle.polyhedra.proofs.Members.{Contains-map, Contains-map_source}
 use Rattle.vlp_problem.specs.declared.problem.Dir.{Dir}
 use Rattle.vlp_problem.specs.declared.problem.Dir.TheVariants.{Min, Max}
 use Rattle.vlp_problem.specs.declared.problem.Problem.{Problem}
-use Rattle.upper_image.specs.UpperImage.{IsInLowerImageOf, IsInWorkingImage, LowerImage, front, signed, working}
+use Rattle.upper_image.specs.UpperImage.{IsInLowerImageOf, IsInWorkingImage, LowerImage, signed, working}
 use Rattle.upper_image.proofs.ConvexCones.{ordering_cone_convex}
 use Rattle.upper_image.proofs.Widths.{map-map}
 use Rattle.log_rules.specs.Laws.{DescribeLowerImage}

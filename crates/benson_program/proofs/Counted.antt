@@ -4,9 +4,9 @@ use Rattle.std.specs.Prelude.{◌&&◌, if◌then◌else◌}
 use Rattle.std.proofs.lemmas.Bool.{leb-true}
 use Rattle.std.proofs.lemmas.List.{length-map, get_or-map}
 use Rattle.exact_field.specs.Rational.{ℚ, zero_ℚ, neg_ℚ, le_ℚ, ◌<ℚ◌}
+use Rattle.exact_field.specs.Vector.{are_wide}
 use Rattle.polyhedra.specs.DoubleDescription.{magnitude}
 use Rattle.polyhedra.proofs.Tests.{both_true}
-use Rattle.lin_rows.specs.Widths.{are_wide}
 use Rattle.vlp_problem.specs.declared.problem.Problem.{Problem}
 use Rattle.vlp_problem.specs.declared.problem.Cone.{Cone}
 use Rattle.vlp_problem.specs.declared.problem.Cone.TheVariants as cone

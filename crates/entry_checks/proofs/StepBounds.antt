@@ -7,7 +7,7 @@ use Rattle.entry_checks.proofs.RisingNumbers.{length-numbered, length-pieces}
 use Rattle.upper_image.specs.Shows.{picked}
 use Rattle.std.proofs.lemmas.List.Elements.{All-nil, All-cons, All-head, All-tail}
 use Rattle.exact_field.specs.Rational.{ℚ, zero_ℚ, ◌+ℚ◌, ◌*ℚ◌, neg_ℚ}
-use Rattle.exact_field.specs.Vector.{dot, entry}
+use Rattle.exact_field.specs.Vector.{dot, entry, are_wide}
 use Rattle.exact_field.specs.declared.op.Op.TheVariants as op
 use Rattle.frac128.specs.Sparse.{is_zero}
 use Rattle.frac128.specs.declared.vectors.Spot.{Spot}
@@ -20,7 +20,7 @@ use Rattle.upper_image.specs.OrderingCone.{dual_of}
 use Rattle.upper_image.specs.Spots.{column, pieces, dense, product}
 use Rattle.upper_image.specs.UpperImage.{objective, objective_column, rest}
 use Rattle.upper_image.proofs.Widths.{wide_sides, length-numbers, length-objective, length-rest}
-use Rattle.vlp_problem.specs.Cones.{cone_fits, each_has}
+use Rattle.vlp_problem.specs.Cones.{cone_fits}
 use Rattle.vlp_problem.specs.Sides.{sides, side_column, side_bounds, numbers_from}
 use Rattle.vlp_problem.specs.declared.problem.Problem.{Problem}
 use Rattle.vlp_problem.specs.declared.problem.Cone.{Cone}
@@ -88,8 +88,8 @@ steps-all f k h (x ∷ xs) =
     omega (arith, one, more, both, split)
 
 -- ---- a cone
-few_vectors : (n : ℕ) (vs : List (List ℚ)) → (nat_lt 0 (length vs) && (nat_le (length vs) 100000 && each_has n vs)) ≡ true → length vs ≤ 100000
-few_vectors n vs h = leb-true (length vs) 100000 (both_true (nat_le (length vs) 100000) (each_has n vs) (both_true (nat_lt 0 (length vs)) _ h).1).0
+few_vectors : (n : ℕ) (vs : List (List ℚ)) → (nat_lt 0 (length vs) && (nat_le (length vs) 100000 && are_wide n vs)) ≡ true → length vs ≤ 100000
+few_vectors n vs h = leb-true (length vs) 100000 (both_true (nat_le (length vs) 100000) (are_wide n vs) (both_true (nat_lt 0 (length vs)) _ h).1).0
 
 -- steps and then a test
 pub steps-tested : (A : List Event) (r : Rule) (b : Bool) (k : ℕ) → steps A ≤ k → steps (A ++ test r b ∷ []) ≤ k

@@ -1,20 +1,13 @@
 -- The coupling of a vector with a point of the lower image: the slack of the inequality for which that point stands.
-use Rattle.std.specs.Prelude.{ℕ, ◌-◌, List, [], ◌∷◌, length, take, Bool, All, ◌⊎◌}
+use Rattle.std.specs.Prelude.{ℕ, ◌-◌, List, [], ◌∷◌, length, Bool, All, ◌⊎◌}
 use Rattle.exact_field.specs.Rational.{ℚ, one_ℚ, ◌+ℚ◌, ◌-ℚ◌, ◌*ℚ◌}
-use Rattle.exact_field.specs.Vector.{dot, entry}
+use Rattle.exact_field.specs.Vector.{dot, front, last}
 use Rattle.exact_field.specs.declared.op.Op.TheVariants.{Add, Sub, Mul}
 use Rattle.exact_field.specs.declared.op.Left.{Left}
 use Rattle.polyhedra.specs.Inequality.{Inequality}
 use Rattle.polyhedra.specs.LowerImage.{completed}
 use Rattle.lin_rows.specs.Sums.{AreHeld, IsDotLeft}
 use Rattle.double_descr.specs.Steps.{Step, IsHeld, IsFirst}
-
--- a vector without its last entry, and the last entry
-abbrev pub front : List ℚ → List ℚ
-front v = take (length v - 1) v
-
-abbrev pub last : List ℚ → ℚ
-last v = entry v (length v)
 
 -- the inequality for which a point of the lower image stands: all its entries but the last, completed to a normal that has the
 -- product 1 with c, and the last as bound

@@ -1,6 +1,6 @@
 -- The subject: Read and Lines (rows and sparse rows as tables), System, Answers, Eliminate,
 -- Complement and Sums (what the calls answer). Worked example: ComplementExamples. For the code's
--- own steps: Clear, Pivot, Widths.
+-- own steps: Clear, Pivot.
 pub mod Answers
 pub mod Clear
 pub mod Complement
@@ -12,4 +12,3 @@ pub mod Read
 pub mod Sums
 pub mod System
 pub mod Tableau
-pub mod Widths

@@ -7,14 +7,14 @@ use Rattle.std.proofs.lemmas.List.Elements.{All-map}
 use Rattle.std.proofs.lemmas.Slice.Zip.{get_or-zip}
 use Rattle.exact_field.specs.Rational.{ℚ, zero_ℚ}
 use Rattle.exact_field.specs.Order.{same_ℚ}
-use Rattle.exact_field.specs.Vector.{dot}
+use Rattle.exact_field.specs.Vector.{dot, front}
 use Rattle.incid_sets.specs.Marks.{has}
 use Rattle.polyhedra.specs.DoubleDescription.{is_zero}
 use Rattle.polyhedra.specs.Exactness.{SameMembers, row_of}
 use Rattle.polyhedra.specs.Inequality.{Inequality}
 use Rattle.polyhedra.proofs.Lists.{Contains-here, Contains-there}
 use Rattle.polyhedra.proofs.Members.{all_of_members, member_of, Contains-map, Contains-map_source, Contains-filter, Contains-filter_source, pairs-map, pairs-filter, pairs-weaker}
-use Rattle.upper_image.specs.UpperImage.{front, signed}
+use Rattle.upper_image.specs.UpperImage.{signed}
 use Rattle.vlp_problem.specs.declared.problem.Dir.{Dir}
 use Rattle.vlp_problem.specs.declared.problem.Problem.{Problem}
 use Rattle.deriv_log.specs.declared.entry.Entry.{Entry}

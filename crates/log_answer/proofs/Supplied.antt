@@ -4,14 +4,14 @@ use Rattle.std.specs.Prelude.{unwrap_or, IsSome}
 use Rattle.std.proofs.lemmas.List.{length-map}
 use Rattle.exact_field.specs.Rational.{ℚ, zero_ℚ, one_ℚ}
 use Rattle.exact_field.specs.Order.{same_ℚ}
-use Rattle.exact_field.specs.Vector.{entry}
+use Rattle.exact_field.specs.Vector.{entry, front, last}
 use Rattle.exact_field.proofs.Comparison.{same_ℚ-is}
 use Rattle.frac128.specs.declared.vectors.Spot.{Spot}
 use Rattle.polyhedra.specs.Exactness.{homogenised}
 use Rattle.polyhedra.specs.LiveList.{Numbered}
 use Rattle.polyhedra.proofs.Members.{all_of_members, member_of, Contains-map}
 use Rattle.polyhedra.proofs.Tests.{same_tests, refuted, not_true}
-use Rattle.upper_image.specs.UpperImage.{front, turned}
+use Rattle.upper_image.specs.UpperImage.{turned}
 use Rattle.vlp_problem.specs.declared.problem.Dir.{Dir}
 use Rattle.vlp_problem.specs.declared.problem.Problem.{Problem}
 use Rattle.deriv_log.specs.declared.entry.Entry.{Entry}
@@ -28,7 +28,7 @@ use Rattle.entry_checks.specs.Cuts.{stated}
 use Rattle.entry_checks.specs.declared.corner.Cut.{Cut}
 use Rattle.log_live.specs.Live.{numbered_of, HasPreimage, listed}
 use Rattle.log_live.specs.declared.generator.Generator.{Generator}
-use Rattle.log_answer.specs.Members.{last, is_point, IsReached, member, shown_of}
+use Rattle.log_answer.specs.Members.{is_point, IsReached, member, shown_of}
 use Rattle.log_answer.specs.Supplies.{Supplies}
 use Rattle.log_rules.proofs.NamedOnce.{named_once}
 

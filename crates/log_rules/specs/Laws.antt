@@ -7,7 +7,7 @@ use Rattle.polyhedra.specs.Hull.{IsInHull, IsValidAt, IsVertex, IsExtremeDirecti
 use Rattle.polyhedra.specs.Inequality.{Inequality}
 use Rattle.polyhedra.specs.LowerImage.{completed, IsRecession}
 use Rattle.polyhedra.specs.Vectors.{AreWide, zeros}
-use Rattle.upper_image.specs.UpperImage.{IsInWorkingImage, IsWorkingDirection, IsInImage, IsDirection, IsValidFor, front, IsInLowerImageOf, signed}
+use Rattle.upper_image.specs.UpperImage.{IsInWorkingImage, IsWorkingDirection, IsInImage, IsDirection, IsValidFor, IsInLowerImageOf, signed}
 use Rattle.log_rules.specs.Events.{plain_failure}
 use Rattle.polyhedra.specs.LiveList.{Numbered}
 use Rattle.polyhedra.specs.LiveSteps.{IsLive}
@@ -17,6 +17,7 @@ use Rattle.log_rules.specs.Right.{IsRight, stated, IsSolution}
 use Rattle.std.specs.Prelude.{ℕ, ◌≡◌, ◌⊎◌, ◌++◌, suc, ◌<◌, true, List, [], map, filter, All, Contains, IsTrue, Bool, None, ◌↔◌, ◌-◌, ◌∷◌, length}
 use Rattle.exact_field.specs.Rational.{ℚ, zero_ℚ, one_ℚ, neg_ℚ}
 use Rattle.exact_field.specs.Order.{same_ℚ}
+use Rattle.exact_field.specs.Vector.{front}
 use Rattle.vlp_problem.specs.declared.problem.Problem.{Problem}
 use Rattle.log_rules.specs.declared.answer.Answer.{Answer}
 use Rattle.log_rules.specs.declared.answer.Answer.TheVariants.{Solved}

@@ -4,7 +4,7 @@ use Rattle.std.specs.Prelude.{pos, negsuc}
 use Rattle.std.proofs.Math.Seq.{take-append_seam}
 use Rattle.std.proofs.lemmas.List.{length-take-le}
 use Rattle.exact_field.specs.Rational.{ℚ, zero_ℚ, one_ℚ, ◌+ℚ◌, ◌-ℚ◌, ◌*ℚ◌, neg_ℚ, inverse_ℚ, ◌≤ℚ◌, ◌<ℚ◌}
-use Rattle.exact_field.specs.Vector.{dot, entry}
+use Rattle.exact_field.specs.Vector.{dot, entry, front}
 use Rattle.exact_field.specs.Ring.{v0, v1, v2, ◌⊕◌, ◌⊝◌, ◌⊗◌, ⊖, num}
 use Rattle.exact_field.proofs.RingTool.{ring}
 use Rattle.exact_field.proofs.Rationals.{rationals, same_or_not}
@@ -27,7 +27,7 @@ use Rattle.polyhedra.proofs.Order.{add_positive, inverse_positive}
 use Rattle.polyhedra.proofs.Tests.{test_of_zero, test_of_other}
 use Rattle.vlp_problem.specs.declared.problem.Problem.{Problem}
 use Rattle.upper_image.specs.OrderingCone.{Fits}
-use Rattle.upper_image.specs.UpperImage.{front, IsInWorkingImage}
+use Rattle.upper_image.specs.UpperImage.{IsInWorkingImage}
 use Rattle.lower_image.specs.Lower.{AreAllFacets, IsCertified, IsLower, dual_at, weight_at, dual_vector, inequality_of, weighted as weighted_of}
 use Rattle.lower_image.specs.Laws.{CertifiedAreFacets, IsWeighted}
 use Rattle.lower_image.proofs.Exchange.{one_more, tilt, tilt_value, weight_again, dual_long}

@@ -5,7 +5,7 @@ use Rattle.std.specs.Prelude.{if◌then◌else◌, pos}
 use Rattle.std.proofs.Math.Seq.{take-append_seam, drop-append_seam}
 use Rattle.std.proofs.lemmas.List.{length-take-le, take-append-drop}
 use Rattle.exact_field.specs.Rational.{ℚ, zero_ℚ, one_ℚ, ◌+ℚ◌, ◌-ℚ◌, ◌*ℚ◌, neg_ℚ}
-use Rattle.exact_field.specs.Vector.{entry, dot}
+use Rattle.exact_field.specs.Vector.{entry, dot, front}
 use Rattle.exact_field.specs.Ring.{v0, v1, v2, v3, v4, ◌⊕◌, ◌⊝◌, ◌⊗◌, ⊖, num}
 use Rattle.exact_field.proofs.RingTool.{ring}
 use Rattle.exact_field.proofs.Rationals.{rationals}
@@ -15,7 +15,6 @@ use Rattle.polyhedra.proofs.Laws.{add_zero}
 use Rattle.polyhedra.proofs.Algebra.{neg_mul, neg_zero, one_mul, zero_mul, mul_zero}
 use Rattle.polyhedra.proofs.Linear.{dot_comm, dot-plus_left, dot-scaled_left, length-scaled}
 use Rattle.tableaux.specs.Table.{minus}
-use Rattle.upper_image.specs.UpperImage.{front}
 use Rattle.geo_duality.specs.Rows.{exchange_row}
 use Rattle.overflow_rules.proofs.Violated.{dot-append, dot-take, minus-is, length-minus}
 use Rattle.lower_image.specs.Lower.{dual_at, weight_at}

@@ -4,7 +4,7 @@ use Rattle.std.specs.Prelude.{if◌then◌else◌, pos, negsuc, not}
 use Rattle.std.proofs.Math.Seq.{take-append_seam}
 use Rattle.std.proofs.lemmas.List.{length-take-le}
 use Rattle.exact_field.specs.Rational.{ℚ, zero_ℚ, one_ℚ, ◌-ℚ◌, neg_ℚ, le_ℚ, ◌≤ℚ◌, ◌<ℚ◌}
-use Rattle.exact_field.specs.Vector.{dot, entry}
+use Rattle.exact_field.specs.Vector.{dot, entry, front}
 use Rattle.polyhedra.specs.Cone.{IsInCone}
 use Rattle.polyhedra.specs.DoubleDescription.{IsNormed, is_zero, leading, magnitude, norming}
 use Rattle.polyhedra.specs.LiveList.{LiveList, vectors}
@@ -18,7 +18,6 @@ use Rattle.polyhedra.proofs.Order.{le_or_lt, le_of_difference}
 use Rattle.polyhedra.proofs.Tests.{test_of_zero, test_of_other}
 use Rattle.vlp_problem.specs.declared.problem.Problem.{Problem}
 use Rattle.upper_image.specs.OrderingCone.{Fits, IsInDualCone, IsInOrderingCone}
-use Rattle.upper_image.specs.UpperImage.{front}
 use Rattle.upper_image.proofs.Absorbing.{zero_at_interior}
 use Rattle.overflow_rules.specs.Base.{image_of, weight_of}
 use Rattle.geo_duality.specs.Rows.{exchange_row}

@@ -4,7 +4,7 @@ use Rattle.std.specs.Prelude.{if◌then◌else◌, IsTrue, pos, negsuc}
 use Rattle.std.proofs.lemmas.List.{length-take-le, map-append}
 use Rattle.std.proofs.lemmas.List.Elements.{All-append, All-cons, All-nil, Contains-append_left}
 use Rattle.exact_field.specs.Rational.{ℚ, zero_ℚ, one_ℚ, ◌+ℚ◌, ◌-ℚ◌, neg_ℚ, ◌≤ℚ◌}
-use Rattle.exact_field.specs.Vector.{dot, entry}
+use Rattle.exact_field.specs.Vector.{dot, entry, front}
 use Rattle.exact_field.specs.Ring.{v0, ◌⊝◌, num}
 use Rattle.exact_field.proofs.Inequalities.{difference_from_le}
 use Rattle.exact_field.proofs.RingTool.{ring, ring_by}
@@ -31,7 +31,7 @@ use Rattle.vlp_problem.specs.declared.problem.Problem.{Problem}
 use Rattle.vlp_problem.specs.declared.problem.Cone.{Cone}
 use Rattle.vlp_problem.specs.declared.problem.Cone.TheVariants.{Orthant, Gens, Dual}
 use Rattle.upper_image.specs.OrderingCone.{Fits, IsIn, IsInDualCone, IsInOrderingCone}
-use Rattle.upper_image.specs.UpperImage.{objectives, front, IsInWorkingImage, IsWorkingDirection}
+use Rattle.upper_image.specs.UpperImage.{objectives, IsInWorkingImage, IsWorkingDirection}
 use Rattle.upper_image.proofs.Absorbing.{zero_at_interior}
 use Rattle.upper_image.proofs.ConvexCones.{ordering_cone_convex}
 use Rattle.upper_image.proofs.WorkingImage.{feasible_meets, recession_meets, value_wide, working_image_convex}

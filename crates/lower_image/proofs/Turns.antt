@@ -2,7 +2,7 @@
 use Rattle.std.proofs.Common.{◌≡◌, ◌≢◌, ℕ, zero, suc, List, [], ◌∷◌, ◌++◌, length, take, All, Contains, refl, sym, ap, ap₂, ◌∙◌, subst, arith, ◌≤◌, ◌-◌, ◌+◌, Bool, true, false, ◌⊎◌, inl, inr, slice_index_or}
 use Rattle.std.specs.Prelude.{if◌then◌else◌, pos}
 use Rattle.exact_field.specs.Rational.{ℚ, zero_ℚ, one_ℚ, ◌+ℚ◌, ◌-ℚ◌, ◌*ℚ◌, neg_ℚ, ◌≤ℚ◌, ◌<ℚ◌}
-use Rattle.exact_field.specs.Vector.{dot, entry}
+use Rattle.exact_field.specs.Vector.{dot, entry, front}
 use Rattle.exact_field.specs.Ring.{v0, v1, ◌⊕◌, ◌⊝◌, ⊖, num}
 use Rattle.exact_field.proofs.Inequalities.{difference_from_le}
 use Rattle.exact_field.proofs.RingTool.{ring}
@@ -21,7 +21,7 @@ use Rattle.tableaux.specs.Simplex.{IsOptimal, IsInfeasible}
 use Rattle.vlp_problem.specs.Sides.{side_bounds}
 use Rattle.vlp_problem.specs.declared.problem.Problem.{Problem}
 use Rattle.upper_image.specs.OrderingCone.{Fits}
-use Rattle.upper_image.specs.UpperImage.{front, IsInWorkingImage}
+use Rattle.upper_image.specs.UpperImage.{IsInWorkingImage}
 use Rattle.upper_image.proofs.ConvexCones.{ordering_cone_convex}
 use Rattle.lp_form.specs.Programs.{weight_system, u_of, choice_of}
 use Rattle.overflow_rules.specs.Base.{AreMultipliersOff, AreFirstMultipliersOff, IsBaseRow, image_of, weight_of}

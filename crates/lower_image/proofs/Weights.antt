@@ -2,14 +2,14 @@
 use Rattle.std.proofs.Common.{◌≡◌, ◌≢◌, ◌≤◌, ℕ, zero, suc, Bool, true, false, List, [], ◌∷◌, ◌++◌, ◌-◌, length, map, take, refl, sym, ap, ap₂, ◌∙◌, subst, arith, slice_index_or, inr}
 use Rattle.std.proofs.lemmas.List.{length-map, get_or-map, map_push, take-map}
 use Rattle.exact_field.specs.Rational.{ℚ, zero_ℚ, one_ℚ, neg_ℚ, ◌+ℚ◌, ◌*ℚ◌}
-use Rattle.exact_field.specs.Vector.{dot, entry}
+use Rattle.exact_field.specs.Vector.{dot, entry, front}
 use Rattle.polyhedra.specs.Hull.{IsValidAt}
 use Rattle.polyhedra.specs.Negatives.{negated}
 use Rattle.polyhedra.proofs.Laws.{mul_one}
 use Rattle.polyhedra.proofs.LiveSteps.{are_live}
 use Rattle.vlp_problem.specs.Sides.{side_bounds}
 use Rattle.upper_image.specs.OrderingCone.{Fits}
-use Rattle.upper_image.specs.UpperImage.{front, IsInWorkingImage}
+use Rattle.upper_image.specs.UpperImage.{IsInWorkingImage}
 use Rattle.upper_image.proofs.Solid.{duality_fits}
 use Rattle.deriv_log.specs.declared.entry.Entry.{Entry}
 use Rattle.lp_form.specs.Data.{IsDataOf}

@@ -1,7 +1,7 @@
 -- The cone of dual vectors (w_1, .., w_(q-1), gamma, w . c) by base rows: outside it no inequality w . y ≥ gamma is valid for the image.
 use Rattle.std.specs.Prelude.{ℕ, suc, ◌-◌, List, [], ◌∷◌, ◌++◌, ◌≡◌, length, filter, not, All, AllPairs, Contains, true}
 use Rattle.exact_field.specs.Rational.{ℚ, zero_ℚ, ◌-ℚ◌, ◌≤ℚ◌}
-use Rattle.exact_field.specs.Vector.{dot, entry}
+use Rattle.exact_field.specs.Vector.{dot, entry, front}
 use Rattle.polyhedra.specs.DoubleDescription.{is_zero}
 use Rattle.polyhedra.specs.Exactness.{row_of, rows_of}
 use Rattle.polyhedra.specs.Hull.{IsValidAt, IsFacet}
@@ -11,7 +11,7 @@ use Rattle.polyhedra.specs.LiveSteps.{IsLive}
 use Rattle.vlp_problem.specs.Sides.{IsFeasible}
 use Rattle.vlp_problem.specs.declared.problem.Problem.{Problem}
 use Rattle.upper_image.specs.OrderingCone.{IsInDualCone}
-use Rattle.upper_image.specs.UpperImage.{IsInWorkingImage, front}
+use Rattle.upper_image.specs.UpperImage.{IsInWorkingImage}
 use Rattle.overflow_rules.specs.Base.{IsBaseRow, IsConeDirection, image_of, weight_of}
 use Rattle.overflow_rules.specs.Operands.{IsMadeOver}
 use Rattle.geo_duality.specs.Rows.{exchange_row}

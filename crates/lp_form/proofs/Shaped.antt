@@ -7,25 +7,24 @@ use Rattle.std.proofs.lemmas.List.{length-map}
 use Rattle.std.proofs.lemmas.List.Elements.{All-nil, All-cons, All-head, All-tail, All-filter}
 use Rattle.polyhedra.proofs.Lists.{HasWidth}
 use Rattle.exact_field.specs.Rational.{ℚ}
+use Rattle.exact_field.specs.Vector.{are_wide}
 use Rattle.frac128.specs.Sparse.{is_zero, rises_above}
 use Rattle.frac128.specs.declared.vectors.Spot.{Spot}
 use Rattle.polyhedra.proofs.Tests.{both_true}
 use Rattle.lin_rows.specs.Lines.{Rises, entries}
 use Rattle.lin_rows.specs.Lines as lines
 use Rattle.lin_rows.specs.Read.{numbers}
-use Rattle.lin_rows.specs.Widths.{are_wide}
 use Rattle.polyhedra.specs.Vectors.{AreWide}
 use Rattle.lin_rows.proofs.EliminationEnds.{numbers-wide}
 use Rattle.lin_rows.specs.declared.cells.Cell.{Cell}
 use Rattle.upper_image.specs.Spots.{IsVector, entry_of}
-use Rattle.vlp_problem.specs.Cones.{each_has, cone_fits}
-use Rattle.vlp_problem.specs.Cones as file_cone
+use Rattle.vlp_problem.specs.Cones.{cone_fits, are_vectors, duality_fits}
 use Rattle.vlp_problem.specs.declared.problem.Cone.{Cone}
 use Rattle.lp_form.specs.declared.data.ConeOf.{ConeOf}
 use Rattle.lp_form.specs.declared.data.ConeOf.TheVariants.{Orthant, Gens, Dual}
 use Rattle.lp_form.specs.declared.data.SideOf.{SideOf}
 use Rattle.lp_form.specs.Data.{cone_of, duality_of}
-use Rattle.lp_form.specs.Shapes.{are_places, are_vectors, vectors_fit, duality_fits}
+use Rattle.lp_form.specs.Shapes.{are_places, vectors_fit}
 use Rattle.lp_form.proofs.Held.{spots_rise}
 
 filter_few : {X : Type 0} (p : X → Bool) (xs : List X) → length (filter p xs) ≤ length xs
@@ -103,20 +102,20 @@ module _ {F : Type 0} (value : F → ℚ) where
   fit_parts : (q : ℕ) (vectors : List (List F)) → are_vectors q vectors ≡ true → (nat_le (length vectors) 100000 ≡ true) × (are_wide q vectors ≡ true)
   fit_parts q vectors h = both_true (nat_le (length vectors) 100000) (are_wide q vectors) (both_true (nat_lt 0 (length vectors)) (nat_le (length vectors) 100000 && are_wide q vectors) h).1
 
-  wide_rows : (q : ℕ) (rows : List (List F)) (vs : List (List ℚ)) → numbers value rows ≡ vs → each_has q vs ≡ true → are_wide q rows ≡ true
+  wide_rows : (q : ℕ) (rows : List (List F)) (vs : List (List ℚ)) → numbers value rows ≡ vs → are_wide q vs ≡ true → are_wide q rows ≡ true
   wide_rows q [] vs e h = refl
   wide_rows q (r ∷ rows) [] e h = absurd (cc)
   wide_rows q (r ∷ rows) (v ∷ vs) e h =
       let own : map value r ≡ v = cc in
       let rest : numbers value rows ≡ vs = cc in
-      let b = both_true (length v == q) (each_has q vs) h in
+      let b = both_true (length v == q) (are_wide q vs) h in
       ap₂ (λ x y. x && y) (ap (λ n. n == q) (sym (length-map r value) ∙ ap length own) ∙ b.0) (wide_rows q rows vs rest b.1)
 
-  vectors_are : (q : ℕ) (rows : List (List F)) (vs : List (List ℚ)) → numbers value rows ≡ vs → file_cone.are_vectors q vs ≡ true → are_vectors q rows ≡ true
+  vectors_are : (q : ℕ) (rows : List (List F)) (vs : List (List ℚ)) → numbers value rows ≡ vs → are_vectors q vs ≡ true → are_vectors q rows ≡ true
   vectors_are q rows vs e h =
       let many : length rows ≡ length vs = sym (length-map rows (map value)) ∙ ap length e in
-      let first = both_true (nat_lt 0 (length vs)) (nat_le (length vs) 100000 && each_has q vs) h in
-      let second = both_true (nat_le (length vs) 100000) (each_has q vs) first.1 in
+      let first = both_true (nat_lt 0 (length vs)) (nat_le (length vs) 100000 && are_wide q vs) h in
+      let second = both_true (nat_le (length vs) 100000) (are_wide q vs) first.1 in
       ap₂ (λ a b. a && b) (ap (λ n. nat_lt 0 n) many ∙ first.0) (ap₂ (λ a b. a && b) (ap (λ n. nat_le n 100000) many ∙ second.0) (wide_rows q rows vs e second.1))
 
   pub cone_shaped : (q : ℕ) (c : ConeOf F) (given : Cone) → cone_of value c ≡ given → cone_fits q given ≡ true → vectors_fit q c ≡ true
@@ -124,9 +123,9 @@ module _ {F : Type 0} (value : F → ℚ) where
   cone_shaped q (Gens vectors) given e h = vectors_are q vectors (numbers value vectors) refl (ap (cone_fits q) e ∙ h)
   cone_shaped q (Dual vectors) given e h = vectors_are q vectors (numbers value vectors) refl (ap (cone_fits q) e ∙ h)
 
-  pub duality_shaped : (q : ℕ) (f : Option (List F)) (given : Option (List ℚ)) → duality_of value f ≡ given → file_cone.duality_fits q given ≡ true → duality_fits q f ≡ true
+  pub duality_shaped : (q : ℕ) (f : Option (List F)) (given : Option (List ℚ)) → duality_of value f ≡ given → duality_fits q given ≡ true → duality_fits q f ≡ true
   duality_shaped q None given e h = refl
-  duality_shaped q (Some f) given e h = ap (λ n. n == q) (sym (length-map f value)) ∙ ap (file_cone.duality_fits q) e ∙ h
+  duality_shaped q (Some f) given e h = ap (λ n. n == q) (sym (length-map f value)) ∙ ap (duality_fits q) e ∙ h
 
   -- the vectors of a cone are wide
   pub gens_wide : (q : ℕ) (c : ConeOf F) (vectors : List (List F)) → c ≡ Gens vectors → vectors_fit q c ≡ true → AreWide q (numbers value vectors)

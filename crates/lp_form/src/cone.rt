@@ -9,7 +9,8 @@ ghost use Rattle.tableaux.specs.Table.{column_of, listed};
 ghost use Rattle.lp_form.specs.Building.{joined, IsWritten};
 ghost use Rattle.lp_form.specs.Data.{cone_of, duality_of};
 ghost use Rattle.lp_form.specs.Programs.{dual_gaps, generator_gaps, interior_of_dual, interior_of_generators, interior_system, pointed_system, zero_combination, empty_system};
-ghost use Rattle.lp_form.specs.Shapes.{vectors_fit, duality_fits};
+ghost use Rattle.vlp_problem.specs.Cones.{duality_fits};
+ghost use Rattle.lp_form.specs.Shapes.{vectors_fit};
 
 use crate::data::ConeOf;
 use crate::equations::system;

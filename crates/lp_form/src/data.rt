@@ -1,7 +1,8 @@
 //! What the programs take from a problem, in any exact field.
 ghost use Rattle.std.specs.Prelude.{◌≤◌, ◌<◌, length, IsTrue};
 ghost use Rattle.std.specs.List.{list_all};
-ghost use Rattle.lp_form.specs.Shapes.{are_places, vectors_fit, duality_fits};
+ghost use Rattle.vlp_problem.specs.Cones.{duality_fits};
+ghost use Rattle.lp_form.specs.Shapes.{are_places, vectors_fit};
 
 use crate::field::{cone_in, duality_in, lines_in, sides_in};
 use crate::numbers::test_numbers;

@@ -5,14 +5,13 @@ use Rattle.std.specs.Prelude.{if◌then◌else◌}
 use Rattle.std.proofs.Math.Seq.{take-append_seam, drop-append_seam}
 use Rattle.std.proofs.lemmas.List.{length-take-le}
 use Rattle.exact_field.specs.Rational.{ℚ, zero_ℚ, one_ℚ, ◌+ℚ◌, ◌-ℚ◌, ◌*ℚ◌, neg_ℚ}
-use Rattle.exact_field.specs.Vector.{entry, dot}
+use Rattle.exact_field.specs.Vector.{entry, dot, front as front_of}
 use Rattle.polyhedra.specs.Vectors.{plus, scaled}
 use Rattle.polyhedra.proofs.Laws.{add_assoc, add_comm, add_zero, mul_one, mul_comm}
 use Rattle.polyhedra.proofs.Algebra.{one_mul, zero_mul, neg_mul, neg_zero, add_mul, mul_zero}
 use Rattle.polyhedra.proofs.Linear.{dot_comm, dot-plus_left, dot-scaled_left, length-scaled}
 use Rattle.polyhedra.specs.Negatives.{negated}
 use Rattle.tableaux.specs.Table.{minus}
-use Rattle.upper_image.specs.UpperImage.{front as front_of}
 use Rattle.overflow_rules.specs.Base.{weight_of}
 use Rattle.geo_duality.specs.Rows.{exchange_row}
 use Rattle.overflow_rules.proofs.Violated.{dot-append, dot-take, minus-is, length-minus}

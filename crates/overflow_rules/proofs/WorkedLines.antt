@@ -8,7 +8,7 @@ use Rattle.std.proofs.lemmas.List.Elements.{All-nil, All-cons, All-append, All-w
 use Rattle.exact_field.specs.Gcd.{gcd}
 use Rattle.exact_field.specs.Order.{same_ℚ}
 use Rattle.exact_field.specs.Rational.{ℚ, zero_ℚ, one_ℚ, whole, fraction, ◌+ℚ◌, ◌*ℚ◌, neg_ℚ, inverse_ℚ, le_ℚ, ◌<ℚ◌}
-use Rattle.exact_field.specs.Vector.{entry, dot}
+use Rattle.exact_field.specs.Vector.{entry, dot, front}
 use Rattle.exact_field.specs.declared.op.Op.TheVariants.{Mul, Div}
 use Rattle.exact_field.specs.declared.op.Left.{Left}
 use Rattle.exact_field.specs.Ring.{num, ◌⊕◌, ◌⊗◌, v0, v1}
@@ -38,7 +38,7 @@ use Rattle.tableaux.proofs.Eliminated.{starts}
 use Rattle.frac128.specs.declared.vectors.Spot.{Spot}
 use Rattle.vlp_problem.specs.Sides.{sides}
 use Rattle.upper_image.specs.Spots.{dense}
-use Rattle.upper_image.specs.UpperImage.{normals, objectives, front}
+use Rattle.upper_image.specs.UpperImage.{normals, objectives}
 use Rattle.deriv_log.specs.declared.entry.Entry.{Entry}
 use Rattle.deriv_log.specs.declared.entry.Entry.TheVariants.{Version, Duality, Cut, Start}
 use Rattle.deriv_log.specs.declared.licence.Family.{Family}

@@ -5,7 +5,7 @@ use Rattle.std.proofs.lemmas.List.Elements.{All-nil, All-cons, All-append, All-d
 use Rattle.exact_field.specs.Gcd.{gcd}
 use Rattle.exact_field.specs.Order.{same_ℚ}
 use Rattle.exact_field.specs.Rational.{ℚ, zero_ℚ, one_ℚ, whole, fraction, ◌+ℚ◌, ◌*ℚ◌, neg_ℚ, inverse_ℚ, le_ℚ}
-use Rattle.exact_field.specs.Vector.{entry, dot}
+use Rattle.exact_field.specs.Vector.{entry, dot, front}
 use Rattle.exact_field.specs.Ring.{var, num, ◌⊕◌, ◌⊗◌, ⊖, ◌⊝◌, v0, v1, v2, v3, v4, v5}
 use Rattle.exact_field.specs.declared.op.Op.TheVariants.{Add, Mul}
 use Rattle.exact_field.specs.declared.op.Left.{Left}
@@ -27,7 +27,7 @@ use Rattle.tableaux.specs.Simplex.{IsSolution}
 use Rattle.frac128.specs.declared.vectors.Spot.{Spot}
 use Rattle.vlp_problem.specs.Sides.{sides, IsFeasible, IsRecession}
 use Rattle.vlp_problem.specs.Values.{cone_vectors}
-use Rattle.upper_image.specs.UpperImage.{normals, objectives, front}
+use Rattle.upper_image.specs.UpperImage.{normals, objectives}
 use Rattle.upper_image.specs.Spots.{column, dense}
 use Rattle.deriv_log.specs.declared.entry.Entry.{Entry}
 use Rattle.deriv_log.specs.declared.entry.Entry.TheVariants.{Version, Duality, Point, Ray, Whole, Line}

@@ -5,6 +5,7 @@ use Rattle.std.proofs.lemmas.List.Elements.{All-nil, All-cons, All-take}
 use Rattle.exact_field.specs.Gcd.{gcd}
 use Rattle.exact_field.specs.Rational.{ℚ, zero_ℚ, one_ℚ, whole, fraction, ◌+ℚ◌, ◌*ℚ◌, neg_ℚ, inverse_ℚ, le_ℚ}
 use Rattle.exact_field.specs.declared.op.Op.TheVariants.{Mul}
+use Rattle.exact_field.specs.Vector.{front}
 use Rattle.polyhedra.specs.Exactness.{level}
 use Rattle.polyhedra.specs.Negatives.{negated}
 use Rattle.polyhedra.specs.Vectors.{AtLeastZero}
@@ -15,7 +16,7 @@ use Rattle.tableaux.specs.Table.{System, table_of}
 use Rattle.tableaux.specs.Dictionary.{IsFullDictionaryOf, solution}
 use Rattle.frac128.specs.declared.vectors.Spot.{Spot}
 use Rattle.vlp_problem.specs.Sides.{side_bounds}
-use Rattle.upper_image.specs.UpperImage.{normals, objectives, front}
+use Rattle.upper_image.specs.UpperImage.{normals, objectives}
 use Rattle.upper_image.specs.Spots.{column, dense}
 use Rattle.vlp_problem.specs.Values.{cone_vectors}
 use Rattle.deriv_log.specs.declared.entry.Entry.{Entry}

@@ -3,7 +3,7 @@
 -- a cone that such things fix.
 use Rattle.std.specs.Prelude.{ℕ, suc, ◌≤◌, ◌-◌, Bool, true, false, List, ◌≡◌, ◌⊎◌, map, length, take, All, Contains, if◌then◌else◌}
 use Rattle.exact_field.specs.Rational.{ℚ, zero_ℚ, one_ℚ}
-use Rattle.exact_field.specs.Vector.{entry, dot}
+use Rattle.exact_field.specs.Vector.{entry, dot, front}
 use Rattle.frac128.specs.declared.vectors.Spot.{Spot}
 use Rattle.polyhedra.specs.Cone.{IsInCone, HasFullRank}
 use Rattle.polyhedra.specs.DoubleDescription.{IsNormed, leading}
@@ -21,7 +21,7 @@ use Rattle.vlp_problem.specs.declared.problem.Problem.{Problem}
 use Rattle.vlp_problem.specs.declared.problem.Cone.{Cone}
 use Rattle.vlp_problem.specs.declared.problem.Cone.TheVariants.{Orthant, Gens, Dual}
 use Rattle.upper_image.specs.Spots.{dense}
-use Rattle.upper_image.specs.UpperImage.{objectives, front}
+use Rattle.upper_image.specs.UpperImage.{objectives}
 use Rattle.deriv_log.specs.declared.entry.Entry.{Entry}
 use Rattle.log_rules.specs.Live.{state}
 use Rattle.lp_form.specs.Programs.{side_total, feasible_system, benson_system, weight_system, u_of, w_of, v_of, choice_of}

@@ -2,7 +2,7 @@
 -- generators, rows and sums that the file and the duality vector fix.
 use Rattle.std.specs.Prelude.{ℕ, suc, ◌+◌, ◌-◌, ◌≤◌, ⊤, Bool, List, [], ◌∷◌, ◌++◌, ◌≡◌, ◌≢◌, ◌⊎◌, map, length, take, All, Contains, Option, None, Some}
 use Rattle.exact_field.specs.Rational.{ℚ, zero_ℚ, one_ℚ, ◌*ℚ◌, ◌<ℚ◌}
-use Rattle.exact_field.specs.Vector.{entry, dot}
+use Rattle.exact_field.specs.Vector.{entry, dot, front}
 use Rattle.exact_field.specs.declared.op.Op.TheVariants.{Add, Mul, Div}
 use Rattle.exact_field.specs.declared.op.Left.{Left}
 use Rattle.frac128.specs.declared.vectors.Spot.{Spot}
@@ -23,7 +23,7 @@ use Rattle.vlp_problem.specs.declared.problem.Problem.{Problem}
 use Rattle.vlp_problem.specs.Values.{cone_vectors}
 use Rattle.upper_image.specs.Spots.{dense, column}
 use Rattle.upper_image.specs.OrderingCone.{dual_of}
-use Rattle.upper_image.specs.UpperImage.{normals, objectives, front}
+use Rattle.upper_image.specs.UpperImage.{normals, objectives}
 use Rattle.deriv_log.specs.declared.entry.Entry.{Entry}
 use Rattle.deriv_log.specs.declared.entry.Entry.TheVariants.{Point, Ray, Whole, Line}
 use Rattle.vlp_problem.specs.declared.program.Program.{Program}

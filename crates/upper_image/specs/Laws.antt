@@ -11,9 +11,9 @@ use Rattle.polyhedra.specs.LowerImage.{completed, IsRecession}
 use Rattle.polyhedra.specs.Vectors.{zeros}
 use Rattle.upper_image.specs.OrderingCone.{IsInOrderingCone, IsInDualCone, IsInteriorToCone, IsAbsorbed, dual_of, Fits}
 use Rattle.upper_image.specs.Shows.{ShowsIn, ShowsFitting, ShowsFeasible, ShowsRecession, ShowsAbove, ShowsCut}
-use Rattle.upper_image.specs.UpperImage.{IsInWorkingImage, IsWorkingDirection, IsInImage, IsDirection, IsPreimage, IsDirectionPreimage, IsDualVectorOf, IsValidFor, IsExactFor, IsInLowerImageOf, front, phi, turned, signed, working}
+use Rattle.upper_image.specs.UpperImage.{IsInWorkingImage, IsWorkingDirection, IsInImage, IsDirection, IsPreimage, IsDirectionPreimage, IsDualVectorOf, IsValidFor, IsExactFor, IsInLowerImageOf, phi, turned, signed, working}
 use Rattle.upper_image.specs.Witnesses.{IsInfeasible, IsWhole}
-use Rattle.exact_field.specs.Vector.{dot}
+use Rattle.exact_field.specs.Vector.{dot, front}
 use Rattle.frac128.specs.declared.vectors.Spot.{Spot}
 use Rattle.vlp_problem.specs.Sides.{IsFeasible}
 use Rattle.vlp_problem.specs.declared.problem.Problem.{Problem}

@@ -6,11 +6,11 @@ use Rattle.std.proofs.lemmas.Grind.{flat_map-append}
 use Rattle.std.proofs.lemmas.List.{append-nil}
 use Rattle.std.proofs.lemmas.List.Folds.{list_all-append, list_all-map}
 use Rattle.exact_field.specs.Rational.{ℚ, zero_ℚ}
-use Rattle.exact_field.specs.Vector.{entry}
+use Rattle.exact_field.specs.Vector.{entry, are_wide}
 use Rattle.frac128.specs.Sparse.{is_zero}
 use Rattle.src_sink.specs.Texts.{line_text}
 use Rattle.vlp_problem.specs.Cells.{place_before, is_within, cells_behind}
-use Rattle.vlp_problem.specs.Cones.{each_has, are_vectors, cone_fits, duality_fits}
+use Rattle.vlp_problem.specs.Cones.{are_vectors, cone_fits, duality_fits}
 use Rattle.vlp_reader.specs.Grammar.{matrix_rows, matrix_cols, axis_length}
 use Rattle.vlp_problem.specs.Sides.{numbers_from, is_unsaid}
 use Rattle.vlp_problem.specs.declared.problem.Bound.{Bound}
@@ -204,8 +204,8 @@ duality_said problem d =
 -- the vectors of a cone, if it has some
 many : (objs : ℕ) (vectors : List (List ℚ)) → are_vectors objs vectors ≡ true → length vectors ≤ 100000
 many objs vectors h =
-    let parts = and_parts (nat_lt 0 (length vectors)) (nat_le (length vectors) 100000 && each_has objs vectors) h in
-    leb-true (length vectors) 100000 (and_parts (nat_le (length vectors) 100000) (each_has objs vectors) parts.1).0
+    let parts = and_parts (nat_lt 0 (length vectors)) (nat_le (length vectors) 100000 && are_wide objs vectors) h in
+    leb-true (length vectors) 100000 (and_parts (nat_le (length vectors) 100000) (are_wide objs vectors) parts.1).0
 
 vectors_fit : (problem : Problem) (cone : Cone) → cone_fits problem.objs cone ≡ true → (length (cone_vectors cone) ≡ 0) ⊎ ((are_vectors problem.objs (cone_vectors cone) ≡ true) × (length (cone_vectors cone) ≤ 100000) × (matrix_cols (record (printed_sizes problem) { cone = printed_cone cone }) ConeVectors ≡ length (cone_vectors cone)))
 vectors_fit problem Orthant h = inl refl

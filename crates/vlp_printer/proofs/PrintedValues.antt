@@ -7,10 +7,10 @@ use Rattle.std.proofs.lemmas.Bool.Decides.{nat_tests}
 use Rattle.std.proofs.lemmas.List.{ext_get_or, get_or-map, length-map, length-append, append_assoc}
 use Rattle.std.proofs.lemmas.List.Sums.{sum_by-append}
 use Rattle.exact_field.specs.Rational.{ℚ, zero_ℚ}
-use Rattle.exact_field.specs.Vector.{entry}
+use Rattle.exact_field.specs.Vector.{entry, are_wide}
 use Rattle.frac128.specs.Sparse.{is_zero}
 use Rattle.vlp_problem.specs.Cells.{coefficient}
-use Rattle.vlp_problem.specs.Cones.{each_has, are_vectors, cone_fits, duality_fits}
+use Rattle.vlp_problem.specs.Cones.{are_vectors, cone_fits, duality_fits}
 use Rattle.vlp_reader.specs.Grammar.{first_given, given_sizes, given_entry, given_bound, gives_entry, same_matrix, same_axis, number_value, bound_value, value_at, bound_at, column_of, cone_of, duality_of, cone_counts, counts_fit, Gives}
 use Rattle.vlp_problem.specs.Sides.{numbers_from, is_unsaid}
 use Rattle.vlp_problem.specs.declared.problem.Bound.{Bound}
@@ -256,15 +256,15 @@ bounds_value axis bounds k h l =
     ∙ said_bound axis k (slice_index_or bounds (k - 1) Unsaid)
 
 -- ---- the problem
-vector_size : (objs : ℕ) (vectors : List (List ℚ)) (k : ℕ) → each_has objs vectors ≡ true → k < length vectors → length (slice_index_or vectors k []) ≡ objs
+vector_size : (objs : ℕ) (vectors : List (List ℚ)) (k : ℕ) → are_wide objs vectors ≡ true → k < length vectors → length (slice_index_or vectors k []) ≡ objs
 vector_size objs [] k h lt = absurd (omega arith)
-vector_size objs (v ∷ vectors) zero h lt = eqb-true (length v) objs (and_parts (length v == objs) (each_has objs vectors) h).0
-vector_size objs (v ∷ vectors) (suc k) h lt = vector_size objs vectors k (and_parts (length v == objs) (each_has objs vectors) h).1 (omega arith)
+vector_size objs (v ∷ vectors) zero h lt = eqb-true (length v) objs (and_parts (length v == objs) (are_wide objs vectors) h).0
+vector_size objs (v ∷ vectors) (suc k) h lt = vector_size objs vectors k (and_parts (length v == objs) (are_wide objs vectors) h).1 (omega arith)
 
 pub vector_sizes : (objs : ℕ) (vectors : List (List ℚ)) → are_vectors objs vectors ≡ true → (j : ℕ) → 0 < j → j ≤ length vectors → length (slice_index_or vectors (j - 1) []) ≡ objs
 vector_sizes objs vectors h j some most =
-    let parts = and_parts (nat_lt 0 (length vectors)) (nat_le (length vectors) 100000 && each_has objs vectors) h in
-    vector_size objs vectors (j - 1) (and_parts (nat_le (length vectors) 100000) (each_has objs vectors) parts.1).1 (omega arith)
+    let parts = and_parts (nat_lt 0 (length vectors)) (nat_le (length vectors) 100000 && are_wide objs vectors) h in
+    vector_size objs vectors (j - 1) (and_parts (nat_le (length vectors) 100000) (are_wide objs vectors) parts.1).1 (omega arith)
 
 columns_given : (problem : Problem) (vectors : List (List ℚ)) → cone_vectors problem.cone ≡ vectors → are_vectors problem.objs vectors ≡ true
     → map (λ j. column_of (statements problem) ConeVectors problem.objs j) (numbers_from 1 (length vectors)) ≡ vectors

@@ -1,17 +1,12 @@
 -- The sizes of a cone's vectors and of the duality vector.
-use Rattle.std.specs.Prelude.{ℕ, ◌==◌, Bool, true, ◌&&◌, nat_lt, nat_le, List, [], ◌∷◌, length, Option, None, Some}
-use Rattle.exact_field.specs.Rational.{ℚ}
+use Rattle.std.specs.Prelude.{ℕ, ◌==◌, Bool, true, ◌&&◌, nat_lt, nat_le, List, length, Option, None, Some}
+use Rattle.exact_field.specs.Vector.{are_wide}
 use Rattle.vlp_problem.specs.declared.problem.Cone.{Cone}
 use Rattle.vlp_problem.specs.declared.problem.Cone.TheVariants.{Orthant, Gens, Dual}
 
--- whether each vector has this many entries
-abbrev pub each_has : ℕ → List (List ℚ) → Bool
-each_has objs [] = true
-each_has objs (v ∷ vectors) = length v == objs && each_has objs vectors
-
 -- whether these are one vector or more, at most 100,000, of this many entries each
-abbrev pub are_vectors : ℕ → List (List ℚ) → Bool
-are_vectors objs vectors = nat_lt 0 (length vectors) && (nat_le (length vectors) 100000 && each_has objs vectors)
+abbrev pub are_vectors : {T : Type 0} → ℕ → List (List T) → Bool
+are_vectors objs vectors = nat_lt 0 (length vectors) && (nat_le (length vectors) 100000 && are_wide objs vectors)
 
 -- whether a cone lies in the space of this many objectives
 abbrev pub cone_fits : ℕ → Cone → Bool
@@ -20,6 +15,6 @@ cone_fits objs (Gens vectors) = are_vectors objs vectors
 cone_fits objs (Dual vectors) = are_vectors objs vectors
 
 -- whether a duality vector that is given has this many entries
-abbrev pub duality_fits : ℕ → Option (List ℚ) → Bool
+abbrev pub duality_fits : {T : Type 0} → ℕ → Option (List T) → Bool
 duality_fits objs None = true
 duality_fits objs (Some f) = length f == objs

@@ -7,8 +7,9 @@ use Rattle.std.proofs.lemmas.Bool.{and_parts, cond-true, cond-false, cases_Bool,
 use Rattle.std.proofs.lemmas.Option.{none-some}
 use Rattle.std.proofs.lemmas.List.{get_or-set_same, get_or-set_other, length-set, same_lists, length-map, get_or-map}
 use Rattle.exact_field.specs.Rational.{ℚ, zero_ℚ}
+use Rattle.exact_field.specs.Vector.{are_wide}
 use Rattle.vlp_problem.specs.Cells.{is_within}
-use Rattle.vlp_problem.specs.Cones.{each_has, are_vectors, cone_fits, duality_fits}
+use Rattle.vlp_problem.specs.Cones.{are_vectors, cone_fits, duality_fits}
 use Rattle.vlp_reader.specs.Ends.{ComesFrom}
 use Rattle.vlp_reader.specs.Grammar.{first_given, given_sizes, given_entry, given_bound, gives_entry, number_value, bound_value, wrong, must, entry_fault, limit_fault, statement_fault, same_matrix, same_axis, matrix_rows, matrix_cols, axis_length, counts_fit, cone_counts, column_of, value_at, bound_at, cone_of, duality_of, sizes_fault, are_positive, are_within_limits, some_vector, cone_count}
 use Rattle.vlp_problem.specs.Sides.{numbers_from}
@@ -419,10 +420,10 @@ within_limits s h =
       vectors = leb-true (cone_count s.cone) 64 four.0;
     }
 
-each_column : (table : Table) (objs : ℕ) (ns : List ℕ) → table.rows ≡ objs → each_has objs (map (table_column table) ns) ≡ true
+each_column : (table : Table) (objs : ℕ) (ns : List ℕ) → table.rows ≡ objs → are_wide objs (map (table_column table) ns) ≡ true
 each_column table objs [] h = refl
 each_column table objs (n ∷ ns) h =
-    and_from (length (table_column table n) == objs) (each_has objs (map (table_column table) ns))
+    and_from (length (table_column table n) == objs) (are_wide objs (map (table_column table) ns))
     (eq-eqb (length (table_column table n)) objs (column_length table n ∙ h)) (each_column table objs ns h)
   where
     column_length : (table : Table) (n : ℕ) → length (table_column table n) ≡ table.rows

@@ -6,8 +6,9 @@ use Rattle.std.proofs.lemmas.Bool.{and_parts, and_from, cond-true, cond-false, c
 use Rattle.std.proofs.lemmas.List.{take_more, take_all, map-append, length-map}
 use Rattle.std.proofs.lemmas.Option.{none-some}
 use Rattle.exact_field.specs.Rational.{ℚ, zero_ℚ}
+use Rattle.exact_field.specs.Vector.{are_wide}
 use Rattle.vlp_problem.specs.Cells.{is_within}
-use Rattle.vlp_problem.specs.Cones.{each_has, are_vectors, cone_fits, duality_fits}
+use Rattle.vlp_problem.specs.Cones.{are_vectors, cone_fits, duality_fits}
 use Rattle.vlp_reader.specs.Drafts.{is_silent}
 use Rattle.vlp_problem.specs.FileSizes.{HasFileSizes}
 use Rattle.vlp_reader.specs.FirstFault.{file_lines, Passes, FirstFault, HasNoFault, Reads}
@@ -174,7 +175,7 @@ up n m h k = omega arith
 column_length : (statements : List Statement) (m : Matrix) (objs j : ℕ) → length (column_of statements m objs j) ≡ objs
 column_length statements m objs j = length-map (numbers_from 1 objs) (λ i. value_at statements m i j) ∙ length-numbers 1 objs
 
-each_column : (statements : List Statement) (m : Matrix) (objs : ℕ) (ns : List ℕ) → each_has objs (map (λ j. column_of statements m objs j) ns) ≡ true
+each_column : (statements : List Statement) (m : Matrix) (objs : ℕ) (ns : List ℕ) → are_wide objs (map (λ j. column_of statements m objs j) ns) ≡ true
 each_column statements m objs [] = refl
 each_column statements m objs (n ∷ ns) =
     and_from (length (column_of statements m objs n) == objs) _ (eq-eqb (length (column_of statements m objs n)) objs (column_length statements m objs n)) (each_column statements m objs ns)

@@ -1,12 +1,12 @@
 use Rattle.std.proofs.Common.{◌≡◌, ◌-◌, List, length, map, take, All, refl, sym, ap, ap₂, ◌∙◌, subst, inl, inr, arith}
 use Rattle.std.proofs.lemmas.List.{length-map}
 use Rattle.exact_field.specs.Rational.{ℚ}
-use Rattle.exact_field.specs.Vector.{dot}
+use Rattle.exact_field.specs.Vector.{dot, front, last}
 use Rattle.lin_rows.specs.Sums.{IsDotLeft}
 use Rattle.lin_rows.proofs.Errors.{err_holds}
 use Rattle.double_descr.specs.Steps.{IsFirst, IsHeld, Step}
 use Rattle.double_descr.proofs.StepLists.{if_err_map, on_ok_map}
-use Rattle.geo_duality.specs.Coupling.{IsCouplingLeft, IsProductHeld, front, joined, joining_steps, last, last_steps}
+use Rattle.geo_duality.specs.Coupling.{IsCouplingLeft, IsProductHeld, joined, joining_steps, last_steps}
 use Rattle.geo_duality.proofs.Dual.{coupling_is, if_ok_map, mapped_front, mapped_last, product_held}
 use Rattle.geo_duality.proofs.coupling.phi.Goals as goal
 

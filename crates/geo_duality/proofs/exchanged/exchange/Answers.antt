@@ -1,9 +1,8 @@
 use Rattle.std.proofs.Common.{◌≡◌, ◌+◌, ◌-◌, [], ◌++◌, length, map, drop, refl, sym, ap, ◌∙◌, arith}
 use Rattle.std.proofs.lemmas.List.{drop_all, length-map}
-use Rattle.exact_field.specs.Vector.{dot, entry}
+use Rattle.exact_field.specs.Vector.{dot, entry, front, last}
 use Rattle.lin_rows.proofs.Errors.{err_holds}
 use Rattle.double_descr.proofs.StepLists.{at_last, at_number, same_left, write_on, written_all}
-use Rattle.geo_duality.specs.Coupling.{front, last}
 use Rattle.geo_duality.specs.Exchange.{IsExchangeFault, difference_steps, dual_vector, exchange_steps}
 use Rattle.geo_duality.proofs.Dual.{difference_at, differences, exchanged_is, front_from, length-front, mapped_last, row_done, row_is, steps_at}
 use Rattle.geo_duality.proofs.exchanged.exchange.Goals as goal

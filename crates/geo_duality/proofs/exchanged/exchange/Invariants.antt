@@ -1,6 +1,6 @@
 use Rattle.std.proofs.Common.{◌≡◌, ◌*◌, ◌++◌, drop, map}
 use Rattle.double_descr.specs.Steps.{IsSoFar}
-use Rattle.geo_duality.specs.Coupling.{front, last}
+use Rattle.exact_field.specs.Vector.{front, last}
 use Rattle.geo_duality.specs.Exchange.{difference_steps, exchange_steps}
 use Rattle.geo_duality.proofs.Dual.{differences}
 use Rattle.geo_duality.proofs.exchanged.exchange.Given as goal

@@ -2,7 +2,8 @@ use Rattle.std.proofs.Common.{◌≡◌, ◌∷◌, ◌++◌, [], List, true, fa
 use Rattle.std.specs.Vec.Iter.{into_iter_items}
 use Rattle.exact_field.specs.Order.{same_ℚ}
 use Rattle.exact_field.specs.Rational.{ℚ, one_ℚ}
-use Rattle.log_answer.specs.Members.{is_point, last}
+use Rattle.exact_field.specs.Vector.{last}
+use Rattle.log_answer.specs.Members.{is_point}
 use Rattle.log_answer.specs.declared.members.Member.{Member}
 use Rattle.log_answer.proofs.Rests.{ArePartsOf, with_point, with_direction}
 use Rattle.log_answer.proofs.members.split_members.Goals as goal

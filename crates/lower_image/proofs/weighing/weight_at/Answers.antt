@@ -1,10 +1,9 @@
 use Rattle.std.proofs.Common.{◌≡◌, ◌∷◌, ◌++◌, [], ◌-◌, ℕ, suc, List, map, take, length, ap, ap₂, sym, ◌∙◌, subst, inl, arith, slice_index_or}
 use Rattle.std.proofs.lemmas.List.{length-map, get_or-map, take-map}
 use Rattle.exact_field.specs.Rational.{ℚ, zero_ℚ, one_ℚ}
-use Rattle.exact_field.specs.Vector.{dot, entry}
+use Rattle.exact_field.specs.Vector.{dot, entry, front}
 use Rattle.deriv_log.specs.declared.entry.Entry.{Entry}
 use Rattle.polyhedra.specs.Negatives.{negated}
-use Rattle.upper_image.specs.UpperImage.{front}
 use Rattle.outer_approx.specs.Task.{behind}
 use Rattle.overflows.specs.Faults.{IsTermAt, Overflows}
 use Rattle.lower_image.proofs.Weights.{c_wide, multiplied, told, weight_entry, weight_made, wide}

@@ -2,7 +2,7 @@ use Rattle.std.proofs.Common.{◌≡◌, ℕ, map, length, IsTrue, All, refl, sy
 use Rattle.lin_rows.specs.Lines.{entries}
 use Rattle.upper_image.specs.Spots.{entry_of}
 use Rattle.lp_form.specs.Programs.{side_total}
-use Rattle.lp_form.specs.Shapes.{vectors_fit, duality_fits}
+use Rattle.lp_form.specs.Shapes.{vectors_fit}
 use Rattle.std.proofs.lemmas.List.{length-map}
 use Rattle.lp_form.proofs.Held.{lists_held, normals_held, side_bounds_held, objectives_held, cone_held, duality_held}
 use Rattle.lp_form.proofs.Shaped.{sides_places, rows_places, cone_shaped, duality_shaped, sides_kept, rows_kept}
@@ -12,6 +12,7 @@ use Rattle.upper_image.specs.Spots.{dense}
 use Rattle.upper_image.specs.UpperImage.{objective}
 use Rattle.polyhedra.specs.Sparse as sparse
 use Rattle.vlp_problem.specs.Sides.{numbers_from}
+use Rattle.vlp_problem.specs.Cones.{duality_fits}
 use Rattle.vlp_matrices.proofs.Cells.{few_sides}
 use Rattle.lp_form.proofs.data.Data.of.Goals as goal
 
