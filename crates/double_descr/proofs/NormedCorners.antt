@@ -15,8 +15,7 @@ use Rattle.polyhedra.proofs.Lists.{wide-map}
 use Rattle.polyhedra.proofs.Norming.{norm_factor, norm_factor-positive, normed_is_normed, norming-other, is_zero-scaled}
 use Rattle.polyhedra.proofs.Order.{mul_positive, not_zero_of_positive}
 use Rattle.polyhedra.proofs.Tests.{test_of_other, test_of_zero}
-use Rattle.incid_sets.specs.Marks.{has}
-use Rattle.double_descr.specs.Starting.{IsAllBut}
+use Rattle.incid_sets.specs.Marks.{has, IsAllBut}
 
 module _ (n : ℕ) (rows vectors : List (List ℚ)) (c : AreCorners n rows vectors) where
   -- row i is not 0 at vector i

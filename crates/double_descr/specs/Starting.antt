@@ -1,5 +1,5 @@
 -- The start of a double description: as many independent rows as they have entries, with their corners, normed.
-use Rattle.std.specs.Prelude.{ℕ, ◌+◌, ◌-◌, ◌<◌, ◌≤◌, ◌≡◌, ◌⊎◌, List, [], ◌∷◌, ◌++◌, All, Bool, IsFalse, not, nat_eq, length, take}
+use Rattle.std.specs.Prelude.{ℕ, ◌+◌, ◌-◌, ◌<◌, ◌≤◌, ◌≡◌, ◌⊎◌, List, [], ◌∷◌, ◌++◌, All, Bool, IsFalse, length, take}
 use Rattle.exact_field.specs.Rational.{ℚ, ◌/ℚ◌}
 use Rattle.exact_field.specs.Vector.{entry}
 use Rattle.exact_field.specs.declared.op.Op.TheVariants.{Div}
@@ -7,7 +7,6 @@ use Rattle.exact_field.specs.declared.op.Left.{Left}
 use Rattle.polyhedra.specs.Dependence.{AreCorners}
 use Rattle.polyhedra.specs.DoubleDescription.{IsNormed, magnitude, norming}
 use Rattle.polyhedra.specs.LiveList.{starting}
-use Rattle.incid_sets.specs.Marks.{has}
 use Rattle.tableaux.specs.Table.{Table, beside_unit, column_of}
 use Rattle.tableaux.specs.Elimination.{AreInverse, columns_of}
 use Rattle.lin_rows.specs.Eliminate.{IsElimFault}
@@ -29,11 +28,6 @@ pub record IsStart (n : ℕ) (rows : List (List ℚ)) (s : State) : Type 0 where
   pub corners : AreCorners n rows vectors
   pub normed : All IsNormed vectors
   pub list_is : s.list ≡ starting 1 vectors
-
--- the set of all numbers below the bound but one
-pub record IsAllBut (bound out : ℕ) (marks : List Bool) : Type 0 where
-  pub bounded : length marks ≡ bound
-  pub others : (k : ℕ) → k < bound → has marks k ≡ not (nat_eq k out)
 
 -- a vector was given up at the first of the steps that norm it that is not held; its number is told as the column
 abbrev pub IsNormingFault : {F : Type 0} → (F → ℚ) → (ℚ → Bool) → List ℚ → DdFault F → Type 0

@@ -1,8 +1,7 @@
 -- What a double description holds: the rows in their order, and the live generators under their numbers.
-use Rattle.std.specs.Prelude.{ℕ, ◌<◌, List, ◌≡◌, map, All, Contains, Bool, not, ◌||◌, nat_eq, refl}
+use Rattle.std.specs.Prelude.{ℕ, ◌<◌, List, ◌≡◌, map, All, Contains, Bool, refl}
 use Rattle.std.specs.Coded.{Coded, code_by, coded×, coded_ℕ, coded_list}
 use Rattle.exact_field.specs.Rational.{ℚ, coded_ℚ}
-use Rattle.polyhedra.specs.DoubleDescription.{covers}
 use Rattle.polyhedra.specs.LiveList.{Numbered, LiveList, LivePair, numbers, tight_set}
 use Rattle.polyhedra.specs.LiveSteps.{IsLive}
 use Rattle.double_descr.specs.Steps.{values}
@@ -59,11 +58,6 @@ pub record AreTwoLive {F : Type 0} (value : F → ℚ) (n : ℕ) (rows : List (L
   pub plus_listed : Contains gens plus
   pub minus_listed : Contains gens minus
   pub differ : values value plus.vector.items ≡ values value minus.vector.items → ⊥
-
--- whether a live generator is one of the pair or does not cover it
-abbrev pub third_test : List (List ℚ) → LivePair → Numbered → Bool
-third_test rows pair g = nat_eq g.number pair.plus_side.number || nat_eq g.number pair.minus_side.number
-    || not (covers rows pair.plus_side.vector pair.minus_side.vector g.vector)
 
 -- what a double description keeps: the live list of its rows, with the numbers as a list of their own and the tight sets
 pub record IsKept {F : Type 0} (value : F → ℚ) (width : ℕ) (rows : List (List F)) (nums : List ℕ) (gens : List (Generator F)) (next : ℕ) : Type 0 where

@@ -5,7 +5,8 @@ ghost use Rattle.polyhedra.specs.Dependence.{AreCorners};
 ghost use Rattle.polyhedra.specs.DoubleDescription.{norming, normed};
 ghost use Rattle.polyhedra.specs.LiveList.{numbered};
 ghost use Rattle.lin_rows.specs.Read.{numbers};
-ghost use Rattle.double_descr.specs.Starting.{AreNotNormed, IsAllBut, IsNormingFault, norming_steps};
+ghost use Rattle.incid_sets.specs.Marks.{IsAllBut};
+ghost use Rattle.double_descr.specs.Starting.{AreNotNormed, IsNormingFault, norming_steps};
 ghost use Rattle.double_descr.specs.State.{HasTightSet, live_of, numbered_of};
 ghost use Rattle.double_descr.specs.Steps.{IsHeld, values};
 

@@ -1,5 +1,5 @@
 -- A set of numbers below a bound: a list that says of each number below the bound whether the set has it.
-use Rattle.std.specs.Prelude.{ℕ, ◌≡◌, List, Bool, false, IsTrue, ◌&&◌, length, min, replicate, slice_index_or, count_by}
+use Rattle.std.specs.Prelude.{ℕ, ◌≡◌, ◌<◌, nat_eq, List, Bool, false, not, IsTrue, ◌&&◌, length, min, replicate, slice_index_or, count_by}
 
 -- whether the set has the number
 abbrev pub has : List Bool → ℕ → Bool
@@ -12,6 +12,11 @@ no_marks bound = replicate bound false
 -- how many numbers the set has
 abbrev pub size : List Bool → ℕ
 size marks = count_by (λ marked. marked) marks
+
+-- the set of all numbers below the bound but one
+pub record IsAllBut (bound out : ℕ) (marks : List Bool) : Type 0 where
+  pub bounded : length marks ≡ bound
+  pub others : (k : ℕ) → k < bound → has marks k ≡ not (nat_eq k out)
 
 -- the first set has each number of the second
 abbrev pub ContainsAll : List Bool → List Bool → Type 0

@@ -5,7 +5,7 @@ use Rattle.exact_field.specs.Rational.{ℚ, zero_ℚ, one_ℚ, neg_ℚ, ◌*ℚ�
 use Rattle.exact_field.specs.Vector.{dot, entry}
 use Rattle.exact_field.specs.declared.op.Op.TheVariants as op
 use Rattle.frac128.specs.Sparse.{is_zero}
-use Rattle.polyhedra.specs.DoubleDescription.{covers, normed, meeting}
+use Rattle.polyhedra.specs.DoubleDescription.{normed, meeting}
 use Rattle.polyhedra.specs.DoubleDescription as double
 use Rattle.polyhedra.specs.TightSets.{IsDoubleDescriptionPair}
 use Rattle.polyhedra.specs.Vectors.{AreWide}
@@ -55,11 +55,6 @@ all_values w gamma gens = map (λ g. dot (row w gamma) g.vector) gens
 -- a pair of generators
 abbrev pub pair_of : Generator → Generator → LivePair
 pair_of p m = record { plus_side = numbered_of p; minus_side = numbered_of m }
-
--- whether a live generator is one of the pair or does not cover it
-abbrev pub third_test : List (List ℚ) → LivePair → Numbered → Bool
-third_test rows pair g =
-    nat_eq g.number pair.plus_side.number || nat_eq g.number pair.minus_side.number || not (covers rows pair.plus_side.vector pair.minus_side.vector g.vector)
 
 -- two different generators of the list
 pub record AreTwo (gens : List Generator) (plus minus : Generator) : Type 0 where

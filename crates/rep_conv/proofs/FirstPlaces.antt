@@ -9,7 +9,7 @@ use Rattle.polyhedra.proofs.Order.{not_zero_of_positive}
 use Rattle.upper_image.specs.Spots.{pieces}
 use Rattle.entry_checks.proofs.RisingNumbers.{length-pieces}
 use Rattle.log_live.specs.Live.{AreLive, HasTightSet, live_of, numbered_of}
-use Rattle.log_live.specs.Starting.{IsAllBut}
+use Rattle.incid_sets.specs.Marks.{IsAllBut}
 use Rattle.log_live.specs.declared.generator.Generator.{Generator}
 use Rattle.log_live.proofs.FirstGenerators.{all_but_tight}
 use Rattle.log_live.proofs.LivePairs.{length-take_to, numbered_push, take_all_of}

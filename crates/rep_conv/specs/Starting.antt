@@ -1,9 +1,8 @@
 -- The generators of a `start` entry, and sets of rows in use, as the checker makes them.
 use Rattle.std.specs.Prelude.{◌≡◌, ℕ, suc, ◌<◌, Bool, List, length}
 use Rattle.exact_field.specs.Rational.{ℚ}
-use Rattle.incid_sets.specs.Marks.{has}
+use Rattle.incid_sets.specs.Marks.{has, IsAllBut}
 use Rattle.log_rules.specs.Live.{contains}
-use Rattle.log_live.specs.Starting.{IsAllBut}
 use Rattle.log_live.specs.declared.generator.Generator.{Generator}
 
 -- the generator with this vector stands at this place, and of so many rows that of its place alone

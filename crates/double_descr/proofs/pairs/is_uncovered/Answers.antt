@@ -3,7 +3,8 @@ use Rattle.std.specs.List.{list_all}
 use Rattle.std.proofs.lemmas.Bool.{not_from_false, not_from_true}
 use Rattle.std.proofs.lemmas.List.{drop_all, length-map}
 use Rattle.polyhedra.proofs.Covering.{none_at, all_but}
-use Rattle.double_descr.specs.State.{HasTightSet, live_of, numbered_of, pair_of, third_test}
+use Rattle.polyhedra.specs.LiveList.{third_test}
+use Rattle.double_descr.specs.State.{HasTightSet, live_of, numbered_of, pair_of}
 use Rattle.double_descr.proofs.pairs.is_uncovered.Goals as goal
 use Rattle.double_descr.proofs.StepLists.{listed, drop_value}
 

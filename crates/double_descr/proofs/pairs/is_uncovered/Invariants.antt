@@ -2,7 +2,8 @@ use Rattle.std.proofs.Common.{◌≡◌, List, drop, All}
 use Rattle.std.specs.List.{list_all}
 use Rattle.exact_field.specs.Rational.{ℚ}
 use Rattle.incid_sets.specs.Marks.{IsMeet}
-use Rattle.double_descr.specs.State.{HasTightSet, live_of, pair_of, third_test}
+use Rattle.polyhedra.specs.LiveList.{third_test}
+use Rattle.double_descr.specs.State.{HasTightSet, live_of, pair_of}
 use Rattle.double_descr.proofs.pairs.is_uncovered.Given as goal
 
 abbrev pub invariant-loop-i : goal.invariant-loop-i

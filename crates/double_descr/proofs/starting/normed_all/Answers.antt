@@ -7,7 +7,8 @@ use Rattle.polyhedra.specs.LiveList.{Numbered, tight_set}
 use Rattle.lin_rows.specs.Read.{numbers}
 use Rattle.lin_rows.proofs.Building.{numbers_long}
 use Rattle.lin_rows.proofs.Errors.{err_holds}
-use Rattle.double_descr.specs.Starting.{IsAllBut, norming_steps}
+use Rattle.incid_sets.specs.Marks.{IsAllBut}
+use Rattle.double_descr.specs.Starting.{norming_steps}
 use Rattle.double_descr.specs.State.{HasTightSet, live_of, numbered_of}
 use Rattle.double_descr.specs.Steps.{IsHeld, values}
 use Rattle.double_descr.specs.declared.generator.Generator.{Generator}
