@@ -1,8 +1,9 @@
 -- What a call of an exact field answers: the exact value where it is held, and what it was asked where it is not.
 use Rattle.std.specs.Prelude.{ℤ, pos, ⊤, ◌≡◌, ◌<◌, ◌≤ℤ◌, ◌<ℤ◌, ◌^◌, ◌⊎◌, unsigned_abs, Bool, IsTrue, IsFalse, List, [], ◌∷◌, Option, Result, IfSome, MatchOption, MatchResult}
-use Rattle.exact_field.specs.Rational.{ℚ, zero_ℚ, fraction, ◌+ℚ◌, ◌*ℚ◌}
+use Rattle.exact_field.specs.Rational.{ℚ, zero_ℚ, fraction, ◌+ℚ◌, ◌-ℚ◌, ◌*ℚ◌, ◌/ℚ◌}
 use Rattle.exact_field.specs.Vector.{dot}
 use Rattle.exact_field.specs.declared.op.Op.{Op}
+use Rattle.exact_field.specs.declared.op.Op.TheVariants.{Add, Sub, Mul, Div}
 use Rattle.exact_field.specs.declared.op.Left.{Left}
 
 -- where the exact value is held, the answer has it; where not, the answer is the operation with both operands
@@ -30,6 +31,18 @@ AreSumsHeld holds total (x ∷ xs) (y ∷ ys) =
 -- an answer is the product of the vectors, and entry by entry all that comes before it is held
 abbrev pub IsShortDot : {F : Type 0} → (F → ℚ) → (ℚ → Bool) → List ℚ → List ℚ → Option F → Type 0
 IsShortDot value holds xs ys result = IfSome result (λ r. (value r ≡ dot xs ys) × AreSumsHeld holds zero_ℚ xs ys)
+
+-- the exact result of an operation
+abbrev pub exact : Op → ℚ → ℚ → ℚ
+exact Add a b = a +ℚ b
+exact Sub a b = a -ℚ b
+exact Mul a b = a *ℚ b
+exact Div a b = a /ℚ b
+
+-- what an operation leaves that has no held value, by the values of its operands
+abbrev pub IsLeftOf : {F : Type 0} → (F → ℚ) → (ℚ → Bool) → Op → ℚ → ℚ → Left F → Type 0
+IsLeftOf value holds operation a b left =
+    (left.op ≡ operation) × (value left.a ≡ a) × (value left.b ≡ b) × IsFalse (holds (exact operation a b))
 
 -- the magnitude of the numerator and the denominator are below 2^120
 pub record IsSmall (q : ℚ) : Type 0 where
