@@ -1,9 +1,22 @@
 -- What a call of an exact field answers: the exact value where it is held, and what it was asked where it is not.
 use Rattle.std.specs.Prelude.{ℤ, pos, ⊤, ◌≡◌, ◌<◌, ◌≤ℤ◌, ◌<ℤ◌, ◌^◌, ◌⊎◌, unsigned_abs, Bool, IsTrue, IsFalse, List, [], ◌∷◌, Option, Result, IfSome, MatchOption, MatchResult}
-use Rattle.exact_field.specs.Rational.{ℚ, zero_ℚ, fraction, ◌+ℚ◌, ◌*ℚ◌}
+use Rattle.exact_field.specs.Rational.{ℚ, zero_ℚ, fraction, ◌+ℚ◌, ◌-ℚ◌, ◌*ℚ◌, ◌/ℚ◌}
 use Rattle.exact_field.specs.Vector.{dot}
 use Rattle.exact_field.specs.declared.op.Op.{Op}
+use Rattle.exact_field.specs.declared.op.Op.TheVariants.{Add, Sub, Mul, Div}
 use Rattle.exact_field.specs.declared.op.Left.{Left}
+
+-- the exact value of an operation
+abbrev pub exact : Op → ℚ → ℚ → ℚ
+exact Add a b = a +ℚ b
+exact Sub a b = a -ℚ b
+exact Mul a b = a *ℚ b
+exact Div a b = a /ℚ b
+
+-- what is left is this operation with these operands, and its exact value is not held
+abbrev pub IsLeftOf : {F : Type 0} → (F → ℚ) → (ℚ → Bool) → Op → ℚ → ℚ → Left F → Type 0
+IsLeftOf value holds operation a b left =
+    (left.op ≡ operation) × (value left.a ≡ a) × (value left.b ≡ b) × IsFalse (holds (exact operation a b))
 
 -- where the exact value is held, the answer has it; where not, the answer is the operation with both operands
 abbrev pub Answers : {F : Type 0} → (F → ℚ) → (ℚ → Bool) → Op → F → F → ℚ → Result F (Left F) → Type 0
