@@ -7,4 +7,5 @@ pub mod LeastQuotient
 pub mod RationalLaws
 pub mod Rationals
 pub mod RingTool
+pub mod Signs
 pub mod Sums

@@ -6,18 +6,6 @@ use Rattle.exact_field.specs.declared.op.Op.{Op}
 use Rattle.exact_field.specs.declared.op.Op.TheVariants.{Add, Sub, Mul, Div}
 use Rattle.exact_field.specs.declared.op.Left.{Left}
 
--- the exact value of an operation
-abbrev pub exact : Op → ℚ → ℚ → ℚ
-exact Add a b = a +ℚ b
-exact Sub a b = a -ℚ b
-exact Mul a b = a *ℚ b
-exact Div a b = a /ℚ b
-
--- what is left is this operation with these operands, and its exact value is not held
-abbrev pub IsLeftOf : {F : Type 0} → (F → ℚ) → (ℚ → Bool) → Op → ℚ → ℚ → Left F → Type 0
-IsLeftOf value holds operation a b left =
-    (left.op ≡ operation) × (value left.a ≡ a) × (value left.b ≡ b) × IsFalse (holds (exact operation a b))
-
 -- where the exact value is held, the answer has it; where not, the answer is the operation with both operands
 abbrev pub Answers : {F : Type 0} → (F → ℚ) → (ℚ → Bool) → Op → F → F → ℚ → Result F (Left F) → Type 0
 Answers value holds operation first second exact result =
@@ -43,6 +31,18 @@ AreSumsHeld holds total (x ∷ xs) (y ∷ ys) =
 -- an answer is the product of the vectors, and entry by entry all that comes before it is held
 abbrev pub IsShortDot : {F : Type 0} → (F → ℚ) → (ℚ → Bool) → List ℚ → List ℚ → Option F → Type 0
 IsShortDot value holds xs ys result = IfSome result (λ r. (value r ≡ dot xs ys) × AreSumsHeld holds zero_ℚ xs ys)
+
+-- the exact result of an operation
+abbrev pub exact : Op → ℚ → ℚ → ℚ
+exact Add a b = a +ℚ b
+exact Sub a b = a -ℚ b
+exact Mul a b = a *ℚ b
+exact Div a b = a /ℚ b
+
+-- what an operation leaves that has no held value, by the values of its operands
+abbrev pub IsLeftOf : {F : Type 0} → (F → ℚ) → (ℚ → Bool) → Op → ℚ → ℚ → Left F → Type 0
+IsLeftOf value holds operation a b left =
+    (left.op ≡ operation) × (value left.a ≡ a) × (value left.b ≡ b) × IsFalse (holds (exact operation a b))
 
 -- the magnitude of the numerator and the denominator are below 2^120
 pub record IsSmall (q : ℚ) : Type 0 where

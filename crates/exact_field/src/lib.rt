@@ -4,6 +4,8 @@
 pub mod field;
 pub mod laws;
 pub mod op;
+pub mod sign;
 
 pub use field::Field;
 pub use op::{Left, Op};
+pub use sign::{is_negative, is_positive, is_zero};

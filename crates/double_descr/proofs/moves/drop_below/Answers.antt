@@ -1,5 +1,4 @@
-use Rattle.std.proofs.Common.{◌≡◌, ℕ, ◌+◌, ◌<◌, ◌≤◌, List, All, length, refl, sym, ap, ◌∙◌, subst, arith}
-use Rattle.std.specs.Vec.{vec_capacity, vec_len}
+use Rattle.std.proofs.Common.{ℕ, ◌+◌, ◌<◌, List, All, length, refl, sym, ap, ◌∙◌, subst, arith}
 use Rattle.double_descr.specs.State.{HasTightSet, live_of}
 use Rattle.double_descr.specs.declared.generator.Generator.{Generator}
 use Rattle.double_descr.proofs.Sifting.{IsSifted, all_sifted, none_sifted, one_dropped, one_kept}
