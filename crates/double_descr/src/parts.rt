@@ -65,8 +65,8 @@ pub fn places_below<F: Field>(alloc: Global, values: &[F]) -> Result<Items<usize
     ensures { IfOk result (λ places. places ≡ negative_places 0 (map F.value values.now)) }
 {
     let mut out = Items::new(alloc);
-    for j in 0..values.len() {
-        if is_negative(values[j]) {
+    for (j, value) in values.iter().enumerate() {
+        if is_negative(*value) {
             out.push(j)?;
         }
     }

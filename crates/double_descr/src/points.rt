@@ -12,10 +12,9 @@ use std::alloc::Global;
 fn leading_entry<F: Field>(vector: &[F]) -> F
     ensures { F.value result ≡ leading (values F.value vector.now) }
 {
-    for i in 0..vector.len() {
-        let entry = vector[i];
-        if !is_zero(entry) {
-            return entry;
+    for entry in vector {
+        if !is_zero(*entry) {
+            return *entry;
         }
     }
     F::zero()
