@@ -1,9 +1,9 @@
 -- Where a start is given up while it norms: at an entry of a column of the inverse.
 use Rattle.std.proofs.Common.{◌≡◌, ℕ, ◌+◌, ◌-◌, ◌<◌, ◌≤◌, List, [], ◌∷◌, ◌++◌, length, take, All, Bool, slice_index_or, sym, ap, ◌∙◌, subst, arith, length-append, inr}
-use Rattle.std.specs.Prelude.{IsFalse}
 use Rattle.std.proofs.lemmas.List.{get_or-map, length-map}
 use Rattle.std.proofs.Math.Seq.{get_or-append_seam, take-append_seam}
-use Rattle.exact_field.specs.Rational.{ℚ, zero_ℚ, ◌/ℚ◌}
+use Rattle.exact_field.specs.Field.{IsLeftOf}
+use Rattle.exact_field.specs.Rational.{ℚ, zero_ℚ}
 use Rattle.exact_field.specs.Vector.{entry}
 use Rattle.exact_field.specs.declared.op.Op.TheVariants.{Div}
 use Rattle.exact_field.specs.declared.op.Left.{Left}
@@ -14,7 +14,7 @@ use Rattle.tableaux.proofs.Places.{length-list_from, listed-place}
 use Rattle.lin_rows.specs.Answers.{AreInverseColumns}
 use Rattle.lin_rows.specs.declared.fault.RowFault.TheVariants.{Left as Stopped, NoMemory as Want}
 use Rattle.double_descr.specs.Starting.{AreNotNormed, IsNormingLeft, IsStartFault, norming_steps}
-use Rattle.double_descr.specs.Steps.{Step, IsFirst, IsHeld, exact}
+use Rattle.double_descr.specs.Steps.{Step, IsFirst, IsHeld}
 use Rattle.double_descr.specs.declared.fault.DdFault.{DdFault}
 use Rattle.double_descr.specs.declared.fault.DdFault.TheVariants.{Elim, Left as Stuck, NoMemory}
 
@@ -22,10 +22,7 @@ use Rattle.double_descr.specs.declared.fault.DdFault.TheVariants.{Elim, Left as 
 pub record IsQuotientLeft {F : Type 0} (value : F → ℚ) (holds : ℚ → Bool) (v : List ℚ) (col : ℕ) (left : Left F) : Type 0 where
   pub from_one : 1 ≤ col
   pub to_end : col ≤ length v
-  pub op : left.op ≡ Div
-  pub dividend : value left.a ≡ entry v col
-  pub divisor : value left.b ≡ magnitude (norming v)
-  pub not_held : IsFalse (holds (entry v col /ℚ magnitude (norming v)))
+  pub left_is : IsLeftOf value holds Div (entry v col) (magnitude (norming v)) left
   pub entries_before : All (IsHeld holds) (take (col - 1) (norming_steps v))
 
 abbrev quotient : List ℚ → ℚ → Step
@@ -48,10 +45,7 @@ quotient_left value holds v col left h =
     record {
       from_one = omega arith;
       to_end = omega arith;
-      op = h.same_op ∙ ap (λ (s : Step). s.op) step_is;
-      dividend = h.same_a ∙ ap (λ (s : Step). s.a) step_is;
-      divisor = h.same_b ∙ ap (λ (s : Step). s.b) step_is;
-      not_held = subst (λ (s : Step). IsFalse (holds (exact s))) step_is h.not_held;
+      left_is = subst (λ (s : Step). IsLeftOf value holds s.op s.a s.b left) step_is h.left_is;
       entries_before = subst (All (IsHeld holds)) (sym (ap (λ (i : ℕ). take i (norming_steps v)) back ∙ ap (take k) h.split ∙ take-append_seam h.before (h.step ∷ h.after))) h.held;
     }
 
@@ -83,10 +77,7 @@ module _ {F : Type 0} (value : F → ℚ) (holds : ℚ → Bool) (n : ℕ) (rows
         corner_to_end = high;
         from_one = here.from_one;
         to_end = omega (arith, here.to_end, wide);
-        op = here.op;
-        dividend = here.dividend;
-        divisor = here.divisor;
-        not_held = here.not_held;
+        left_is = here.left_is;
         columns_before = subst (All (λ v. All (IsHeld holds) (norming_steps v)))
             (sym (ap (λ (i : ℕ). take i (columns_of n inverse)) back ∙ ap (take k) columns ∙ take-append_seam before (vector ∷ after))) held;
         entries_before = here.entries_before;

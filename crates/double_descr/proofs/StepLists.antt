@@ -4,7 +4,7 @@ use Rattle.std.specs.Prelude.{IsFalse}
 use Rattle.std.proofs.lemmas.List.{append-nil, map-append}
 use Rattle.exact_field.specs.declared.op.Op.TheVariants.{Add, Mul, Div}
 use Rattle.std.proofs.lemmas.List.Elements.{All-nil, All-cons, All-append}
-use Rattle.exact_field.specs.Field.{AreSumsHeld}
+use Rattle.exact_field.specs.Field.{AreSumsHeld, exact}
 use Rattle.exact_field.specs.Rational.{ℚ}
 use Rattle.exact_field.specs.declared.op.Left.{Left}
 use Rattle.exact_field.specs.Rational.{zero_ℚ, ◌+ℚ◌, ◌*ℚ◌}
@@ -16,7 +16,7 @@ use Rattle.polyhedra.proofs.Laws.{add_assoc}
 use Rattle.std.proofs.Common.{Result, Ok, Err}
 use Rattle.std.specs.Prelude.{IsErrAnd, IfOk, IfErr, OnOk, MatchResult}
 use Rattle.double_descr.specs.declared.steps.Stop.{Stop}
-use Rattle.double_descr.specs.Steps.{Runs, StopsAt, combination_steps, quotient_steps, multiple_steps, product_steps, term_steps, Step, exact, IsHeld, IsFirst, IsSoFar}
+use Rattle.double_descr.specs.Steps.{Runs, StopsAt, combination_steps, quotient_steps, multiple_steps, product_steps, term_steps, Step, IsHeld, IsFirst, IsSoFar}
 use Rattle.polyhedra.proofs.Algebra.{zero_mul, mul_zero}
 use Rattle.polyhedra.proofs.Laws.{add_zero}
 use Rattle.polyhedra.proofs.Members.{member_of}
@@ -45,7 +45,7 @@ pub same_left : (holds : ℚ → Bool) (steps a b : List Step) (n : ℕ) → a �
 same_left holds steps a b n e h = subst (λ (ss : List Step). IsSoFar holds steps ss n) e h
 
 pub stopped : {F : Type 0} (value : F → ℚ) (holds : ℚ → Bool) (steps : List Step) (s : Step) (left : List Step) (n : ℕ) (operands : Left F) →
-    IsSoFar holds steps (s ∷ left) n → IsFalse (holds (exact s)) → operands.op ≡ s.op → value operands.a ≡ s.a → value operands.b ≡ s.b →
+    IsSoFar holds steps (s ∷ left) n → IsFalse (holds (exact s.op s.a s.b)) → operands.op ≡ s.op → value operands.a ≡ s.a → value operands.b ≡ s.b →
     IsFirst value holds steps (n + 1) operands
 stopped value holds steps s left n operands h k o a b = record {
   before = h.before;
@@ -53,15 +53,12 @@ stopped value holds steps s left n operands h k o a b = record {
   after = left;
   split = h.split;
   held = h.held;
-  not_held = k;
   numbered = ap (λ m. m + 1) (sym h.counted);
-  same_op = o;
-  same_a = a;
-  same_b = b;
+  left_is = (o, a, b, k);
 }
 
 pub stopped_second : {F : Type 0} (value : F → ℚ) (holds : ℚ → Bool) (steps : List Step) (s : Step) (left : List Step) (n : ℕ) (operands : Left F) →
-    IsSoFar holds steps (s ∷ left) (n + 1) → IsFalse (holds (exact s)) → operands.op ≡ s.op → value operands.a ≡ s.a → value operands.b ≡ s.b →
+    IsSoFar holds steps (s ∷ left) (n + 1) → IsFalse (holds (exact s.op s.a s.b)) → operands.op ≡ s.op → value operands.a ≡ s.a → value operands.b ≡ s.b →
     IsFirst value holds steps (n + 2) operands
 stopped_second value holds steps s left n operands h k o a b = subst (λ (m : ℕ). IsFirst value holds steps m operands) (omega arith)
     (stopped value holds steps s left (n + 1) operands h k o a b)

@@ -1,6 +1,7 @@
 -- The start of a double description: as many independent rows as they have entries, with their corners, normed.
-use Rattle.std.specs.Prelude.{ℕ, ◌+◌, ◌-◌, ◌<◌, ◌≤◌, ◌≡◌, ◌⊎◌, List, [], ◌∷◌, ◌++◌, All, Bool, IsFalse, length, take}
-use Rattle.exact_field.specs.Rational.{ℚ, ◌/ℚ◌}
+use Rattle.std.specs.Prelude.{ℕ, ◌+◌, ◌-◌, ◌<◌, ◌≤◌, ◌≡◌, ◌⊎◌, List, [], ◌∷◌, ◌++◌, All, Bool, length, take}
+use Rattle.exact_field.specs.Field.{IsLeftOf}
+use Rattle.exact_field.specs.Rational.{ℚ}
 use Rattle.exact_field.specs.Vector.{entry}
 use Rattle.exact_field.specs.declared.op.Op.TheVariants.{Div}
 use Rattle.exact_field.specs.declared.op.Left.{Left}
@@ -62,10 +63,7 @@ pub record IsNormingLeft {F : Type 0} (value : F → ℚ) (holds : ℚ → Bool)
   pub corner_to_end : corner ≤ n
   pub from_one : 1 ≤ col
   pub to_end : col ≤ n
-  pub op : left.op ≡ Div
-  pub dividend : value left.a ≡ entry (column_of inverse corner) col
-  pub divisor : value left.b ≡ magnitude (norming (column_of inverse corner))
-  pub not_held : IsFalse (holds (entry (column_of inverse corner) col /ℚ magnitude (norming (column_of inverse corner))))
+  pub left_is : IsLeftOf value holds Div (entry (column_of inverse corner) col) (magnitude (norming (column_of inverse corner))) left
   pub columns_before : All (λ v. All (IsHeld holds) (norming_steps v)) (take (corner - 1) (columns_of n inverse))
   pub entries_before : All (IsHeld holds) (take (col - 1) (norming_steps (column_of inverse corner)))
 

@@ -1,8 +1,9 @@
 -- Steps of a calculation in their order, and the first one whose result is not held.
-use Rattle.std.specs.Prelude.{ℕ, ◌+◌, ◌≡◌, List, [], ◌∷◌, ◌++◌, map, length, All, Bool, IsTrue, IsFalse, ◌||◌, if◌then◌else◌, Result, MatchResult}
-use Rattle.exact_field.specs.Rational.{ℚ, ◌+ℚ◌, ◌-ℚ◌, ◌*ℚ◌, ◌/ℚ◌, neg_ℚ}
+use Rattle.std.specs.Prelude.{ℕ, ◌+◌, ◌≡◌, List, [], ◌∷◌, ◌++◌, map, length, All, Bool, IsTrue, ◌||◌, if◌then◌else◌, Result, MatchResult}
+use Rattle.exact_field.specs.Field.{exact, IsLeftOf}
+use Rattle.exact_field.specs.Rational.{ℚ, ◌+ℚ◌, ◌*ℚ◌, ◌/ℚ◌, neg_ℚ}
 use Rattle.exact_field.specs.declared.op.Op.{Op}
-use Rattle.exact_field.specs.declared.op.Op.TheVariants.{Add, Sub, Mul, Div}
+use Rattle.exact_field.specs.declared.op.Op.TheVariants.{Add, Mul, Div}
 use Rattle.exact_field.specs.declared.op.Left.{Left}
 use Rattle.polyhedra.specs.DoubleDescription.{is_zero, magnitude, norming}
 use Rattle.polyhedra.specs.Vectors.{plus, scaled}
@@ -14,17 +15,6 @@ pub record Step : Type 0 where
   pub op : Op
   pub a : ℚ
   pub b : ℚ
-
--- the exact result of an operation
-abbrev pub computed : Op → ℚ → ℚ → ℚ
-computed Add a b = a +ℚ b
-computed Sub a b = a -ℚ b
-computed Mul a b = a *ℚ b
-computed Div a b = a /ℚ b
-
--- the exact result of a step
-abbrev pub exact : Step → ℚ
-exact s = computed s.op s.a s.b
 
 -- the steps of a total plus x y
 abbrev pub multiple_steps : ℚ → ℚ → ℚ → List Step
@@ -59,9 +49,9 @@ abbrev pub meeting_steps : ℚ → ℚ → List ℚ → List ℚ → List Step
 meeting_steps a b p m = record { op = Div; a = a; b = neg_ℚ b } ∷ combination_steps (a /ℚ neg_ℚ b) p m
     ++ quotient_steps (magnitude (norming (between a b p m))) (between a b p m)
 
--- the result of the step is held
+-- the exact value of the step is held
 abbrev pub IsHeld : (ℚ → Bool) → Step → Type 0
-IsHeld holds s = IsTrue (holds (exact s))
+IsHeld holds s = IsTrue (holds (exact s.op s.a s.b))
 
 -- the steps before this one are held and this one is not; it has this number, counted from 1, and these operands
 pub record IsFirst {F : Type 0} (value : F → ℚ) (holds : ℚ → Bool) (steps : List Step) (number : ℕ) (left : Left F) : Type 0 where
@@ -70,11 +60,8 @@ pub record IsFirst {F : Type 0} (value : F → ℚ) (holds : ℚ → Bool) (step
   pub after : List Step
   pub split : steps ≡ before ++ step ∷ after
   pub held : All (IsHeld holds) before
-  pub not_held : IsFalse (holds (exact step))
   pub numbered : number ≡ length before + 1
-  pub same_op : left.op ≡ step.op
-  pub same_a : value left.a ≡ step.a
-  pub same_b : value left.b ≡ step.b
+  pub left_is : IsLeftOf value holds step.op step.a step.b left
 
 -- a calculation stopped at the first of these steps that is not held, or for want of memory
 abbrev pub StopsAt : {F : Type 0} → (F → ℚ) → (ℚ → Bool) → List Step → Stop F → Type 0

@@ -9,9 +9,8 @@ ghost use Rattle.double_descr.specs.Steps.{between, values};
 
 use crate::fault::DdFault;
 use crate::points::meeting_point;
-use crate::signs::is_none;
 use crate::steps::Stop;
-use exact_field::Field;
+use exact_field::{Field, is_zero};
 use incid_sets::Marks;
 use src_sink::NoMemory;
 use std::alloc::Global;
@@ -62,7 +61,7 @@ pub fn next_set<F: Field>(alloc: Global, generator: &Generator<F>, at: F) -> Res
     ensures { IfOk result
         (λ marks. marks ≡ generator.now.tight ++ is_zero (F.value at) ∷ []) }
 {
-    with_row(alloc, &generator.tight, &generator.tight, is_none(at))
+    with_row(alloc, &generator.tight, &generator.tight, is_zero(at))
 }
 
 /// The new generator between two, from the values of the row there.

@@ -10,7 +10,6 @@ mod next;
 mod pairs;
 mod parts;
 mod points;
-mod signs;
 mod starting;
 mod steps;
 

@@ -11,8 +11,7 @@ ghost use Rattle.double_descr.specs.Steps.{between, values};
 use crate::fault::{DdFault, Pair};
 use crate::generator::{Generator, between_two};
 use crate::pairs::{are_adjacent, share_enough};
-use crate::signs::is_above;
-use exact_field::Field;
+use exact_field::{Field, is_positive};
 use incid_sets::Marks;
 use src_sink::{Items, MOST_ITEMS};
 use std::alloc::Global;
@@ -168,7 +167,7 @@ fn try_plus<F: Field>(
 {
     let plus = &generators[i];
     let at_plus = values[i];
-    if !is_above(at_plus) {
+    if !is_positive(at_plus) {
         return Ok(());
     }
     meet_with(alloc, generators, values, plus, at_plus, below, so_far)

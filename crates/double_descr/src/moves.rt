@@ -7,8 +7,7 @@ ghost use Rattle.double_descr.specs.Making.{AreValuesAt};
 ghost use Rattle.double_descr.specs.State.{HasTightSet, live_of, tight_sets, with_tight_set};
 
 use crate::generator::Generator;
-use crate::signs::is_below;
-use exact_field::Field;
+use exact_field::{Field, is_negative as is_below};
 use incid_sets::Marks;
 use src_sink::Items;
 use std::mem::swap;

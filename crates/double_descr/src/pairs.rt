@@ -62,8 +62,8 @@ fn is_uncovered<F: Field>(
             return false;
         }
     }
-    for i in 0..generators.len() {
-        if covers_pair(&generators[i], plus, minus, common) {
+    for (i, third) in generators.iter().enumerate() {
+        if covers_pair(third, plus, minus, common) {
             *last = i;
             return false;
         }

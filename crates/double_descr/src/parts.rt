@@ -10,9 +10,8 @@ ghost use Rattle.double_descr.specs.Steps.{values};
 
 use crate::fault::DdFault;
 use crate::generator::{Generator, next_set};
-use crate::signs::is_below;
 use crate::steps::{Stop, product};
-use exact_field::Field;
+use exact_field::{Field, is_negative};
 use incid_sets::Marks;
 use src_sink::{Items, NoMemory};
 use std::alloc::Global;
@@ -66,8 +65,8 @@ pub fn places_below<F: Field>(alloc: Global, values: &[F]) -> Result<Items<usize
     ensures { IfOk result (λ places. places ≡ negative_places 0 (map F.value values.now)) }
 {
     let mut out = Items::new(alloc);
-    for j in 0..values.len() {
-        if is_below(values[j]) {
+    for (j, value) in values.iter().enumerate() {
+        if is_negative(*value) {
             out.push(j)?;
         }
     }
@@ -109,7 +108,7 @@ fn list_number<F: Field>(
     ensures gone { OnOk result (gone.new
         ≡ gone.old ++ dropped addition.row (numbered_of F.value generator.now ∷ [])) }
 {
-    if is_below(at) {
+    if is_negative(at) {
         gone.push(generator.number)?;
         return Ok(());
     }

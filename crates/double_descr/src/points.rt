@@ -1,22 +1,20 @@
 //! Meeting points, and how vectors are normed.
 ghost use Rattle.std.specs.Prelude.{◌≡◌, ◌≢◌, ◌<◌, length};
 ghost use Rattle.exact_field.specs.Rational.{zero_ℚ, ◌<ℚ◌};
-ghost use Rattle.polyhedra.specs.DoubleDescription.{leading, norming, normed};
+ghost use Rattle.polyhedra.specs.DoubleDescription.{leading, magnitude, norming, normed};
 ghost use Rattle.double_descr.specs.Steps.{Runs, between, meeting_steps, values};
 
-use crate::signs::{is_none, without_sign};
 use crate::steps::{Stop, combination, quotients};
-use exact_field::Field;
+use exact_field::{Field, is_negative, is_zero};
 use std::alloc::Global;
 
 /// The first entry that is not 0, and 0 where there is none.
 fn leading_entry<F: Field>(vector: &[F]) -> F
     ensures { F.value result ≡ leading (values F.value vector.now) }
 {
-    for i in 0..vector.len() {
-        let entry = vector[i];
-        if !is_none(entry) {
-            return entry;
+    for entry in vector {
+        if !is_zero(*entry) {
+            return *entry;
         }
     }
     F::zero()
@@ -30,11 +28,18 @@ pub fn norming_entry<F: Field>(vector: &[F]) -> F
         return F::zero();
     }
     let last = vector[vector.len() - 1];
-    if is_none(last) {
+    if is_zero(last) {
         leading_entry(vector)
     } else {
         last
     }
+}
+
+/// A number without its sign.
+pub fn without_sign<F: Field>(x: F) -> F
+    ensures { F.value result ≡ magnitude (F.value x) }
+{
+    if is_negative(x) { x.neg() } else { x }
 }
 
 /// The point between two vectors at which a row is 0, normed, from the values of the row there.

@@ -12,8 +12,7 @@ ghost use Rattle.double_descr.specs.Steps.{IsHeld, values};
 
 use crate::fault::DdFault;
 use crate::generator::Generator;
-use crate::points::norming_entry;
-use crate::signs::without_sign;
+use crate::points::{norming_entry, without_sign};
 use crate::steps::{Stop, quotients};
 use exact_field::Field;
 use incid_sets::Marks;

@@ -6,8 +6,7 @@ ghost use Rattle.polyhedra.specs.Vectors.{plus, scaled};
 ghost use Rattle.polyhedra.specs.DoubleDescription.{is_zero};
 ghost use Rattle.double_descr.specs.Steps.{IsSoFar, Runs, Step, StopsAt, combination_steps, multiple_steps, product_steps, quotient_steps, term_steps, values};
 
-use crate::signs::is_none;
-use exact_field::{Field, Left};
+use exact_field::{Field, Left, is_zero};
 use std::alloc::{AllocFailed, Global};
 
 /// Why a calculation was given up.
@@ -23,7 +22,7 @@ pub enum Stop<F: Drop> {
 fn is_no_term<F: Field>(x: F, y: F) -> bool
     ensures { result ≡ (is_zero (F.value x) || is_zero (F.value y)) }
 {
-    is_none(x) || is_none(y)
+    is_zero(x) || is_zero(y)
 }
 
 /// A total and a product, with the number of steps before.

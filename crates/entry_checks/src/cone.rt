@@ -16,7 +16,8 @@ ghost use Rattle.upper_image.specs.Spots.{IsVector, column, product};
 ghost use Rattle.vlp_problem.specs.Cones.{cone_fits};
 ghost use Rattle.vlp_problem.specs.declared.problem.Cone.TheVariants as cone;
 
-use crate::steps::{Steps, is_nonnegative, is_positive, pass};
+use crate::steps::{Steps, is_nonnegative, pass};
+use exact_field::is_positive;
 use frac128::{Frac, Spot, Vector};
 use log_rules::{Rule, Stop};
 use vlp_problem::Cone;

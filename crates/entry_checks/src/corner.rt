@@ -18,8 +18,8 @@ ghost use Rattle.upper_image.specs.Spots.{pieces};
 
 use crate::line::{is_reduced, leading_entry};
 use crate::numbers::are_picks;
-use crate::steps::{Steps, is_nonnegative, is_positive, pass};
-use exact_field::Field;
+use crate::steps::{Steps, is_nonnegative, pass};
+use exact_field::{Field, is_positive};
 use frac128::{Frac, Sparse, Vector, is_zero};
 use log_rules::{Rule, Stop};
 use vlp_problem::Problem;

@@ -17,7 +17,8 @@ ghost use Rattle.upper_image.specs.Spots.{IsVector, dense};
 
 use crate::cone::{in_dual_cone, places_within, values_positive};
 use crate::image::spread;
-use crate::steps::{Steps, is_positive, pass};
+use crate::steps::{Steps, pass};
+use exact_field::is_positive;
 use frac128::{Frac, Sparse, Spot, is_zero};
 use log_rules::{Rule, Stop};
 use std::alloc::Global;

@@ -17,7 +17,8 @@ ghost use Rattle.vlp_problem.specs.Cones.{cone_fits, duality_fits};
 ghost use Rattle.vlp_problem.specs.declared.problem.Cone.TheVariants as cone;
 
 use crate::numbers::are_picks;
-use crate::steps::{Steps, is_positive, pass};
+use crate::steps::{Steps, pass};
+use exact_field::is_positive;
 use frac128::{Frac, Vector, is_zero};
 use log_rules::{Rule, Stop};
 use vlp_problem::{Cone, Problem};

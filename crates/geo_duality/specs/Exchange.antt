@@ -1,6 +1,6 @@
 -- Points and directions as rows over dual vectors.
-use Rattle.std.specs.Prelude.{List, [], ◌∷◌, ◌++◌, Bool, if◌then◌else◌}
-use Rattle.exact_field.specs.Rational.{ℚ, zero_ℚ, one_ℚ, neg_ℚ, ◌*ℚ◌}
+use Rattle.std.specs.Prelude.{List, [], ◌∷◌, ◌++◌, Bool}
+use Rattle.exact_field.specs.Rational.{ℚ, ◌*ℚ◌}
 use Rattle.exact_field.specs.Vector.{dot, front, last}
 use Rattle.exact_field.specs.declared.op.Op.TheVariants.{Sub, Mul}
 use Rattle.double_descr.specs.Steps.{Step, IsFirst}

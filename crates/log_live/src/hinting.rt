@@ -14,7 +14,7 @@ use crate::generator::{Generator, find};
 use crate::matching::{is_next, negative_generators};
 use crate::pairs::{are_adjacent, covers_pair};
 use deriv_log::LogPair;
-use entry_checks::is_positive;
+use exact_field::is_positive;
 use frac128::Frac;
 use incid_sets::Marks;
 use src_sink::NoMemory;

@@ -13,7 +13,7 @@ use crate::generator::Generator;
 use crate::matching::{is_next, negative_generators};
 use crate::pairs::covers_pair;
 use deriv_log::LogPair;
-use entry_checks::is_positive;
+use exact_field::is_positive;
 use frac128::Frac;
 use incid_sets::Marks;
 use src_sink::{Items, NoMemory};

@@ -1,7 +1,8 @@
 -- The tests and steps of a log in their order, and the first that fails.
 use Rattle.std.specs.Prelude.{ℕ, suc, ◌+◌, ◌*◌, ◌==◌, Bool, true, false, not, ◌&&◌, ◌||◌, nat_le, nat_lt, if◌then◌else◌, List, [], ◌∷◌, ◌++◌, map, length, take, flat_map, zip, Option, None, Some}
 use Rattle.std.specs.List.{list_all, list_any, enumerate_from}
-use Rattle.exact_field.specs.Rational.{ℚ, zero_ℚ, one_ℚ, ◌+ℚ◌, ◌-ℚ◌, ◌*ℚ◌, ◌/ℚ◌, neg_ℚ, le_ℚ, lt_ℚ}
+use Rattle.exact_field.specs.Field.{exact}
+use Rattle.exact_field.specs.Rational.{ℚ, zero_ℚ, one_ℚ, ◌+ℚ◌, ◌*ℚ◌, ◌/ℚ◌, neg_ℚ, le_ℚ, lt_ℚ}
 use Rattle.exact_field.specs.Order.{same_ℚ}
 use Rattle.exact_field.specs.Vector.{dot, entry}
 use Rattle.exact_field.specs.declared.op.Op.{Op}
@@ -42,13 +43,6 @@ pub data Event : Type 0 where
 pub data Failure : Type 0 where
   wrong : Rule → Failure
   left : ℕ → Op → ℚ → ℚ → Failure
-
--- the exact result of an operation
-abbrev pub exact : Op → ℚ → ℚ → ℚ
-exact op.Add a b = a +ℚ b
-exact op.Sub a b = a -ℚ b
-exact op.Mul a b = a *ℚ b
-exact op.Div a b = a /ℚ b
 
 -- the first failure, where n is the number of the next step
 abbrev pub first_failure : (ℚ → Bool) → ℕ → List Event → Option Failure

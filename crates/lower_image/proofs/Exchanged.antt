@@ -1,6 +1,6 @@
 -- The row of a point or a direction as it is calculated, and its steps as events.
 use Rattle.std.proofs.Common.{◌≡◌, ℕ, suc, List, [], ◌∷◌, ◌++◌, length, map, take, refl, sym, ap, ◌∙◌, subst, arith, ◌-◌, Bool, IsTrue}
-use Rattle.std.specs.Prelude.{flat_map, zip, IsFalse, if◌then◌else◌}
+use Rattle.std.specs.Prelude.{flat_map, zip, if◌then◌else◌}
 use Rattle.std.proofs.lemmas.List.{length-map, length-take-le, map-append}
 use Rattle.exact_field.specs.Rational.{ℚ, zero_ℚ, one_ℚ, neg_ℚ, ◌-ℚ◌, ◌*ℚ◌}
 use Rattle.exact_field.specs.Vector.{entry}
@@ -22,7 +22,7 @@ use Rattle.overflow_rules.specs.Steps.{in_numbers, operation}
 use Rattle.overflow_rules.proofs.Given.{overflow_laws}
 use Rattle.overflows.specs.Faults.{IsLeftAt, Overflows}
 use Rattle.overflows.specs.declared.fault.SolveFault.{SolveFault}
-use Rattle.overflows.proofs.Events.{event_of, same_exact}
+use Rattle.overflows.proofs.Events.{event_of}
 use Rattle.overflows.proofs.Starts.{left_overflows, same_operation}
 
 events : (k : ℚ) (ys cs : List ℚ) → map event_of (difference_steps k ys cs) ≡
@@ -38,11 +38,11 @@ pub exchange_overflows : {F : Type 0} (value : F → ℚ) (holds : ℚ → Bool)
 exchange_overflows value holds none s c y t number left told known base h is =
     left_overflows holds s (Exchange y t number) (in_numbers value left) [] told is
     (subst (λ (l : Left ℚ). IsOverflow holds s (Exchange y t number) l)
-    (sym (same_operation left.op h.step.op (value left.a) h.step.a (value left.b) h.step.b h.same_op h.same_a h.same_b))
+    (sym (same_operation left.op h.step.op (value left.a) h.step.a (value left.b) h.step.b h.left_is.0 h.left_is.1 h.left_is.2))
     (subst (λ (k : ℕ). IsOverflow holds s (Exchange y t k) (operation h.step.op h.step.a h.step.b)) numbered
     (overflow_laws.exchange holds s c y t (map event_of h.before) (map event_of h.after) h.step.op h.step.a h.step.b none known base
     (sym (events (entry y (length y)) (take (length y - 1) y) (take (length c - 1) c)) ∙ ap (map event_of) h.split ∙ map-append event_of h.before (h.step ∷ h.after))
-    (subst (λ (x : ℚ). IsFalse (holds x)) (same_exact h.step.op h.step.a h.step.b) h.not_held))))
+    h.left_is.3)))
   where
     numbered : suc (length (map event_of h.before)) ≡ number
     numbered = let long : length (map event_of h.before) ≡ length h.before = length-map h.before event_of in let k = h.numbered in omega (arith, long, k)

@@ -4,20 +4,13 @@ ghost use Rattle.lineality.specs.Lines.{leading_place};
 ghost use Rattle.lineality.specs.Without.{is_line_place, marks, open_count, with_zeros, without};
 ghost use Rattle.outer_approx.specs.Cuts.{said_by};
 ghost use Rattle.outer_approx.specs.Lines.{told_by};
-ghost use Rattle.polyhedra.specs.DoubleDescription.{is_zero};
 ghost use Rattle.polyhedra.specs.Exactness.{row_of};
 
 use crate::log::Line;
-use exact_field::Field;
+use exact_field::{Field, is_zero};
 use lp_form::Cut;
 use src_sink::{Items, NoMemory};
 use std::alloc::Global;
-
-fn is_zero<F: Field>(x: F) -> bool
-    ensures { result ≡ is_zero (F.value x) }
-{
-    x.sign() == 0
-}
 
 /// The place of the first entry that is not 0, counted from 1, and one more than there are entries
 /// where there is none.

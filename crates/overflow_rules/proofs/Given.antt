@@ -3,7 +3,7 @@ use Rattle.std.proofs.Common.{◌≡◌, ◌≢◌, ℕ, suc, ◌+◌, ◌-◌, 
 use Rattle.std.specs.Prelude.{IsFalse, Option, None, ⊤}
 use Rattle.std.proofs.lemmas.Option.{slice_get-get_or}
 use Rattle.std.proofs.Math.Seq.{get_or-append_seam}
-use Rattle.exact_field.specs.Field.{IsLeftOf}
+use Rattle.exact_field.specs.Field.{IsLeftOf, exact}
 use Rattle.exact_field.specs.Rational.{ℚ, zero_ℚ, ◌+ℚ◌, ◌-ℚ◌, ◌*ℚ◌, ◌/ℚ◌, inverse_ℚ, one_ℚ, whole, fraction}
 use Rattle.exact_field.specs.Vector.{entry}
 use Rattle.exact_field.specs.declared.op.Op.{Op}
@@ -24,7 +24,7 @@ use Rattle.vlp_problem.specs.declared.problem.Problem.{Problem}
 use Rattle.deriv_log.specs.declared.entry.Entry.{Entry}
 use Rattle.vlp_problem.specs.declared.program.Program.{Program}
 use Rattle.deriv_log.specs.declared.licence.Place.TheVariants.{Pivot, Elim, Step}
-use Rattle.log_rules.specs.Events.{Event, exact, first_failure, first_failing, plain_failure, events, Failure, Failing}
+use Rattle.log_rules.specs.Events.{Event, first_failure, first_failing, plain_failure, events, Failure, Failing}
 use Rattle.log_rules.specs.Events.Event.{test, step}
 use Rattle.log_rules.specs.Events.Failure.{wrong, left as overflows}
 use Rattle.overflow_rules.specs.Laws.{term_number, OverflowLaws}

@@ -1,5 +1,6 @@
 -- The laws by which trails grow and licences are given.
 use Rattle.std.specs.Prelude.{ℕ, suc, ◌≤◌, ◌-◌, Bool, IsTrue, IsFalse, List, [], ◌∷◌, ◌++◌, ◌≡◌, ◌⊎◌, length, All, Contains, Some}
+use Rattle.exact_field.specs.Field.{exact}
 use Rattle.exact_field.specs.Rational.{ℚ, zero_ℚ, ◌/ℚ◌}
 use Rattle.exact_field.specs.Vector.{entry, dot}
 use Rattle.exact_field.specs.declared.op.Op.{Op}
@@ -24,7 +25,7 @@ use Rattle.deriv_log.specs.declared.entry.Entry.TheVariants.{Cut}
 use Rattle.vlp_problem.specs.declared.program.Program.{Program}
 use Rattle.deriv_log.specs.declared.licence.Family.{Family}
 use Rattle.deriv_log.specs.declared.licence.Place.TheVariants.{Pivot, Elim, Pair, Exchange, Scale, Step}
-use Rattle.log_rules.specs.Events.{Event, exact, plain_failure}
+use Rattle.log_rules.specs.Events.{Event, plain_failure}
 use Rattle.log_rules.specs.Events.Event.{step}
 use Rattle.log_rules.specs.Events.Failure.{left as overflows}
 use Rattle.log_rules.specs.Live.{duality_vector}

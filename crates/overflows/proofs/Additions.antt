@@ -3,6 +3,7 @@ use Rattle.std.proofs.Common.{◌≡◌, ℕ, suc, ◌+◌, List, [], ◌∷◌,
 use Rattle.std.specs.Prelude.{IsFalse, Contains}
 use Rattle.std.proofs.lemmas.List.{length-map, map-append}
 use Rattle.std.proofs.lemmas.List.Elements.{Contains-append_cases, Contains-append_right}
+use Rattle.exact_field.specs.Field.{exact}
 use Rattle.exact_field.specs.Rational.{ℚ, zero_ℚ}
 use Rattle.exact_field.specs.declared.op.Op.{Op}
 use Rattle.exact_field.specs.declared.op.Left.{Left}
@@ -14,7 +15,7 @@ use Rattle.double_descr.specs.Steps.{Step, IsFirst}
 use Rattle.double_descr.specs.declared.fault.DdFault.TheVariants.{Left as Adding}
 use Rattle.deriv_log.specs.declared.licence.Family.{Family}
 use Rattle.deriv_log.specs.declared.licence.Place.TheVariants.{Pair}
-use Rattle.log_rules.specs.Events.{Event, exact}
+use Rattle.log_rules.specs.Events.{Event}
 use Rattle.log_rules.specs.Events.Event.{step}
 use Rattle.overflow_rules.specs.Licence.{IsOverflow}
 use Rattle.overflow_rules.specs.Operands.{Setting, IsAddition}
@@ -22,7 +23,7 @@ use Rattle.overflow_rules.specs.Steps.{in_numbers, operation, value_steps, pair_
 use Rattle.overflow_rules.proofs.Given.{overflow_laws}
 use Rattle.overflows.specs.Faults.{IsLeftAt, Overflows}
 use Rattle.overflows.specs.declared.fault.SolveFault.{SolveFault}
-use Rattle.overflows.proofs.Events.{event_of, same_exact, value_events, pair_events}
+use Rattle.overflows.proofs.Events.{event_of, value_events, pair_events}
 use Rattle.overflows.proofs.Starts.{left_overflows, same_operation}
 
 module _ {F : Type 0} (value : F → ℚ) (holds : ℚ → Bool) (zero : IsTrue (holds zero_ℚ)) (s : Setting) (family : Family) where
@@ -58,10 +59,10 @@ module _ {F : Type 0} (value : F → ℚ) (holds : ℚ → Bool) (zero : IsTrue 
     a = h.step.a;
     b = h.step.b;
     split = sym same ∙ ap (map event_of) h.split ∙ map-append event_of h.before (h.step ∷ h.after);
-    not_held = subst (λ (x : ℚ). IsFalse (holds x)) (same_exact h.step.op h.step.a h.step.b) h.not_held;
+    not_held = h.left_is.3;
     numbered = let long : length (map event_of h.before) ≡ length h.before = length-map h.before event_of in
         let k : number ≡ length h.before + 1 = h.numbered in omega arith;
-    same = same_operation left.op h.step.op (value left.a) h.step.a (value left.b) h.step.b h.same_op h.same_a h.same_b;
+    same = same_operation left.op h.step.op (value left.a) h.step.a (value left.b) h.step.b h.left_is.0 h.left_is.1 h.left_is.2;
   }
 
   module _ (before : List (List ℚ)) (last : List ℚ) (list : LiveList) (addition : IsAddition s before last list family) where

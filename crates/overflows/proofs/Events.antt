@@ -4,16 +4,15 @@ use Rattle.std.specs.Prelude.{◌||◌, zip}
 use Rattle.std.proofs.lemmas.List.{map-append}
 use Rattle.exact_field.specs.Rational.{ℚ, zero_ℚ, ◌+ℚ◌, ◌*ℚ◌, ◌/ℚ◌, neg_ℚ}
 use Rattle.exact_field.specs.Vector.{dot}
-use Rattle.exact_field.specs.declared.op.Op.{Op}
-use Rattle.exact_field.specs.declared.op.Op.TheVariants.{Add, Sub, Mul, Div}
+use Rattle.exact_field.specs.declared.op.Op.TheVariants.{Add, Mul, Div}
 use Rattle.exact_field.proofs.Rationals.{zero-mul_ℚ}
 use Rattle.polyhedra.specs.DoubleDescription.{is_zero, magnitude, norming, meeting}
 use Rattle.polyhedra.proofs.Algebra.{mul_zero}
 use Rattle.polyhedra.proofs.Laws.{add_zero}
 use Rattle.polyhedra.proofs.Tests.{either_true, same_tests, test_of_zero, zero_of_test}
 use Rattle.frac128.specs.Sparse.{is_zero as is_nought}
-use Rattle.double_descr.specs.Steps.{Step, computed, combination_steps, meeting_steps, multiple_steps, product_steps, quotient_steps}
-use Rattle.log_rules.specs.Events.{Event, exact, sum_from}
+use Rattle.double_descr.specs.Steps.{Step, combination_steps, meeting_steps, multiple_steps, product_steps, quotient_steps}
+use Rattle.log_rules.specs.Events.{Event, sum_from}
 use Rattle.log_rules.specs.Events as events
 use Rattle.log_rules.specs.Events.Event.{step}
 use Rattle.log_rules.proofs.PassedTests.{zero_number, zero_passes}
@@ -22,12 +21,6 @@ use Rattle.overflow_rules.specs.Steps.{value_steps, pair_steps}
 -- a step as an event
 abbrev pub event_of : Step → Event
 event_of s = step s.op s.a s.b
-
-pub same_exact : (o : Op) (a b : ℚ) → computed o a b ≡ exact o a b
-same_exact Add a b = refl
-same_exact Sub a b = refl
-same_exact Mul a b = refl
-same_exact Div a b = refl
 
 same_test : (q : ℚ) → is_zero q ≡ is_nought q
 same_test q = same_tests (is_zero q) (is_nought q) (λ h. zero_passes q (zero_of_test q h)) (λ h. test_of_zero q (zero_number q h))

@@ -53,9 +53,9 @@ module _ {F : Type 0} (value : F → ℚ) (holds : ℚ → Bool) (zero : IsTrue 
       go h =
           let by = magnitude (norming-of (column_of h.inverse h.corner)) in
           let over = overflow_laws.norming holds s rows basis h.inverse h.corner col zero (subst (λ (m : ℕ). AreElimRows s rows m) (sym many) c)
-          h.is h.corner_from_one h.corner_to_end h.from_one h.to_end h.not_held in
+          h.is h.corner_from_one h.corner_to_end h.from_one h.to_end h.left_is.3 in
           let same : in_numbers value left ≡ operation Div (entry (column_of h.inverse h.corner) col) by =
-          same_operation left.op Div (value left.a) (entry (column_of h.inverse h.corner) col) (value left.b) by h.op h.dividend h.divisor in
+          same_operation left.op Div (value left.a) (entry (column_of h.inverse h.corner) col) (value left.b) by h.left_is.0 h.left_is.1 h.left_is.2 in
           subst (λ (l : Left ℚ). IsOverflow holds s (Elim rows basis row col number) l) (sym same)
           (subst (λ (r : ℕ). IsOverflow holds s (Elim rows basis r col number) (operation Div (entry (column_of h.inverse h.corner) col) by)) (sym zero_row)
           (subst (λ (k : ℕ). IsOverflow holds s (Elim rows basis 0 col k) (operation Div (entry (column_of h.inverse h.corner) col) by)) (sym first) over))

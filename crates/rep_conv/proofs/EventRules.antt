@@ -7,6 +7,7 @@ use Rattle.std.proofs.lemmas.List.{append-nil, append_assoc, get_or-map}
 use Rattle.std.proofs.lemmas.List.Elements.{All-nil, All-cons, All-head, All-tail, All-weaker, All-get_or, All-from_get_or}
 use Rattle.std.proofs.lemmas.List.FromFn.{get_or-range_with_len, length-range_with_len}
 use Rattle.std.proofs.lemmas.List.Sums.{AllPass-from_list_all}
+use Rattle.exact_field.specs.Field.{exact}
 use Rattle.exact_field.specs.Rational.{ℚ, zero_ℚ, one_ℚ, ◌*ℚ◌, ◌/ℚ◌, neg_ℚ, lt_ℚ}
 use Rattle.exact_field.specs.Order.{same_ℚ}
 use Rattle.exact_field.specs.Vector.{dot, entry}
@@ -20,7 +21,7 @@ use Rattle.polyhedra.proofs.Members.{all_of_members, member_of}
 use Rattle.polyhedra.proofs.Tests.{both_true, both_hold, true-list_all}
 use Rattle.upper_image.specs.Spots.{pieces}
 use Rattle.upper_image.proofs.Widths.{length-pieces}
-use Rattle.log_rules.specs.Events.{Event, Failure, exact, first_failure, dot_steps, rises, same_pairs, meeting_steps, meeting_point}
+use Rattle.log_rules.specs.Events.{Event, Failure, first_failure, dot_steps, rises, same_pairs, meeting_steps, meeting_point}
 use Rattle.log_rules.specs.Events.Event.{test, step}
 use Rattle.log_rules.specs.Events.Failure.{left}
 use Rattle.log_rules.specs.Live.{value, find, contains, required_pairs}

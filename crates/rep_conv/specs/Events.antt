@@ -1,6 +1,7 @@
 -- The tests and steps of a conversion in their order, and the first that fails.
 use Rattle.std.specs.Prelude.{◌≡◌, ℕ, suc, ◌+◌, ◌*◌, ◌==◌, Bool, not, ◌&&◌, nat_lt, IsTrue, List, [], ◌∷◌, ◌++◌, map, length, All, Option, None, Some}
 use Rattle.std.specs.List.{flat_map, list_all, enumerate_from, range_with_len}
+use Rattle.exact_field.specs.Field.{exact}
 use Rattle.exact_field.specs.Rational.{ℚ, one_ℚ, ◌/ℚ◌, neg_ℚ}
 use Rattle.exact_field.specs.Order.{same_ℚ}
 use Rattle.exact_field.specs.Vector.{dot, entry}
@@ -10,7 +11,7 @@ use Rattle.lineality.specs.Lines.{leading_place}
 use Rattle.polyhedra.specs.DoubleDescription.{magnitude, norming}
 use Rattle.polyhedra.specs.LiveList.{Numbered}
 use Rattle.upper_image.specs.Spots.{pieces}
-use Rattle.log_rules.specs.Events.{Event, Failing, first_failure, dot_steps, exact, goes_on, rises, same_pairs, meeting_steps, meeting_point}
+use Rattle.log_rules.specs.Events.{Event, Failing, first_failure, dot_steps, goes_on, rises, same_pairs, meeting_steps, meeting_point}
 use Rattle.log_rules.specs.Events.Event.{test, step}
 use Rattle.log_rules.specs.Live.{value, find, contains, required_pairs}
 use Rattle.word_lines.specs.declared.part.LogPair.{LogPair}

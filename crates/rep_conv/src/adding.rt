@@ -53,8 +53,8 @@ fn values_of(
         (λ values. values ≡ values_at row.now generators.now) result }
 {
     let mut values = Items::new(alloc);
-    for i in 0..generators.len() {
-        let value = counter.dot(row, generators[i].vector.as_slice())?;
+    for generator in generators {
+        let value = counter.dot(row, generator.vector.as_slice())?;
         append(&mut values, value)?;
     }
     Ok(values)

@@ -41,8 +41,8 @@ fn are_tight(counter: &mut Steps, d: &[Frac], rows: &[Vector]) -> Result<(), Sto
     ensures { Runs is_held (flat_map (tight_events d.now) rows.now) counter.old.taken
         counter.new.taken (λ _. ⊤) result }
 {
-    for k in 0..rows.len() {
-        is_tight(counter, d, rows[k].as_slice())?;
+    for row in rows {
+        is_tight(counter, d, row.as_slice())?;
     }
     Ok(())
 }

@@ -61,8 +61,8 @@ fn meets_rows(
     ensures { Runs is_held (corners_events rep.now (number, generator.now) named.now)
         counter.old.taken counter.new.taken (λ _. ⊤) result }
 {
-    for i in 0..named.len() {
-        let row = rows[named[i] as usize].as_slice();
+    for (i, place) in named.iter().enumerate() {
+        let row = rows[*place as usize].as_slice();
         meets_direction(counter, row, i + 1 == number, generator)?;
     }
     Ok(())

@@ -2,6 +2,7 @@
 use Rattle.std.proofs.Common.{◌≡◌, ◌≢◌, ℕ, ◌+◌, ◌-◌, ◌≤◌, List, [], ◌∷◌, length, refl, sym, ap, ap₂, ◌∙◌, subst, true≢false, IsTrue, ◌⊎◌, inl, inr}
 use Rattle.std.specs.Prelude.{IsFalse}
 use Rattle.std.proofs.lemmas.List.{map-id}
+use Rattle.exact_field.specs.Field.{exact}
 use Rattle.exact_field.specs.Rational.{ℚ, zero_ℚ, ◌+ℚ◌, ◌-ℚ◌, ◌*ℚ◌, ◌/ℚ◌, inverse_ℚ, whole, fraction}
 use Rattle.exact_field.specs.Vector.{entry}
 use Rattle.exact_field.specs.declared.op.Op.{Op}
@@ -25,7 +26,6 @@ use Rattle.double_descr.specs.declared.fault.DdFault.TheVariants.{Elim as Starti
 use Rattle.deriv_log.specs.declared.licence.Licence.{Licence}
 use Rattle.deriv_log.specs.declared.licence.Place.{Place}
 use Rattle.deriv_log.specs.declared.licence.Place.TheVariants.{Elim}
-use Rattle.log_rules.specs.Events.{exact}
 use Rattle.overflow_rules.specs.Laws.{term_number}
 use Rattle.overflow_rules.specs.Steps.{operation, IsNotHeld}
 use Rattle.overflow_rules.proofs.Given.{not_held}
@@ -145,10 +145,10 @@ start_licensed rep lines rows (Stuck basis row col step left) told result held i
     go h =
         let v : List ℚ = column_of h.inverse h.corner in
         let same_left : left ≡ operation Div (entry v col) (magnitude (norming v)) =
-        same_operation left.op Div left.a (entry v col) left.b (magnitude (norming v)) h.op h.dividend h.divisor in
+        same_operation left.op Div left.a (entry v col) left.b (magnitude (norming v)) h.left_is.0 h.left_is.1 h.left_is.2 in
         licensed rep (Elim rows basis row col step) left told result is same
         (not_held is_held left zero_held (still (exact left.op left.a left.b) (entry v col /ℚ magnitude (norming v))
-        (same_exact left.op Div left.a (entry v col) left.b (magnitude (norming v)) h.op h.dividend h.divisor) h.not_held))
+        (same_exact left.op Div left.a (entry v col) left.b (magnitude (norming v)) h.left_is.0 h.left_is.1 h.left_is.2) h.left_is.3))
         (inr (
           zero_row,
           IsListStep.normed (record {

@@ -3,6 +3,7 @@ use Rattle.std.proofs.Common.{◌≡◌, ℕ, suc, ◌+◌, ◌-◌, ◌<◌, Li
 use Rattle.std.specs.Prelude.{IsFalse}
 use Rattle.std.proofs.lemmas.List.{length-map, map-append}
 use Rattle.std.proofs.lemmas.List.Elements.{Contains-append_cases, Contains-append_right, Contains-get_or}
+use Rattle.exact_field.specs.Field.{exact}
 use Rattle.exact_field.specs.Rational.{ℚ}
 use Rattle.exact_field.specs.declared.op.Op.{Op}
 use Rattle.exact_field.specs.declared.op.Left.{Left}
@@ -19,7 +20,7 @@ use Rattle.double_descr.specs.declared.fault.DdFault.TheVariants as description
 use Rattle.deriv_log.specs.declared.licence.Family.TheVariants.{Rep as RowsOfRep}
 use Rattle.deriv_log.specs.declared.licence.Licence.{Licence}
 use Rattle.deriv_log.specs.declared.licence.Place.TheVariants.{Pair}
-use Rattle.log_rules.specs.Events.{Event, exact}
+use Rattle.log_rules.specs.Events.{Event}
 use Rattle.log_rules.specs.Events.Event.{step}
 use Rattle.overflow_rules.specs.Operands.{IsMadeOver, IsPairStep}
 use Rattle.overflow_rules.specs.Steps.{IsNumbered, in_numbers, operation, pair_steps, value_steps}
@@ -27,7 +28,7 @@ use Rattle.overflow_rules.proofs.Given.{not_held}
 use Rattle.overflows.specs.Told.{IsAdditionLeft}
 use Rattle.overflows.specs.declared.fault.SolveFault.{SolveFault}
 use Rattle.overflows.specs.declared.fault.SolveFault.TheVariants as solving
-use Rattle.overflows.proofs.Events.{event_of, pair_events, same_exact, value_events}
+use Rattle.overflows.proofs.Events.{event_of, pair_events, value_events}
 use Rattle.rep_conv.specs.Live.{rows_in_use, state}
 use Rattle.rep_conv.specs.Rows.{row_at, text_rows}
 use Rattle.rep_text.specs.declared.conv.ConvEntry.{ConvEntry}
@@ -63,7 +64,7 @@ module _ {F : Type 0} (value : F → ℚ) (holds : ℚ → Bool) where
       IsEventLeft events number left
   event_left steps number left events same h =
       let here : in_numbers value left ≡ operation h.step.op h.step.a h.step.b =
-      same_operation left.op h.step.op (value left.a) h.step.a (value left.b) h.step.b h.same_op h.same_a h.same_b in
+      same_operation left.op h.step.op (value left.a) h.step.a (value left.b) h.step.b h.left_is.0 h.left_is.1 h.left_is.2 in
       let long : length (map event_of h.before) ≡ length h.before = length-map h.before event_of in
       let count : suc (length (map event_of h.before)) ≡ number = let k : number ≡ length h.before + 1 = h.numbered in omega (arith, k, long) in
       let is : IsNumbered events (suc (length (map event_of h.before))) (operation h.step.op h.step.a h.step.b) =
@@ -72,8 +73,7 @@ module _ {F : Type 0} (value : F → ℚ) (holds : ℚ → Bool) where
       record {
         is_numbered = subst (λ (n : ℕ). IsNumbered events n (in_numbers value left)) count
             (subst (λ (l : Left ℚ). IsNumbered events (suc (length (map event_of h.before))) l) (sym here) is);
-        fails = subst (λ (l : Left ℚ). IsFalse (holds (exact l.op l.a l.b))) (sym here)
-            (subst (λ (x : ℚ). IsFalse (holds x)) (same_exact h.step.op h.step.a h.step.b) h.not_held);
+        fails = subst (λ (l : Left ℚ). IsFalse (holds (exact l.op l.a l.b))) (sym here) h.left_is.3;
       }
 
   module _ (before : List (List ℚ)) (last : List ℚ) (list : LiveList) (first second number : ℕ) (left : Left F) where

@@ -30,14 +30,14 @@ meet_with-requires g c κs within =
           room = making.room;
           listed = (i, inside, sym c.index-generators-i.is);
           valued = ae;
-          positive = sym c.is_above.ensures ∙ c.if-not-is_above.false;
+          positive = sym c.is_positive.ensures.test ∙ c.if-not-is_positive.false;
         },
         (c.requires.1.1.0, (making.places, c.requires.1.1.1.1.bound)),
       ),
     )
 
-pub returns-then-not-is_above-clause-ok : goal.returns-then-not-is_above-clause-ok
-returns-then-not-is_above-clause-ok g c =
+pub returns-then-not-is_positive-clause-ok : goal.returns-then-not-is_positive-clause-ok
+returns-then-not-is_positive-clause-ok g c =
     let value = g.F.Field.value in
     let d = g.addition in
     let gens = c.args.generators.now in
@@ -51,7 +51,7 @@ returns-then-not-is_above-clause-ok g c =
     i c.index-values-i.result p (omega (arith, c.requires.1.1.0, inside)) inside c.index-values-i.is c.index-generators-i.is in
     subst (λ (l : List LivePair). IsMadeSoFar value g.F.Field.holds d gens l c.args.so_far.now)
     (candidates_at d.row (numbered_of value p) (drop i live) (drop (i + 1) live) live e false
-    (sym (ap (λ x. lt_ℚ zero_ℚ x) (sym ae) ∙ sym c.is_above.ensures ∙ c.if-not-is_above.true))) c.requires.1.1.1.1
+    (sym (ap (λ x. lt_ℚ zero_ℚ x) (sym ae) ∙ sym c.is_positive.ensures.test ∙ c.if-not-is_positive.true))) c.requires.1.1.1.1
 
 pub returns-clause-ok : goal.returns-clause-ok
 returns-clause-ok g c =
@@ -69,7 +69,7 @@ returns-clause-ok g c =
     let here : IsMadeSoFar value g.F.Field.holds d gens (with_negatives d.row (numbered_of value p) live ++ candidates_from value d gens (i + 1)) c.args.so_far.now =
     subst (λ (l : List LivePair). IsMadeSoFar value g.F.Field.holds d gens l c.args.so_far.now)
     (candidates_at d.row (numbered_of value p) (drop i live) (drop (i + 1) live) live e true
-    (sym (ap (λ x. lt_ℚ zero_ℚ x) (sym ae) ∙ sym c.is_above.ensures ∙ c.if-not-is_above.false))) c.requires.1.1.1.1 in
+    (sym (ap (λ x. lt_ℚ zero_ℚ x) (sym ae) ∙ sym c.is_positive.ensures.test ∙ c.if-not-is_positive.false))) c.requires.1.1.1.1 in
     c.meet_with.ensures.ok (candidates_from value d gens (i + 1)) here
 
 pub returns-clause-left : goal.returns-clause-left
@@ -88,5 +88,5 @@ returns-clause-left g c =
     let here : IsMadeSoFar value g.F.Field.holds d gens (with_negatives d.row (numbered_of value p) live ++ candidates_from value d gens (i + 1)) c.args.so_far.now =
     subst (λ (l : List LivePair). IsMadeSoFar value g.F.Field.holds d gens l c.args.so_far.now)
     (candidates_at d.row (numbered_of value p) (drop i live) (drop (i + 1) live) live e true
-    (sym (ap (λ x. lt_ℚ zero_ℚ x) (sym ae) ∙ sym c.is_above.ensures ∙ c.if-not-is_above.false))) c.requires.1.1.1.1 in
+    (sym (ap (λ x. lt_ℚ zero_ℚ x) (sym ae) ∙ sym c.is_positive.ensures.test ∙ c.if-not-is_positive.false))) c.requires.1.1.1.1 in
     c.meet_with.ensures.left (candidates_from value d gens (i + 1)) here

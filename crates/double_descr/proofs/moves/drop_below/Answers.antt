@@ -1,5 +1,4 @@
-use Rattle.std.proofs.Common.{◌≡◌, ℕ, ◌+◌, ◌<◌, ◌≤◌, List, All, length, refl, sym, ap, ◌∙◌, subst, arith}
-use Rattle.std.specs.Vec.{vec_capacity, vec_len}
+use Rattle.std.proofs.Common.{ℕ, ◌+◌, ◌<◌, List, All, length, refl, sym, ap, ◌∙◌, subst, arith}
 use Rattle.double_descr.specs.State.{HasTightSet, live_of}
 use Rattle.double_descr.specs.declared.generator.Generator.{Generator}
 use Rattle.double_descr.proofs.Sifting.{IsSifted, all_sifted, none_sifted, one_dropped, one_kept}
@@ -25,14 +24,14 @@ loop-i-preserved g c =
         capacity = ap (λ v. v.cap) w.generators-is ∙ w.swap.ensures.capacity ∙ at.capacity;
         sifted = subst (λ (p : List (Generator _) × ℕ). IsSifted value vals first p.0 p.1 (i + 1))
             (λ j. (sym (ap (λ v. v.items) w.generators-is ∙ w.swap.ensures.items) j, sym w.kept-is j))
-            (one_kept value vals first now kept i at.sifted inside c.loop-i-test.true x c.index-vals-i.is (sym c.is_below.ensures ∙ w.if-not-is_below.true));
+            (one_kept value vals first now kept i at.sifted inside c.loop-i-test.true x c.index-vals-i.is (sym c.is_below.ensures.test ∙ w.if-not-is_below.true));
       }
       | goal.else-not-is_below w ↦ record {
         many = ap (λ v. v.len) w.generators-is ∙ at.many;
         capacity = ap (λ v. v.cap) w.generators-is ∙ at.capacity;
         sifted = subst (λ (p : List (Generator _) × ℕ). IsSifted value vals first p.0 p.1 (i + 1))
             (λ j. (sym (ap (λ v. v.items) w.generators-is) j, sym w.kept-is j))
-            (one_dropped value vals first now kept i at.sifted inside c.loop-i-test.true x c.index-vals-i.is (sym c.is_below.ensures ∙ w.if-not-is_below.false));
+            (one_dropped value vals first now kept i at.sifted inside c.loop-i-test.true x c.index-vals-i.is (sym c.is_below.ensures.test ∙ w.if-not-is_below.false));
       }
     ]
 

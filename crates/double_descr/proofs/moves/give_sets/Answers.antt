@@ -1,12 +1,12 @@
-use Rattle.std.proofs.Common.{◌≡◌, ℕ, ◌+◌, ◌<◌, List, Bool, drop, get_or, length, map, refl, sym, ap, ◌∙◌, arith}
-use Rattle.std.proofs.lemmas.List.{drop-set-lt, get_or-map, length-map}
+use Rattle.std.proofs.Common.{◌≡◌, ℕ, ◌+◌, ◌<◌, List, Bool, drop, get_or, length, refl, sym, ap, ◌∙◌, arith}
+use Rattle.std.proofs.lemmas.List.{drop-set-lt, get_or-map}
 use Rattle.std.proofs.lemmas.Grind.{drop_more_same}
 use Rattle.exact_field.specs.Rational.{ℚ}
 use Rattle.polyhedra.specs.LiveList.{tight_set}
 use Rattle.double_descr.specs.State.{tight_sets, with_tight_set}
 use Rattle.double_descr.specs.Steps.{values}
 use Rattle.double_descr.specs.declared.generator.Generator.{Generator}
-use Rattle.double_descr.proofs.InPlace.{IsMappedTo, all_mapped, here_same, none_mapped, one_more_mapped}
+use Rattle.double_descr.proofs.InPlace.{all_mapped, here_same, none_mapped, one_more_mapped}
 use Rattle.double_descr.proofs.moves.give_sets.Goals as goal
 
 -- the set at a place is that of the generator there

@@ -20,4 +20,4 @@ returns-in_err-sum c =
 pub returns : goal.returns
 returns c =
     then-test (product_steps c.args.bounds.now c.args.u.now) c.args.counter.now.taken c.dot_sparse.new.self.taken rule.Bound c.is_positive.result (lt_ℚ zero_ℚ (product c.args.bounds.now c.args.u.now)) c.pass.result
-    record { none = c.in_ok-sum.ensures.0; count = c.in_ok-sum.ensures.1 } (c.is_positive.ensures ∙ ap (lt_ℚ zero_ℚ) c.in_ok-sum.ensures.2) (c.pass.ensures c.dot_sparse.new.self.taken)
+    record { none = c.in_ok-sum.ensures.0; count = c.in_ok-sum.ensures.1 } (c.is_positive.ensures.test ∙ ap (lt_ℚ zero_ℚ) c.in_ok-sum.ensures.2) (c.pass.ensures c.dot_sparse.new.self.taken)

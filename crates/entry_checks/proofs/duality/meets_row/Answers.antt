@@ -25,4 +25,4 @@ pub returns : goal.returns
 returns c =
     subst (λ (es : List Event). Runs {X = Unit {0}} is_held es c.args.counter.now.taken c.dot.new.self.taken (λ _. ⊤) c.pass.result) (sym (ap (λ (b : Bool). if b then [] else dot_steps c.args.v.now c.args.c.now ++ test rule.Interior (lt_ℚ zero_ℚ (dot c.args.v.now c.args.c.now)) ∷ []) (sym c.are_zeros.ensures ∙ c.if-are_zeros.false)))
     (then-test (dot_steps c.args.v.now c.args.c.now) c.args.counter.now.taken c.dot.new.self.taken rule.Interior c.is_positive.result (lt_ℚ zero_ℚ (dot c.args.v.now c.args.c.now)) c.pass.result
-    record { none = c.in_ok-product.ensures.0; count = c.in_ok-product.ensures.1 } (c.is_positive.ensures ∙ ap (lt_ℚ zero_ℚ) c.in_ok-product.ensures.2) (c.pass.ensures c.dot.new.self.taken))
+    record { none = c.in_ok-product.ensures.0; count = c.in_ok-product.ensures.1 } (c.is_positive.ensures.test ∙ ap (lt_ℚ zero_ℚ) c.in_ok-product.ensures.2) (c.pass.ensures c.dot.new.self.taken))

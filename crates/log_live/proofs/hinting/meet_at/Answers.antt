@@ -13,7 +13,7 @@ returns-then-not-is_positive-clause-walks c = λ q rows row d listed among at_pl
     let live : List Numbered = live_of c.args.generators.now in
     let p : Numbered = numbered_of c.args.plus.now in
     let other : lt_ℚ zero_ℚ (value row p) ≡ false = ap (lt_ℚ zero_ℚ) (sym at_plus)
-    ∙ sym c.is_positive.ensures ∙ c.if-not-is_positive.true in
+    ∙ sym c.is_positive.ensures.test ∙ c.if-not-is_positive.true in
     subst (λ (block : List LivePair). Walks rows live c.args.pairs.now c.args.hints.now
     c.args.meeting.now true c.args.meeting.now block)
     (sym (ap (λ (b : Bool). if b then pairs_beside p (negatives_of row live) else []) other))
@@ -24,7 +24,7 @@ returns-clause-walks c = λ q rows row d listed among at_plus negatives.
     let live : List Numbered = live_of c.args.generators.now in
     let p : Numbered = numbered_of c.args.plus.now in
     let positive : lt_ℚ zero_ℚ (value row p) ≡ true = ap (lt_ℚ zero_ℚ) (sym at_plus)
-    ∙ sym c.is_positive.ensures ∙ c.if-not-is_positive.false in
+    ∙ sym c.is_positive.ensures.test ∙ c.if-not-is_positive.false in
     subst (λ (block : List LivePair). Walks rows live c.args.pairs.now c.args.hints.now
     c.args.meeting.now c.meet_with.result c.meet_with.new.meeting block)
     (ap (pairs_beside p) negatives

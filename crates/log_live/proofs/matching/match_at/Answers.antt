@@ -13,7 +13,7 @@ returns-clause-matches c = λ q rows row d listed among at_plus negatives.
     let live : List Numbered = live_of c.args.generators.now in
     let p : Numbered = numbered_of c.args.plus.now in
     let positive : lt_ℚ zero_ℚ (value row p) ≡ true = ap (lt_ℚ zero_ℚ) (sym at_plus)
-    ∙ sym c.is_positive.ensures ∙ c.if-not-is_positive.false in
+    ∙ sym c.is_positive.ensures.test ∙ c.if-not-is_positive.false in
     subst (λ (block : List LogPair). Matches c.args.pairs.now c.args.scan.now.found
     c.match_with.result c.match_with.new.scan.found block)
     (ap (pairs_with rows live p) negatives

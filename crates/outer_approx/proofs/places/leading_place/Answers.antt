@@ -11,7 +11,7 @@ returns-then-not-is_zero g c =
     let k = c.loop-k.k in
     let x = c.index-v-k.result in
     sym (c.loop-k.invariant ∙ ap (λ (n : ℕ). k + n) (place_here (map value (drop k v)) (map value (drop (k + 1) v)) (value x)
-    (values_rest value v k x c.loop-k-test.true c.index-v-k.is) (sym c.is_zero.ensures ∙ c.if-not-is_zero.true)))
+    (values_rest value v k x c.loop-k-test.true c.index-v-k.is) (sym c.is_zero.ensures.test ∙ c.if-not-is_zero.true)))
 
 pub loop-k-preserved : goal.loop-k-preserved
 loop-k-preserved g c =
@@ -20,7 +20,7 @@ loop-k-preserved g c =
     let k = c.loop-k.k in
     let x = c.index-v-k.result in
     let next = place_next (map value (drop k v)) (map value (drop (k + 1) v)) (value x)
-    (values_rest value v k x c.loop-k-test.true c.index-v-k.is) (sym c.is_zero.ensures ∙ c.if-not-is_zero.false) in
+    (values_rest value v k x c.loop-k-test.true c.index-v-k.is) (sym c.is_zero.ensures.test ∙ c.if-not-is_zero.false) in
     c.loop-k.invariant ∙ ap (λ (n : ℕ). k + n) next ∙ (omega arith)
 
 pub returns : goal.returns

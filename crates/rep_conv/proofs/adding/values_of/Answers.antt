@@ -13,41 +13,41 @@ use Rattle.rep_conv.proofs.adding.values_of.Goals as goal
 
 pub dot-requires-clause-lengths : goal.dot-requires-clause-lengths
 dot-requires-clause-lengths c =
-    let wide = c.requires.widths c.loop-i.i c.index-generators-i.result (omega arith) in
-    wide ∙ ap length (sym c.as_slice.ensures.items)
+    let wide = c.requires.widths c.loop-generator.generator-index c.generator-item.result (omega arith) in
+    wide ∙ ap length (sym (c.as_slice.ensures.items ∙ ap (λ (g : Generator). g.vector) c.generator-item.is))
 
 pub dot-requires-clause-room : goal.dot-requires-clause-room
 dot-requires-clause-room c =
-    let most = at-room (λ (g : Generator). dot_steps c.args.row.now g.vector) c.args.generators.now c.args.counter.now.taken c.loop-i.i c.loop-i.counter.taken c.index-generators-i.result (omega arith) c.index-generators-i.is c.loop-i.invariant.here in
-    let same = ap steps (ap (dot_steps c.args.row.now) (c.as_slice.ensures.items ∙ ap (λ (g : Generator). g.vector) (sym c.index-generators-i.is))) in
+    let most = at-room (λ (g : Generator). dot_steps c.args.row.now g.vector) c.args.generators.now c.args.counter.now.taken c.loop-generator.generator-index c.loop-generator.counter.taken c.generator-item.result (omega arith) c.generator-item.is c.loop-generator.invariant.here in
+    let same = ap steps (ap (dot_steps c.args.row.now) c.as_slice.ensures.items) in
     let room = c.requires.room in
     omega (arith, most, same, room)
 
 pub returns-in_err-value : goal.returns-in_err-value
 returns-in_err-value c =
-    let stopped = at-stop (λ (g : Generator). dot_steps c.args.row.now g.vector) c.args.generators.now c.args.counter.now.taken c.loop-i.i c.loop-i.counter.taken c.index-generators-i.result c.in_err-value.field-0.0 (omega arith) c.index-generators-i.is c.loop-i.invariant.here
-    (subst (λ (es : List Event). Stops is_held es c.loop-i.counter.taken c.in_err-value.field-0.0) (ap (dot_steps c.args.row.now) (c.as_slice.ensures.items ∙ ap (λ (g : Generator). g.vector) (sym c.index-generators-i.is))) c.in_err-value.ensures) in
+    let stopped = at-stop (λ (g : Generator). dot_steps c.args.row.now g.vector) c.args.generators.now c.args.counter.now.taken c.loop-generator.generator-index c.loop-generator.counter.taken c.generator-item.result c.in_err-value.field-0.0 (omega arith) c.generator-item.is c.loop-generator.invariant.here
+    (subst (λ (es : List Event). Stops is_held es c.loop-generator.counter.taken c.in_err-value.field-0.0) (ap (dot_steps c.args.row.now) c.as_slice.ensures.items) c.in_err-value.ensures) in
     search (stopped, rules)
 
 pub returns-in_err-append : goal.returns-in_err-append
 returns-in_err-append c =
-    let came : Passed (dot_steps c.args.row.now c.index-generators-i.result.vector) c.loop-i.counter.taken c.dot.new.self.taken =
-    subst (λ (es : List Event). Passed es c.loop-i.counter.taken c.dot.new.self.taken) (ap (dot_steps c.args.row.now) (c.as_slice.ensures.items ∙ ap (λ (g : Generator). g.vector) (sym c.index-generators-i.is))) record { none = c.in_ok-value.ensures.0; count = c.in_ok-value.ensures.1 } in
+    let came : Passed (dot_steps c.args.row.now c.generator-item.result.vector) c.loop-generator.counter.taken c.dot.new.self.taken =
+    subst (λ (es : List Event). Passed es c.loop-generator.counter.taken c.dot.new.self.taken) (ap (dot_steps c.args.row.now) c.as_slice.ensures.items) record { none = c.in_ok-value.ensures.0; count = c.in_ok-value.ensures.1 } in
     let here : Stopped [] c.dot.new.self.taken c.in_err-append.field-0.0 = record { at = c.in_err-append.ensures c.dot.new.self.taken } in
-    let stopped = at-stop (λ (g : Generator). dot_steps c.args.row.now g.vector) c.args.generators.now c.args.counter.now.taken c.loop-i.i c.loop-i.counter.taken c.index-generators-i.result c.in_err-append.field-0.0 (omega arith) c.index-generators-i.is c.loop-i.invariant.here (stopped-after came here).at in
+    let stopped = at-stop (λ (g : Generator). dot_steps c.args.row.now g.vector) c.args.generators.now c.args.counter.now.taken c.loop-generator.generator-index c.loop-generator.counter.taken c.generator-item.result c.in_err-append.field-0.0 (omega arith) c.generator-item.is c.loop-generator.invariant.here (stopped-after came here).at in
     search (stopped, rules)
 
-pub loop-i-preserved : goal.loop-i-preserved
-loop-i-preserved c =
+pub loop-generator-preserved : goal.loop-generator-preserved
+loop-generator-preserved c =
     record {
-      here = at-more (λ (g : Generator). dot_steps c.args.row.now g.vector) c.args.generators.now c.args.counter.now.taken c.loop-i.i c.loop-i.counter.taken c.dot.new.self.taken c.index-generators-i.result (omega arith) c.index-generators-i.is c.loop-i.invariant.here
-          (subst (λ (es : List Event). Passed es c.loop-i.counter.taken c.dot.new.self.taken) (ap (dot_steps c.args.row.now) (c.as_slice.ensures.items ∙ ap (λ (g : Generator). g.vector) (sym c.index-generators-i.is))) record { none = c.in_ok-value.ensures.0; count = c.in_ok-value.ensures.1 });
-      made = (c.in_ok-append.ensures 0).2 ∙ ap₂ (λ (vs : List ℚ) (z : ℚ). vs ++ z ∷ []) c.loop-i.invariant.made (c.in_ok-value.ensures.2 ∙ ap (dot c.args.row.now) (c.as_slice.ensures.items ∙ ap (λ (g : Generator). g.vector) (sym c.index-generators-i.is)))
-          ∙ sym (map-take_more (λ (g : Generator). dot c.args.row.now g.vector) c.args.generators.now c.loop-i.i c.index-generators-i.result (omega arith) c.index-generators-i.is);
+      here = at-more (λ (g : Generator). dot_steps c.args.row.now g.vector) c.args.generators.now c.args.counter.now.taken c.loop-generator.generator-index c.loop-generator.counter.taken c.dot.new.self.taken c.generator-item.result (omega arith) c.generator-item.is c.loop-generator.invariant.here
+          (subst (λ (es : List Event). Passed es c.loop-generator.counter.taken c.dot.new.self.taken) (ap (dot_steps c.args.row.now) c.as_slice.ensures.items) record { none = c.in_ok-value.ensures.0; count = c.in_ok-value.ensures.1 });
+      made = (c.in_ok-append.ensures 0).2 ∙ ap₂ (λ (vs : List ℚ) (z : ℚ). vs ++ z ∷ []) c.loop-generator.invariant.made (c.in_ok-value.ensures.2 ∙ ap (dot c.args.row.now) c.as_slice.ensures.items)
+          ∙ sym (map-take_more (λ (g : Generator). dot c.args.row.now g.vector) c.args.generators.now c.loop-generator.generator-index c.generator-item.result (omega arith) c.generator-item.is);
     }
 
 pub returns : goal.returns
 returns c =
-    let over : c.loop-i.i ≡ length c.args.generators.now = omega arith in
-    let done = at-end (λ (g : Generator). dot_steps c.args.row.now g.vector) c.args.generators.now c.args.counter.now.taken c.loop-i.i c.loop-i.counter.taken over c.loop-i.invariant.here in
-    (done.none, done.count, c.loop-i.invariant.made ∙ ap (λ (k : ℕ). values_at c.args.row.now (take k c.args.generators.now)) over ∙ ap (values_at c.args.row.now) (take_all (length c.args.generators.now) c.args.generators.now (omega arith)))
+    let over : c.loop-generator.generator-index ≡ length c.args.generators.now = omega arith in
+    let done = at-end (λ (g : Generator). dot_steps c.args.row.now g.vector) c.args.generators.now c.args.counter.now.taken c.loop-generator.generator-index c.loop-generator.counter.taken over c.loop-generator.invariant.here in
+    (done.none, done.count, c.loop-generator.invariant.made ∙ ap (λ (k : ℕ). values_at c.args.row.now (take k c.args.generators.now)) over ∙ ap (values_at c.args.row.now) (take_all (length c.args.generators.now) c.args.generators.now (omega arith)))

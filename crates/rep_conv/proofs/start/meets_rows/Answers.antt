@@ -11,14 +11,14 @@ use Rattle.rep_conv.specs.Rows.{row_at}
 use Rattle.rep_conv.proofs.EntrySteps.{below_at, named_next, row_read, row_wide}
 use Rattle.rep_conv.proofs.start.meets_rows.Goals as goal
 
-pub bounds-rows-named : goal.bounds-rows-named
-bounds-rows-named c = below_at (length c.args.rows.now) c.args.named.now c.loop-i.i 0 c.requires.named (omega arith)
+pub bounds-rows-place : goal.bounds-rows-place
+bounds-rows-place c = below_at (length c.args.rows.now) c.args.named.now c.loop-i.i 0 c.requires.named (omega arith)
 
 pub meets_direction-requires-clause-lengths : goal.meets_direction-requires-clause-lengths
 meets_direction-requires-clause-lengths c =
     let k = slice_index_or c.args.named.now c.loop-i.i 0 in
     let inside : k < length c.args.rows.now = below_at (length c.args.rows.now) c.args.named.now c.loop-i.i 0 c.requires.named (omega arith) in
-    ap length (c.as_slice-row.ensures.items ∙ c.index-rows-named.is ∙ row_read c.args.rep.now c.args.rows.now k c.index-rows-named.result c.requires.rows inside)
+    ap length (c.as_slice-row.ensures.items ∙ c.index-rows-place.is ∙ row_read c.args.rep.now c.args.rows.now k c.index-rows-place.result c.requires.rows inside)
     ∙ row_wide c.args.rep.now c.args.rows.now k c.requires.rows inside ∙ sym c.requires.width
 
 pub meets_direction-requires-clause-room : goal.meets_direction-requires-clause-room
@@ -28,7 +28,7 @@ meets_direction-requires-clause-room c =
     let long = length-numbered 1 c.args.named.now in
     let most = at-room (λ (row : ℕ × ℕ). corner_events (row_at c.args.rep.now row.1) (row.0 == c.args.number) c.args.generator.now) (enumerate_from 1 c.args.named.now) c.args.counter.now.taken c.loop-i.i c.loop-i.counter.taken
     (c.loop-i.i + 1, k) (omega (arith, long)) (named_next c.args.named.now c.loop-i.i (omega arith)) c.loop-i.invariant in
-    let same = ap steps (ap (λ (v : List ℚ). corner_events v (c.loop-i.i + 1 == c.args.number) c.args.generator.now) (c.as_slice-row.ensures.items ∙ c.index-rows-named.is ∙ row_read c.args.rep.now c.args.rows.now k c.index-rows-named.result c.requires.rows inside)) in
+    let same = ap steps (ap (λ (v : List ℚ). corner_events v (c.loop-i.i + 1 == c.args.number) c.args.generator.now) (c.as_slice-row.ensures.items ∙ c.index-rows-place.is ∙ row_read c.args.rep.now c.args.rows.now k c.index-rows-place.result c.requires.rows inside)) in
     let room = c.requires.room in
     omega (arith, most, same, room)
 
@@ -40,7 +40,7 @@ returns-in_err-meets_direction c =
     let stopped = at-stop (λ (row : ℕ × ℕ). corner_events (row_at c.args.rep.now row.1) (row.0 == c.args.number) c.args.generator.now) (enumerate_from 1 c.args.named.now) c.args.counter.now.taken c.loop-i.i c.loop-i.counter.taken
     (c.loop-i.i + 1, k) c.in_err-meets_direction.field-0.0 (omega (arith, long)) (named_next c.args.named.now c.loop-i.i (omega arith)) c.loop-i.invariant
     (subst (λ (es : List Event). Stops is_held es c.loop-i.counter.taken c.in_err-meets_direction.field-0.0)
-    (ap (λ (v : List ℚ). corner_events v (c.loop-i.i + 1 == c.args.number) c.args.generator.now) (c.as_slice-row.ensures.items ∙ c.index-rows-named.is ∙ row_read c.args.rep.now c.args.rows.now k c.index-rows-named.result c.requires.rows inside)) c.in_err-meets_direction.ensures) in
+    (ap (λ (v : List ℚ). corner_events v (c.loop-i.i + 1 == c.args.number) c.args.generator.now) (c.as_slice-row.ensures.items ∙ c.index-rows-place.is ∙ row_read c.args.rep.now c.args.rows.now k c.index-rows-place.result c.requires.rows inside)) c.in_err-meets_direction.ensures) in
     search (stopped, rules)
 
 pub loop-i-preserved : goal.loop-i-preserved
@@ -51,7 +51,7 @@ loop-i-preserved c =
     at-more (λ (row : ℕ × ℕ). corner_events (row_at c.args.rep.now row.1) (row.0 == c.args.number) c.args.generator.now) (enumerate_from 1 c.args.named.now) c.args.counter.now.taken c.loop-i.i c.loop-i.counter.taken c.meets_direction.new.counter.taken
     (c.loop-i.i + 1, k) (omega (arith, long)) (named_next c.args.named.now c.loop-i.i (omega arith)) c.loop-i.invariant
     (subst (λ (es : List Event). Passed es c.loop-i.counter.taken c.meets_direction.new.counter.taken)
-    (ap (λ (v : List ℚ). corner_events v (c.loop-i.i + 1 == c.args.number) c.args.generator.now) (c.as_slice-row.ensures.items ∙ c.index-rows-named.is ∙ row_read c.args.rep.now c.args.rows.now k c.index-rows-named.result c.requires.rows inside))
+    (ap (λ (v : List ℚ). corner_events v (c.loop-i.i + 1 == c.args.number) c.args.generator.now) (c.as_slice-row.ensures.items ∙ c.index-rows-place.is ∙ row_read c.args.rep.now c.args.rows.now k c.index-rows-place.result c.requires.rows inside))
     record { none = c.in_ok-meets_direction.ensures.0; count = c.in_ok-meets_direction.ensures.1 })
 
 pub returns : goal.returns
