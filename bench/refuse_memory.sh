@@ -7,9 +7,10 @@
 #                                       it from its sources, which compiles it anew each time
 #
 # The runs are `solve` with a log, of a problem with vertices, one without, and one with a cone by generators, `check`
-# of the logs of all three, `relog` of these and of a log of version 1, `sample 1`, and a projection with its log, an
-# associated problem, a sum, a join, an image and weights of these problems. The allocations are the calls of
-# malloc, calloc and realloc of the whole process, from 1 up to the first number that no run reaches.
+# of the logs of all three, `relog` of these and of a log of version 1, `sample 1`, a projection with its log, an
+# associated problem, a sum, a join, an image and weights of these problems, and `vertices` and `facets` of the alloy of
+# the examples, with logs, and `reconv` of both logs. The allocations are the calls of malloc, calloc and realloc of the
+# whole process, from 1 up to the first number that no run reaches.
 set -euo pipefail
 top=$(cd "$(dirname "${BASH_SOURCE[0]}")/.." && pwd)
 work=$(mktemp -d)
@@ -61,6 +62,11 @@ runs() {
     echo "map $work/problems/vertices"
     echo "weights $work/problems/vertices"
     echo "weigh $work/problems/line 1,1"
+    echo "vertices $top/examples/alloy.sides LOG"
+    echo "facets $top/examples/alloy.gens LOG"
+    for problem in alloy.sides alloy.gens; do
+        echo "reconv $top/examples/$problem $work/logs/$problem"
+    done
 }
 
 # A library in front of that of C, which refuses the allocation of the number REFUSE, and then writes a byte to the
@@ -120,7 +126,9 @@ sweep() {
     run_built 0 "${words[@]}"
     rm -rf "$work/plain"
     cp -r "$work/now" "$work/plain"
-    [ "$1" != solve ] || cp "$work/now/log" "$work/logs/$(basename "$2")"
+    case $1 in
+        solve | vertices | facets) cp "$work/now/log" "$work/logs/$(basename "$2")" ;;
+    esac
     while run_built "$number" "${words[@]}" && [ -s "$work/now/refused" ]; do
         if is_refused; then
             ended=$((ended + 1))

@@ -1,4 +1,4 @@
--- Sets of tight rows: the meet of two, one more number, and how many rows two have in common.
+-- Sets of tight rows: the meet of two, and how many rows two have in common.
 use Rattle.std.proofs.Common.{true≢false, IsTrue, ◌↔◌, Contains, ◌+◌, ◌-◌, ◌++◌, min, set, ◌≡◌, ℕ, zero, suc, ◌<◌, ◌≤◌, ◌⊎◌, inl, inr, subst, cond, count_by, List, [], ◌∷◌, length, map, Bool, true, false, ◌&&◌, refl, sym, ap, ap₂, ◌∙◌, arith}
 use Rattle.std.specs.Prelude.{IsFalse}
 use Rattle.std.proofs.lemmas.Bool.{cases_lt}
@@ -26,22 +26,6 @@ both_same false = refl
 
 pub meet_self : (common t : List Bool) → IsMeet common t t → common ≡ t
 meet_self common t m = ext_get_or false common t (let b : length common ≡ min (length t) (length t) = m.bound in omega arith) (λ k _. m.common k ∙ both_same (has t k))
-
--- one more number, in the set or not
-set_last : (xs : List Bool) → set (xs ++ false ∷ []) (length xs) true ≡ xs ++ true ∷ []
-set_last [] = refl
-set_last (x ∷ xs) = ap (λ ys. x ∷ ys) (set_last xs)
-
-one_more_is : (common : List Bool) (count : ℕ) → count ≡ length common → common ++ no_marks (count + 1 - length common) ≡ common ++ false ∷ []
-one_more_is common count e = ap (λ n. common ++ no_marks n) (let h : count + 1 - length common ≡ suc zero = omega arith in h)
-
-pub with_true : (common grown : List Bool) (count : ℕ) → grown ≡ common ++ no_marks (count + 1 - length common) → count ≡ length common →
-    set grown count true ≡ common ++ true ∷ []
-with_true common grown count e f = ap₂ (λ xs n. set xs n true) (e ∙ one_more_is common count f) f ∙ set_last common
-
-pub with_false : (common grown : List Bool) (count : ℕ) → grown ≡ common ++ no_marks (count + 1 - length common) → count ≡ length common →
-    grown ≡ common ++ false ∷ []
-with_false common grown count e f = e ∙ one_more_is common count f
 
 -- ---- how many rows are tight at both
 both_tight : List ℚ → List ℚ → List ℚ → Bool

@@ -7,12 +7,12 @@ use Rattle.polyhedra.specs.LiveList.{LiveList, Numbered, numbers, staying, step,
 use Rattle.polyhedra.specs.LiveSteps.{IsLive}
 use Rattle.polyhedra.proofs.Lists.{wide-nil, wide-cons}
 use Rattle.polyhedra.proofs.LiveSteps.{are_live}
-use Rattle.double_descr.specs.Making.{AreValuesAt, IsAddition, IsNext, addition_of}
+use Rattle.double_descr.specs.Making.{Addition, AreNextSets, AreSetsFor, AreValuesAt, IsAddition, IsMoving, IsNext, addition_of}
 use Rattle.double_descr.specs.Steps.{values}
 use Rattle.double_descr.specs.State.{State, list_of, live_of, tight_sets, HasTightSet, IsKept}
 use Rattle.double_descr.specs.declared.generator.Generator.{Generator}
 use Rattle.double_descr.specs.declared.next.Next.{Next}
-use Rattle.double_descr.proofs.NextLists.{list_after, one_each}
+use Rattle.double_descr.proofs.NextLists.{list_after, one_each, sets_fit}
 
 module _ {F : Type 0} (value : F → ℚ) (width : ℕ) (rows : List (List F)) (nums : List ℕ) (gens : List (Generator F)) (next : ℕ)
     (k : IsKept value width rows nums gens next) (row : List F) (w : length row ≡ width) where
@@ -65,22 +65,26 @@ module _ {F : Type 0} (value : F → ℚ) (width : ℕ) (rows : List (List F)) (
     at_row : AreValuesAt value (values value row) before vals
     at_row = ap (map value) read ∙ m.at_row ∙ ap (λ gs. map (λ (g : Numbered). dot (values value row) g.vector) (live_of value gs)) (sym same)
 
-    sets_are : made.sets ≡ tight_sets value (map (values value) rows ++ values value row ∷ []) before
-    sets_are = m.sets ∙ ap (tight_sets value (map (values value) rows ++ values value row ∷ [])) (sym same)
+    moving : IsMoving value (addition_of value rows row next) before vals made.sets
+    moving = record {
+      at_row = at_row;
+      tight = subst (λ (gs : List (Generator F)). All (HasTightSet value (map (values value) rows)) gs) (sym same) k.tight;
+      next = subst (λ (gs : List (Generator F)). AreNextSets value (addition_of value rows row next) gs made.sets) (sym same) m.sets;
+    }
 
-    pub moved_list : ((r : List ℚ) → AreValuesAt value r before vals → (rs : List (List ℚ)) → made.sets ≡ tight_sets value rs before →
-        live_of value now ≡ staying r (live_of value before) ++ live_of value made.generators) →
+    pub moved_list : ((a : Addition) → IsMoving value a before vals made.sets →
+        live_of value now ≡ staying a.row (live_of value before) ++ live_of value made.generators) →
         list_of value now made.next ≡ step (map (values value) rows) (list_of value gens next) (values value row)
     moved_list h = list_after value (addition_of value rows row next) gens made m now
-        (h (values value row) at_row (map (values value) rows ++ values value row ∷ []) sets_are
-        ∙ ap (λ gs. staying (values value row) (live_of value gs) ++ live_of value made.generators) same)
+        (h (addition_of value rows row next) moving ∙ ap (λ gs. staying (values value row) (live_of value gs) ++ live_of value made.generators) same)
 
-    pub moved_tight : ((rs : List (List ℚ)) → made.sets ≡ tight_sets value rs before → All (HasTightSet value rs) made.generators → All (HasTightSet value rs) now) →
+    pub moved_tight : ((a : Addition) → IsMoving value a before vals made.sets → All (HasTightSet value (a.rows ++ a.row ∷ [])) made.generators →
+        All (HasTightSet value (a.rows ++ a.row ∷ [])) now) →
         All (HasTightSet value (map (values value) rows ++ values value row ∷ [])) now
-    moved_tight h = h (map (values value) rows ++ values value row ∷ []) sets_are m.tight
+    moved_tight h = h (addition_of value rows row next) moving m.tight
 
     pub many_values : length vals ≡ length before
     many_values = one_each value (values value row) before vals at_row
 
-    pub many_sets : length made.sets ≡ length before
-    many_sets = ap length sets_are ∙ length-map before (λ (g : Generator F). tight_set (map (values value) rows ++ values value row ∷ []) (values value g.vector.items))
+    pub sets_for : AreSetsFor before made.sets
+    sets_for = sets_fit value (addition_of value rows row next) before made.sets moving.next

@@ -2,6 +2,7 @@
 use Rattle.std.proofs.Common.{◌≡◌, ℕ, ◌+◌, List, [], ◌∷◌, ◌++◌, map, length, filter, All, Bool, refl, sym, ap, ap₂, ◌∙◌, subst, append_assoc}
 use Rattle.std.proofs.lemmas.List.{length-map, append-nil, map-append}
 use Rattle.std.proofs.lemmas.List.Elements.{All-nil, All-cons, All-append}
+use Rattle.std.specs.Prelude.{Option, None, Some}
 use Rattle.exact_field.specs.Rational.{ℚ}
 use Rattle.exact_field.specs.Vector.{dot}
 use Rattle.polyhedra.specs.DoubleDescription.{is_zero, made}
@@ -9,7 +10,7 @@ use Rattle.polyhedra.specs.LiveList.{LivePair, Numbered, new_vectors, numbered, 
 use Rattle.polyhedra.proofs.Covering.{tight_with}
 use Rattle.double_descr.specs.State.{live_of, list_of, numbered_of, HasTightSet, with_tight_set}
 use Rattle.double_descr.specs.Adding.{AreHeld, IsAddFault, IsChange, value_block, pair_block, pair_blocks}
-use Rattle.double_descr.specs.Making.{Addition, AreValuesAt, blocks_of_all, blocks_of_pairs, candidates, IsMadeSoFar, IsNext, pair_numbers, live_numbers}
+use Rattle.double_descr.specs.Making.{Addition, AreNextSets, AreSetsFor, AreValuesAt, blocks_of_all, blocks_of_pairs, candidates, IsMadeSoFar, IsNext, pair_numbers, live_numbers}
 use Rattle.double_descr.specs.Steps.{values}
 use Rattle.double_descr.specs.declared.generator.Generator.{Generator}
 use Rattle.double_descr.specs.declared.made.Made.{Made}
@@ -36,6 +37,12 @@ all_tight value rows (g ∷ gens) = All-cons (HasTightSet value rows) (with_tigh
 pub one_each : {F : Type 0} (value : F → ℚ) (row : List ℚ) (gens : List (Generator F)) (vals : List F) → AreValuesAt value row gens vals → length vals ≡ length gens
 one_each value row gens vals at = sym (length-map vals value) ∙ ap length at ∙ length-map (live_of value gens) (λ (h : Numbered). dot row h.vector)
     ∙ length-map gens (numbered_of value)
+
+-- there is a next set for each generator, or each has room in its own
+pub sets_fit : {F : Type 0} (value : F → ℚ) (a : Addition) (gens : List (Generator F)) (sets : Option (List (List Bool))) → AreNextSets value a gens sets →
+    AreSetsFor gens sets
+sets_fit {F} value a gens (Some sets) e = ap length e ∙ length-map gens (λ (g : Generator F). tight_set (a.rows ++ a.row ∷ []) (values value g.vector.items))
+sets_fit value a gens None h = h
 
 module _ {F : Type 0} (value : F → ℚ) (holds : ℚ → Bool) (d : Addition) (gens : List (Generator F)) where
   pub begun : (m : Made F) → m.pairs ≡ [] → m.generators ≡ [] → m.first_new ≡ d.first → length m.common ≡ length d.rows →

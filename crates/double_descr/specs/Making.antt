@@ -1,5 +1,5 @@
 -- The new generators of an addition, made one opposite pair at a time.
-use Rattle.std.specs.Prelude.{ℕ, suc, ◌+◌, ◌<◌, ◌≡◌, List, [], ◌∷◌, ◌++◌, map, length, get_or, drop, filter, All, Contains, Bool, true, false, if◌then◌else◌}
+use Rattle.std.specs.Prelude.{ℕ, suc, ◌+◌, ◌<◌, ◌≡◌, List, [], ◌∷◌, ◌++◌, map, length, get_or, drop, filter, All, Contains, Bool, true, false, if◌then◌else◌, Option, Some, None}
 use Rattle.exact_field.specs.Rational.{ℚ, zero_ℚ, lt_ℚ, ◌<ℚ◌}
 use Rattle.exact_field.specs.Vector.{dot}
 use Rattle.polyhedra.specs.DoubleDescription.{normed, made}
@@ -14,7 +14,7 @@ use Rattle.double_descr.specs.declared.fault.DdFault.{DdFault}
 use Rattle.double_descr.specs.declared.fault.DdFault.TheVariants.{Elim, Left as Stuck, NoMemory}
 use Rattle.double_descr.specs.declared.made.Made.{Made}
 use Rattle.double_descr.specs.declared.next.Next.{Next}
-use Rattle.incid_sets.specs.Marks.{IsMeet}
+use Rattle.incid_sets.specs.Marks.{HasRoom, IsMeet}
 
 -- the addition of a row to some rows: these, the row, and the number that the first new generator gets
 pub record Addition : Type 0 where
@@ -130,11 +130,32 @@ pub record IsPlus {F : Type 0} (value : F → ℚ) (a : Addition) (gens : List (
   pub valued : value at ≡ dot a.row (values value plus.vector.items)
   pub positive : zero_ℚ <ℚ value at
 
--- what is made aside for an addition: the values of the row at the generators, their sets of tight rows with it, the new generators,
--- and the numbers of the next live list with the one that the next new generator gets
+-- the generator's set has room for one row more
+pub record HasRoomForRow {F : Type 0} (g : Generator F) : Type 0 where
+  pub free : HasRoom (length g.tight)
+  pub few : length g.tight + 1 < 4294967296
+
+-- for each generator a set was made aside, or none was, and each has room in its own
+abbrev pub AreSetsFor : {F : Type 0} → List (Generator F) → Option (List (List Bool)) → Type 0
+AreSetsFor gens (Some sets) = length sets ≡ length gens
+AreSetsFor gens None = All (λ g. HasRoomForRow g) gens
+
+-- the same, and what was made aside are their sets of tight rows with the new row
+abbrev pub AreNextSets : {F : Type 0} → (F → ℚ) → Addition → List (Generator F) → Option (List (List Bool)) → Type 0
+AreNextSets value a gens (Some sets) = sets ≡ tight_sets value (a.rows ++ a.row ∷ []) gens
+AreNextSets value a gens None = All (λ g. HasRoomForRow g) gens
+
+-- the generators of an addition before they are moved, with the values of its row and what was made aside of their next sets
+pub record IsMoving {F : Type 0} (value : F → ℚ) (a : Addition) (gens : List (Generator F)) (vals : List F) (sets : Option (List (List Bool))) : Type 0 where
+  pub at_row : AreValuesAt value a.row gens vals
+  pub tight : All (HasTightSet value a.rows) gens
+  pub next : AreNextSets value a gens sets
+
+-- what is made aside for an addition: the values of the row at the generators, their sets of tight rows with it where their own have no
+-- room, the new generators, and the numbers of the next live list with the one that the next new generator gets
 pub record IsNext {F : Type 0} (value : F → ℚ) (a : Addition) (gens : List (Generator F)) (next : Next F) : Type 0 where
   pub at_row : AreValuesAt value a.row gens next.values
-  pub sets : next.sets ≡ tight_sets value (a.rows ++ a.row ∷ []) gens
+  pub sets : AreNextSets value a gens next.sets
   pub new_are : live_of value next.generators ≡ numbered a.first (new_vectors a.rows (live_of value gens) a.row)
   pub tight : All (HasTightSet value (a.rows ++ a.row ∷ [])) next.generators
   pub numbers_are : next.numbers ≡ numbers (step a.rows (list_of value gens a.first) a.row).live

@@ -42,6 +42,10 @@ HasTightSet value rows g = g.tight ≡ tight_set rows (values value g.vector.ite
 abbrev pub tight_sets : {F : Type 0} → (F → ℚ) → List (List ℚ) → List (Generator F) → List (List Bool)
 tight_sets value rows gens = map (λ g. tight_set rows (values value g.vector.items)) gens
 
+-- a generator with another set
+abbrev pub with_set : {F : Type 0} → Generator F → List Bool → Generator F
+with_set g set = record g { tight = set }
+
 -- a generator with the set of the rows that are tight at it
 abbrev pub with_tight_set : {F : Type 0} → (F → ℚ) → List (List ℚ) → Generator F → Generator F
 with_tight_set value rows g = record g { tight = tight_set rows (values value g.vector.items) }

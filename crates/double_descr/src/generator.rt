@@ -41,17 +41,12 @@ pub fn place_of(numbers: &[u32], number: u32) -> usize
 
 /// The common numbers of two sets of rows, and after them whether the next row is in the set.
 fn with_row(alloc: Global, a: &Marks, b: &Marks, tight: bool) -> Result<Marks, NoMemory>
-    requires same { length a.now ≡ length b.now }
-    requires room { length a.now + 1 < 4294967296 }
+    requires { length a.now + 1 < 4294967296 }
     ensures { IfOk result (λ marks. (common : List Bool) × IsMeet common a.now b.now
         × (marks ≡ common ++ tight ∷ [])) }
 {
-    let count = a.bound();
     let mut marks = Marks::meet(alloc, a, b)?;
-    marks.grow(count + 1)?;
-    if tight {
-        marks.insert(count);
-    }
+    marks.widen(tight)?;
     Ok(marks)
 }
 

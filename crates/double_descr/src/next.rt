@@ -7,7 +7,7 @@ ghost use Rattle.double_descr.specs.State.{list_of};
 use crate::fault::{Change, DdFault};
 use crate::generator::Generator;
 use crate::made::{Made, meet_all};
-use crate::parts::{list_numbers, next_sets, places_below, push_numbers, values_at};
+use crate::parts::{list_numbers, make_sets_aside, places_below, push_numbers, values_at};
 use exact_field::Field;
 use incid_sets::Marks;
 use src_sink::{Items, MOST_ITEMS, NoMemory};
@@ -18,8 +18,9 @@ use std::alloc::Global;
 pub struct Next<F: Drop> {
     /// The values of the row at the live generators.
     pub values: Items<F>,
-    /// The rows that are 0 at each of them, with the new one.
-    pub sets: Items<Marks>,
+    /// The rows that are 0 at each of them, with the new one, or none where their own sets have
+    /// room for it.
+    pub sets: Option<Items<Marks>>,
     /// The new generators.
     pub generators: Items<Generator<F>>,
     /// The numbers of the next live list: of the generators that stay, and of the new ones.
@@ -83,7 +84,7 @@ pub fn next_list<F: Field>(
     if next > MOST_ITEMS + 1 {
         return Err(DdFault::NoMemory);
     }
-    let sets = next_sets(alloc, generators, vals.as_slice())?;
+    let sets = make_sets_aside(alloc, count, generators, vals.as_slice())?;
     let mut numbers = Items::with_room(alloc, generators.len())?;
     let mut dropped = Items::new(alloc);
     list_numbers(generators, vals.as_slice(), &mut numbers, &mut dropped)?;

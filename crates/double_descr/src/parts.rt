@@ -4,7 +4,7 @@ ghost use Rattle.std.specs.Prelude.{◌≡◌, ◌+◌, ◌<◌, ◌++◌, List,
 ghost use Rattle.exact_field.specs.Vector.{dot};
 ghost use Rattle.polyhedra.specs.LiveList.{dropped, numbers, staying};
 ghost use Rattle.double_descr.specs.Adding.{AreHeld, IsAddFault, IsFault, value_block};
-ghost use Rattle.double_descr.specs.Making.{Addition, AreValuesAt, negative_places};
+ghost use Rattle.double_descr.specs.Making.{Addition, AreNextSets, AreValuesAt, IsAddition, negative_places};
 ghost use Rattle.double_descr.specs.State.{HasTightSet, live_of, numbered_of, tight_sets};
 ghost use Rattle.double_descr.specs.Steps.{values};
 
@@ -74,7 +74,7 @@ pub fn places_below<F: Field>(alloc: Global, values: &[F]) -> Result<Items<usize
 }
 
 /// The sets of the rows that are tight at generators, with the next row.
-pub fn next_sets<F: Field>(
+fn next_sets<F: Field>(
     alloc: Global,
     generators: &[Generator<F>],
     vals: &[F],
@@ -92,6 +92,28 @@ pub fn next_sets<F: Field>(
         sets.push(next_set(alloc, &generators[i], vals[i])?)?;
     }
     Ok(sets)
+}
+
+/// Makes these sets aside, of generators of so many rows, where their own have no room for the next
+/// row.
+pub fn make_sets_aside<F: Field>(
+    alloc: Global,
+    count: u32,
+    generators: &[Generator<F>],
+    vals: &[F],
+) -> Result<Option<Items<Marks>>, NoMemory>
+    ghost addition: { Addition }
+    requires addition { IsAddition F.value addition generators.now }
+    requires values { AreValuesAt F.value addition.row generators.now vals.now }
+    requires count { count ≡ length addition.rows }
+    requires room { count + 1 < 4294967296 }
+    ensures { IfOk result (AreNextSets F.value addition generators.now) }
+{
+    if Marks::has_room(count) {
+        return Ok(None);
+    }
+    let sets = next_sets(alloc, generators, vals)?;
+    Ok(Some(sets))
 }
 
 /// Lists the number of a generator among those that stay, or among the dropped ones.

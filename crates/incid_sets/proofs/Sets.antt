@@ -1,5 +1,5 @@
 -- Sets as lists of their numbers below a bound: what the words of a set say of the set.
-use Rattle.std.proofs.Common.{◌≡◌, ℕ, zero, suc, ◌/◌, ◌%◌, max, length-append, ◌+◌, ◌-◌, ◌*◌, ◌<◌, ◌≤◌, List, [], ◌∷◌, ◌++◌, length, get_or, set, replicate, min, Bool, true, false, ◌&&◌, refl, sym, ap, ap₂, ◌∙◌, ◌⊎◌, inl, inr, arith}
+use Rattle.std.proofs.Common.{◌≡◌, ◌≢◌, ℕ, zero, suc, ◌/◌, ◌%◌, max, length-append, ◌+◌, ◌-◌, ◌*◌, ◌<◌, ◌≤◌, List, [], ◌∷◌, ◌++◌, length, get_or, set, replicate, min, Bool, true, false, ◌&&◌, refl, sym, ap, ap₂, ◌∙◌, ◌⊎◌, inl, inr, arith}
 use Rattle.std.specs.Prelude.{IsTrue, ◌↔◌, ◌==◌}
 use Rattle.std.specs.Int.{bit_at}
 use Rattle.std.proofs.lemmas.Bool.{cases_eq, cases_lt}
@@ -7,7 +7,7 @@ use Rattle.std.proofs.lemmas.Nat.Bits.{bit_at-zero}
 use Rattle.std.proofs.lemmas.List.{get_or_past, length-replicate, get_or-append_right, get_or-set_same, get_or-set_other, length-set}
 use Rattle.std.proofs.Math.ListN.{get_or-append}
 use Rattle.std.proofs.lemmas.List.FromFn.{length-map-range_with_len, get_or-map-range_with_len, fill_by_all}
-use Rattle.incid_sets.specs.Words.{is_marked, marks_below, AreBounded, AddsMark}
+use Rattle.incid_sets.specs.Words.{is_marked, marks_below, AreBounded, AddsMark, TellsMark}
 use Rattle.incid_sets.specs.Marks.{has, no_marks, ContainsAll, CoversBoth, IsMeet}
 
 pub length-marks_below : (bound : ℕ) (words : List ℕ) → length (marks_below bound words) ≡ bound
@@ -162,3 +162,40 @@ with_mark old new bound k h l m = (
         by (inl e) = ap (λ j. has (set (marks_below bound old) k true) j) e ∙ get_or-set_same (marks_below bound old) k true false within
             ∙ sym (ap (is_marked new) e ∙ m.marked)
         by (inr o) = get_or-set_other (marks_below bound old) k i true false o ∙ has-marks_below bound old h i ∙ sym (m.others i o)
+
+-- one place more, after words without a number
+pub widened : (old grown new : List ℕ) (bound : ℕ) (is_in : Bool) → AreBounded old bound → bound < 64 * length grown →
+    ((k : ℕ) → is_marked grown k ≡ is_marked old k) → TellsMark grown new bound is_in →
+    AreBounded new (bound + 1) × (marks_below (bound + 1) new ≡ marks_below bound old ++ is_in ∷ [])
+widened old grown new bound is_in h room same told = (
+  record {
+    room = (let e : length new ≡ length grown = (facts is_in told).0 in omega arith);
+    none_above = λ k above. (facts is_in told).2 k (omega arith) ∙ h.none_above k (omega arith);
+  },
+  sym (marks-same (bound + 1) new (marks_below bound old ++ is_in ∷ []) many at),
+)
+  where
+    facts : (b : Bool) → TellsMark grown new bound b →
+        (length new ≡ length grown) × (is_marked new bound ≡ b) × ((k : ℕ) → k ≢ bound → is_marked new k ≡ is_marked old k)
+    facts true m = (m.many, m.marked, λ k n. m.others k n ∙ same k)
+    facts false e = (
+      ap (λ (ws : List ℕ). length ws) e,
+      ap (λ (ws : List ℕ). is_marked ws bound) e ∙ same bound ∙ h.none_above bound (omega arith),
+      λ k n. ap (λ (ws : List ℕ). is_marked ws k) e ∙ same k,
+    )
+
+    many : length (marks_below bound old ++ is_in ∷ []) ≡ bound + 1
+    many = length-append (marks_below bound old) (is_in ∷ []) ∙ ap (λ n. n + 1) (length-marks_below bound old)
+
+    at : (k : ℕ) → k < bound + 1 → has (marks_below bound old ++ is_in ∷ []) k ≡ is_marked new k
+    at k l = by (cases_lt k bound)
+      where
+        by : (k < bound) ⊎ (bound ≤ k) → has (marks_below bound old ++ is_in ∷ []) k ≡ is_marked new k
+        by (inl p) = get_or-append (marks_below bound old) (is_in ∷ []) false k
+            (let a : length (marks_below bound old) ≡ bound = length-marks_below bound old in omega arith)
+            ∙ has-marks_below bound old h k ∙ sym ((facts is_in told).2 k (omega arith))
+        by (inr p) =
+            let last : k - bound ≡ zero = omega arith in
+            let here : k ≡ bound = omega arith in
+            get_or-append_right (marks_below bound old) (is_in ∷ []) bound k false (length-marks_below bound old) p
+            ∙ ap (λ n. get_or (is_in ∷ []) n false) last ∙ sym (ap (is_marked new) here ∙ (facts is_in told).1)

@@ -1,5 +1,5 @@
 -- A set of numbers below a bound: a list that says of each number below the bound whether the set has it.
-use Rattle.std.specs.Prelude.{ℕ, ◌≡◌, ◌<◌, nat_eq, List, Bool, false, not, IsTrue, ◌&&◌, length, min, replicate, slice_index_or, count_by}
+use Rattle.std.specs.Prelude.{ℕ, ◌%◌, ◌≡◌, ◌≢◌, ◌<◌, nat_eq, List, Bool, false, not, IsTrue, ◌&&◌, length, min, replicate, slice_index_or, count_by}
 
 -- whether the set has the number
 abbrev pub has : List Bool → ℕ → Bool
@@ -8,6 +8,10 @@ has marks k = slice_index_or marks k false
 -- the empty set of numbers below a bound
 abbrev pub no_marks : ℕ → List Bool
 no_marks bound = replicate bound false
+
+-- a set with this bound has room for one place more
+abbrev pub HasRoom : ℕ → Type 0
+HasRoom bound = bound % 64 ≢ 0
 
 -- how many numbers the set has
 abbrev pub size : List Bool → ℕ

@@ -27,3 +27,8 @@ pub record AddsMark (old new : List ℕ) (k : ℕ) : Type 0 where
   pub many : length new ≡ length old
   pub marked : is_marked new k ≡ true
   pub others : (i : ℕ) → i ≢ k → is_marked new i ≡ is_marked old i
+
+-- the words have the number now, if it is to be in them, and else as before
+abbrev pub TellsMark : List ℕ → List ℕ → ℕ → Bool → Type 0
+TellsMark old new k true = AddsMark old new k
+TellsMark old new k false = new ≡ old

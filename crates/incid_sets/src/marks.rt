@@ -1,10 +1,10 @@
 //! Sets of numbers below a bound.
-ghost use Rattle.std.specs.Prelude.{◌≡◌, ◌<◌, ◌≤◌, ◌*◌, ◌-◌, ◌++◌, ◌↔◌, ℕ, List, Bool, IsTrue, true, OnOk, OnErr, IfOk, length, slice_set};
-ghost use Rattle.incid_sets.specs.Marks.{has, no_marks, size, ContainsAll, CoversBoth, IsMeet};
+ghost use Rattle.std.specs.Prelude.{◌≡◌, ◌<◌, ◌≤◌, ◌*◌, ◌+◌, ◌-◌, ◌++◌, ◌∷◌, [], ◌↔◌, ℕ, List, Bool, IsOk, IsTrue, true, OnOk, OnErr, IfOk, length, slice_set};
+ghost use Rattle.incid_sets.specs.Marks.{has, no_marks, size, ContainsAll, CoversBoth, HasRoom, IsMeet};
 
 use crate::words::{
-    contains_words, count_marks, covers_words, grow_words, has_mark, have_at_least, set_mark,
-    share_at_least, words_for, write_meet, zero_words,
+    WORD, contains_words, count_marks, covers_words, grow_words, has_mark, have_at_least, set_mark,
+    share_at_least, tell_mark, words_for, write_meet, zero_words,
 };
 use src_sink::NoMemory;
 use std::alloc::Global;
@@ -51,6 +51,27 @@ impl Marks {
     {
         grow_words(&mut self.words, words_for(bound))?;
         self.bound = self.bound.max(bound);
+        Ok(())
+    }
+
+    /// Whether a set with this bound has room for one place more: then `widen` takes no memory.
+    pub fn has_room(bound: u32) -> bool
+        ensures { IsTrue result ↔ HasRoom bound }
+    {
+        bound as usize % WORD != 0
+    }
+
+    /// Raises the bound by one, and tells whether the set has the new number.
+    pub fn widen(&mut self, is_in: bool) -> Result<(), NoMemory>
+        requires { length self.old + 1 < 4294967296 }
+        ensures ok { OnOk result (self.new ≡ self.old ++ is_in ∷ []) }
+        ensures err { OnErr result (self.new ≡ self.old) }
+        ensures free { HasRoom (length self.old) → IsOk result }
+    {
+        let k = self.bound;
+        grow_words(&mut self.words, words_for(k + 1))?;
+        tell_mark(&mut self.words, k as usize, is_in);
+        self.bound = k + 1;
         Ok(())
     }
 

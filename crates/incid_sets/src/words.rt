@@ -1,8 +1,8 @@
 //! Bits of words, taken a word at a time. A list of words that is shorter counts as continued with
 //! zeros.
-ghost use Rattle.std.specs.Prelude.{◌≡◌, ◌<◌, ◌/◌, ◌*◌, ◌^◌, ◌≤◌, ◌↔◌, ℕ, IsTrue, bit_and, count_ones, IfOk, OnOk, replicate, ◌&&◌, slice_index, vec_len};
+ghost use Rattle.std.specs.Prelude.{◌≡◌, ◌+◌, ◌<◌, ◌/◌, ◌*◌, ◌^◌, ◌≤◌, ◌↔◌, ℕ, IsOk, IsTrue, bit_and, count_ones, IfOk, OnOk, replicate, ◌&&◌, slice_index, vec_len};
 ghost use Rattle.incid_sets.specs.Marks.{size};
-ghost use Rattle.incid_sets.specs.Words.{common_words, is_marked, marks_below, AddsMark, AreBounded};
+ghost use Rattle.incid_sets.specs.Words.{common_words, is_marked, marks_below, AddsMark, AreBounded, TellsMark};
 
 use src_sink::NoMemory;
 use std::alloc::Global;
@@ -10,9 +10,10 @@ use std::alloc::Global;
 /// How many numbers a word has bits for.
 pub const WORD: usize = 64;
 
-/// How many words have bits for the numbers below the bound.
+/// How many words have bits for the numbers below the bound, and no fewer do.
 pub fn words_for(bound: u32) -> usize
-    ensures { bound ≤ 64 * result }
+    ensures enough { bound ≤ 64 * result }
+    ensures least { 64 * result < bound + 64 }
 {
     (bound as usize).div_ceil(WORD)
 }
@@ -24,11 +25,13 @@ pub fn zero_words(alloc: Global, count: usize) -> Result<Vec<u64>, NoMemory>
     Ok(vec![in alloc; 0; count]?)
 }
 
-/// Appends words without a number until there are as many as `count`.
+/// Appends words without a number until there are as many as `count`. Where there are already, no
+/// memory is taken.
 pub fn grow_words(words: &mut Vec<u64>, count: usize) -> Result<(), NoMemory>
     ensures room { OnOk result (count ≤ vec_len words.new) }
     ensures more { vec_len words.old ≤ vec_len words.new }
     ensures same { (k : ℕ) → is_marked words.new.items k ≡ is_marked words.old.items k }
+    ensures free { count ≤ vec_len words.old → IsOk result }
 {
     while words.len() < count {
         words.push(0)?;
@@ -56,6 +59,16 @@ pub fn set_mark(words: &mut Vec<u64>, k: usize)
     ensures { AddsMark words.old.items words.new.items k }
 {
     words[k / WORD] |= 1 << (k % WORD);
+}
+
+/// Gives the words number `k`, if it is to be in them.
+pub fn tell_mark(words: &mut Vec<u64>, k: usize, is_in: bool)
+    requires { k < 64 * vec_len words.old }
+    ensures { TellsMark words.old.items words.new.items k is_in }
+{
+    if is_in {
+        set_mark(words, k);
+    }
 }
 
 /// Whether the first words have each number of the others.

@@ -16,7 +16,7 @@ use crate::places::{filled, open_places, row_without};
 use crate::products::try_products;
 use double_descr::{Dd, DdFault};
 use frac128::{Frac, Vector, Vectors};
-use lin_rows::{Indep, Rows, independent};
+use lin_rows::{Indep, RowFault, Rows, independent};
 use rep_text::Rep;
 use src_sink::{Items, NoMemory};
 use std::alloc::Global;
@@ -97,7 +97,8 @@ fn at_places(alloc: Global, list: &[u32], places: &[u32]) -> Result<Items<u32>, 
 }
 
 /// The numbers of the rows of a start among the first so many of an order, where these have enough
-/// and their elimination meets no overflow. Its cost is that of an elimination of so many rows.
+/// and their elimination meets no overflow. Want of memory is told, as by the other calls. Its cost
+/// is that of an elimination of so many rows.
 fn early_numbers(
     alloc: Global,
     rep: &Rep,
@@ -120,7 +121,9 @@ fn early_numbers(
         Ok(Indep::Basis(places)) => {
             Ok(Some(at_places(alloc, first.as_slice(), places.as_slice())?))
         }
-        _ => Ok(None),
+        Ok(Indep::Orthogonal(_)) => Ok(None),
+        Err(RowFault::Left { .. }) => Ok(None),
+        Err(RowFault::NoMemory) => Err(NoMemory),
     }
 }
 

@@ -10,7 +10,7 @@ use Rattle.double_descr.specs.declared.generator.Generator.{Generator}
 use Rattle.double_descr.proofs.next.next_list.Goals as goal
 use Rattle.polyhedra.proofs.Members.{all_of_members}
 use Rattle.lin_rows.proofs.Errors.{err_holds}
-use Rattle.double_descr.proofs.MadePairs.{bound_of, wide_of}
+use Rattle.double_descr.proofs.MadePairs.{wide_of}
 use Rattle.double_descr.proofs.NextLists.{after_values, all_held, among_values, changed, new_are, next_is, next_numbers, one_each}
 
 -- the values of a row, read from any list of them
@@ -62,8 +62,8 @@ meet_all-requires g c κs within =
       ),
     )
 
-pub next_sets-requires : goal.next_sets-requires
-next_sets-requires g c κs within =
+pub make_sets_aside-requires : goal.make_sets_aside-requires
+make_sets_aside-requires g c κs within =
     let value = g.F.Field.value in
     let d = g.addition in
     let gens = c.args.generators.now in
@@ -71,20 +71,8 @@ next_sets-requires g c κs within =
     let vals = c.as_slice-4.result.now in
     let at = values_read value d.row (map value c.args.row.now) gens _ vals (ap (λ (a : Addition). a.row) is) c.in_ok-vals.ensures.values c.as_slice-4.ensures.items in
     let count : c.len-count.result ≡ length d.rows = c.len-count.ensures.value ∙ sym (ap (λ (a : Addition). length a.rows) is ∙ length-map c.args.rows.now (map value)) in
-    let room : length d.rows + 1 < 4294967296 = omega (arith, count) in (
-      within,
-      (
-        at,
-        (
-          c.requires.1.1.tight,
-          (
-            one_each value d.row gens vals at,
-            all_of_members (λ (h : Generator _). length h.tight + 1 < 4294967296) gens
-                (λ h k. subst (λ (n : ℕ). n + 1 < 4294967296) (sym (bound_of value d gens c.requires.1.1 h k)) room),
-          ),
-        ),
-      ),
-    )
+    let room : c.len-count.result + 1 < 4294967296 = omega arith in
+    (within, (c.requires.1.1, (at, (count, room))))
 
 pub list_numbers-requires : goal.list_numbers-requires
 list_numbers-requires g c κs within =

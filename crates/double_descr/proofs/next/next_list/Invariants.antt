@@ -6,8 +6,8 @@ ghost-begin g a = g.addition
 abbrev pub ghost-meet_all : goal.ghost-meet_all
 ghost-meet_all g a = g.addition
 
-abbrev pub ghost-next_sets : goal.ghost-next_sets
-ghost-next_sets g a = g.addition
+abbrev pub ghost-make_sets_aside : goal.ghost-make_sets_aside
+ghost-make_sets_aside g a = g.addition
 
 abbrev pub ghost-list_numbers : goal.ghost-list_numbers
 ghost-list_numbers g a = g.addition

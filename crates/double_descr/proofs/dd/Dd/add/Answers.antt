@@ -5,7 +5,7 @@ use Rattle.double_descr.specs.State.{State, list_of, live_of}
 use Rattle.double_descr.specs.declared.generator.Generator.{Generator}
 use Rattle.double_descr.specs.Adding.{AreHeld, IsAddFault, IsChange, add_blocks}
 use Rattle.double_descr.specs.Making.{IsNext, addition_of}
-use Rattle.double_descr.proofs.KeptNext.{is_addition, kept_next, many_sets, many_values, moved_list, moved_tight, view_next}
+use Rattle.double_descr.proofs.KeptNext.{is_addition, kept_next, many_values, moved_list, moved_tight, sets_for, view_next}
 use Rattle.double_descr.proofs.dd.Dd.add.Goals as goal
 
 pub next_list-requires : goal.next_list-requires
@@ -29,8 +29,8 @@ advance-requires-clause-sets g c =
     let s = c.self.inside in
     let w : length c.args.row.now ≡ s.width = c.requires ∙ sym (ap (λ (x : State). x.width) c.self.view_is) in
     let made = subst (λ (gs : List (Generator _)). IsNext value (addition_of value s.rows c.args.row.now s.next) gs c.in_ok-made.made) c.as_slice.ensures.value c.in_ok-made.ensures.next in
-    many_sets value s.width s.rows s.numbers s.generators.items s.next c.self.invariant c.args.row.now w c.in_ok-made.made made c.reserve.new.self.items c.reserve.ensures.items
-    c.as_slice-2.result.now c.as_slice-2.ensures.items c.reserve.new.self.items ∙ sym c.reserve.new.self.ok.0
+    sets_for value s.width s.rows s.numbers s.generators.items s.next c.self.invariant c.args.row.now w c.in_ok-made.made made c.reserve.new.self.items c.reserve.ensures.items
+    c.as_slice-2.result.now c.as_slice-2.ensures.items c.reserve.new.self.items
 
 pub advance-requires-clause-room : goal.advance-requires-clause-room
 advance-requires-clause-room g c = omega (arith, c.in_ok-reserve.ensures.ok, c.len.ensures.value)

@@ -12,7 +12,7 @@ common c k h = c.write_meet.ensures.common k (omega (arith, c.write_meet.ensures
 
 room : (c : goal.After-write_meet) → c.min-bound.result ≤ 64 * length c.write_meet.new.words.items
 room c = let e : length c.in_ok-words.words.items ≡ c.words_for.result = ap length c.in_ok-words.ensures ∙ length-replicate c.words_for.result 0 in
-    omega (arith, e, c.words_for.ensures, c.write_meet.ensures.room, c.write_meet.new.words.ok, c.in_ok-words.words.ok)
+    omega (arith, e, c.words_for.ensures.enough, c.write_meet.ensures.room, c.write_meet.new.words.ok, c.in_ok-words.words.ok)
 
 bounded : (c : goal.After-write_meet) → AreBounded c.write_meet.new.words.items c.min-bound.result
 bounded c = meet_bounded c.write_meet.new.words.items c.a.inside.words.items c.b.inside.words.items c.min-bound.result c.a.inside.bound c.b.inside.bound
