@@ -7,7 +7,7 @@ ghost use Rattle.benson_dual.specs.Images.{AreAllInUse, IsApproximation, IsImage
 ghost use Rattle.overflow_rules.specs.Licence.{Licensed};
 ghost use Rattle.log_rules.specs.Live.{preimages};
 ghost use Rattle.outer_approx.specs.Standing.{IsEnded, IsOpenTrail};
-ghost use Rattle.outer_approx.specs.Task.{Task, behind};
+ghost use Rattle.outer_approx.specs.Task.{Task, setting};
 ghost use Rattle.overflows.specs.Faults.{OnLicence, Overflows};
 ghost use Rattle.polyhedra.specs.LiveList.{numbers};
 
@@ -56,7 +56,7 @@ impl<F: Field> Approximation<F> {
             preimages self.new.trail k ≡ preimages self.old.trail k) }
         ensures rows { self.new.dd ≡ self.old.dd }
         ensures trail { IsOpenTrail task self.new.trail }
-        ensures left { IfErr result (Overflows F.holds (behind task self.new.trail) []) }
+        ensures left { IfErr result (Overflows F.holds (setting task self.new.trail) []) }
     {
         let full = full_vector(image.alloc, image.places.as_slice(), self.dd.generator(g))?;
         let full = full.as_slice();
@@ -80,7 +80,7 @@ impl<F: Field> Approximation<F> {
         ensures reached { OnOk result
             (All (λ g. preimages self.new.trail g.number ≢ []) self.new.dd.list.live) }
         ensures trail { IsOpenTrail task self.new.trail }
-        ensures left { IfErr result (Overflows F.holds (behind task self.new.trail) []) }
+        ensures left { IfErr result (Overflows F.holds (setting task self.new.trail) []) }
     {
         let count = self.dd.live().len();
         for i in 0..count {
@@ -100,7 +100,7 @@ impl<F: Field> Approximation<F> {
         ensures facets { OnOk result (AreAllInUse task self.new.trail) }
         ensures trail { IfErr result (λ fault.
             OnLicence fault (λ licence. IsOpenTrail task self.new.trail)) }
-        ensures left { IfErr result (Overflows F.holds (behind task self.new.trail) []) }
+        ensures left { IfErr result (Overflows F.holds (setting task self.new.trail) []) }
     {
         self.reach_all(image, kept)?;
         end_solved(image.alloc, &mut self.trail, &self.dd)?;
@@ -127,7 +127,7 @@ impl<F: Field> Approximation<F> {
         let entries = approximation.into_trail();
         match told {
             Ok(()) => Ok(entries),
-            Err(fault) => Err(fault.behind(entries)),
+            Err(fault) => Err(fault.with_trail(entries)),
         }
     }
 }

@@ -8,7 +8,7 @@ ghost use Rattle.lower_image.specs.Facets.{AreFacetCuts};
 ghost use Rattle.outer_approx.specs.Cuts.{IsCutFor, said_by};
 ghost use Rattle.outer_approx.specs.Lines.{line_places, told_by};
 ghost use Rattle.outer_approx.specs.Standing.{IsBegun, IsOpenTrail, IsOuter, cuts_of};
-ghost use Rattle.outer_approx.specs.Task.{Task, behind};
+ghost use Rattle.outer_approx.specs.Task.{Task, setting};
 ghost use Rattle.overflows.specs.Faults.{OnLicence, Overflows};
 ghost use Rattle.recession.specs.First.{AreFirstCuts};
 
@@ -59,7 +59,7 @@ fn take_all<F: Field>(
     ensures lines { lines trail.new ≡ lines trail.old }
     ensures preimages { OnOk result ((k : ℕ) → preimages trail.new k ≡ preimages trail.old k) }
     ensures trail { IsOpenTrail task trail.new }
-    ensures left { IfErr result (Overflows F.holds (behind task trail.new) []) }
+    ensures left { IfErr result (Overflows F.holds (setting task trail.new) []) }
 {
     for i in 0..cuts.len() {
         take_cut(alloc, places, trail, dd, &cuts[i])?;
@@ -88,7 +88,7 @@ impl<'a, F: Field> Image<'a, F> {
         ensures preimages { OnOk result ((k : ℕ) →
             preimages trail.new k ≡ preimages trail.old k) }
         ensures trail { IsOpenTrail task trail.new }
-        ensures left { IfErr result (Overflows F.holds (behind task trail.new) []) }
+        ensures left { IfErr result (Overflows F.holds (setting task trail.new) []) }
     {
         let places = self.places.as_slice();
         let mut dd = start_outer(self.alloc, places, trail, first)?;
@@ -116,7 +116,7 @@ impl<'a, F: Field> Image<'a, F> {
         let mut trail = open_trail(self.alloc, opening, self.x, self.lines, first)?;
         match self.bring(&mut trail, first, others) {
             Ok(dd) => Ok(Approximation { trail, dd }),
-            Err(fault) => Err(fault.behind(trail)),
+            Err(fault) => Err(fault.with_trail(trail)),
         }
     }
 

@@ -73,7 +73,7 @@ fn are_independent<F: Field>(alloc: Global, q: u32, cuts: &[Cut<F>]) -> Result<b
         Ok(vectors) => Ok(cuts.len() + vectors.count() as usize == q as usize),
         Err(fault) => {
             let entries = entries_of(alloc, cuts)?;
-            Err(fault.behind(entries))
+            Err(fault.with_trail(entries))
         }
     }
 }

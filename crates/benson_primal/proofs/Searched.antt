@@ -21,7 +21,7 @@ use Rattle.overflows.specs.declared.fault.SolveFault.{SolveFault}
 use Rattle.overflows.specs.declared.fault.SolveFault.TheVariants.{Left, NoMemory}
 use Rattle.outer_approx.specs.Preimages.{AreMarks}
 use Rattle.outer_approx.specs.Standing.{HasPreimageMore, IsOpenTrail, IsOuter, rows_of_trail}
-use Rattle.outer_approx.specs.Task.{Task, behind}
+use Rattle.outer_approx.specs.Task.{Task, setting}
 use Rattle.outer_approx.proofs.Growing.{outer_reached}
 use Rattle.recession.specs.Asking.{IsKnown}
 use Rattle.benson_primal.specs.Search.{HasGrown, HasSameRows, IsFound, IsNextCut, IsSearching, Stopped}
@@ -36,7 +36,7 @@ on_any P NoMemory p = tt
 
 -- an overflow beside a trail and a double description that stand for the same cuts stops a search
 pub stops_at : {F T : Type 0} (holds : ℚ → Bool) (task : Task) (s : Search F) (r : Result T SolveFault) (fault : SolveFault) →
-    IsErrAnd r (λ e. e ≡ fault) → IsOuter task s.trail s.dd → Overflows holds (behind task s.trail) [] fault → IfErr r (Stopped holds task s)
+    IsErrAnd r (λ e. e ≡ fault) → IsOuter task s.trail s.dd → Overflows holds (setting task s.trail) [] fault → IfErr r (Stopped holds task s)
 stops_at holds task s r fault is outer over = err_holds r fault (Stopped holds task s) is (record {
   trail = outer.open_trail;
   same = on_any _ fault outer.same;

@@ -14,7 +14,7 @@ use Rattle.outer_approx.specs.Cuts.{IsCutFor, said_by}
 use Rattle.outer_approx.specs.Preimages.{AreMarks}
 use Rattle.outer_approx.specs.Lines.{line_places}
 use Rattle.outer_approx.specs.Standing.{IsOpenTrail, IsOuter, StandForSame, rows_of_trail}
-use Rattle.outer_approx.specs.Task.{Task, behind}
+use Rattle.outer_approx.specs.Task.{Task, setting}
 use Rattle.overflows.specs.Faults.{OnLicence, Overflows}
 use Rattle.overflows.specs.declared.fault.SolveFault.{SolveFault}
 use Rattle.recession.specs.Asking.{IsKnown}
@@ -39,7 +39,7 @@ pub record IsSearching {F : Type 0} (value : F → ℚ) (holds : ℚ → Bool) (
 pub record Stopped {F : Type 0} (holds : ℚ → Bool) (task : Task) (s : Search F) (fault : SolveFault) : Type 0 where
   pub trail : IsOpenTrail task s.trail
   pub same : OnLicence fault (λ licence. StandForSame task s.trail s.dd)
-  pub left : Overflows holds (behind task s.trail) [] fault
+  pub left : Overflows holds (setting task s.trail) [] fault
 
 -- the live generator of this number, as the trail has it: a point or a direction at which each row
 -- in use is at least 0

@@ -5,7 +5,7 @@ ghost use Rattle.overflow_rules.specs.Licence.{Licensed};
 ghost use Rattle.lp_form.specs.Data.{IsDataOf};
 ghost use Rattle.overflows.specs.Faults.{OnLicence, Overflows};
 ghost use Rattle.outer_approx.specs.Standing.{IsEnded, IsOpenTrail, IsOpening};
-ghost use Rattle.outer_approx.specs.Task.{Task, behind};
+ghost use Rattle.outer_approx.specs.Task.{Task, setting};
 ghost use Rattle.recession.specs.Asking.{IsKnown};
 ghost use Rattle.recession.specs.First.{AreFirstCuts};
 ghost use Rattle.recession.specs.Logs.{IsOwnLog};
@@ -32,7 +32,7 @@ fn describe<F: Field>(search: &mut Search<'_, F>) -> Result<(), SolveFault>
     ensures ok { OnOk result (IsEnded task search.new.trail) }
     ensures trail { IfErr result
         (λ fault. OnLicence fault (λ licence. IsOpenTrail task search.new.trail)) }
-    ensures left { IfErr result (Overflows F.holds (behind task search.new.trail) []) }
+    ensures left { IfErr result (Overflows F.holds (setting task search.new.trail) []) }
 {
     search.directions()?;
     search.approximate(Scope::Both)?;
@@ -52,7 +52,7 @@ fn search_log<F: Field>(search: Search<'_, F>) -> Result<Entries, SolveFault>
     let entries = search.into_trail();
     match told {
         Ok(()) => Ok(entries),
-        Err(fault) => Err(fault.behind(entries)),
+        Err(fault) => Err(fault.with_trail(entries)),
     }
 }
 
@@ -78,7 +78,7 @@ fn image_log<F: Field>(
     let mut trail = open_trail(alloc, opening, x, lines, cuts)?;
     let places = places_of(alloc, form.p.len() as u32, lines)?;
     match start_outer(alloc, places.as_slice(), &mut trail, cuts) {
-        Err(fault) => Err(fault.behind(trail)),
+        Err(fault) => Err(fault.with_trail(trail)),
         Ok(dd) => {
             let reached = Marks::new(alloc, 0)?;
             let kept = replace(kept, Kept::new(alloc));

@@ -21,7 +21,7 @@ use Rattle.upper_image.specs.Shows.{ShowsCut}
 use Rattle.upper_image.specs.Spots.{dense, product, IsVector}
 use Rattle.upper_image.specs.UpperImage.{normals}
 use Rattle.upper_image.proofs.Widths.{product_is}
-use Rattle.lp_form.specs.Programs.{side_total, dual_unknowns, generators, benson_system, u_of, w_of, v_of, behind_of, value_of}
+use Rattle.lp_form.specs.Programs.{side_total, dual_unknowns, generators, benson_system, u_of, w_of, v_of, after_w_of, value_of}
 use Rattle.lp_form.proofs.Systems.{IsWideCone, cone_wide, benson_ok, length-side_bounds}
 use Rattle.overflow_rules.specs.Base.{AreCutParts}
 use Rattle.overflow_rules.proofs.Cuts.{benson_unknowns, length-benson_cost}
@@ -30,7 +30,7 @@ use Rattle.overflow_rules.proofs.Violated.{said_value}
 use Rattle.benson_program.specs.Laws.{BensonCut}
 use Rattle.benson_program.proofs.Blocks.{asked, given}
 use Rattle.benson_program.proofs.Shown.{IsHeld, shows}
-use Rattle.benson_program.proofs.Solved.{balanced, behind_long, behind_positive, member, scaled_at, u_positive, w_long}
+use Rattle.benson_program.proofs.Solved.{after_long, after_positive, balanced, member, scaled_at, u_positive, w_long}
 use Rattle.benson_program.proofs.Spots.{positive_values}
 
 dual_wide : (q : ℕ) (cone : Cone) → IsWideCone q cone → IsWideCone q (dual_of cone)
@@ -39,14 +39,14 @@ dual_wide q (Gens vectors) h = h
 dual_wide q (Dual vectors) h = h
 
 -- w is in the dual cone by what stands after it, as a sparse vector
-dual_held : (file : Problem) (q : ℕ) (cone : Cone) (w z : List ℚ) (m : List Spot) → length (behind_of file z) ≡ dual_unknowns q cone →
-    AtLeastZero (behind_of file z) → asked cone w ≡ given q cone (behind_of file z) → IsVector (length (v_of file cone z)) m →
+dual_held : (file : Problem) (q : ℕ) (cone : Cone) (w z : List ℚ) (m : List Spot) → length (after_w_of file z) ≡ dual_unknowns q cone →
+    AtLeastZero (after_w_of file z) → asked cone w ≡ given q cone (after_w_of file z) → IsVector (length (v_of file cone z)) m →
     dense (length (v_of file cone z)) m ≡ v_of file cone z → IsVector (length (generators (dual_of cone))) m × IsHeld (dual_of cone) w m
 dual_held file q Orthant w z m long positive e v d = (v, subst AtLeastZero (sym e) positive)
 dual_held file q (Gens vectors) w z m long positive e v d =
     (v, all_from_map (λ s. zero_ℚ ≤ℚ s) (λ g. dot g w) vectors (subst AtLeastZero (sym e) positive))
 dual_held file q (Dual vectors) w z m long positive e v d =
-    let h : List ℚ = behind_of file z in
+    let h : List ℚ = after_w_of file z in
     let same : dense (length vectors) m ≡ h = subst (λ (n : ℕ). dense n m ≡ h) long d in (
       subst (λ (n : ℕ). IsVector n m) long v,
       (
@@ -63,7 +63,7 @@ module _ (file : Problem) (c v : List ℚ) (t : Bool) (z y : List ℚ) (gamma : 
   cut : IsVector (side_total file) u → IsVector (length (v_of file file.cone z)) m → AreCutParts file z u m → product (side_bounds file) u ≡ gamma →
       ShowsCut file c (w_of file z) gamma u m
   cut u_vector m_vector parts bound =
-      let held = dual_held file file.objs file.cone (w_of file z) z m (behind_long file z z_long) (behind_positive file z z_long h.solves.at_least_zero)
+      let held = dual_held file file.objs file.cone (w_of file z) z m (after_long file z z_long) (after_positive file z z_long h.solves.at_least_zero)
       (member file z z_long c c_long one_ℚ h.solves.equal) m_vector parts.cone in
       record {
         lengths = w_long file z z_long;

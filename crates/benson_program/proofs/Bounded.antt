@@ -21,13 +21,13 @@ use Rattle.upper_image.proofs.Absorbing.{zero_at_interior}
 use Rattle.upper_image.proofs.ConvexCones.{ordering_cone_convex}
 use Rattle.upper_image.proofs.Widths.{wide_objectives}
 use Rattle.upper_image.proofs.WorkingImage.{feasible_meets}
-use Rattle.lp_form.specs.Programs.{dual_equations, benson_system, u_of, w_of, behind_of}
+use Rattle.lp_form.specs.Programs.{dual_equations, benson_system, u_of, w_of, after_w_of}
 use Rattle.lp_form.proofs.Systems.{benson_ok}
 use Rattle.overflow_rules.proofs.Cuts.{benson_cost, benson_unknowns, length-benson_cost}
 use Rattle.overflow_rules.proofs.Violated.{said_value}
 use Rattle.benson_program.specs.Laws.{BensonBounded}
 use Rattle.benson_program.proofs.Blocks.{benson_equations}
-use Rattle.benson_program.proofs.Solved.{balanced, behind_long, behind_positive, in_dual, member, scaled_at, u_long, u_positive, w_long}
+use Rattle.benson_program.proofs.Solved.{after_long, after_positive, balanced, in_dual, member, scaled_at, u_long, u_positive, w_long}
 
 module _ (file : Problem) (c v : List ℚ) (t : Bool) (z r : List ℚ) (inner : IsInteriorToCone file c) (v_long : length v ≡ file.objs)
     (h : IsUnbounded (benson_system file c v t) z r) where
@@ -49,8 +49,8 @@ module _ (file : Problem) (c v : List ℚ) (t : Bool) (z r : List ℚ) (inner : 
   no_weight : w_of file r ≡ zeros file.objs
   no_weight =
       zero_at_interior file.objs (IsInOrderingCone file) c (w_of file r) inner
-      (in_dual file.objs file.cone (w_of file r) (behind_of file r) file.cone_vectors (w_long file r r_long) (behind_long file r r_long)
-      (behind_positive file r r_long h.along.at_least_zero) (member file r r_long c c_long zero_ℚ solves))
+      (in_dual file.objs file.cone (w_of file r) (after_w_of file r) file.cone_vectors (w_long file r r_long) (after_long file r r_long)
+      (after_positive file r r_long h.along.at_least_zero) (member file r r_long c c_long zero_ℚ solves))
       (scaled_at file r r_long c c_long zero_ℚ solves)
 
   -- the cost along the ray is that of the sides alone

@@ -28,7 +28,7 @@ use Rattle.lp_form.proofs.Systems.{IsWideCone, cone_wide, benson_ok, length-nega
 use Rattle.overflow_rules.proofs.Cuts.{benson_unknowns, length-benson_cost, length-on_parts}
 use Rattle.overflow_rules.proofs.Violated.{length-minus}
 use Rattle.benson_program.proofs.Blocks.{asked, given, length-asked, length-given, benson_equations, equations-value}
-use Rattle.benson_program.proofs.Solved.{u_long, a_long, b_long, behind_long}
+use Rattle.benson_program.proofs.Solved.{u_long, a_long, b_long, after_long}
 use Rattle.benson_program.proofs.Vectors.{AreAtMost, at_most_each, at_most_parts, at_most_both, at_least_zero, dot-minus, dot-parts, parts_of, same_on}
 
 -- ---- the cone's equations, priced with p
@@ -248,7 +248,7 @@ module _ (file : Problem) (c y : List ℚ) (c_long : length c ≡ file.objs) (y_
       by_parts : (r : List ℚ) → length r ≡ benson_unknowns file → dot y (values (benson_equations file c) r) ≡ dot r priced
       by_parts r l =
           subst (λ (v : List ℚ). dot y (values (benson_equations file c) v) ≡ dot v priced) (parts_of (side_total file) file.objs r)
-          (sym (priced_at _ _ _ _ (u_long file r l) (a_long file r l) (b_long file r l) (behind_long file r l)))
+          (sym (priced_at _ _ _ _ (u_long file r l) (a_long file r l) (b_long file r l) (after_long file r l)))
 
   -- what is at most the products with the columns is at most the priced columns
   at_most : (f : List ℚ) → length f ≡ benson_unknowns file →

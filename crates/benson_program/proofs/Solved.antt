@@ -24,7 +24,7 @@ use Rattle.vlp_problem.specs.declared.problem.Cone.TheVariants.{Orthant, Gens, D
 use Rattle.upper_image.specs.OrderingCone.{IsIn}
 use Rattle.upper_image.specs.UpperImage.{normals, objectives}
 use Rattle.upper_image.proofs.Widths.{wide_normals, wide_objectives}
-use Rattle.lp_form.specs.Programs.{side_total, dual_unknowns, dual_equations, u_of, w_of, behind_of}
+use Rattle.lp_form.specs.Programs.{side_total, dual_unknowns, dual_equations, u_of, w_of, after_w_of}
 use Rattle.lp_form.proofs.Systems.{IsWideCone, cone_wide, length-negated}
 use Rattle.overflow_rules.proofs.Cuts.{benson_unknowns}
 use Rattle.overflow_rules.proofs.Violated.{length-minus}
@@ -61,8 +61,8 @@ module _ (file : Problem) (z : List ℚ) (z_long : length z ≡ benson_unknowns 
   pub b_long : length (take file.objs (drop (side_total file + file.objs) z)) ≡ file.objs
   b_long = length-take-le file.objs (drop (side_total file + file.objs) z) (omega (arith, length-drop (side_total file + file.objs) z, z_long))
 
-  pub behind_long : length (behind_of file z) ≡ dual_unknowns file.objs file.cone
-  behind_long = omega (arith, length-drop (side_total file + file.objs + file.objs) z, z_long)
+  pub after_long : length (after_w_of file z) ≡ dual_unknowns file.objs file.cone
+  after_long = omega (arith, length-drop (side_total file + file.objs + file.objs) z, z_long)
 
   pub w_long : length (w_of file z) ≡ file.objs
   w_long = length-minus file.objs _ _ a_long b_long
@@ -70,8 +70,8 @@ module _ (file : Problem) (z : List ℚ) (z_long : length z ≡ benson_unknowns 
   pub u_positive : AtLeastZero z → AtLeastZero (u_of file z)
   u_positive h = All-take (λ x. zero_ℚ ≤ℚ x) (side_total file) z h
 
-  pub behind_positive : AtLeastZero z → AtLeastZero (behind_of file z)
-  behind_positive h = All-drop (λ x. zero_ℚ ≤ℚ x) (side_total file + file.objs + file.objs) z h
+  pub after_positive : AtLeastZero z → AtLeastZero (after_w_of file z)
+  after_positive h = All-drop (λ x. zero_ℚ ≤ℚ x) (side_total file + file.objs + file.objs) z h
 
   module _ (c : List ℚ) (c_long : length c ≡ file.objs) (last : ℚ)
       (solves : values (benson_equations file c) z ≡ zeros (file.cols + dual_equations file.objs file.cone) ++ last ∷ []) where
@@ -88,7 +88,7 @@ module _ (file : Problem) (z : List ℚ) (z_long : length z ≡ benson_unknowns 
     asks = asked file.cone (w_of file z)
 
     gives : List ℚ
-    gives = given file.objs file.cone (behind_of file z)
+    gives = given file.objs file.cone (after_w_of file z)
 
     members : ℕ
     members = dual_equations file.objs file.cone
@@ -107,7 +107,7 @@ module _ (file : Problem) (z : List ℚ) (z_long : length z ≡ benson_unknowns 
 
     gives_long : length gives ≡ members
     unfolding gives members
-    gives_long = length-given file.objs file.cone (behind_of file z) wide behind_long
+    gives_long = length-given file.objs file.cone (after_w_of file z) wide after_long
 
     columns_long : length (plus u_sum (negated w_sum)) ≡ file.cols
     columns_long = length-plus file.cols u_sum (negated w_sum) u_sum_long (length-negated w_sum file.cols w_sum_long)
@@ -118,7 +118,7 @@ module _ (file : Problem) (z : List ℚ) (z_long : length z ≡ benson_unknowns 
     whole : plus u_sum (negated w_sum) ++ plus asks (negated gives) ++ dot c (w_of file z) ∷ [] ≡ zeros (file.cols + members) ++ last ∷ []
     unfolding u_sum w_sum asks gives members
     whole =
-        sym (equations-value file c (u_of file z) _ _ (behind_of file z) c_long u_long a_long b_long wide behind_long)
+        sym (equations-value file c (u_of file z) _ _ (after_w_of file z) c_long u_long a_long b_long wide after_long)
         ∙ ap (λ v. values (benson_equations file c) v) (parts_of (side_total file) file.objs z) ∙ solves
 
     split : (plus u_sum (negated w_sum) ++ plus asks (negated gives) ≡ zeros (file.cols + members)) × (dot c (w_of file z) ∷ [] ≡ last ∷ [])
@@ -133,7 +133,7 @@ module _ (file : Problem) (z : List ℚ) (z_long : length z ≡ benson_unknowns 
     unfolding u_sum w_sum
     balanced = same_from_difference file.cols u_sum w_sum u_sum_long w_sum_long halves.0
 
-    pub member : asked file.cone (w_of file z) ≡ given file.objs file.cone (behind_of file z)
+    pub member : asked file.cone (w_of file z) ≡ given file.objs file.cone (after_w_of file z)
     unfolding asks gives
     member = same_from_difference members asks gives asks_long gives_long halves.1
 

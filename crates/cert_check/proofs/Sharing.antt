@@ -61,7 +61,7 @@ took_sharing file before e p k solving result plainly itself tests b same none h
     let plain_same : plain (before ++ p ∷ []) ≡ plain (before ++ e ∷ []) =
     plain-push before p ∙ ap (λ (es : List Entry). plain before ++ es) (itself ∙ sym plainly)
     ∙ sym (plain-push before e) in
-    let behind = runs_after rule.Index b (nat_le 1 k && nat_le k (length (shares before))) same
+    let after = runs_after rule.Index b (nat_le 1 k && nat_le k (length (shares before))) same
     (written_kind_events file before p) none
     (IsSolving file (plain (before ++ p ∷ [])) solving) result h in
     subst (λ (es : List Event). Runs is_held es 0 (steps es)
@@ -69,7 +69,7 @@ took_sharing file before e p k solving result plainly itself tests b same none h
     (subst (λ (es : List Entry). Runs is_held
     (is_there before k ∷ written_kind_events file before p) 0
     (steps (written_kind_events file before p)) (λ _. IsSolving file es solving) result)
-    plain_same behind)
+    plain_same after)
 
 -- ---- pre-images that name a shared vector, of points and directions
 pub preimage_not_there : (kind : GenKind) (file : Problem) (before : List Entry)

@@ -24,11 +24,11 @@ pub(crate) fn are_weights(word: &str) -> bool
 {
     let mut rest = word.as_bytes();
     for _ in 0..20_u32 {
-        let (piece, behind) = first_piece(rest, b',');
+        let (piece, after) = first_piece(rest, b',');
         if !is_fraction(piece) {
             return false;
         }
-        match behind {
+        match after {
             Some(more) => rest = more,
             None => return true,
         }
@@ -56,9 +56,9 @@ pub fn weights_of(alloc: Global, word: &str) -> Result<Vector, NoMemory>
     let mut weights = Vector::new(alloc);
     let mut rest = word.as_bytes();
     loop {
-        let (piece, behind) = first_piece(rest, b',');
+        let (piece, after) = first_piece(rest, b',');
         weights.push(weight_of(piece))?;
-        match behind {
+        match after {
             Some(more) => rest = more,
             None => return Ok(weights),
         }

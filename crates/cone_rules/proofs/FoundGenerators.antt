@@ -21,7 +21,7 @@ use Rattle.lp_form.specs.Programs.{generator_gaps, interior_of_generators}
 use Rattle.lp_form.proofs.Systems.{found_ok, length-unit}
 use Rattle.cone_rules.specs.Laws.{FoundProgram, IsPositiveCombination}
 use Rattle.cone_rules.proofs.Parts.{ones, append_parts, zeros-append, all_entries, all_at, all_rows, nonneg_at, dot_parts_at, dot-zeros_left, values-append, optimal_at, infeasible_at}
-use Rattle.cone_rules.proofs.Gaps.{gap, gap_long, gap_value, gap_product, gaps_values, gap_none, gap_first, gap_second, gap_third, gap_nothing, no_number, front_long, middle_long, four_parts, on_last, on_sum, two_behind, ones_right}
+use Rattle.cone_rules.proofs.Gaps.{gap, gap_long, gap_value, gap_product, gaps_values, gap_none, gap_first, gap_second, gap_third, gap_nothing, no_number, front_long, middle_long, four_parts, on_last, on_sum, two_after, ones_right}
 use Rattle.cone_rules.proofs.Given.{nonneg_zeros, nonneg_ones, ones_long, nonneg_three}
 use Rattle.cone_rules.proofs.Ranks.{unit_nonneg}
 
@@ -138,7 +138,7 @@ module _ (q : ℕ) (vectors : List (List ℚ)) (w : AreWide q vectors) where
       dot y (values s.equations (a ++ (b ++ e ∷ r ∷ []))) ≡ gap_value n (take n y) a b e +ℚ (on_last n y *ℚ dot a col +ℚ on_sum n y *ℚ (e +ℚ r))
   said y a b e r i h k =
       ap (λ v. dot y v) (found_values a b e r h k) ∙ dot_parts_at n y (gap n a b e) (dot a col ∷ (e +ℚ r) ∷ []) (gap_long n a b e h k)
-      ∙ ap₂ (λ x z. x +ℚ z) (gap_product n (take n y) a b e) (two_behind n y (dot a col) (e +ℚ r) (i ∙ equations_many))
+      ∙ ap₂ (λ x z. x +ℚ z) (gap_product n (take n y) a b e) (two_after n y (dot a col) (e +ℚ r) (i ∙ equations_many))
 
   part_long : (a b : List ℚ) (e r : ℚ) → length a ≡ n → length b ≡ n → length (a ++ (b ++ e ∷ r ∷ [])) ≡ length s.cost
   part_long a b e r h k = omega (arith, length-append a (b ++ e ∷ r ∷ []), length-append b (e ∷ r ∷ []), unknowns, h, k)

@@ -36,7 +36,7 @@ use Rattle.lp_form.proofs.Systems.{dual_ok, length-unit}
 use Rattle.cone_rules.specs.Faults.{CombinesToMinusLast}
 use Rattle.cone_rules.specs.Laws.{RowsProgram, IsSpread, interior_said}
 use Rattle.cone_rules.proofs.Parts.{ones, append_parts, two_left, slice-drop, zeros-append, slice-negated, entry-negated, all_entries, all_at, all_rows, zero_of_both, nonneg_at, dot_parts_at, dot-negated_left, dot-zeros_left, dot-unit_right, dot_three, values-append, values-listed, optimal_at, infeasible_at}
-use Rattle.cone_rules.proofs.Gaps.{gap, gap_at, gap_long, gap_product, gap_none, no_number, on_last, on_sum, two_behind, ones_right}
+use Rattle.cone_rules.proofs.Gaps.{gap, gap_at, gap_long, gap_product, gap_none, no_number, on_last, on_sum, two_after, ones_right}
 use Rattle.cone_rules.proofs.Given.{nonneg_zeros}
 use Rattle.cone_rules.proofs.Lineality.{support_at}
 use Rattle.cone_rules.proofs.Ranks.{unit_nonneg}
@@ -293,7 +293,7 @@ module _ (q : ℕ) (vectors : List (List ℚ)) (w : AreWide q vectors) (some : 1
   said y c d b e r i h k l =
       ap (λ v. dot y v) (found_values c d b e r h k l)
       ∙ dot_parts_at n y (gap n (values vectors (plus c (negated d))) b e) (entry (plus c (negated d)) q ∷ (e +ℚ r) ∷ []) (gap_of_long c d b e l)
-      ∙ ap₂ (λ x z. x +ℚ z) (gap_product n (take n y) (values vectors (plus c (negated d))) b e) (two_behind n y (entry (plus c (negated d)) q) (e +ℚ r) (i ∙ equations_many))
+      ∙ ap₂ (λ x z. x +ℚ z) (gap_product n (take n y) (values vectors (plus c (negated d))) b e) (two_after n y (entry (plus c (negated d)) q) (e +ℚ r) (i ∙ equations_many))
       ∙ ap₂ (λ x z. ((x +ℚ neg_ℚ (dot (take n y) b)) +ℚ neg_ℚ e *ℚ dot (take n y) (ones n)) +ℚ (on_last n y *ℚ z +ℚ on_sum n y *ℚ (e +ℚ r)))
       (sym (dot-combination_left q (take n y) vectors (plus c (negated d))) ∙ dot-plus (combination q (take n y) vectors) c (negated d)
       ∙ ap (λ x. dot (combination q (take n y) vectors) c +ℚ x) (dot-negated (combination q (take n y) vectors) d))

@@ -130,13 +130,13 @@ on_last n y = slice_index_or (drop n y) 0 zero_ℚ
 abbrev pub on_sum : ℕ → List ℚ → ℚ
 on_sum n y = slice_index_or (drop n y) 1 zero_ℚ
 
-pub two_behind : (n : ℕ) (y : List ℚ) (x z : ℚ) → length y ≡ n + 2 → dot (drop n y) (x ∷ z ∷ []) ≡ on_last n y *ℚ x +ℚ on_sum n y *ℚ z
-two_behind n y x z h =
+pub two_after : (n : ℕ) (y : List ℚ) (x z : ℚ) → length y ≡ n + 2 → dot (drop n y) (x ∷ z ∷ []) ≡ on_last n y *ℚ x +ℚ on_sum n y *ℚ z
+two_after n y x z h =
     ap (λ v. dot v (x ∷ z ∷ [])) (two_left (drop n y) (length-drop n y ∙ omega (arith, h)))
     ∙ ap (λ b. on_last n y *ℚ x +ℚ b) (add_zero (on_sum n y *ℚ z))
 
 pub ones_right : (n : ℕ) (y : List ℚ) → length y ≡ n + 2 → dot y (zeros n ++ one_ℚ ∷ one_ℚ ∷ []) ≡ on_last n y +ℚ on_sum n y
 ones_right n y h =
     dot_parts_at n y (zeros n) (one_ℚ ∷ one_ℚ ∷ []) (length-zeros n)
-    ∙ ap₂ (λ x z. x +ℚ z) (dot-zeros (take n y) n) (two_behind n y one_ℚ one_ℚ h ∙ ap₂ (λ x z. x +ℚ z) (mul_one (on_last n y)) (mul_one (on_sum n y)))
+    ∙ ap₂ (λ x z. x +ℚ z) (dot-zeros (take n y) n) (two_after n y one_ℚ one_ℚ h ∙ ap₂ (λ x z. x +ℚ z) (mul_one (on_last n y)) (mul_one (on_sum n y)))
     ∙ zero_add (on_last n y +ℚ on_sum n y)

@@ -169,13 +169,13 @@ module _ (q : ℕ) (vectors : List (List ℚ)) (f : List ℚ) (w : AreWide q vec
       (subst (λ (r : ℚ). r ≤ℚ dot y (values s.equations (a ++ (b ++ e ∷ [])))) (sym (zero_mul e))
       (infeasible_at s y (a ++ (b ++ e ∷ [])) (given_ok q vectors f f_long) h (part_long a b e a_long b_long) (nonneg_three a b (e ∷ []) i j (one_nonneg e k))))
 
-  behind_long : (y : List ℚ) → length y ≡ length s.equations → length (drop n y) ≡ q
-  behind_long y h = length-drop n y ∙ omega (arith, h, equations_many)
+  after_long : (y : List ℚ) → length y ≡ length s.equations → length (drop n y) ≡ q
+  after_long y h = length-drop n y ∙ omega (arith, h, equations_many)
 
   optimal_outside : (x dual : List ℚ) → IsOptimal s x dual → entry x (suc (n + n)) ≤ℚ zero_ℚ → ShowsOutside q (Gens vectors) f (drop n dual) []
   optimal_outside x dual h e =
       record {
-        lengths = behind_long dual h.one_each;
+        lengths = after_long dual h.one_each;
         vector = no_spot 0;
         not_zero = not_all_zero n vectors (take n dual) (drop n dual) one_ℚ refl (λ a b r i j k l m. optimal_low x dual a b r h i j k l m) q refl;
         cone = record {
@@ -189,7 +189,7 @@ module _ (q : ℕ) (vectors : List (List ℚ)) (f : List ℚ) (w : AreWide q vec
   infeasible_outside y h =
       let below : dot (drop n y) f <ℚ zero_ℚ = subst (λ (r : ℚ). r <ℚ zero_ℚ) (right_is y) h.below in
       record {
-        lengths = behind_long y h.one_each;
+        lengths = after_long y h.one_each;
         vector = no_spot 0;
         not_zero = λ z. lt_irrefl zero_ℚ (subst (λ (r : ℚ). r <ℚ zero_ℚ) (ap (λ v. dot v f) z ∙ dot-zeros_left q f) below);
         cone = record {

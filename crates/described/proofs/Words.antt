@@ -89,5 +89,5 @@ decimal_of made x h words f is q same =
     subst (λ (y : Result (List ℕ) PrintFault). MatchResult y (Prints made) (RefusesText made)) is h in
     let first : IsFirstWithoutWord (printed_numbers made) q = subst (RefusesText made) same refused in
     first.no_word
-    (All-head HasWord q first.behind
-    (back first.before (q ∷ first.behind) (subst (All HasWord) first.place words)))
+    (All-head HasWord q first.after
+    (back first.before (q ∷ first.after) (subst (All HasWord) first.place words)))

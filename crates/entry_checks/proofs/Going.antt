@@ -18,7 +18,7 @@ use Rattle.vlp_problem.specs.Sides.{numbers_from}
 use Rattle.log_rules.specs.Runs.{Runs, Stops, steps}
 use Rattle.log_rules.specs.declared.stop.Stop.{Stop}
 use Rattle.log_rules.specs.declared.stop.Stop.TheVariants.{Wrong, Left, NoMemory}
-use Rattle.log_rules.proofs.Failures.{behind, steps-append, stops-then, runs-then}
+use Rattle.log_rules.proofs.Failures.{none-then, steps-append, stops-then, runs-then}
 use Rattle.log_rules.proofs.Through.{IsThrough, through-start, through-stop, through-as}
 
 -- ---- pieces
@@ -40,7 +40,7 @@ passed-then {A} {B} {s} {m} {n} p q =
     let pc = p.count in
     let qc = q.count in
     let both = steps-append A B in
-    record { none = behind is_held A B s m p.none p.count ∙ q.none; count = omega (arith, pc, qc, both) }
+    record { none = none-then is_held A B s m p.none p.count ∙ q.none; count = omega (arith, pc, qc, both) }
 
 pub stopped-in : {A : List Event} {s : ℕ} {stop : Stop} (B : List Event) → Stopped A s stop → Stopped (A ++ B) s stop
 stopped-in {A} {s} {stop} B p = record { at = stops-then is_held A B s stop p.at }
@@ -51,7 +51,7 @@ same_stop E R s m (Left n l) h k = h ∙ k
 same_stop E R s m NoMemory h k = tt
 
 pub stopped-later : {A B : List Event} {s m : ℕ} {stop : Stop} → Passed A s m → Stopped B m stop → Stopped (A ++ B) s stop
-stopped-later {A} {B} {s} {m} {stop} p q = record { at = same_stop (A ++ B) B s m stop (behind is_held A B s m p.none p.count) q.at }
+stopped-later {A} {B} {s} {m} {stop} p q = record { at = same_stop (A ++ B) B s m stop (none-then is_held A B s m p.none p.count) q.at }
 
 pub ran-after : {X : Type 0} {A B : List Event} {s m n : ℕ} {V : X → Type 0} {result : Result X Stop} → Passed A s m → Ran B m n V result → Ran (A ++ B) s n V result
 ran-after {X} {A} {B} {s} {m} {n} {V} {result} p q = record { runs = runs-then is_held A B s m n V result p.none p.count q.runs }
@@ -173,7 +173,7 @@ at-more f xs start i taken now x h p t q =
     let grown = q.count in
     let k : suc i ≡ i + 1 = omega arith in
     subst (λ (j : ℕ). IsAt f xs start j now) k
-    record { through = record { same = u.same ∙ behind is_held (f x) (flat_map f (drop (suc i) xs)) taken now q.none q.count; count = omega (arith, counted, both, grown) } }
+    record { through = record { same = u.same ∙ none-then is_held (f x) (flat_map f (drop (suc i) xs)) taken now q.none q.count; count = omega (arith, counted, both, grown) } }
 
 pub at-end : {X : Type 0} (f : X → List Event) (xs : List X) (start i taken : ℕ) → i ≡ length xs → IsAt f xs start i taken → Passed (flat_map f xs) start taken
 at-end f xs start i taken h t =

@@ -50,7 +50,7 @@ module _ (entry_of : ℕ → ℚ) (ratios_of : ℕ → List ℚ) (n : ℕ) where
     λ i l up. elim (cases_eq i n) [
       | inl e ↦ ap (λ k. lex_less (ratios_of k) (ratios_of n)) e ∙ lex_irrefl (ratios_of n)
       | inr o ↦ elim (cases_Bool (lex_less (ratios_of i) (ratios_of n)))
-          [ inl before ↦ absurd (true≢false (sym (lex_trans (ratios_of i) (ratios_of n) (ratios_of b) before less) ∙ least.2 i (earlier i l o) up)) | inr behind ↦ behind ]
+          [ inl before ↦ absurd (true≢false (sym (lex_trans (ratios_of i) (ratios_of n) (ratios_of b) before less) ∙ least.2 i (earlier i l o) up)) | inr after ↦ after ]
     ],
   )
 

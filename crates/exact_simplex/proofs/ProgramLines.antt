@@ -13,7 +13,7 @@ use Rattle.lin_rows.specs.Read.{IsLineOf}
 use Rattle.lin_rows.proofs.CellLists.{entries_push}
 use Rattle.lin_rows.specs.System.{HasLengths, coefficients_of, system_of}
 use Rattle.exact_simplex.proofs.Programs.{system_ok, equation_count_is, unknown_count_is, right_column_is, length-coefficients, equation-row}
-use Rattle.exact_simplex.proofs.SystemLines.{IsLineTo, line_none, line_behind, line_whole, line_front, row_long, equation_front, equation_none, equation_sign, equation_last, first_none, first_one, first_last, second_cost_at, second_none}
+use Rattle.exact_simplex.proofs.SystemLines.{IsLineTo, line_none, line_after, line_whole, line_front, row_long, equation_front, equation_none, equation_sign, equation_last, first_none, first_one, first_last, second_cost_at, second_none}
 
 module _ {F : Type 0} (value : F → ℚ) (p : Program F) (lengths : HasLengths p) where
   abbrev s : System
@@ -57,13 +57,13 @@ module _ {F : Type 0} (value : F → ℚ) (p : Program F) (lengths : HasLengths 
         (subst (λ (k : ℕ). IsLineOf k (map value row) (entries value line)) row_size front) front_is (omega (arith, w_is)) in
         let at_sign : slice_index_or xs (p.cols + i) zero_ℚ ≡ value c.value =
         ap (λ k. slice_index_or xs (k + i) zero_ℚ) (sym n_is) ∙ equation_sign s ok i i_inside ∙ ap artificial_sign right ∙ sym sign in
-        let two = line_behind w p.cols (p.cols + i) xs (value c.value) (entries value line) (entries value more) one (omega arith)
+        let two = line_after w p.cols (p.cols + i) xs (value c.value) (entries value line) (entries value more) one (omega arith)
         (λ k l u. equation_none s ok i i_inside k (omega (arith, l, n_is)) (omega (arith, u, inside, n_is, m_is)) (λ e. omega (arith, e, u, n_is)))
         (omega (arith, long, w_is, inside)) (omega (arith, long)) at_sign
         (subst (λ (k : ℕ). Writes k (value c.value) (entries value line) (entries value more)) place (inl (entries_push value line more c pushed))) in
         let at_last : slice_index_or xs (p.cols + p.rows) zero_ℚ ≡ value b =
         ap₂ (λ a k. slice_index_or xs (a + k) zero_ℚ) (sym n_is) (sym m_is) ∙ equation_last s ok i i_inside ∙ right in
-        let three = line_behind w (p.cols + i + 1) (p.cols + p.rows) xs (value b) (entries value more) es two (omega (arith, inside))
+        let three = line_after w (p.cols + i + 1) (p.cols + p.rows) xs (value b) (entries value more) es two (omega (arith, inside))
         (λ k l u. equation_none s ok i i_inside k (omega (arith, l, n_is)) (omega (arith, u, n_is, m_is)) (λ e. omega (arith, e, l, n_is)))
         (omega (arith, long, w_is)) (omega (arith, long)) at_last written in
         line_whole w (p.cols + p.rows + 1) xs es three (omega (arith, long, w_is)) (λ k l u. absurd (omega (arith, l, u, long, w_is)))
@@ -83,7 +83,7 @@ module _ {F : Type 0} (value : F → ℚ) (p : Program F) (lengths : HasLengths 
   first_more i x old new l one h written =
       let next : p.cols + i + 1 ≡ p.cols + (i + 1) = omega arith in
       subst (λ (k : ℕ). IsLineTo (right_column s) k first new) next
-      (line_behind (right_column s) (p.cols + i) (p.cols + i) first (value x) old new h (omega arith) (λ k a b. absurd (omega (arith, a, b)))
+      (line_after (right_column s) (p.cols + i) (p.cols + i) first (value x) old new h (omega arith) (λ k a b. absurd (omega (arith, a, b)))
       (omega (arith, first_long, w_is, l)) (omega (arith, first_long))
       (ap (λ k. slice_index_or first (k + i) zero_ℚ) (sym n_is) ∙ first_one s ok i (omega (arith, l, m_is)) ∙ sym one) written)
 
@@ -107,7 +107,7 @@ module _ {F : Type 0} (value : F → ℚ) (p : Program F) (lengths : HasLengths 
       ap (λ k. slice_index_or (map neg_ℚ (map value p.cost)) k zero_ℚ) same
       ∙ get_or-map neg_ℚ (map value p.cost) i zero_ℚ zero_ℚ (omega (arith, l, lengths.cost, n_is))
       ∙ ap neg_ℚ (get_or-map value p.cost i c zero_ℚ l ∙ ap value (sym c_is)) ∙ sym x_is in
-      line_behind (right_column s) i i second (value x) old new h (omega arith) (λ k a b. absurd (omega (arith, a, b)))
+      line_after (right_column s) i i second (value x) old new h (omega arith) (λ k a b. absurd (omega (arith, a, b)))
       (omega (arith, second_long, w_is, l, lengths.cost)) (omega (arith, second_long)) (second_cost_at s ok i (value x) (omega (arith, l, lengths.cost, n_is)) cost) written
 
   pub second_ends : (i : ℕ) (es : List Entry) → i ≡ length p.cost → IsLineTo (right_column s) i second es → IsLineOf (right_column s) second es

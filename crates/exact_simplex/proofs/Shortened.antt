@@ -53,14 +53,14 @@ module _ (s : System) (basis : List ℕ) (d : Table) (h : IsDictionaryOf s basis
   abbrev short : List ℕ
   short = take m basis
 
-  behind : (i : ℕ) → m ≤ i → slice_index_or basis i 0 ≡ 0
-  behind i l = let same : i + 1 - 1 ≡ i = omega arith in ap (λ k. slice_index_or basis k 0) (sym same) ∙ h.columns.equations_only (i + 1) (omega arith)
+  none_after : (i : ℕ) → m ≤ i → slice_index_or basis i 0 ≡ 0
+  none_after i l = let same : i + 1 - 1 ≡ i = omega arith in ap (λ k. slice_index_or basis k 0) (sym same) ∙ h.columns.equations_only (i + 1) (omega arith)
 
   same : (i : ℕ) → 1 ≤ i → basic_column short i ≡ basic_column basis i
   same i l =
       elim (cases_lt (i - 1) m) [
         | inl inside ↦ get_or-take m basis (i - 1) 0 inside
-        | inr past ↦ get_or_past short (i - 1) 0 (omega (arith, past, length-take m basis)) ∙ sym (behind (i - 1) past)
+        | inr past ↦ get_or_past short (i - 1) 0 (omega (arith, past, length-take m basis)) ∙ sym (none_after (i - 1) past)
       ]
 
   pub short_dictionary : IsDictionaryOf s short d
@@ -85,10 +85,10 @@ module _ (s : System) (basis : List ℕ) (d : Table) (h : IsDictionaryOf s basis
   pub short_solution : solution s basis d ≡ solution s short d
   short_solution =
       list_from-same 1 (unknown_count s) (value_of_column basis (column_of d (right_column s))) (value_of_column short (column_of d (right_column s)))
-      (λ j l u. sym (value-take m basis (column_of d (right_column s)) j l behind))
+      (λ j l u. sym (value-take m basis (column_of d (right_column s)) j l none_after))
 
   pub short_ray : (col : ℕ) → ray s basis d col ≡ ray s short d col
   short_ray col =
       list_from-same 1 (unknown_count s) (λ j. if j == col then one_ℚ else neg_ℚ (value_of_column basis (column_of d col) j))
       (λ j. if j == col then one_ℚ else neg_ℚ (value_of_column short (column_of d col) j))
-      (λ j l u. ap (λ q. if j == col then one_ℚ else neg_ℚ q) (sym (value-take m basis (column_of d col) j l behind)))
+      (λ j l u. ap (λ q. if j == col then one_ℚ else neg_ℚ q) (sym (value-take m basis (column_of d col) j l none_after)))

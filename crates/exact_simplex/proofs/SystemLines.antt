@@ -35,8 +35,8 @@ last_within n low (e ∷ es) l h = last_within n e.place es h.1 h.2
 take_before : (xs : List ℚ) (i k : ℕ) → k < i → slice_index_or (take i xs) k zero_ℚ ≡ slice_index_or xs k zero_ℚ
 take_before xs i k l = get_or-take i xs k zero_ℚ l
 
-take_behind : (xs : List ℚ) (i k : ℕ) → i ≤ k → slice_index_or (take i xs) k zero_ℚ ≡ zero_ℚ
-take_behind xs i k l = slice-past (take i xs) k (omega (arith, l, length-take i xs))
+take_after : (xs : List ℚ) (i k : ℕ) → i ≤ k → slice_index_or (take i xs) k zero_ℚ ≡ zero_ℚ
+take_after xs i k l = slice-past (take i xs) k (omega (arith, l, length-take i xs))
 
 -- further entries that are 0
 pub line_skipped : (n i j : ℕ) (xs : List ℚ) (es : List Entry) → IsLineTo n i xs es → i ≤ j → ((k : ℕ) → i ≤ k → k < j → slice_index_or xs k zero_ℚ ≡ zero_ℚ) → IsLineTo n j xs es
@@ -48,8 +48,8 @@ line_skipped n i j xs es h l none =
             h.line.sums a low
             ∙ elim (cases_lt (a - 1) i) [
               | inl before ↦ take_before xs i (a - 1) before ∙ sym (take_before xs j (a - 1) (omega (arith, before, l)))
-              | inr behind ↦ take_behind xs i (a - 1) behind
-                  ∙ sym (elim (cases_lt (a - 1) j) [ inl inside ↦ take_before xs j (a - 1) inside ∙ none (a - 1) behind inside | inr past ↦ take_behind xs j (a - 1) past ])
+              | inr after ↦ take_after xs i (a - 1) after
+                  ∙ sym (elim (cases_lt (a - 1) j) [ inl inside ↦ take_before xs j (a - 1) inside ∙ none (a - 1) after inside | inr past ↦ take_after xs j (a - 1) past ])
             ];
       };
       last = omega (arith, h.last, l);
@@ -59,9 +59,9 @@ pub line_none : (n j : ℕ) (xs : List ℚ) → ((k : ℕ) → k < j → slice_i
 line_none n j xs none = line_skipped n 0 j xs [] (record { line = record { rises = tt; sums = λ a low. refl }; last = omega arith }) (omega arith) (λ k l u. none k u)
 
 -- one entry more, after some that are 0
-pub line_behind : (n i j : ℕ) (xs : List ℚ) (x : ℚ) (old new : List Entry) → IsLineTo n i xs old → i ≤ j → ((k : ℕ) → i ≤ k → k < j → slice_index_or xs k zero_ℚ ≡ zero_ℚ) →
+pub line_after : (n i j : ℕ) (xs : List ℚ) (x : ℚ) (old new : List Entry) → IsLineTo n i xs old → i ≤ j → ((k : ℕ) → i ≤ k → k < j → slice_index_or xs k zero_ℚ ≡ zero_ℚ) →
     j < length xs → length xs ≤ n → slice_index_or xs j zero_ℚ ≡ x → Writes (j + 1) x old new → IsLineTo n (j + 1) xs new
-line_behind n i j xs x old new h l none inside high is w =
+line_after n i j xs x old new h l none inside high is w =
     let skipped = line_skipped n i j xs old h l none in
     record { line = line_pushed n j xs x old new skipped.line skipped.last inside high is w; last = last_pushed j x old new skipped.last w }
 

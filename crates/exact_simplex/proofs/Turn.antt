@@ -115,7 +115,7 @@ module _ (equations : ℕ) (columns : List ℕ) (from now : Dictionary) (s : IsS
     pub turn_falls : (cost m : ℕ) → equations ≤ cost → cost < length start → length start ≡ m → at d (cost + 1) col <ℚ zero_ℚ →
         remaining (cost_at n start (cost + 1) columns) (all_lists m n) (entries_at columns (row_of after.table (cost + 1)))
         < remaining (cost_at n start (cost + 1) columns) (all_lists m n) (entries_at columns (row_of d (cost + 1)))
-    turn_falls cost m behind cost_in long down =
+    turn_falls cost m past cost_in long down =
         let still : IsDictionary n start after.basis after.table = dictionary_after start s.own.wide s.own in
         let long_after : length after.basis ≡ m = ap length basis_is ∙ length-set basis row col ∙ turn.one_each ∙ own.one_each ∙ long in
         let full = subst (IsEquationBasis n equations) (sym basis_is) basis_after in
@@ -123,4 +123,4 @@ module _ (equations : ℕ) (columns : List ℕ) (from now : Dictionary) (s : IsS
         (is_listed m n after.basis long_after full.high) still
         (subst (λ (e : Table). IsLexBelow (entries_at columns (row_of d (cost + 1))) (entries_at columns (row_of e (cost + 1)))) (sym table)
         (turn_rises n d own.wide columns (row + 1) col (omega arith) (omega (arith, found.0, inside, many)) pivot_up (cost + 1) (omega arith) (omega (arith, cost_in, own.one_each))
-        (λ e. omega (arith, e, found.0, behind)) down (turn.positive row found.0)))
+        (λ e. omega (arith, e, found.0, past)) down (turn.positive row found.0)))

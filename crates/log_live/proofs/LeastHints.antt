@@ -50,9 +50,9 @@ module _ (u : LivePair → Bool) where
       (pairs-head (λ a b. Before (named_pair a) (named_pair b)) o os h) c
 
   -- a name of a later one stands after that of the first
-  behind : (o : LivePair) (os : List LivePair) → Rising (o ∷ os) →
+  named_after : (o : LivePair) (os : List LivePair) → Rising (o ∷ os) →
       (p : LogPair) → Contains (Free os) p → Before (named_pair o) p
-  behind o os h p c =
+  named_after o os h p c =
       let s : (x : LivePair) × Contains (filter u os) x ×
       (named_pair x ≡ p) = Contains-map_source named_pair (filter u os) p c in
       subst (λ (q : LogPair). Before (named_pair o) q) s.2
@@ -76,7 +76,7 @@ module _ (u : LivePair → Bool) where
           ap (λ (x : LivePair). lists (Free os) (named_pair x)) (sym e)
           ∙ fails (lists (Free os) (named_pair y))
           (λ t. never_before (named_pair y)
-          (behind y os h (named_pair y) (listed_is (Free os) (named_pair y) t)))
+          (named_after y os h (named_pair y) (listed_is (Free os) (named_pair y) t)))
           ∙ sym i ∙ ap u e
       by (inr m) true i again =
           ap (λ (b : Bool). b || lists (Free os) (named_pair o))
@@ -124,7 +124,7 @@ module _ (u : LivePair → Bool) where
         go false again =
             ap (λ (b : Bool). if b then hints_along rows live os (drop 1 (Free os)) else first_cover
             rows o live ∷ hints_along rows live os (Free os))
-            (none_next (Free os) (behind o os h))
+            (none_next (Free os) (named_after o os h))
             ∙ ap (λ (hs : List ℕ). first_cover rows o live ∷ hs) again
 
 pub told_are_least : (rows : List (List ℚ)) (list : LiveList) (row : List ℚ)

@@ -122,19 +122,19 @@ numbered k v [] u = alone (same_spots v u)
     alone : (b : Bool) → ◌≡◌ {A = ℕ} (elim b [ true ↦ suc k | false ↦ 0 ]) (cond b (suc k + 0) 0)
     alone true = sym (add-zero (suc k))
     alone false = refl
-numbered k v (w ∷ vectors) u = behind (same_spots v w) (numbered (suc k) v vectors u)
+numbered k v (w ∷ vectors) u = by_test (same_spots v w) (numbered (suc k) v vectors u)
   where
     sum : (j : ℕ) → suc (suc k) + j ≡ suc k + suc j
     sum j = omega arith
 
-    behind : (b : Bool) →
+    by_test : (b : Bool) →
         number_from (suc (suc k)) v (vectors ++ u ∷ []) ≡
         elim (number_from (suc (suc k)) v vectors) [ zero ↦ cond (same_spots v u) (suc (suc k) + length vectors) 0 | suc j ↦ suc j ] →
         ◌≡◌ {A = ℕ} (elim b [ true ↦ suc k | false ↦ number_from (suc (suc k)) v (vectors ++ u ∷ []) ])
         (elim (elim b as (λ _. ℕ) [ true ↦ suc k | false ↦ number_from (suc (suc k)) v vectors ])
         [ zero ↦ cond (same_spots v u) (suc k + suc (length vectors)) 0 | suc j ↦ suc j ])
-    behind true i = refl
-    behind false i =
+    by_test true i = refl
+    by_test false i =
         i ∙ ap (λ (n : ℕ). elim (number_from (suc (suc k)) v vectors) as (λ _. ℕ) [ zero ↦ cond (same_spots v u) n 0 | suc j ↦ suc j ]) (sum (length vectors))
 
 unshared : (all : List Entry) (vectors : List (List Spot)) (u v : List Spot) → same_spots v u ≡ false →

@@ -11,7 +11,7 @@ use Rattle.vlp_problem.specs.declared.problem.Problem.{Problem}
 use Rattle.deriv_log.specs.Formed.{is_formed}
 use Rattle.deriv_log.specs.LogText.{entry_words, log_text}
 use Rattle.deriv_log.specs.declared.entry.Entry.{Entry}
-use Rattle.log_versions.specs.Upgrade.{more_shared, upgraded_behind}
+use Rattle.log_versions.specs.Upgrade.{more_shared, upgraded_after}
 use Rattle.log_upgrade.specs.Walk.{in_place, IsFirst, IsNext, StandsAt, IsUpgraded, IsWritten, IsWhole}
 use Rattle.log_upgrade.specs.declared.walk.Upgraded.{Upgraded}
 use Rattle.log_upgrade.specs.declared.walk.Upgrader.{Upgrader}
@@ -55,14 +55,14 @@ pub written_next : (file : Problem) (all : List Entry) (i : ℕ) (written : List
 written_next file all i written u v e x h k w p s =
     let q = file.objs in
     let front = sym (front_is all i e h k) in
-    let behind : List Entry = upgraded_behind q all (take i all ++ e ∷ []) (more_shared all w.vectors e) (drop (i + 1) all) in
+    let after : List Entry = upgraded_after q all (take i all ++ e ∷ []) (more_shared all w.vectors e) (drop (i + 1) all) in
     record {
       vectors = more_shared all w.vectors e;
       stands = subst (λ (es : List Entry). StandsAt file all es (more_shared all w.vectors e) v) front s;
-      rest = ap (λ (es : List Entry). (written ++ in_place e x) ++ upgraded_behind q all es (more_shared all w.vectors e) (drop (i + 1) all)) (sym front)
-          ∙ append_assoc written (in_place e x) behind
-          ∙ ap (λ (es : List Entry). written ++ (es ++ behind)) p.is
-          ∙ ap (λ (es : List Entry). written ++ upgraded_behind q all (take i all) w.vectors es) (sym (rest_is all i e h k))
+      rest = ap (λ (es : List Entry). (written ++ in_place e x) ++ upgraded_after q all es (more_shared all w.vectors e) (drop (i + 1) all)) (sym front)
+          ∙ append_assoc written (in_place e x) after
+          ∙ ap (λ (es : List Entry). written ++ (es ++ after)) p.is
+          ∙ ap (λ (es : List Entry). written ++ upgraded_after q all (take i all) w.vectors es) (sym (rest_is all i e h k))
           ∙ w.rest;
       formed = list_all-append is_formed written (in_place e x) ∙ and_from (list_all is_formed written) (list_all is_formed (in_place e x)) w.formed p.formed;
     }
@@ -72,6 +72,6 @@ pub written_last : (file : Problem) (all : List Entry) (i : ℕ) (written : List
     IsWhole file.objs all written
 written_last file all i written u h w = record {
   is = sym (append-nil written)
-      ∙ ap (λ (es : List Entry). written ++ upgraded_behind file.objs all (take i all) w.vectors es) (sym (drop_all i all h)) ∙ w.rest;
+      ∙ ap (λ (es : List Entry). written ++ upgraded_after file.objs all (take i all) w.vectors es) (sym (drop_all i all h)) ∙ w.rest;
   formed = w.formed;
 }

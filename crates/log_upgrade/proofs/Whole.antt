@@ -10,16 +10,16 @@ use Rattle.deriv_log.specs.declared.entry.Entry.{Entry}
 use Rattle.log_rules.specs.declared.answer.Answer.{Answer}
 use Rattle.log_versions.specs.Laws.{IsUpgrade}
 use Rattle.log_versions.specs.Plain.{is_version_2}
-use Rattle.log_versions.specs.Upgrade.{upgraded, upgraded_behind}
+use Rattle.log_versions.specs.Upgrade.{upgraded, upgraded_after}
 use Rattle.log_versions.specs.Written.{Proves}
 use Rattle.log_versions.specs.WrittenEvents.{log_failure}
-use Rattle.log_versions.proofs.UpgradedLogs.{upgrades_say_the_same, ends_behind}
+use Rattle.log_versions.proofs.UpgradedLogs.{upgrades_say_the_same, ends_after}
 use Rattle.cert_check.specs.Verdict.{Accepts}
 use Rattle.log_upgrade.specs.Upgrades.{IsUpgradeOf}
 use Rattle.log_upgrade.specs.Walk.{IsWhole, IsWholeText}
 
-first_is : (q : ℕ) (all : List Entry) → is_version_2 all ≡ false → upgraded_behind q all [] [] all ≡ upgraded q all
-first_is q all h = sym (ap (λ (b : Bool). if b then all else upgraded_behind q all [] [] all) h)
+first_is : (q : ℕ) (all : List Entry) → is_version_2 all ≡ false → upgraded_after q all [] [] all ≡ upgraded q all
+first_is q all h = sym (ap (λ (b : Bool). if b then all else upgraded_after q all [] [] all) h)
 
 -- ---- the entries
 pub upgrade_of_first : (file : Problem) (all upgrade : List Entry) (answer : Answer) → IsLog all → Accepts file all answer →
@@ -49,7 +49,7 @@ text_of_first q all text log h t =
     let is : t.upgrade ≡ upgraded q all = t.whole.is ∙ first_is q all h in (
       record {
         formed = ap (list_all is_formed) (sym is) ∙ t.whole.formed;
-        ends = ap ends_once (sym (first_is q all h)) ∙ ends_behind q all [] all [] log.ends;
+        ends = ap ends_once (sym (first_is q all h)) ∙ ends_after q all [] all [] log.ends;
       },
       t.is ∙ ap log_text is,
     )

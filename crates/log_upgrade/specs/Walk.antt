@@ -9,7 +9,7 @@ use Rattle.deriv_log.specs.LogText.{log_text}
 use Rattle.deriv_log.specs.declared.entry.Entry.{Entry}
 use Rattle.deriv_log.specs.declared.entry.Entry.TheVariants.{Share}
 use Rattle.log_versions.specs.Plain.{is_version_2}
-use Rattle.log_versions.specs.Upgrade.{naming, more_shared, upgraded_entry, upgraded_behind}
+use Rattle.log_versions.specs.Upgrade.{naming, more_shared, upgraded_entry, upgraded_after}
 use Rattle.log_versions.specs.WrittenEvents.{log_failure}
 use Rattle.cert_check.specs.StandsFor.{StandsFor}
 use Rattle.cert_check.specs.declared.checker.Checker.{Checker}
@@ -75,13 +75,13 @@ pub record IsWritten (file : Problem) (all : List Entry) (i : ℕ) (written : Li
     (u : Upgrader) : Type 0 where
   pub vectors : List (List Spot)
   pub stands : StandsAt file all (take i all) vectors u
-  pub rest : written ++ upgraded_behind file.objs all (take i all) vectors (drop i all)
-      ≡ upgraded_behind file.objs all [] [] all
+  pub rest : written ++ upgraded_after file.objs all (take i all) vectors (drop i all)
+      ≡ upgraded_after file.objs all [] [] all
   pub formed : IsTrue (list_all is_formed written)
 
 -- the entries are the upgrade of a log that is not of version 2, and can be written
 pub record IsWhole (q : ℕ) (all upgrade : List Entry) : Type 0 where
-  pub is : upgrade ≡ upgraded_behind q all [] [] all
+  pub is : upgrade ≡ upgraded_after q all [] [] all
   pub formed : IsTrue (list_all is_formed upgrade)
 
 -- and this is their text

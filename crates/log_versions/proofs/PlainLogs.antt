@@ -9,24 +9,24 @@ use Rattle.word_lines.specs.Parts.{is_formed_part}
 use Rattle.word_lines.specs.Parts.{vector, number, sparse, natural, pairs}
 use Rattle.deriv_log.specs.declared.entry.Entry.{Entry}
 use Rattle.deriv_log.specs.declared.entry.Entry.TheVariants.{Version, Duality, Cut, Start, Add, Point, Ray, Farkas, Whole, Line, Facet, End, Share, CutOf, PointOf, RayOf, AddHints}
-use Rattle.log_versions.specs.Plain.{share_in, shares, shared, plain_entry, plain_behind, plain}
+use Rattle.log_versions.specs.Plain.{share_in, shares, shared, plain_entry, plain_after, plain}
 
 -- ---- one more entry
 shares-more : (vectors : List (List Spot)) (e : Entry) (entries : List Entry) → (vectors ++ shares (e ∷ [])) ++ shares entries ≡ vectors ++ shares (e ∷ entries)
 shares-more vectors e entries =
     append_assoc vectors (shares (e ∷ [])) (shares entries) ∙ ap (λ (vs : List (List Spot)). vectors ++ vs) (sym (filter_map-append share_in (e ∷ []) entries))
 
-plain_behind-append : (vectors : List (List Spot)) (front back : List Entry) →
-    plain_behind vectors (front ++ back) ≡ plain_behind vectors front ++ plain_behind (vectors ++ shares front) back
-plain_behind-append vectors [] back = ap (λ vs. plain_behind vs back) (sym (append-nil vectors))
-plain_behind-append vectors (e ∷ front) back =
-    ap (λ es. plain_entry vectors e ++ es) (plain_behind-append (vectors ++ shares (e ∷ [])) front back
-    ∙ ap (λ vs. plain_behind (vectors ++ shares (e ∷ [])) front ++ plain_behind vs back) (shares-more vectors e front))
-    ∙ sym (append_assoc (plain_entry vectors e) (plain_behind (vectors ++ shares (e ∷ [])) front) (plain_behind (vectors ++ shares (e ∷ front)) back))
+plain_after-append : (vectors : List (List Spot)) (front back : List Entry) →
+    plain_after vectors (front ++ back) ≡ plain_after vectors front ++ plain_after (vectors ++ shares front) back
+plain_after-append vectors [] back = ap (λ vs. plain_after vs back) (sym (append-nil vectors))
+plain_after-append vectors (e ∷ front) back =
+    ap (λ es. plain_entry vectors e ++ es) (plain_after-append (vectors ++ shares (e ∷ [])) front back
+    ∙ ap (λ vs. plain_after (vectors ++ shares (e ∷ [])) front ++ plain_after vs back) (shares-more vectors e front))
+    ∙ sym (append_assoc (plain_entry vectors e) (plain_after (vectors ++ shares (e ∷ [])) front) (plain_after (vectors ++ shares (e ∷ front)) back))
 
 pub plain-push : (before : List Entry) (e : Entry) → plain (before ++ e ∷ []) ≡ plain before ++ plain_entry (shares before) e
 plain-push before e =
-    plain_behind-append [] before (e ∷ []) ∙ ap (λ es. plain before ++ es) (append-nil (plain_entry (shares before) e))
+    plain_after-append [] before (e ∷ []) ∙ ap (λ es. plain before ++ es) (append-nil (plain_entry (shares before) e))
 
 -- ---- the plain log is a log where the log is
 formed_sparse : List Spot → Bool
@@ -112,11 +112,11 @@ more_formed vectors e h k = all_append formed_sparse vectors (shares (e ∷ []))
     own (AddHints cut ps hints) i = refl
 
 plain_formed : (vectors : List (List Spot)) (entries : List Entry) → list_all formed_sparse vectors ≡ true → list_all is_formed entries ≡ true →
-    list_all is_formed (plain_behind vectors entries) ≡ true
+    list_all is_formed (plain_after vectors entries) ≡ true
 plain_formed vectors [] h k = refl
 plain_formed vectors (e ∷ entries) h k =
     let p = and_parts (is_formed e) (list_all is_formed entries) k in
-    all_append is_formed (plain_entry vectors e) (plain_behind (vectors ++ shares (e ∷ [])) entries) (formed_entry vectors e h p.0)
+    all_append is_formed (plain_entry vectors e) (plain_after (vectors ++ shares (e ∷ [])) entries) (formed_entry vectors e h p.0)
     (plain_formed (vectors ++ shares (e ∷ [])) entries (more_formed vectors e h p.0) p.1)
 
 -- where an entry ends
@@ -124,25 +124,25 @@ ends_more : (e : Entry) (entries : List Entry) → is_end e ≡ false → ends_o
 ends_more e [] h k = absurd (true≢false (sym k))
 ends_more e (d ∷ entries) h k = and_from (not (is_end e)) (ends_once (d ∷ entries)) (ap not h) k
 
-ends_behind : (vectors : List (List Spot)) (e : Entry) (entries : List Entry) → is_end e ≡ false → ends_once entries ≡ true →
+ends_after : (vectors : List (List Spot)) (e : Entry) (entries : List Entry) → is_end e ≡ false → ends_once entries ≡ true →
     ends_once (plain_entry vectors e ++ entries) ≡ true
-ends_behind vectors (Share v) entries h k = k
-ends_behind vectors (Version n) entries h k = ends_more (Version (if n == 2 then 1 else n)) entries refl k
-ends_behind vectors (CutOf w gamma share v) entries h k = ends_more (Cut w gamma (shared vectors share) v) entries refl k
-ends_behind vectors (PointOf generator share m) entries h k = ends_more (Point generator (shared vectors share) m) entries refl k
-ends_behind vectors (RayOf generator share m) entries h k = ends_more (Ray generator (shared vectors share) m) entries refl k
-ends_behind vectors (AddHints cut ps hints) entries h k = ends_more (Add cut ps) entries refl k
-ends_behind vectors (Duality c weights picks inverse) entries h k = ends_more (Duality c weights picks inverse) entries refl k
-ends_behind vectors (Cut w gamma u v) entries h k = ends_more (Cut w gamma u v) entries refl k
-ends_behind vectors (Start cuts point directions) entries h k = ends_more (Start cuts point directions) entries refl k
-ends_behind vectors (Add cut ps) entries h k = ends_more (Add cut ps) entries refl k
-ends_behind vectors (Point generator x m) entries h k = ends_more (Point generator x m) entries refl k
-ends_behind vectors (Ray generator x m) entries h k = ends_more (Ray generator x m) entries refl k
-ends_behind vectors (Farkas u) entries h k = ends_more (Farkas u) entries refl k
-ends_behind vectors (Whole x ray m) entries h k = ends_more (Whole x ray m) entries refl k
-ends_behind vectors (Line d x ray m back n) entries h k = ends_more (Line d x ray m back n) entries refl k
-ends_behind vectors (Facet cut) entries h k = ends_more (Facet cut) entries refl k
-ends_behind vectors (End j) entries h k = absurd (true≢false h)
+ends_after vectors (Share v) entries h k = k
+ends_after vectors (Version n) entries h k = ends_more (Version (if n == 2 then 1 else n)) entries refl k
+ends_after vectors (CutOf w gamma share v) entries h k = ends_more (Cut w gamma (shared vectors share) v) entries refl k
+ends_after vectors (PointOf generator share m) entries h k = ends_more (Point generator (shared vectors share) m) entries refl k
+ends_after vectors (RayOf generator share m) entries h k = ends_more (Ray generator (shared vectors share) m) entries refl k
+ends_after vectors (AddHints cut ps hints) entries h k = ends_more (Add cut ps) entries refl k
+ends_after vectors (Duality c weights picks inverse) entries h k = ends_more (Duality c weights picks inverse) entries refl k
+ends_after vectors (Cut w gamma u v) entries h k = ends_more (Cut w gamma u v) entries refl k
+ends_after vectors (Start cuts point directions) entries h k = ends_more (Start cuts point directions) entries refl k
+ends_after vectors (Add cut ps) entries h k = ends_more (Add cut ps) entries refl k
+ends_after vectors (Point generator x m) entries h k = ends_more (Point generator x m) entries refl k
+ends_after vectors (Ray generator x m) entries h k = ends_more (Ray generator x m) entries refl k
+ends_after vectors (Farkas u) entries h k = ends_more (Farkas u) entries refl k
+ends_after vectors (Whole x ray m) entries h k = ends_more (Whole x ray m) entries refl k
+ends_after vectors (Line d x ray m back n) entries h k = ends_more (Line d x ray m back n) entries refl k
+ends_after vectors (Facet cut) entries h k = ends_more (Facet cut) entries refl k
+ends_after vectors (End j) entries h k = absurd (true≢false h)
 
 ends_alone : (vectors : List (List Spot)) (e : Entry) → is_end e ≡ true → ends_once (plain_entry vectors e ++ []) ≡ true
 ends_alone vectors (End j) h = refl
@@ -167,12 +167,12 @@ not_is : (b : Bool) → not b ≡ true → b ≡ false
 not_is true h = sym h
 not_is false h = refl
 
-plain_ends : (vectors : List (List Spot)) (entries : List Entry) → ends_once entries ≡ true → ends_once (plain_behind vectors entries) ≡ true
+plain_ends : (vectors : List (List Spot)) (entries : List Entry) → ends_once entries ≡ true → ends_once (plain_after vectors entries) ≡ true
 plain_ends vectors [] h = h
 plain_ends vectors (e ∷ []) h = ends_alone vectors e h
 plain_ends vectors (e ∷ next ∷ entries) h =
     let p = and_parts (not (is_end e)) (ends_once (next ∷ entries)) h in
-    ends_behind vectors e (plain_behind (vectors ++ shares (e ∷ [])) (next ∷ entries)) (not_is (is_end e) p.0)
+    ends_after vectors e (plain_after (vectors ++ shares (e ∷ [])) (next ∷ entries)) (not_is (is_end e) p.0)
     (plain_ends (vectors ++ shares (e ∷ [])) (next ∷ entries) p.1)
 
 pub plain_log : (entries : List Entry) → IsLog entries → IsLog (plain entries)

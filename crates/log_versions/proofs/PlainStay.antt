@@ -15,7 +15,7 @@ use Rattle.log_rules.specs.Order.{kind, in_order}
 use Rattle.log_rules.specs.Proves.{AllMeet, PlainProves}
 use Rattle.log_rules.specs.declared.answer.Answer.{Answer}
 use Rattle.log_rules.specs.declared.rule.Rule.TheVariants as rule
-use Rattle.log_versions.specs.Plain.{shares, plain_entry, plain_behind, plain, is_plain, is_version_2}
+use Rattle.log_versions.specs.Plain.{shares, plain_entry, plain_after, plain, is_plain, is_version_2}
 use Rattle.log_versions.specs.Written.{may_follow, WrittenMeets, AllWrittenMeet, Proves}
 use Rattle.log_versions.specs.WrittenEvents.{written_events, written_kind_events, first_written_failing}
 use Rattle.log_versions.specs.Laws.{PlainLogsStay}
@@ -45,15 +45,15 @@ stays vectors (Line d x ray m back n) h = (refl, refl)
 stays vectors (Facet cut) h = (refl, refl)
 stays vectors (End k) h = (refl, refl)
 
-same_behind : (entries : List Entry) → list_all is_plain entries ≡ true → plain_behind [] entries ≡ entries
-same_behind [] h = refl
-same_behind (e ∷ entries) h =
+same_after : (entries : List Entry) → list_all is_plain entries ≡ true → plain_after [] entries ≡ entries
+same_after [] h = refl
+same_after (e ∷ entries) h =
     let p = and_parts (is_plain e) (list_all is_plain entries) h in
     let s : (plain_entry [] e ≡ e ∷ []) × (shares (e ∷ []) ≡ []) = stays [] e p.0 in
-    ap₂ (λ (front : List Entry) (vs : List (List Spot)). front ++ plain_behind vs entries) s.0 s.1 ∙ ap (λ es. e ∷ es) (same_behind entries p.1)
+    ap₂ (λ (front : List Entry) (vs : List (List Spot)). front ++ plain_after vs entries) s.0 s.1 ∙ ap (λ es. e ∷ es) (same_after entries p.1)
 
 pub same_log : (entries : List Entry) → IsTrue (list_all is_plain entries) → plain entries ≡ entries
-same_log entries h = same_behind entries h
+same_log entries h = same_after entries h
 
 -- ---- rules
 pub all_push : (before : List Entry) (e : Entry) → list_all is_plain before ≡ true → is_plain e ≡ true → list_all is_plain (before ++ e ∷ []) ≡ true
@@ -94,16 +94,16 @@ meets_written file before e same h m = go e h (subst (λ (b : List Entry). Meets
 all_written : (file : Problem) (entries : List Entry) → list_all is_plain entries ≡ true → AllMeet file entries → AllWrittenMeet file entries
 all_written file entries h all before e after same =
     let f : (list_all is_plain before ≡ true) × (is_plain e ≡ true) = front_plain before e after (ap (λ (es : List Entry). list_all is_plain es) (sym same) ∙ h) in
-    meets_written file before e (same_behind before f.0) f.1 (all before e after same)
+    meets_written file before e (same_after before f.0) f.1 (all before e after same)
 
 proves_same : (file : Problem) (entries : List Entry) (answer : Answer) → IsTrue (list_all is_plain entries) →
     Proves file entries answer ↔ PlainProves file entries answer
 proves_same file entries answer h = (
-  λ w. subst (λ (es : List Entry). PlainProves file es answer) (same_behind entries h) (proves_plainly.plainly file entries answer w),
+  λ w. subst (λ (es : List Entry). PlainProves file es answer) (same_after entries h) (proves_plainly.plainly file entries answer w),
   λ p. record {
     log = p.log;
     meet = all_written file entries h p.meet;
-    gives = subst (λ (es : List Entry). Rattle.log_rules.specs.Proves.Gives file es answer) (sym (same_behind entries h)) p.gives;
+    gives = subst (λ (es : List Entry). Rattle.log_rules.specs.Proves.Gives file es answer) (sym (same_after entries h)) p.gives;
   },
 )
 
@@ -295,7 +295,7 @@ failures_same holds file before (e ∷ entries) all second =
     ap (λ (o : Option Failure). elim o [
       | Some failure ↦ Some (record { entry = suc (length before); failure = failure })
       | None ↦ first_written_failing holds file (before ++ e ∷ []) entries
-    ]) (same_failure holds file before e (same_behind before all) head)
+    ]) (same_failure holds file before e (same_after before all) head)
     ∙ go (first_failure holds 1 (events file before e)) refl (λ k. failures_same holds file (before ++ e ∷ []) entries
     (all_push before e all (is_plain_of file holds before e head k)) (ap is_version_2 (append_assoc before (e ∷ []) entries) ∙ second))
   where

@@ -15,7 +15,7 @@ use Rattle.log_rules.specs.Proves.{AllMeet, Gives}
 use Rattle.log_rules.proofs.LogMeets.{events_give_meets}
 use Rattle.log_versions.specs.Plain.{shares, plain, is_plain, is_version_2}
 use Rattle.log_versions.specs.WrittenEvents.{log_failure, first_written_failing}
-use Rattle.log_versions.specs.Upgrade.{is_repeated, number_from, naming, sharing, upgraded_entry, more_shared, upgraded_behind, upgraded}
+use Rattle.log_versions.specs.Upgrade.{is_repeated, number_from, naming, sharing, upgraded_entry, more_shared, upgraded_after, upgraded}
 use Rattle.log_versions.specs.Laws.{IsUpgrade, UpgradesSayTheSame}
 use Rattle.log_versions.proofs.PlainStay.{plain_logs_stay, is_plain_of, all_push, first_of}
 use Rattle.log_versions.proofs.Upgraded.{IsStep, begins, step}
@@ -28,16 +28,16 @@ both_none (Some x) f r h = absurd cc
 module _ (holds : ℚ → Bool) (file : Problem) (all : List Entry) where
   -- the upgrade of the entries that are left after what is written of those before
   record IsRest (front done rest : List Entry) (vectors : List (List Spot)) : Type 0 where
-    pub passes : first_written_failing holds file front (upgraded_behind file.objs all done vectors rest) ≡ None
-    pub plainly : plain (front ++ upgraded_behind file.objs all done vectors rest) ≡ done ++ rest
+    pub passes : first_written_failing holds file front (upgraded_after file.objs all done vectors rest) ≡ None
+    pub plainly : plain (front ++ upgraded_after file.objs all done vectors rest) ≡ done ++ rest
 
-  behind : (front done rest : List Entry) (vectors : List (List Spot)) → plain front ≡ done → shares front ≡ vectors → is_version_2 front ≡ true →
+  is_rest : (front done rest : List Entry) (vectors : List (List Spot)) → plain front ≡ done → shares front ≡ vectors → is_version_2 front ≡ true →
       (tail : List Entry) → done ≡ Version 1 ∷ tail → first_failing holds file done rest ≡ None → AllMeet file (done ++ rest) → IsRest front done rest vectors
-  behind front done [] vectors same are second tail starts h meet = record {
+  is_rest front done [] vectors same are second tail starts h meet = record {
     passes = refl;
     plainly = ap plain (append-nil front) ∙ same ∙ sym (append-nil done);
   }
-  behind front done (e ∷ rest) vectors same are second tail starts h meet =
+  is_rest front done (e ∷ rest) vectors same are second tail starts h meet =
       let parts = both_none (first_failure holds 1 (events file done e)) (λ x. record { entry = suc (length done); failure = x })
       (first_failing holds file (done ++ e ∷ []) rest) h in
       let met : Meets file done e = meet done e rest refl in
@@ -46,12 +46,12 @@ module _ (holds : ℚ → Bool) (file : Problem) (all : List Entry) where
       step holds file all front done vectors e same are second tail starts (is_plain_of file holds done e not_two parts.0) parts.0 met in
       let more : (done ++ e ∷ []) ++ rest ≡ done ++ e ∷ rest = append_assoc done (e ∷ []) rest in
       let again : IsRest (front ++ upgraded_entry file.objs all done vectors e) (done ++ e ∷ []) rest (more_shared all vectors e) =
-      behind (front ++ upgraded_entry file.objs all done vectors e) (done ++ e ∷ []) rest (more_shared all vectors e)
+      is_rest (front ++ upgraded_entry file.objs all done vectors e) (done ++ e ∷ []) rest (more_shared all vectors e)
       (s.plainly ∙ ap (λ (d : List Entry). d ++ e ∷ []) same) s.shared_are s.second (tail ++ e ∷ [])
       (ap (λ (d : List Entry). d ++ e ∷ []) starts) parts.1 (subst (λ (es : List Entry). AllMeet file es) (sym more) meet) in
       record {
-        passes = s.passes (upgraded_behind file.objs all (done ++ e ∷ []) (more_shared all vectors e) rest) ∙ again.passes;
-        plainly = ap plain (sym (append_assoc front (upgraded_entry file.objs all done vectors e) (upgraded_behind file.objs all (done ++ e ∷ []) (more_shared all vectors e) rest)))
+        passes = s.passes (upgraded_after file.objs all (done ++ e ∷ []) (more_shared all vectors e) rest) ∙ again.passes;
+        plainly = ap plain (sym (append_assoc front (upgraded_entry file.objs all done vectors e) (upgraded_after file.objs all (done ++ e ∷ []) (more_shared all vectors e) rest)))
             ∙ again.plainly ∙ more;
       }
 
@@ -124,15 +124,15 @@ not_is : (b : Bool) → not b ≡ true → b ≡ false
 not_is true h = sym h
 not_is false h = refl
 
-pub ends_behind : (q : ℕ) (all done rest : List Entry) (vectors : List (List Spot)) → ends_once rest ≡ true →
-    ends_once (upgraded_behind q all done vectors rest) ≡ true
-ends_behind q all done [] vectors h = h
-ends_behind q all done (e ∷ []) vectors h = last_ends q all done vectors e h
-ends_behind q all done (e ∷ next ∷ rest) vectors h =
+pub ends_after : (q : ℕ) (all done rest : List Entry) (vectors : List (List Spot)) → ends_once rest ≡ true →
+    ends_once (upgraded_after q all done vectors rest) ≡ true
+ends_after q all done [] vectors h = h
+ends_after q all done (e ∷ []) vectors h = last_ends q all done vectors e h
+ends_after q all done (e ∷ next ∷ rest) vectors h =
     let p = and_parts (not (is_end e)) (ends_once (next ∷ rest)) h in
-    none_ends (upgraded_entry q all done vectors e) (upgraded_behind q all (done ++ e ∷ []) (more_shared all vectors e) (next ∷ rest))
+    none_ends (upgraded_entry q all done vectors e) (upgraded_after q all (done ++ e ∷ []) (more_shared all vectors e) (next ∷ rest))
     (entry_ends q all done vectors e (not_is (is_end e) p.0))
-    (ends_behind q all (done ++ e ∷ []) (next ∷ rest) (more_shared all vectors e) p.1)
+    (ends_after q all (done ++ e ∷ []) (next ∷ rest) (more_shared all vectors e) p.1)
 
 -- ---- the upgrade of a log of version 1
 -- the first entry of a log that meets its rules is `version 1`
@@ -163,25 +163,25 @@ record IsUpgraded (holds : ℚ → Bool) (file : Problem) (entries written : Lis
   pub ends : ends_once written ≡ true
 
 from_one : (holds : ℚ → Bool) (file : Problem) (rest : List Entry) → ends_once (Version 1 ∷ rest) ≡ true → plain_failure holds file (Version 1 ∷ rest) ≡ None →
-    plain (Version 1 ∷ rest) ≡ Version 1 ∷ rest → IsUpgraded holds file (Version 1 ∷ rest) (upgraded_behind file.objs (Version 1 ∷ rest) [] [] (Version 1 ∷ rest))
+    plain (Version 1 ∷ rest) ≡ Version 1 ∷ rest → IsUpgraded holds file (Version 1 ∷ rest) (upgraded_after file.objs (Version 1 ∷ rest) [] [] (Version 1 ∷ rest))
 from_one holds file rest ends h same =
     let all : List Entry = Version 1 ∷ rest in
     let parts = both_none (first_failure holds 1 (events file [] (Version 1))) (λ x. record { entry = 1; failure = x }) (first_failing holds file (Version 1 ∷ []) rest) h in
     let r : IsRest holds file all (Version 2 ∷ []) (Version 1 ∷ []) rest [] =
-    behind holds file all (Version 2 ∷ []) (Version 1 ∷ []) rest [] refl refl refl [] refl parts.1 (events_give_meets holds file all h) in
+    is_rest holds file all (Version 2 ∷ []) (Version 1 ∷ []) rest [] refl refl refl [] refl parts.1 (events_give_meets holds file all h) in
     record {
       second = refl;
       passes = r.passes;
       plainly = r.plainly ∙ sym same;
-      ends = ends_behind file.objs all [] all [] ends;
+      ends = ends_after file.objs all [] all [] ends;
     }
 
 from_first : (holds : ℚ → Bool) (file : Problem) (entries : List Entry) → ends_once entries ≡ true → plain_failure holds file entries ≡ None →
-    is_version_2 entries ≡ false → IsUpgraded holds file entries (upgraded_behind file.objs entries [] [] entries)
+    is_version_2 entries ≡ false → IsUpgraded holds file entries (upgraded_after file.objs entries [] [] entries)
 from_first holds file [] ends h second = absurd (true≢false (sym ends))
 from_first holds file (e ∷ rest) ends h second =
     let first : e ≡ Version 1 = first_entry file e (events_give_meets holds file (e ∷ rest) h [] e rest refl) in
-    subst (λ (d : Entry). IsUpgraded holds file (d ∷ rest) (upgraded_behind file.objs (d ∷ rest) [] [] (d ∷ rest))) (sym first)
+    subst (λ (d : Entry). IsUpgraded holds file (d ∷ rest) (upgraded_after file.objs (d ∷ rest) [] [] (d ∷ rest))) (sym first)
     (from_one holds file rest (ap (λ (d : Entry). ends_once (d ∷ rest)) (sym first) ∙ ends)
     (ap (λ (d : Entry). plain_failure holds file (d ∷ rest)) (sym first) ∙ h)
     (plain_logs_stay.same (Version 1 ∷ rest) (ap (λ (d : Entry). list_all is_plain (d ∷ rest)) (sym first) ∙ all_plain [] (e ∷ rest) refl h second)))
@@ -198,10 +198,10 @@ from_first holds file (e ∷ rest) ends h second =
 
 -- ---- any log
 gives_upgrade : (holds : ℚ → Bool) (file : Problem) (entries : List Entry) (b : Bool) → is_version_2 entries ≡ b → IsLog entries →
-    IsUpgraded holds file entries (if b then entries else upgraded_behind file.objs entries [] [] entries) → IsUpgrade holds file entries
+    IsUpgraded holds file entries (if b then entries else upgraded_after file.objs entries [] [] entries) → IsUpgrade holds file entries
 gives_upgrade holds file entries b e log u =
-    let is : upgraded file.objs entries ≡ (if b then entries else upgraded_behind file.objs entries [] [] entries) =
-    ap (λ (c : Bool). if c then entries else upgraded_behind file.objs entries [] [] entries) e in
+    let is : upgraded file.objs entries ≡ (if b then entries else upgraded_after file.objs entries [] [] entries) =
+    ap (λ (c : Bool). if c then entries else upgraded_after file.objs entries [] [] entries) e in
     let v : IsUpgraded holds file entries (upgraded file.objs entries) = subst (λ (es : List Entry). IsUpgraded holds file entries es) (sym is) u in
     record {
       second = v.second;
@@ -212,7 +212,7 @@ gives_upgrade holds file entries b e log u =
         meet = written_events_give_meets holds file (upgraded file.objs entries) v.passes;
         gives = subst (λ (es : List Entry). Gives file es answer) (sym v.plainly) w.gives;
       };
-      once = ap (λ (c : Bool). if c then upgraded file.objs entries else upgraded_behind file.objs (upgraded file.objs entries) [] [] (upgraded file.objs entries)) v.second;
+      once = ap (λ (c : Bool). if c then upgraded file.objs entries else upgraded_after file.objs (upgraded file.objs entries) [] [] (upgraded file.objs entries)) v.second;
     }
 
 pub upgrades_say_the_same : UpgradesSayTheSame

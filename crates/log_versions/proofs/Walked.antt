@@ -41,8 +41,8 @@ module _ (rows : List (List ℚ)) (live : List Numbered) where
   Rising opposite = AllPairs (λ a b. Before (named_pair a) (named_pair b)) opposite
 
   -- a name among those of a list stands after that of the pair before the list
-  behind : (o : LivePair) (opposite : List LivePair) (p : LogPair) → Rising (o ∷ opposite) → Contains (Free opposite) p → Before (named_pair o) p
-  behind o opposite p rise c =
+  named_after : (o : LivePair) (opposite : List LivePair) (p : LogPair) → Rising (o ∷ opposite) → Contains (Free opposite) p → Before (named_pair o) p
+  named_after o opposite p rise c =
       let s : (x : LivePair) × Contains (filter (is_uncovered_live rows live) opposite) x × (named_pair x ≡ p) =
       Contains-map_source named_pair (filter (is_uncovered_live rows live) opposite) p c in
       let m : Contains opposite s.0 = (Contains-filter_source (is_uncovered_live rows live) opposite s.0 s.1).0 in
@@ -100,7 +100,7 @@ module _ (rows : List (List ℚ)) (live : List Numbered) where
           let r = again k in
           let name : p ≡ named_pair o = same_is p (named_pair o) e in (
             pairs-cons Before p pairs (all_of_members (Before p) pairs (λ q c. subst (λ (x : LogPair). Before x q) (sym name)
-                (behind o opposite q rise (member_of (λ x. Contains (Free opposite) x) pairs q r.1 c)))) r.0,
+                (named_after o opposite q rise (member_of (λ x. Contains (Free opposite) x) pairs q r.1 c)))) r.0,
             All-cons (λ x. Contains (Free (o ∷ opposite)) x) p pairs (subst (λ (x : LogPair). Contains (Free (o ∷ opposite)) x) (sym name) (free_here o opposite f))
                 (all_of_members (λ x. Contains (Free (o ∷ opposite)) x) pairs (λ q c. free_there o opposite q (member_of (λ x. Contains (Free opposite) x) pairs q r.1 c))),
           )
@@ -138,7 +138,7 @@ module _ (rows : List (List ℚ)) (live : List Numbered) where
           all_listed (if b then (if is_uncovered_live rows live o then walk rows live opposite pairs hints right else None)
           else walk rows live opposite (p ∷ pairs) (drop 1 hints) (right && next_covers rows live o hints)) ≡ true
       go true e (inr m) again other =
-          absurd (never_before p (subst (λ (x : LogPair). Before x p) (sym (same_is p (named_pair o) e)) (behind o opposite p rise m)))
+          absurd (never_before p (subst (λ (x : LogPair). Before x p) (sym (same_is p (named_pair o) e)) (named_after o opposite p rise m)))
       go true e (inl f) again other =
           subst (λ (u : Bool). all_listed (if u then walk rows live opposite pairs hints right else None) ≡ true) (sym f.1)
           (again (
@@ -152,7 +152,7 @@ module _ (rows : List (List ℚ)) (live : List Numbered) where
         r.0,
         All-cons (λ x. Contains (Free opposite) x) p pairs m (all_of_members (λ x. Contains (Free opposite) x) pairs (λ q c. rest_of q
             (member_of (λ x. Contains (Free (o ∷ opposite)) x) pairs q (All-tail (λ x. Contains (Free (o ∷ opposite)) x) p pairs r.1) c)
-            (before_through (named_pair o) p q (behind o opposite p rise m) (later q c)))),
+            (before_through (named_pair o) p q (named_after o opposite p rise m) (later q c)))),
       )
 
   -- ---- hints
@@ -210,7 +210,7 @@ module _ (rows : List (List ℚ)) (live : List Numbered) where
       skipped k =
           let r : AreRight opposite pairs = sound opposite pairs (drop 1 hints) (right && next_covers rows live o hints) tail k in
           ap (λ (b : Bool). cond (not b) (o ∷ Unlisted pairs opposite) (Unlisted pairs opposite))
-          (not_listed pairs (named_pair o) (λ c. never_before (named_pair o) (behind o opposite (named_pair o) rise (member_of (λ x. Contains (Free opposite) x) pairs (named_pair o) r.1 c))))
+          (not_listed pairs (named_pair o) (λ c. never_before (named_pair o) (named_after o opposite (named_pair o) rise (member_of (λ x. Contains (Free opposite) x) pairs (named_pair o) r.1 c))))
 
       -- one hint
       one : (hs : List ℕ) → ((right && next_covers rows live o hs) && are_hints rows live (Unlisted pairs opposite) (drop 1 hs))

@@ -175,11 +175,11 @@ written_events_give_meets holds file entries h before e later same =
     splits holds file [] entries (record { c_wide = omega arith; cuts_wide = All-nil (λ (cut : Stated). length cut.w ≡ file.objs) }) h before e later same
 
 -- each of the entries, after those before it
-held-behind : (file : Problem) (before entries : List Entry) →
+held-after : (file : Problem) (before entries : List Entry) →
     ((mid : List Entry) (e : Entry) (later : List Entry) → entries ≡ mid ++ e ∷ later → WrittenMeets file (before ++ mid) e) →
     first_written_failing (λ _. true) file before entries ≡ None
-held-behind file before [] h = refl
-held-behind file before (e ∷ entries) h =
+held-after file before [] h = refl
+held-after file before (e ∷ entries) h =
     let m : WrittenMeets file before e = subst (λ (b : List Entry). WrittenMeets file b e) (append-nil before) (h [] e entries refl) in
     let first : first_failure (λ _. true) 1 (written_events file before e) ≡ None =
     none_fails 1 (written_events file before e) (m.order, written-passes file before e m.rules) in
@@ -187,9 +187,9 @@ held-behind file before (e ∷ entries) h =
       | Some failure ↦ Some (record { entry = suc (length before); failure = failure })
       | None ↦ first_written_failing (λ _. true) file (before ++ e ∷ []) entries
     ]) first
-    ∙ held-behind file (before ++ e ∷ []) entries
+    ∙ held-after file (before ++ e ∷ []) entries
     (λ mid d later same. subst (λ (b : List Entry). WrittenMeets file b d) (sym (append_assoc before (e ∷ []) mid))
     (h (e ∷ mid) d later (ap (λ (es : List Entry). e ∷ es) same)))
 
 pub written_meets_give_events : WrittenMeetsGiveEvents
-written_meets_give_events file entries all = held-behind file [] entries all
+written_meets_give_events file entries all = held-after file [] entries all

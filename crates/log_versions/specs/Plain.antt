@@ -30,14 +30,14 @@ plain_entry vectors (AddHints cut pairs hints) = Add cut pairs ∷ []
 plain_entry vectors e = e ∷ []
 
 -- the plain entries of some entries, after these shared vectors
-abbrev pub plain_behind : List (List Spot) → List Entry → List Entry
-plain_behind vectors [] = []
-plain_behind vectors (e ∷ entries) =
-    plain_entry vectors e ++ plain_behind (vectors ++ shares (e ∷ [])) entries
+abbrev pub plain_after : List (List Spot) → List Entry → List Entry
+plain_after vectors [] = []
+plain_after vectors (e ∷ entries) =
+    plain_entry vectors e ++ plain_after (vectors ++ shares (e ∷ [])) entries
 
 -- the plain log that entries stand for
 abbrev pub plain : List Entry → List Entry
-plain entries = plain_behind [] entries
+plain entries = plain_after [] entries
 
 -- an entry that stands in a log of version 2 alone
 abbrev pub is_second : Entry → Bool

@@ -78,14 +78,14 @@ more_shared all vectors e =
     ]
 
 -- the upgrade of some entries, after those before them and these shared vectors
-abbrev pub upgraded_behind :
+abbrev pub upgraded_after :
     ℕ → List Entry → List Entry → List (List Spot) → List Entry → List Entry
-upgraded_behind q all before vectors [] = []
-upgraded_behind q all before vectors (e ∷ entries) =
+upgraded_after q all before vectors [] = []
+upgraded_after q all before vectors (e ∷ entries) =
     upgraded_entry q all before vectors e
-    ++ upgraded_behind q all (before ++ e ∷ []) (more_shared all vectors e) entries
+    ++ upgraded_after q all (before ++ e ∷ []) (more_shared all vectors e) entries
 
 -- the log of version 2 for a file of q objectives; a log of version 2 is its own
 abbrev pub upgraded : ℕ → List Entry → List Entry
 upgraded q entries =
-    if is_version_2 entries then entries else upgraded_behind q entries [] [] entries
+    if is_version_2 entries then entries else upgraded_after q entries [] [] entries

@@ -82,8 +82,8 @@ module _ (c y f : List ℚ) (gamma s k : ℚ) (some : 1 ≤ length c) (y_long : 
   front-is : take m (dual_at f gamma s) ≡ f
   front-is = ap (λ n. take n (dual_at f gamma s)) (sym f_long) ∙ take-append_seam f (gamma ∷ s ∷ [])
 
-  behind-is : drop m (dual_at f gamma s) ≡ gamma ∷ s ∷ []
-  behind-is = ap (λ n. drop n (dual_at f gamma s)) (sym f_long) ∙ drop-append_seam f (gamma ∷ s ∷ [])
+  after-is : drop m (dual_at f gamma s) ≡ gamma ∷ s ∷ []
+  after-is = ap (λ n. drop n (dual_at f gamma s)) (sym f_long) ∙ drop-append_seam f (gamma ∷ s ∷ [])
 
   abbrev weighed : ℚ
   weighed = dot (take m c) f
@@ -102,7 +102,7 @@ module _ (c y f : List ℚ) (gamma s k : ℚ) (some : 1 ≤ length c) (y_long : 
       dot-append start (k ∷ last ∷ []) (dual_at f gamma s)
       ∙ ap₂ (λ a b. a +ℚ b) start_value
       (ap (λ n. dot (k ∷ last ∷ []) (drop n (dual_at f gamma s))) start_long
-      ∙ ap (λ v. dot (k ∷ last ∷ []) v) behind-is
+      ∙ ap (λ v. dot (k ∷ last ∷ []) v) after-is
       ∙ ap (λ q. k *ℚ gamma +ℚ q) (add_zero (last *ℚ s)))
 
   pub weight_parts : dot (weight_at c f s) y ≡ dot f y +ℚ (s -ℚ weighed) *ℚ last

@@ -9,7 +9,7 @@ use Rattle.overflow_rules.proofs.Without.{licence_laws}
 use Rattle.overflows.specs.Faults.{OnLicence, Overflows}
 use Rattle.overflows.specs.declared.fault.SolveFault.{SolveFault}
 use Rattle.overflows.specs.declared.fault.SolveFault.TheVariants.{Left, NoMemory}
-use Rattle.outer_approx.specs.Task.{Task, IsFitting, behind}
+use Rattle.outer_approx.specs.Task.{Task, IsFitting, setting}
 
 -- what holds of an error, and what follows from it
 pub err_then : {T E : Type 0} {P Q : E → Type 0} (r : Result T E) → IfErr r P → ((e : E) → P e → Q e) → IfErr r Q
@@ -20,13 +20,13 @@ module _ (holds : ℚ → Bool) (task : Task) (fit : IsFitting holds task) where
   abbrev pub opening_of : List Entry
   opening_of = opening task.c task.weights fit.picks fit.inverse
 
-  pub licensed_behind : (fault : SolveFault) → Overflows holds (behind task (opening task.c task.weights fit.picks fit.inverse)) [] fault →
+  pub licensed_after : (fault : SolveFault) → Overflows holds (setting task (opening task.c task.weights fit.picks fit.inverse)) [] fault →
       OnLicence fault (Licensed holds task.file task.c)
-  licensed_behind (Left licence) (same, overflow) =
+  licensed_after (Left licence) (same, overflow) =
       licence_laws.licensed holds task.file task.c task.weights opening_of licence
       (subst (λ (t : List Entry). StandsFor holds task.file task.c task.weights t opening_of) (sym same)
       (trail_laws.begins holds task.file task.c task.weights fit.picks fit.inverse fit.held fit.fits fit.base)) overflow
-  licensed_behind NoMemory o = tt
+  licensed_after NoMemory o = tt
 
   possible : IsPossible holds task.file task.c task.weights
   possible = record {

@@ -23,20 +23,20 @@ use Rattle.lower_image.proofs.WeightEquations.{weight_rows}
 abbrev IsOpposite : ℕ → ℕ → List ℚ → Type 0
 IsOpposite j k r = slice_index_or r j zero_ℚ ≡ neg_ℚ (slice_index_or r k zero_ℚ)
 
-parts_opposite : (m q i : ℕ) (u w behind : List ℚ) → length u ≡ m → length w ≡ q → i < q → IsOpposite (m + i) (m + q + i) (on_parts u w behind)
-parts_opposite m q i u w behind u_long w_long inside =
+parts_opposite : (m q i : ℕ) (u w after : List ℚ) → length u ≡ m → length w ≡ q → i < q → IsOpposite (m + i) (m + q + i) (on_parts u w after)
+parts_opposite m q i u w after u_long w_long inside =
     let two : length (u ++ w) ≡ m + q = length-append u w ∙ ap₂ (λ a b. a + b) u_long w_long in
     let three : length (u ++ w ++ negated w) ≡ m + q + q = length-append (u ++ w) (negated w) ∙ ap₂ (λ a b. a + b) two (length-map w neg_ℚ ∙ w_long) in
     let low : m + i - m ≡ i = omega arith in
     let high : m + q + i - (m + q) ≡ i = omega arith in
-    get_or_append_left (u ++ w ++ negated w) behind zero_ℚ (m + i) (omega (arith, three, inside))
+    get_or_append_left (u ++ w ++ negated w) after zero_ℚ (m + i) (omega (arith, three, inside))
     ∙ get_or_append_left (u ++ w) (negated w) zero_ℚ (m + i) (omega (arith, two, inside))
     ∙ get_or-append_right u w m (m + i) zero_ℚ u_long (omega arith)
     ∙ ap (λ (k : ℕ). slice_index_or w k zero_ℚ) low
     ∙ sym (neg_neg (slice_index_or w i zero_ℚ))
     ∙ ap neg_ℚ
     (sym
-    (get_or_append_left (u ++ w ++ negated w) behind zero_ℚ (m + q + i) (omega (arith, three, inside))
+    (get_or_append_left (u ++ w ++ negated w) after zero_ℚ (m + q + i) (omega (arith, three, inside))
     ∙ get_or-append_right (u ++ w) (negated w) (m + q) (m + q + i) zero_ℚ two (omega arith)
     ∙ ap (λ (k : ℕ). slice_index_or (negated w) k zero_ℚ) high
     ∙ slice-negated w i))

@@ -18,7 +18,7 @@ use Rattle.overflow_rules.specs.Operands.{IsAddition}
 use Rattle.overflow_rules.specs.Turns.{IsRowTurn}
 use Rattle.overflow_rules.proofs.RowTurns.{row_turns_end}
 use Rattle.lp_form.specs.declared.shown.Cut.{Cut}
-use Rattle.outer_approx.specs.Task.{Task, IsFitting, behind}
+use Rattle.outer_approx.specs.Task.{Task, IsFitting, setting}
 use Rattle.lower_image.specs.Rows.{IsWeighable}
 use Rattle.lower_image.specs.Search.{AreAllCertified, AreCertified, HasRowMore, IsDone, IsNextCut, IsNextRow, IsSearching, IsWeighing, StandsForOne}
 use Rattle.lower_image.specs.Starting.{IsLowerDescription}
@@ -108,7 +108,7 @@ module _ {F : Type 0} (value : F → ℚ) (holds : ℚ → Bool) (task : Task) w
     row_long row n =
         sym (length-map row value) ∙ base_long task.file task.c (map value row) (c_wide task holds h.known.fitting) n.base ∙ sym h.described.width
 
-    pub row_may : (row : List F) (trail : List Entry) → IsNextRow value task s.dd row → IsAddition (behind task trail) s.dd.rows (map value row) s.dd.list Exchanged
+    pub row_may : (row : List F) (trail : List Entry) → IsNextRow value task s.dd row → IsAddition (setting task trail) s.dd.rows (map value row) s.dd.list Exchanged
     row_may row trail n = IsAddition.of_base task.c refl h.described.lower.rows_are.base n.base h.described.lower.made
 
     pub with_row : (d : Description) (row : List F) → IsNextRow value task s.dd row → d ≡ more_rows s.dd (map value row) →

@@ -17,7 +17,7 @@ use Rattle.geo_duality.specs.Rows.{exchange_row}
 use Rattle.overflow_rules.proofs.Making.{generator_laws}
 use Rattle.cone_dual.specs.Generators.{IsDescriptionOf, MayDescribe, begun_with}
 use Rattle.cone_dual.proofs.Reordered.{begun_listed, picked_places, rows_begun}
-use Rattle.outer_approx.specs.Task.{Task, IsFitting, behind}
+use Rattle.outer_approx.specs.Task.{Task, IsFitting, setting}
 use Rattle.lower_image.specs.Lower.{AreLowerRows, AreSpanning}
 use Rattle.lower_image.specs.Starting.{IsLowerDescription, first_rows}
 use Rattle.lower_image.proofs.LowerRows.{base_long, lower_rows}
@@ -30,7 +30,7 @@ module _ (holds : ℚ → Bool) (task : Task) (fit : IsFitting holds task) (rows
       (λ r k. member_of (IsBaseRow task.file task.c) rows r are.base k) some all
 
   -- base rows may be eliminated and added, whatever stands before
-  base_may : (trail : List Entry) → MayDescribe (behind task trail) Exchanged (suc task.file.objs) rows
+  base_may : (trail : List Entry) → MayDescribe (setting task trail) Exchanged (suc task.file.objs) rows
   base_may trail = record {
     eliminated = λ some all. AreElimRows.of_base task.c refl (base_among some all);
     added = λ before last list all here made.
@@ -76,8 +76,8 @@ module _ (holds : ℚ → Bool) (task : Task) (fit : IsFitting holds task) (x : 
   pub first_described : (dd : Description) → IsDescriptionOf n rows dd → IsLowerDescription task dd
   first_described dd is = described_lower holds task fit rows first_are dd (subst (λ (k : ℕ). IsDescriptionOf k rows dd) width is)
 
-  pub first_may : (trail : List Entry) → MayDescribe (behind task trail) Exchanged n rows
-  first_may trail = subst (λ (k : ℕ). MayDescribe (behind task trail) Exchanged k rows) (sym width) (base_may holds task fit rows first_are trail)
+  pub first_may : (trail : List Entry) → MayDescribe (setting task trail) Exchanged n rows
+  first_may trail = subst (λ (k : ℕ). MayDescribe (setting task trail) Exchanged k rows) (sym width) (base_may holds task fit rows first_are trail)
 
 -- ---- single rows
 module _ (holds : ℚ → Bool) (task : Task) (fit : IsFitting holds task) (k : List ℚ) (same : k ≡ task.c) where

@@ -22,7 +22,7 @@ use Rattle.upper_image.specs.OrderingCone.{IsIn, dual_of}
 use Rattle.upper_image.specs.Shows.{ShowsIn}
 use Rattle.upper_image.specs.Spots.{dense, IsVector}
 use Rattle.upper_image.proofs.ConvexCones.{cone_convex}
-use Rattle.lp_form.specs.Programs.{weight_unknowns, weight_equations, v_of, behind_of}
+use Rattle.lp_form.specs.Programs.{weight_unknowns, weight_equations, v_of, after_w_of}
 use Rattle.lp_form.proofs.Systems.{cone_wide, length-negated}
 use Rattle.benson_program.proofs.Shown.{shows}
 use Rattle.benson_program.proofs.Spots.{without_places}
@@ -51,8 +51,8 @@ nonneg_dual (suc n) (x ∷ w) l h =
 
 -- w is in the dual cone, by what stands after it, as a sparse vector
 pub dual_shown : (file : Problem) (q : ℕ) (cone : Cone) (w z : List ℚ) (m : List Spot) → IsTrue (cone_fits q cone) → length w ≡ q →
-    IsInDual q (IsIn q cone) w → AtLeastZero (behind_of file z) → tied q cone w (behind_of file z) ≡ zeros (weight_equations q cone) →
-    IsVector (length (v_of file cone z)) m → dense (length (v_of file cone z)) m ≡ v_of file cone z → length (behind_of file z) ≡ weight_unknowns cone →
+    IsInDual q (IsIn q cone) w → AtLeastZero (after_w_of file z) → tied q cone w (after_w_of file z) ≡ zeros (weight_equations q cone) →
+    IsVector (length (v_of file cone z)) m → dense (length (v_of file cone z)) m ≡ v_of file cone z → length (after_w_of file z) ≡ weight_unknowns cone →
     ShowsIn (dual_of cone) w m
 dual_shown file q Orthant w z m fits long d positive e v s l = record {
   lengths = without_places m v;
@@ -63,7 +63,7 @@ dual_shown file q (Gens vs) w z m fits long d positive e v s l = record {
   cone = ((dual_cones.of_generated q vs w (cone_wide q (Gens vs) fits)).0 d).within;
 }
 dual_shown file q (Dual vs) w z m fits long d positive e v s l =
-    let h : List ℚ = behind_of file z in
+    let h : List ℚ = after_w_of file z in
     let same : dense (length vs) m ≡ h = subst (λ (n : ℕ). dense n m ≡ h) l s in
     let made : w ≡ combination q h vs =
     same_from_difference q w (combination q h vs) long (length-combination q h vs (cone_wide q (Dual vs) fits)) e in

@@ -24,7 +24,7 @@ use Rattle.upper_image.specs.Spots.{product, IsVector}
 use Rattle.upper_image.specs.UpperImage.{normals, objectives, IsInWorkingImage}
 use Rattle.upper_image.proofs.Widths.{wide_objectives}
 use Rattle.upper_image.proofs.WorkingImage.{feasible_meets}
-use Rattle.lp_form.specs.Programs.{side_total, on_parts, weight_system, weight_unknowns, weight_equations, u_of, w_of, v_of, behind_of, choice_of}
+use Rattle.lp_form.specs.Programs.{side_total, on_parts, weight_system, weight_unknowns, weight_equations, u_of, w_of, v_of, after_w_of, choice_of}
 use Rattle.lp_form.proofs.Systems.{weight_ok, length-side_bounds}
 use Rattle.overflow_rules.specs.Base.{AreCutParts, image_of}
 use Rattle.benson_program.proofs.Blocks.{on_parts-value}
@@ -33,9 +33,9 @@ use Rattle.benson_program.proofs.Spots.{positive_values}
 use Rattle.benson_program.proofs.Vectors.{parts_of, sides_hold}
 use Rattle.lower_image.specs.Weights.{WeightBounded, WeightChoice, WeightCut, WeightRay}
 use Rattle.lower_image.proofs.WeightCone.{dual_shown, slack_nonneg}
-use Rattle.lower_image.proofs.WeightEquations.{tied, weight_rows, weight_total, weight_cost, length-weight_cost, u_long, a_long, b_long, behind_long, u_positive, behind_positive}
-use Rattle.lower_image.proofs.WeightPriced.{pulled, prices_of, ties_of, x_long, p_long, f_long, y_parts, normals_at_least, behind_at_least, price_value}
-use Rattle.lower_image.proofs.WeightSolved.{balanced, behind_is, weight_is}
+use Rattle.lower_image.proofs.WeightEquations.{tied, weight_rows, weight_total, weight_cost, length-weight_cost, u_long, a_long, b_long, after_long, u_positive, after_positive}
+use Rattle.lower_image.proofs.WeightPriced.{pulled, prices_of, ties_of, x_long, p_long, f_long, y_parts, normals_at_least, after_at_least, price_value}
+use Rattle.lower_image.proofs.WeightSolved.{after_is, balanced, weight_is}
 
 rows_many : (file : Problem) → length (weight_rows file) ≡ file.cols + file.objs + weight_equations file.objs file.cone
 rows_many file =
@@ -55,10 +55,10 @@ module _ (file : Problem) (z : List ℚ) (z_long : length z ≡ weight_total fil
   pub cost_is : dot (weight_cost file) z ≡ dot (side_bounds file) (u_of file z)
   cost_is =
       ap (λ v. dot (weight_cost file) v) (sym (parts_of (side_total file) file.objs z))
-      ∙ on_parts-value (side_bounds file) (zeros file.objs) (zeros (weight_unknowns file.cone)) (u_of file z) _ _ (behind_of file z)
+      ∙ on_parts-value (side_bounds file) (zeros file.objs) (zeros (weight_unknowns file.cone)) (u_of file z) _ _ (after_w_of file z)
       (length-side_bounds file ∙ sym (u_long file z z_long)) (length-zeros file.objs ∙ sym (a_long file z z_long)) (length-zeros file.objs ∙ sym (b_long file z z_long))
       ∙ ap₂ (λ s t. dot (side_bounds file) (u_of file z) +ℚ s +ℚ t) (dot_comm (zeros file.objs) (w_of file z) ∙ dot-zeros (w_of file z) file.objs)
-      (dot_comm (zeros (weight_unknowns file.cone)) (behind_of file z) ∙ dot-zeros (behind_of file z) (weight_unknowns file.cone))
+      (dot_comm (zeros (weight_unknowns file.cone)) (after_w_of file z) ∙ dot-zeros (after_w_of file z) (weight_unknowns file.cone))
       ∙ add_zero _ ∙ add_zero _
 
 module _ (file : Problem) (w y : List ℚ) (w_long : length w ≡ file.objs) (y_long : length y ≡ file.cols + file.objs + weight_equations file.objs file.cone) where
@@ -84,7 +84,7 @@ module _ (file : Problem) (w y : List ℚ) (w_long : length w ≡ file.objs) (y_
     pub value_below : dot w (image_of file (choice_of file y)) ≤ℚ dot y (zeros file.cols ++ w ++ zeros (weight_equations file.objs file.cone))
     value_below =
         le_of_difference (dot w (image_of file (choice_of file y))) _ (neg_ℚ (dot w (pulled file.objs file.cone (ties_of file y))))
-        (slack_nonneg file.objs file.cone (ties_of file y) w inside (f_long file y y_long) (behind_at_least file y y_long front front_long bounds))
+        (slack_nonneg file.objs file.cone (ties_of file y) w inside (f_long file y y_long) (after_at_least file y y_long front front_long bounds))
         (sym (price_value file y y_long front front_long bounds w) ∙ sym right_is)
 
 -- ---- an optimum
@@ -135,10 +135,10 @@ module _ (file : Problem) (w z y : List ℚ) (w_long : length w ≡ file.objs) (
     index = u_vector.places;
     sign = positive_values (side_total file) u u_vector (subst AtLeastZero (sym parts.dual) (u_positive file z z_long h.solves.at_least_zero));
     balance = ap (λ d. combination file.cols d (normals file)) parts.dual ∙ balance;
-    cone = dual_shown file file.objs file.cone w z m file.cone_vectors w_long inside (behind_positive file z z_long h.solves.at_least_zero)
-        (subst (λ (v : List ℚ). tied file.objs file.cone v (behind_of file z) ≡ zeros (weight_equations file.objs file.cone)) normal
-        (behind_is file z w (zeros (weight_equations file.objs file.cone)) z_long w_long h.solves.equal))
-        m_vector parts.cone (behind_long file z z_long);
+    cone = dual_shown file file.objs file.cone w z m file.cone_vectors w_long inside (after_positive file z z_long h.solves.at_least_zero)
+        (subst (λ (v : List ℚ). tied file.objs file.cone v (after_w_of file z) ≡ zeros (weight_equations file.objs file.cone)) normal
+        (after_is file z w (zeros (weight_equations file.objs file.cone)) z_long w_long h.solves.equal))
+        m_vector parts.cone (after_long file z z_long);
     scaled = scaled;
     bound = bound;
   }

@@ -20,7 +20,7 @@ use Rattle.vlp_problem.specs.declared.problem.Cone.{Cone}
 use Rattle.vlp_problem.specs.declared.problem.Cone.TheVariants.{Orthant, Gens, Dual}
 use Rattle.upper_image.specs.UpperImage.{normals, objectives, objective_column}
 use Rattle.upper_image.proofs.Widths.{length-numbers, wide_normals, wide_objectives, objective_columns, side_columns}
-use Rattle.lp_form.specs.Programs.{side_total, on_parts, balances, weight_members, weight_unknowns, weight_equations, u_of, w_of, behind_of}
+use Rattle.lp_form.specs.Programs.{side_total, on_parts, balances, weight_members, weight_unknowns, weight_equations, u_of, w_of, after_w_of}
 use Rattle.lp_form.proofs.Systems.{IsWideCone, length-unit, length-negated, length-side_column, length-side_bounds}
 use Rattle.overflow_rules.proofs.Violated.{length-minus}
 use Rattle.benson_program.proofs.Blocks.{on_parts-value, values_listed, members-value}
@@ -151,8 +151,8 @@ module _ (file : Problem) (z : List ℚ) (z_long : length z ≡ weight_total fil
   pub b_long : length (take file.objs (drop (side_total file + file.objs) z)) ≡ file.objs
   b_long = length-take-le file.objs (drop (side_total file + file.objs) z) (omega (arith, length-drop (side_total file + file.objs) z, z_long))
 
-  pub behind_long : length (behind_of file z) ≡ weight_unknowns file.cone
-  behind_long = omega (arith, length-drop (side_total file + file.objs + file.objs) z, z_long)
+  pub after_long : length (after_w_of file z) ≡ weight_unknowns file.cone
+  after_long = omega (arith, length-drop (side_total file + file.objs + file.objs) z, z_long)
 
   pub w_long : length (w_of file z) ≡ file.objs
   w_long = length-minus file.objs _ _ a_long b_long
@@ -160,5 +160,5 @@ module _ (file : Problem) (z : List ℚ) (z_long : length z ≡ weight_total fil
   pub u_positive : AtLeastZero z → AtLeastZero (u_of file z)
   u_positive h = All-take (λ x. zero_ℚ ≤ℚ x) (side_total file) z h
 
-  pub behind_positive : AtLeastZero z → AtLeastZero (behind_of file z)
-  behind_positive h = All-drop (λ x. zero_ℚ ≤ℚ x) (side_total file + file.objs + file.objs) z h
+  pub after_positive : AtLeastZero z → AtLeastZero (after_w_of file z)
+  after_positive h = All-drop (λ x. zero_ℚ ≤ℚ x) (side_total file + file.objs + file.objs) z h

@@ -28,7 +28,7 @@ use Rattle.lp_form.specs.Programs.{side_total, on_parts, weight_unknowns, weight
 use Rattle.lp_form.proofs.Systems.{IsWideCone, cone_wide, weight_ok, length-negated}
 use Rattle.overflow_rules.proofs.Violated.{length-minus}
 use Rattle.benson_program.proofs.Vectors.{AreAtMost, at_most_each, at_most_parts, at_most_both, at_least_zero, dot-minus, dot-parts, parts_of, same_on}
-use Rattle.lower_image.proofs.WeightEquations.{tied, rows-value, weight_rows, weight_total, length-weight_cost, u_long, a_long, b_long, behind_long}
+use Rattle.lower_image.proofs.WeightEquations.{tied, rows-value, weight_rows, weight_total, length-weight_cost, u_long, a_long, b_long, after_long}
 use Rattle.upper_image.proofs.Widths.{wide_normals, wide_objectives}
 
 -- ---- what the cone's equations, priced with f, give at the places of w, and after them
@@ -208,7 +208,7 @@ module _ (file : Problem) (y : List ℚ) (y_long : length y ≡ file.cols + file
       by_parts : (r : List ℚ) → length r ≡ weight_total file → dot y (values (weight_rows file) r) ≡ dot r priced
       by_parts r l =
           subst (λ (v : List ℚ). dot y (values (weight_rows file) v) ≡ dot v priced) (parts_of (side_total file) file.objs r)
-          (sym (priced_at _ _ _ _ (u_long file r l) (a_long file r l) (b_long file r l) (behind_long file r l)))
+          (sym (priced_at _ _ _ _ (u_long file r l) (a_long file r l) (b_long file r l) (after_long file r l)))
 
   -- what is at most the products with the columns is at most the priced columns
   at_most : (k : List ℚ) → length k ≡ weight_total file →
@@ -274,8 +274,8 @@ module _ (file : Problem) (y : List ℚ) (y_long : length y ≡ file.cols + file
     weights_are : zeros file.objs ≡ at_weights
     weights_are = at_most_both (zeros file.objs) at_weights one.1 two.1
 
-    pub behind_at_least : AtLeastZero (negated (pushed file.cone (ties_of file y)))
-    behind_at_least = at_least_zero more (negated (pushed file.cone f)) pushed-long three.1
+    pub after_at_least : AtLeastZero (negated (pushed file.cone (ties_of file y)))
+    after_at_least = at_least_zero more (negated (pushed file.cone f)) pushed-long three.1
 
     -- the multipliers that fix the weight are the objectives at x, less what the cone's equations give
     pub price_value : (r : List ℚ) → dot r (prices_of file y) ≡

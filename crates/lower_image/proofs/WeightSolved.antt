@@ -13,10 +13,10 @@ use Rattle.polyhedra.proofs.Negatives.{dot-negated}
 use Rattle.vlp_problem.specs.declared.problem.Problem.{Problem}
 use Rattle.upper_image.specs.UpperImage.{normals, objectives}
 use Rattle.upper_image.proofs.Widths.{wide_normals, wide_objectives}
-use Rattle.lp_form.specs.Programs.{side_total, u_of, w_of, behind_of}
+use Rattle.lp_form.specs.Programs.{side_total, u_of, w_of, after_w_of}
 use Rattle.lp_form.proofs.Systems.{IsWideCone, cone_wide, length-negated}
 use Rattle.benson_program.proofs.Vectors.{append_parts, parts_of}
-use Rattle.lower_image.proofs.WeightEquations.{tied, rows-value, weight_rows, weight_total, u_long, a_long, b_long, behind_long, w_long}
+use Rattle.lower_image.proofs.WeightEquations.{tied, rows-value, weight_rows, weight_total, u_long, a_long, b_long, after_long, w_long}
 
 -- vectors whose difference is 0
 pub same_from_difference : (n : ℕ) (f g : List ℚ) → length f ≡ n → length g ≡ n → plus f (negated g) ≡ zeros n → f ≡ g
@@ -50,14 +50,14 @@ module _ (file : Problem) (z w last : List ℚ) (z_long : length z ≡ weight_to
   columns_long : length (plus u_sum (negated w_sum)) ≡ file.cols
   columns_long = length-plus file.cols u_sum (negated w_sum) u_sum_long (length-negated w_sum file.cols w_sum_long)
 
-  whole : plus u_sum (negated w_sum) ++ w_of file z ++ tied file.objs file.cone (w_of file z) (behind_of file z) ≡ zeros file.cols ++ w ++ last
+  whole : plus u_sum (negated w_sum) ++ w_of file z ++ tied file.objs file.cone (w_of file z) (after_w_of file z) ≡ zeros file.cols ++ w ++ last
   unfolding u_sum w_sum
   whole =
-      sym (rows-value file (u_of file z) _ _ (behind_of file z) (u_long file z z_long) (a_long file z z_long) (b_long file z z_long) wide (behind_long file z z_long))
+      sym (rows-value file (u_of file z) _ _ (after_w_of file z) (u_long file z z_long) (a_long file z z_long) (b_long file z z_long) wide (after_long file z z_long))
       ∙ ap (λ v. values (weight_rows file) v) (parts_of (side_total file) file.objs z) ∙ solves
 
-  split : (plus u_sum (negated w_sum) ++ w_of file z ≡ zeros file.cols ++ w) × (tied file.objs file.cone (w_of file z) (behind_of file z) ≡ last)
-  split = append_parts (plus u_sum (negated w_sum) ++ w_of file z) (tied file.objs file.cone (w_of file z) (behind_of file z)) (zeros file.cols ++ w) last
+  split : (plus u_sum (negated w_sum) ++ w_of file z ≡ zeros file.cols ++ w) × (tied file.objs file.cone (w_of file z) (after_w_of file z) ≡ last)
+  split = append_parts (plus u_sum (negated w_sum) ++ w_of file z) (tied file.objs file.cone (w_of file z) (after_w_of file z)) (zeros file.cols ++ w) last
       (omega (arith, length-append (plus u_sum (negated w_sum)) (w_of file z), length-append (zeros file.cols) w, columns_long, w_long file z z_long, length-zeros file.cols, wide_w)) whole
 
   halves : (plus u_sum (negated w_sum) ≡ zeros file.cols) × (w_of file z ≡ w)
@@ -70,5 +70,5 @@ module _ (file : Problem) (z w last : List ℚ) (z_long : length z ≡ weight_to
   pub weight_is : w_of file z ≡ w
   weight_is = halves.1
 
-  pub behind_is : tied file.objs file.cone (w_of file z) (behind_of file z) ≡ last
-  behind_is = split.1
+  pub after_is : tied file.objs file.cone (w_of file z) (after_w_of file z) ≡ last
+  after_is = split.1

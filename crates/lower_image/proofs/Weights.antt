@@ -22,7 +22,7 @@ use Rattle.overflow_rules.specs.Operands.{AreMultiplied}
 use Rattle.overflow_rules.specs.Turns.{IsRowTurn, said_exchange}
 use Rattle.benson_program.specs.Ends.{IsOptimumAt, IsEmptyAt}
 use Rattle.cone_rules.proofs.Parts.{dot-negated_left}
-use Rattle.outer_approx.specs.Task.{Task, IsFitting, behind}
+use Rattle.outer_approx.specs.Task.{Task, IsFitting, setting}
 use Rattle.lower_image.proofs.WeightEnds.{weight_choice, weight_ray}
 use Rattle.lower_image.specs.Laws.{IsWeighted}
 use Rattle.lower_image.proofs.Generators.{in_cone, lower_generators}
@@ -69,7 +69,7 @@ module _ (task : Task) (holds : ℚ → Bool) (fit : IsFitting holds task) where
         let is = (are_live.extreme (suc task.file.objs) rows h.list h.lower.live g).0 h.listed in
         record { pointed = h.lower.live.described.pointed; extreme = is.0; normed = is.1 }
 
-    pub multiplied : (trail : List Entry) → AreMultiplied (behind task trail) (one_ℚ ∷ negated (front task.c))
+    pub multiplied : (trail : List Entry) → AreMultiplied (setting task trail) (one_ℚ ∷ negated (front task.c))
         (entry g (suc task.file.objs) ∷ take (length task.c - 1) g)
     multiplied trail = AreMultiplied.last_weight task.c g rows refl h.lower.rows_are.base generator refl refl
 

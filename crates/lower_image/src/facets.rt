@@ -8,7 +8,7 @@ ghost use Rattle.lin_rows.specs.Read.{numbers};
 ghost use Rattle.lower_image.specs.Facets.{AreFacetCuts};
 ghost use Rattle.lower_image.specs.Lower.{AreSpanning};
 ghost use Rattle.lp_form.specs.Data.{IsDataOf};
-ghost use Rattle.outer_approx.specs.Task.{IsFitting, Task, behind};
+ghost use Rattle.outer_approx.specs.Task.{IsFitting, Task, setting};
 ghost use Rattle.overflows.specs.Faults.{OnLicence, Overflows};
 
 use crate::kept::KeptWeights;
@@ -53,7 +53,7 @@ fn facets_over<F: Field>(
     requires width { directions.now.width ≡ task.file.objs }
     requires directions { AreSpanning task.file (numbers F.value directions.now.list) }
     ensures ok { IfOk result (λ found. AreFacetCuts F.value task found.cuts.items) }
-    ensures left { (trail : List Entry) → IfErr result (Overflows F.holds (behind task trail) []) }
+    ensures left { (trail : List Entry) → IfErr result (Overflows F.holds (setting task trail) []) }
 {
     let dd = lower_description(alloc, form, c, x, directions)?;
     let marks = Marks::new(alloc, 0)?;

@@ -6,7 +6,7 @@ ghost use Rattle.exact_field.specs.Rational.{ℚ, zero_ℚ};
 ghost use Rattle.exact_field.specs.Vector.{entry};
 ghost use Rattle.incid_sets.specs.Marks.{has};
 ghost use Rattle.lower_image.specs.Search.{AreAllCertified, HasRowMore, IsDone, IsNextCut, IsNextRow, IsRound, IsSearching, StandsForOne};
-ghost use Rattle.outer_approx.specs.Task.{Task, behind};
+ghost use Rattle.outer_approx.specs.Task.{Task, setting};
 ghost use Rattle.overflows.specs.Faults.{Overflows};
 ghost use Rattle.polyhedra.specs.LiveList.{numbers};
 
@@ -119,7 +119,7 @@ impl<'a, F: Field> Search<'a, F> {
         ensures stay { OnOk result ((n : ℕ) →
             Contains self.old.certified n → Contains self.new.certified n) }
         ensures left { (trail : List Entry) →
-            IfErr result (Overflows F.holds (behind task trail) []) }
+            IfErr result (Overflows F.holds (setting task trail) []) }
     {
         let generator = self.dd.generator(g);
         match weigh_generator(self.alloc, self.form, self.c, generator, &mut self.kept)? {
@@ -144,7 +144,7 @@ impl<'a, F: Field> Search<'a, F> {
         ensures stay { OnOk result ((n : ℕ) →
             Contains self.old.certified n → Contains self.new.certified n) }
         ensures left { (trail : List Entry) →
-            IfErr result (Overflows F.holds (behind task trail) []) }
+            IfErr result (Overflows F.holds (setting task trail) []) }
     {
         if self.marks.has(g) {
             return Ok(None);
@@ -180,7 +180,7 @@ impl<'a, F: Field> Search<'a, F> {
         ensures searching { OnOk result (IsSearching F.value F.holds task self.new) }
         ensures grown { OnOk result (HasRowMore task self.old.dd self.new.dd) }
         ensures left { (trail : List Entry) →
-            IfErr result (Overflows F.holds (behind task trail) []) }
+            IfErr result (Overflows F.holds (setting task trail) []) }
     {
         add_row(self.alloc, Family::Exchanged, &mut self.dd, row)
     }
@@ -195,7 +195,7 @@ impl<'a, F: Field> Search<'a, F> {
         ensures searching { OnOk result (IsSearching F.value F.holds task self.new) }
         ensures round { IfOk result (IsRound F.value task self.old self.new) }
         ensures left { (trail : List Entry) →
-            IfErr result (Overflows F.holds (behind task trail) []) }
+            IfErr result (Overflows F.holds (setting task trail) []) }
     {
         let count = self.dd.live().len();
         let mut first = None;
@@ -231,7 +231,7 @@ impl<'a, F: Field> Search<'a, F> {
         ensures certified { IfOk result (λ more. more ≡ false →
             AreAllCertified task self.new.dd self.new.certified) }
         ensures left { (trail : List Entry) →
-            IfErr result (Overflows F.holds (behind task trail) []) }
+            IfErr result (Overflows F.holds (setting task trail) []) }
     {
         match self.advance()? {
             Round::Grown => Ok(true),
@@ -253,7 +253,7 @@ impl<'a, F: Field> Search<'a, F> {
         ensures searching { OnOk result (IsSearching F.value F.holds task self.new) }
         ensures certified { OnOk result (AreAllCertified task self.new.dd self.new.certified) }
         ensures left { (trail : List Entry) →
-            IfErr result (Overflows F.holds (behind task trail) []) }
+            IfErr result (Overflows F.holds (setting task trail) []) }
     {
         while self.turn()? {}
         Ok(())

@@ -7,7 +7,7 @@ ghost use Rattle.lin_rows.specs.Read.{numbers};
 ghost use Rattle.lower_image.specs.Lower.{AreSpanning};
 ghost use Rattle.lower_image.specs.Starting.{IsLowerDescription, first_rows};
 ghost use Rattle.lp_form.specs.Data.{IsDataOf};
-ghost use Rattle.outer_approx.specs.Task.{IsFitting, Task, behind};
+ghost use Rattle.outer_approx.specs.Task.{IsFitting, Task, setting};
 ghost use Rattle.overflows.specs.Faults.{Overflows};
 
 use crate::rows::{exchanged_row, image_at};
@@ -38,7 +38,7 @@ fn rows_over<F: Field>(
     ensures width { IfOk result (λ rows. rows.width ≡ suc task.file.objs) }
     ensures rows { IfOk result (λ rows. numbers F.value rows.list
         ≡ first_rows task.file task.c (map F.value x.now) (numbers F.value directions.now.list)) }
-    ensures left { (trail : List Entry) → IfErr result (Overflows F.holds (behind task trail) []) }
+    ensures left { (trail : List Entry) → IfErr result (Overflows F.holds (setting task trail) []) }
 {
     let mut rows = Rows::new(alloc, c.len() as u32 + 1);
     let y = image_at(alloc, form, x)?;
@@ -68,7 +68,7 @@ pub(crate) fn lower_description<F: Field>(
     requires width { directions.now.width ≡ task.file.objs }
     requires directions { AreSpanning task.file (numbers F.value directions.now.list) }
     ensures ok { IfOk result (IsLowerDescription task) }
-    ensures left { (trail : List Entry) → IfErr result (Overflows F.holds (behind task trail) []) }
+    ensures left { (trail : List Entry) → IfErr result (Overflows F.holds (setting task trail) []) }
 {
     let rows = rows_over(alloc, form, c, x, directions)?;
     describe_rows(alloc, Family::Exchanged, &rows)

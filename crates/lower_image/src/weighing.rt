@@ -8,7 +8,7 @@ ghost use Rattle.overflow_rules.specs.Base.{IsBaseRow, weight_of};
 ghost use Rattle.overflow_rules.specs.Operands.{IsBaseX};
 ghost use Rattle.lp_form.specs.Data.{IsDataOf};
 ghost use Rattle.lp_form.specs.Programs.{choice_of};
-ghost use Rattle.outer_approx.specs.Task.{IsFitting, Task, behind};
+ghost use Rattle.outer_approx.specs.Task.{IsFitting, Task, setting};
 ghost use Rattle.overflow_rules.specs.Turns.{said_exchange};
 ghost use Rattle.overflows.specs.Faults.{Overflows};
 ghost use Rattle.polyhedra.specs.Negatives.{negated};
@@ -70,7 +70,7 @@ fn weight_at<F: Field>(alloc: Global, c: &[F], generator: &[F]) -> Result<Items<
     requires generator { (rows : List (List ℚ))
         × IsWeighable task rows (map F.value generator.now) }
     ensures ok { IfOk result (λ w. map F.value w ≡ weight_of task.c (map F.value generator.now)) }
-    ensures left { (trail : List Entry) → IfErr result (Overflows F.holds (behind task trail) []) }
+    ensures left { (trail : List Entry) → IfErr result (Overflows F.holds (setting task trail) []) }
 {
     let last = c.len() - 1;
     let one = completion(alloc, c)?;
@@ -100,12 +100,12 @@ fn row_of<F: Field>(
     requires fitting { IsFitting F.holds task }
     requires long { form.now.cols ≤ length dual.now }
     requires read { (trail : List Entry)
-        → IsBaseX (behind task trail) (choice_of task.file (map F.value dual.now)) }
+        → IsBaseX (setting task trail) (choice_of task.file (map F.value dual.now)) }
     requires base { IsBaseRow task.file task.c (said_exchange task.file task.c
         (map F.value dual.now) t) }
     ensures ok { IfOk result
         (λ row. map F.value row ≡ said_exchange task.file task.c (map F.value dual.now) t) }
-    ensures left { (trail : List Entry) → IfErr result (Overflows F.holds (behind task trail) []) }
+    ensures left { (trail : List Entry) → IfErr result (Overflows F.holds (setting task trail) []) }
 {
     let y = image_at(alloc, form, &dual[..form.cols as usize])?;
     exchanged_row(alloc, c, y.as_slice(), t)
@@ -129,7 +129,7 @@ pub fn weigh_generator<F: Field>(
         × IsWeighable task rows (map F.value generator.now) }
     ensures ok { (rows : List (List ℚ)) → IsWeighable task rows (map F.value generator.now)
         → IfOk result (IsWeighed F.value task rows (map F.value generator.now)) }
-    ensures left { (trail : List Entry) → IfErr result (Overflows F.holds (behind task trail) []) }
+    ensures left { (trail : List Entry) → IfErr result (Overflows F.holds (setting task trail) []) }
 {
     let w = weight_at(alloc, c, generator)?;
     match weight_end(alloc, form, c, w.as_slice(), kept)? {

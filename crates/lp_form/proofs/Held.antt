@@ -72,10 +72,10 @@ module _ (holds : ℚ → Bool) where
           (find (λ p. not (holds p)) numbers ≡ Some q → IsFirstUnheld holds numbers q) → IsFirstUnheld holds (x ∷ numbers) q
       by_test true e k found =
           let more : IsFirstUnheld holds numbers q = found k in
-          record { before = x ∷ more.before; behind = more.behind; place = ap (λ l. x ∷ l) more.place; held = All-cons IsHeld x more.before e more.held; unheld = more.unheld }
+          record { before = x ∷ more.before; after = more.after; place = ap (λ l. x ∷ l) more.place; held = All-cons IsHeld x more.before e more.held; unheld = more.unheld }
       by_test false e k found =
           let same : x ≡ q = cc in
-          record { before = []; behind = numbers; place = ap (λ y. y ∷ numbers) same; held = All-nil IsHeld; unheld = ap holds (sym same) ∙ e }
+          record { before = []; after = numbers; place = ap (λ y. y ∷ numbers) same; held = All-nil IsHeld; unheld = ap holds (sym same) ∙ e }
 
 -- ---- the numbers of a file
 module _ (holds : ℚ → Bool) (zero_held : IsTrue (holds zero_ℚ)) (one_held : IsTrue (holds one_ℚ)) (neg_held : (q : ℚ) → IsTrue (holds q) → IsTrue (holds (neg_ℚ q))) where
@@ -138,23 +138,23 @@ module _ (holds : ℚ → Bool) (zero_held : IsTrue (holds zero_ℚ)) (one_held 
     abbrev columns : List ℚ
     columns = flat_map bound_numbers file.col_bounds
 
-    behind_a : All Held (values_of file.o ++ (duality_entries file.duality ++ (vectors ++ (rows ++ columns))))
-    behind_a = all_back Held (values_of file.a) _ h
+    after_a : All Held (values_of file.o ++ (duality_entries file.duality ++ (vectors ++ (rows ++ columns))))
+    after_a = all_back Held (values_of file.a) _ h
 
-    behind_o : All Held (duality_entries file.duality ++ (vectors ++ (rows ++ columns)))
-    behind_o = all_back Held (values_of file.o) _ behind_a
+    after_o : All Held (duality_entries file.duality ++ (vectors ++ (rows ++ columns)))
+    after_o = all_back Held (values_of file.o) _ after_a
 
-    behind_duality : All Held (vectors ++ (rows ++ columns))
-    behind_duality = all_back Held (duality_entries file.duality) _ behind_o
+    after_duality : All Held (vectors ++ (rows ++ columns))
+    after_duality = all_back Held (duality_entries file.duality) _ after_o
 
     bounds_held : All Held (rows ++ columns)
-    bounds_held = all_back Held vectors _ behind_duality
+    bounds_held = all_back Held vectors _ after_duality
 
     pub duality_held : All Held (duality_entries file.duality)
-    duality_held = all_front Held (duality_entries file.duality) _ behind_o
+    duality_held = all_front Held (duality_entries file.duality) _ after_o
 
     pub cone_held : All (λ v. All Held v) (cone_vectors file.cone)
-    cone_held = all_pieces Held (λ v. v) (cone_vectors file.cone) (all_front Held vectors _ behind_duality)
+    cone_held = all_pieces Held (λ v. v) (cone_vectors file.cone) (all_front Held vectors _ after_duality)
 
     sides_held : All IsHeldSide (sides file)
     sides_held =
@@ -173,7 +173,7 @@ module _ (holds : ℚ → Bool) (zero_held : IsTrue (holds zero_ℚ)) (one_held 
     pub objectives_held : All (λ v. All Held v) (objectives file)
     objectives_held =
         all_made (λ v. All Held v) (objective file) (numbers_from 1 file.objs)
-        (λ i. all_made Held _ (numbers_from 1 file.cols) (λ j. signed_held file.dir (coefficient file.o i j) (coefficient_held file.o i j (all_front Held (values_of file.o) _ behind_a))))
+        (λ i. all_made Held _ (numbers_from 1 file.cols) (λ j. signed_held file.dir (coefficient file.o i j) (coefficient_held file.o i j (all_front Held (values_of file.o) _ after_a))))
 
   -- ---- sparse vectors
   absent : (n low : ℕ) (es : List Entry) (k : ℕ) → Rises n low es → k ≤ low → value_at es k ≡ zero_ℚ

@@ -126,8 +126,8 @@ pub pushed4 : {A : Type 0} (l0 l1 l2 l3 l4 u v w x : List A) → l1 ≡ l0 ++ u 
 pushed4 l0 l1 l2 l3 l4 u v w x h k l m = pushed2 l0 l3 l4 (u ++ v ++ w) x (pushed3 l0 l1 l2 l3 u v w h k l) m
 
 -- an equation on u, w and what stands after them, piece by piece
-pub parts_pushed : (l0 l1 l2 l3 u w behind : List ℚ) → l1 ≡ l0 ++ u → l2 ≡ (l1 ++ w) ++ negated w → l3 ≡ l2 ++ behind → l3 ≡ l0 ++ on_parts u w behind
-parts_pushed l0 l1 l2 l3 u w behind h k l = pushed4 l0 l1 (l1 ++ w) l2 l3 u w (negated w) behind h refl k l
+pub parts_pushed : (l0 l1 l2 l3 u w after : List ℚ) → l1 ≡ l0 ++ u → l2 ≡ (l1 ++ w) ++ negated w → l3 ≡ l2 ++ after → l3 ≡ l0 ++ on_parts u w after
+parts_pushed l0 l1 l2 l3 u w after h k l = pushed4 l0 l1 (l1 ++ w) l2 l3 u w (negated w) after h refl k l
 
 -- two rows after others
 pub joined_two : (t : Table) (r s : List ℚ) → joined (t ++ r ∷ s ∷ []) ≡ (joined t ++ r) ++ s

@@ -7,8 +7,8 @@ use Rattle.std.specs.List.{slice_range}
 use Rattle.vlp_problem.specs.declared.problem.Problem.{Problem}
 use Rattle.vlp_problem.specs.declared.problem.Cone.{Cone}
 use Rattle.vlp_problem.specs.declared.problem.Cone.TheVariants.{Orthant, Gens, Dual}
-use Rattle.lp_form.specs.Programs.{behind_of, v_of}
-use Rattle.lp_form.specs.Reading.{kept_behind}
+use Rattle.lp_form.specs.Programs.{after_w_of, v_of}
+use Rattle.lp_form.specs.Reading.{kept_after}
 
 pub less_zero : (x y : ℚ) → y ≡ zero_ℚ → x -ℚ y ≡ x
 less_zero x y e = ap (λ q. x +ℚ neg_ℚ q) e ∙ ap (λ q. x +ℚ q) neg-zero_ℚ ∙ add-zero_ℚ x
@@ -29,7 +29,7 @@ part_is z a n b k e h =
     ap (λ m. take m (drop a z)) (long ∙ h) ∙ ap (λ m. take k (drop m z)) e
 
 -- what stands after w
-pub behind_is : (file : Problem) (cone : Cone) (z : List ℚ) → kept_behind cone (behind_of file z) ≡ v_of file cone z
-behind_is file Orthant z = refl
-behind_is file (Gens vectors) z = refl
-behind_is file (Dual vectors) z = refl
+pub after_is : (file : Problem) (cone : Cone) (z : List ℚ) → kept_after cone (after_w_of file z) ≡ v_of file cone z
+after_is file Orthant z = refl
+after_is file (Gens vectors) z = refl
+after_is file (Dual vectors) z = refl

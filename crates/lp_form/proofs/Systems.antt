@@ -56,8 +56,8 @@ length-three u v w a b c h k l = length-append (u ++ v) w ∙ ap₂ (λ x y. x +
 length-four : (t u v w : List ℚ) (z a b c : ℕ) → length t ≡ z → length u ≡ a → length v ≡ b → length w ≡ c → length (t ++ u ++ v ++ w) ≡ z + a + b + c
 length-four t u v w z a b c g h k l = length-append (t ++ u ++ v) w ∙ ap₂ (λ x y. x + y) (length-three t u v z a b g h k) l
 
-length-parts : (u w behind : List ℚ) (m q more : ℕ) → length u ≡ m → length w ≡ q → length behind ≡ more → length (on_parts u w behind) ≡ m + q + q + more
-length-parts u w behind m q more h k l = length-four u w (negated w) behind m q q more h k (length-negated w q k) l
+length-parts : (u w after : List ℚ) (m q more : ℕ) → length u ≡ m → length w ≡ q → length after ≡ more → length (on_parts u w after) ≡ m + q + q + more
+length-parts u w after m q more h k l = length-four u w (negated w) after m q q more h k (length-negated w q k) l
 
 -- ---- the programs of the sides
 pub length-side_column : (file : Problem) (j : ℕ) → length (side_column file j) ≡ side_total file

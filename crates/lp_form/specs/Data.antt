@@ -46,8 +46,8 @@ pub record IsDataOf {F : Type 0} (value : F → ℚ) (file : Problem) (form : Da
 -- a number is the first of these that is not held
 pub record IsFirstUnheld (holds : ℚ → Bool) (numbers : List ℚ) (q : ℚ) : Type 0 where
   pub before : List ℚ
-  pub behind : List ℚ
-  pub place : numbers ≡ before ++ q ∷ behind
+  pub after : List ℚ
+  pub place : numbers ≡ before ++ q ∷ after
   pub held : All (λ p. IsTrue (holds p)) before
   pub unheld : IsFalse (holds q)
 

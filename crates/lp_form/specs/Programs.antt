@@ -35,7 +35,7 @@ nonzero_vectors cone = filter (λ v. not (list_all is_zero v)) (cone_vectors con
 -- ---- equations on u, w and the unknowns after them
 -- an equation by its coefficients on the three; those on w stand twice, as w is a difference
 abbrev pub on_parts : List ℚ → List ℚ → List ℚ → List ℚ
-on_parts u w behind = u ++ w ++ negated w ++ behind
+on_parts u w after = u ++ w ++ negated w ++ after
 
 -- for each column of the file: the sides times u, less the objectives times w, is 0 there
 abbrev pub balances : Problem → ℕ → Table
@@ -190,14 +190,14 @@ u_of file z = take (side_total file) z
 abbrev pub w_of : Problem → List ℚ → List ℚ
 w_of file z = minus (take file.objs (drop (side_total file) z)) (take file.objs (drop (side_total file + file.objs) z))
 
-abbrev pub behind_of : Problem → List ℚ → List ℚ
-behind_of file z = drop (side_total file + file.objs + file.objs) z
+abbrev pub after_w_of : Problem → List ℚ → List ℚ
+after_w_of file z = drop (side_total file + file.objs + file.objs) z
 
 -- the multipliers of the dual form's vectors, which stand after w; none for the other cones
 abbrev pub v_of : Problem → Cone → List ℚ → List ℚ
 v_of file Orthant z = []
 v_of file (Gens vectors) z = []
-v_of file (Dual vectors) z = behind_of file z
+v_of file (Dual vectors) z = after_w_of file z
 
 -- the point that multipliers y of the equations say in the programs of the sides: those of the columns of the file
 abbrev pub choice_of : Problem → List ℚ → List ℚ

@@ -41,10 +41,10 @@ HasEquations value form Interior y = ⊥
 HasEquations value form Pointed y = ⊥
 
 -- the unknowns after w, where the cone is in dual form
-abbrev pub kept_behind : Cone → List ℚ → List ℚ
-kept_behind Orthant behind = []
-kept_behind (Gens vectors) behind = []
-kept_behind (Dual vectors) behind = behind
+abbrev pub kept_after : Cone → List ℚ → List ℚ
+kept_after Orthant after = []
+kept_after (Gens vectors) after = []
+kept_after (Dual vectors) after = after
 
 -- the parts are read off z
 pub record AreRead {F : Type 0} (value : F → ℚ) (file : Problem) (z : List ℚ) (parts : Parts F) : Type 0 where

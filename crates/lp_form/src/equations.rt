@@ -170,16 +170,16 @@ pub fn push_entries_of_w<F: Field>(
     list: &mut Items<F>,
     m: u32,
     q: u32,
-    behind: &[F],
+    after: &[F],
 ) -> Result<(), NoMemory>
     ensures { OnOk result (map F.value list.new
         ≡ map F.value list.old
         ++ joined (listed q
-        (λ i. on_parts (zero_vector m) (unit_vector q i) (map F.value behind.now)))) }
+        (λ i. on_parts (zero_vector m) (unit_vector q i) (map F.value after.now)))) }
 {
     for i in 0..q {
         let e = unit(alloc, q, i + 1)?;
-        push_on_w(list, m, e.as_slice(), behind)?;
+        push_on_w(list, m, e.as_slice(), after)?;
     }
     Ok(())
 }

@@ -146,13 +146,13 @@ pub fn push_on_w<F: Field>(
     list: &mut Items<F>,
     m: u32,
     w: &[F],
-    behind: &[F],
+    after: &[F],
 ) -> Result<(), NoMemory>
     ensures { OnOk result (map F.value list.new
         ≡ map F.value list.old
-        ++ on_parts (zero_vector m) (map F.value w.now) (map F.value behind.now)) }
+        ++ on_parts (zero_vector m) (map F.value w.now) (map F.value after.now)) }
 {
     push_zeros(list, m)?;
     push_difference(list, w)?;
-    list.append(behind)
+    list.append(after)
 }

@@ -89,11 +89,11 @@ fn benson_system<F: Field>(
     let m = form.sides.len() as u32;
     let q = form.p.len() as u32;
     let more = dual_unknowns(q, &form.cone);
-    let behind = zeros(alloc, more)?;
+    let after = zeros(alloc, more)?;
     let mut a = Items::new(alloc);
     push_balances(alloc, &mut a, form, more)?;
     push_members(alloc, &mut a, m, q, &form.cone)?;
-    push_on_w(&mut a, m, c, behind.as_slice())?;
+    push_on_w(&mut a, m, c, after.as_slice())?;
     let mut b = Items::new(alloc);
     push_zeros(&mut b, form.cols)?;
     push_zeros(&mut b, dual_equations(q, &form.cone))?;
@@ -111,10 +111,10 @@ fn weight_system<F: Field>(alloc: Global, form: &Data<F>, w: &[F]) -> Result<Sys
     let m = form.sides.len() as u32;
     let q = form.p.len() as u32;
     let more = weight_unknowns(&form.cone);
-    let behind = zeros(alloc, more)?;
+    let after = zeros(alloc, more)?;
     let mut a = Items::new(alloc);
     push_balances(alloc, &mut a, form, more)?;
-    push_entries_of_w(alloc, &mut a, m, q, behind.as_slice())?;
+    push_entries_of_w(alloc, &mut a, m, q, after.as_slice())?;
     push_weight_members(alloc, &mut a, m, q, &form.cone)?;
     let mut b = Items::new(alloc);
     push_zeros(&mut b, form.cols)?;

@@ -5,7 +5,7 @@ ghost use Rattle.tableaux.specs.Table.{minus};
 ghost use Rattle.vlp_problem.specs.declared.problem.Problem.{Problem as File};
 ghost use Rattle.lp_form.specs.Data.{IsDataOf, cone_of};
 ghost use Rattle.lp_form.specs.Programs.{choice_of};
-ghost use Rattle.lp_form.specs.Reading.{AreParts, AreRead, AreDisjoint, HasColumns, HasEquations, IsSplit, kept_behind};
+ghost use Rattle.lp_form.specs.Reading.{AreParts, AreRead, AreDisjoint, HasColumns, HasEquations, IsSplit, kept_after};
 
 use crate::data::{ConeOf, Data};
 use crate::name::{LpName, Parts};
@@ -44,9 +44,9 @@ pub fn difference<F: Field>(alloc: Global, plus: &[F], negative: &[F]) -> Result
 }
 
 /// What stands after w, where the cone is in dual form.
-fn behind<F: Field>(alloc: Global, cone: &ConeOf<F>, list: &[F]) -> Result<Items<F>, NoMemory>
+fn copy_after_w<F: Field>(alloc: Global, cone: &ConeOf<F>, list: &[F]) -> Result<Items<F>, NoMemory>
     ensures { IfOk result
-        (λ v. map F.value v ≡ kept_behind (cone_of F.value cone.now) (map F.value list.now)) }
+        (λ v. map F.value v ≡ kept_after (cone_of F.value cone.now) (map F.value list.now)) }
 {
     match cone {
         ConeOf::Orthant | ConeOf::Gens(_) => Ok(Items::new(alloc)),
@@ -66,7 +66,7 @@ fn split<F: Field>(alloc: Global, form: &Data<F>, z: &[F]) -> Result<Parts<F>, N
     let q = form.p.len();
     let u = copy(alloc, &z[..m])?;
     let w = difference(alloc, &z[m..m + q], &z[m + q..m + q + q])?;
-    let v = behind(alloc, &form.cone, &z[m + q + q..])?;
+    let v = copy_after_w(alloc, &form.cone, &z[m + q + q..])?;
     Ok(Parts { u, w, v })
 }
 

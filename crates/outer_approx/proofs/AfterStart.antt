@@ -30,7 +30,7 @@ use Rattle.lp_form.specs.declared.shown.Cut.{Cut as CutOf}
 use Rattle.outer_approx.specs.Cuts.{said_by}
 use Rattle.outer_approx.specs.Lines.{line_places}
 use Rattle.outer_approx.specs.Standing.{IsBegun, IsOpenTrail, IsOuter, StandForSame, cuts_of}
-use Rattle.outer_approx.specs.Task.{Task, behind}
+use Rattle.outer_approx.specs.Task.{Task, setting}
 use Rattle.outer_approx.proofs.Growing.{grows, lines_stay, preimages_stay}
 use Rattle.outer_approx.specs.First.{HasStart}
 use Rattle.outer_approx.proofs.Beginning.{IsFirstCorner, exist, first_of_start, listed, meets_start, normals_listed, rows_listed, short_rank, start_in_order, starting_without, stated_many}
@@ -69,7 +69,7 @@ module _ (task : Task) (cuts : List Inequality) (old : List Entry) (begun : IsBe
 
   -- the row t ≥ 0 and those of the cuts, without the entries at the places of the lines, may be eliminated
   pub may_eliminate : HasFullRank count (map (without bs) (map (λ e. e.normal) cuts)) →
-      AreElimRows (behind task old) (map (without bs) (rows_of objs cuts)) (suc count)
+      AreElimRows (setting task old) (map (without bs) (rows_of objs cuts)) (suc count)
   may_eliminate rank =
       AreElimRows.of_image (range_with_len 1 count) (exist count stands cuts begun.cuts_are many)
       (ap (λ (n : ℕ). n + length (lines old)) (length-range_with_len 1 count ∙ sym many) ∙ together)
@@ -211,8 +211,8 @@ module _ {F : Type 0} (value : F → ℚ) (task : Task) (places : List Bool) (ol
     full_rank = of_rows (λ (n : ℕ) (rs : List (List ℚ)). HasFullRank n rs)
         (short_rank task.file.objs (lines old) (echelon task said old begun said_together) said (said_wide value list task.file.objs wide) rank_said)
 
-    pub licensed : AreElimRows (behind task old) rows width
-    licensed = of_rows (λ (n : ℕ) (rs : List (List ℚ)). AreElimRows (behind task old) rs n) (may_eliminate task said old begun said_together rank_said)
+    pub licensed : AreElimRows (setting task old) rows width
+    licensed = of_rows (λ (n : ℕ) (rs : List (List ℚ)). AreElimRows (setting task old) rs n) (may_eliminate task said old begun said_together rank_said)
 
     module _ (dd : Description) (start : IsStart width rows dd) (new : List Entry) (h : HasStart places (vectors dd.list.live) old new) where
       start_at : IsStart (suc (open_count (line_places task old))) (map (without (line_places task old)) (rows_of task.file.objs said)) dd

@@ -30,10 +30,10 @@ use Rattle.lp_form.specs.declared.shown.Cut.{Cut as CutOf}
 use Rattle.outer_approx.specs.Cuts.{said_by}
 use Rattle.outer_approx.specs.Lines.{line_places}
 use Rattle.outer_approx.specs.Standing.{HasCutMore, IsOpenTrail, IsOuter, StandForSame, cuts_of, rows_of_trail}
-use Rattle.outer_approx.specs.Task.{Task, behind}
+use Rattle.outer_approx.specs.Task.{Task, setting}
 use Rattle.outer_approx.proofs.Growing.{grows, has_same, lines_stay, open_stands, preimages_stay, same_for}
 use Rattle.outer_approx.proofs.RowsOfCuts.{length-row}
-use Rattle.outer_approx.proofs.Turned.{IsBehind, meets_add, new_exists, new_row, next_list, next_rows, next_used, rows_stay}
+use Rattle.outer_approx.proofs.Turned.{IsAfter, meets_add, new_exists, new_row, next_list, next_rows, next_used, rows_stay}
 
 add_in_order : (trail : List Entry) → IsTrue (has order.duality trail) → IsTrue (has order.start trail) → has order.facet trail ≡ false →
     IsTrue (in_order trail order.add)
@@ -64,25 +64,25 @@ module _ (task : Task) (old mid : List Entry) (e : Inequality) (dd : Description
   abbrev bs : List Bool
   bs = line_places task old
 
-  is_behind : IsBehind s t e
-  is_behind = record { all_used = h.all_used; cuts = m.cuts; used = m.used; list = m.list }
+  is_after : IsAfter s t e
+  is_after = record { all_used = h.all_used; cuts = m.cuts; used = m.used; list = m.list }
 
   numbered : k ≡ length (rows_in_use q s)
   numbered = number ∙ ap (λ (rows : List (List ℚ)). length rows) h.rows ∙ length-map (rows_in_use q s) (without bs)
 
   -- the cut is not in use yet, so the trail stands for the same cuts as the double description before
   still : StandForSame task mid dd
-  still = same_for task old mid dd m.lines_stay (rows_stay q s t e is_behind) m.list h.same
+  still = same_for task old mid dd m.lines_stay (rows_stay q s t e is_after) m.list h.same
 
   pub stand_still : (new : Description) → new ≡ dd → StandForSame task mid new
   stand_still new kept = subst (λ (d : Description). StandForSame task mid d) (sym kept) still
 
   -- the cut is one that may be added
-  pub is_addition : (row : List ℚ) → row ≡ without bs (row_of e) → IsAddition (behind task mid) dd.rows row dd.list Image
+  pub is_addition : (row : List ℚ) → row ≡ without bs (row_of e) → IsAddition (setting task mid) dd.rows row dd.list Image
   is_addition row is =
-      let exists = new_exists q s t e is_behind k numbered in
+      let exists = new_exists q s t e is_after k numbered in
       IsAddition.of_image k exists.0 exists.1 still.rows
-      (is ∙ ap₂ (λ (ls : List (List ℚ)) (r : List ℚ). without (marks q ls) r) (sym m.lines_stay) (sym (new_row q s t e is_behind k numbered)))
+      (is ∙ ap₂ (λ (ls : List (List ℚ)) (r : List ℚ). without (marks q ls) r) (sym m.lines_stay) (sym (new_row q s t e is_after k numbered)))
       still.list
 
   -- the step of the live generators of the trail, and that without the places of the lines
@@ -107,7 +107,7 @@ module _ (task : Task) (old mid : List Entry) (e : Inequality) (dd : Description
     turned_open = grows task mid (Add k pairs) o
         (record {
           order = add_in_order mid o.duality started o.unnamed;
-          rules = meets_add q s t e is_behind k numbered task.file pairs refl required;
+          rules = meets_add q s t e is_after k numbered task.file pairs refl required;
         }) tt written refl refl
 
     stands : state q (mid ++ Add k pairs ∷ []) ≡ after q t (Add k pairs)
@@ -118,10 +118,10 @@ module _ (task : Task) (old mid : List Entry) (e : Inequality) (dd : Description
 
     -- one more row is in use
     pub turned_rows : rows_of_trail task (mid ++ Add k pairs ∷ []) ≡ rows_of_trail task old ++ row_of e ∷ []
-    turned_rows = ap (λ (a : State). rows_in_use q a) stands ∙ next_rows q s t e is_behind k numbered pairs
+    turned_rows = ap (λ (a : State). rows_in_use q a) stands ∙ next_rows q s t e is_after k numbered pairs
 
     turned_list : (state q (mid ++ Add k pairs ∷ [])).list ≡ step (rows_in_use q s) s.list (row_of e)
-    turned_list = ap (λ (a : State). a.list) stands ∙ next_list q s t e is_behind k numbered pairs
+    turned_list = ap (λ (a : State). a.list) stands ∙ next_list q s t e is_after k numbered pairs
 
     -- and the trail stands beside the double description with the row
     pub turned : (row : List ℚ) → row ≡ without bs (row_of e) → (new : Description) →
@@ -129,7 +129,7 @@ module _ (task : Task) (old mid : List Entry) (e : Inequality) (dd : Description
     turned row is new grown = subst (λ (d : Description). IsOuter task (mid ++ Add k pairs ∷ []) d) (sym grown) (record {
       open_trail = turned_open;
       started = has_same order.start mid (Add k pairs) refl ∙ started;
-      all_used = subst (λ (a : State). a.used ≡ range_with_len 1 (length a.cuts)) (sym stands) (next_used q s t e is_behind k numbered pairs);
+      all_used = subst (λ (a : State). a.used ≡ range_with_len 1 (length a.cuts)) (sym stands) (next_used q s t e is_after k numbered pairs);
       same = record {
         width = h.width ∙ ap (λ (ls : List (List ℚ)). suc (open_count (marks q ls))) (sym turned_lines);
         rows = ap₂ (λ (rows : List (List ℚ)) (r : List ℚ). rows ++ r ∷ []) h.rows is

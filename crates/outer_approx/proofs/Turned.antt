@@ -14,13 +14,13 @@ use Rattle.log_rules.specs.Meets.{MeetsAdd}
 use Rattle.outer_approx.proofs.Used.{range_more, in_range, first_used, next_row}
 
 -- all cuts of the first state are in use in their order, and in the second state one more stands after them
-pub record IsBehind (s t : State) (e : Inequality) : Type 0 where
+pub record IsAfter (s t : State) (e : Inequality) : Type 0 where
   pub all_used : s.used ≡ range_with_len 1 (length s.cuts)
   pub cuts : map inequality t.cuts ≡ map inequality s.cuts ++ e ∷ []
   pub used : t.used ≡ s.used
   pub list : t.list ≡ s.list
 
-module _ (q : ℕ) (s t : State) (e : Inequality) (h : IsBehind s t e) where
+module _ (q : ℕ) (s t : State) (e : Inequality) (h : IsAfter s t e) where
   abbrev said : List Inequality
   said = map inequality s.cuts
 

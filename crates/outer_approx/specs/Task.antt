@@ -23,5 +23,5 @@ pub record IsFitting (holds : ℚ → Bool) (task : Task) : Type 0 where
   pub held : IsHeldDuality holds task.c task.weights inverse
 
 -- the setting of a call after these entries, to which c is known
-abbrev pub behind : Task → List Entry → Setting
-behind task trail = record { file = task.file; c = Some task.c; weights = task.weights; trail = trail }
+abbrev pub setting : Task → List Entry → Setting
+setting task trail = record { file = task.file; c = Some task.c; weights = task.weights; trail = trail }

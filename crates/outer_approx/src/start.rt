@@ -11,7 +11,7 @@ ghost use Rattle.outer_approx.specs.Lines.{line_places};
 ghost use Rattle.upper_image.specs.Spots.{pieces};
 ghost use Rattle.log_rules.specs.Live.{lines, preimages};
 ghost use Rattle.outer_approx.specs.Standing.{IsBegun, IsOpenTrail, IsOuter, cuts_of};
-ghost use Rattle.outer_approx.specs.Task.{Task, behind};
+ghost use Rattle.outer_approx.specs.Task.{Task, setting};
 ghost use Rattle.overflows.specs.Faults.{Overflows};
 ghost use Rattle.polyhedra.specs.Cone.{HasFullRank};
 
@@ -161,7 +161,7 @@ pub fn start_outer<F: Field>(
     ensures lines { lines trail.new ≡ lines trail.old }
     ensures preimages { OnOk result ((k : ℕ) → preimages trail.new k ≡ preimages trail.old k) }
     ensures trail { IsOpenTrail task trail.new }
-    ensures left { IfErr result (Overflows F.holds (behind task trail.new) []) }
+    ensures left { IfErr result (Overflows F.holds (setting task trail.new) []) }
 {
     let rows = rows_of_cuts(alloc, places, cuts)?;
     match Dd::start(alloc, &rows) {

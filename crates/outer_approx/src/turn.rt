@@ -9,7 +9,7 @@ ghost use Rattle.log_rules.specs.Live.{lines, preimages};
 ghost use Rattle.outer_approx.specs.Cuts.{IsCutFor, said_by};
 ghost use Rattle.outer_approx.specs.Lines.{line_places};
 ghost use Rattle.outer_approx.specs.Standing.{IsOpenTrail, IsOuter, StandForSame, cuts_of, rows_of_trail};
-ghost use Rattle.outer_approx.specs.Task.{Task, behind};
+ghost use Rattle.outer_approx.specs.Task.{Task, setting};
 ghost use Rattle.overflows.specs.Faults.{OnLicence, Overflows};
 ghost use Rattle.polyhedra.specs.Exactness.{row_of};
 
@@ -82,7 +82,7 @@ pub fn take<F: Field>(
     ensures trail { IsOpenTrail task trail.new }
     ensures same { IfErr result
         (λ fault. OnLicence fault (λ licence. StandForSame task trail.new dd.new)) }
-    ensures left { IfErr result (Overflows F.holds (behind task trail.new) []) }
+    ensures left { IfErr result (Overflows F.holds (setting task trail.new) []) }
 {
     let row = cut_row(alloc, places, cut)?;
     let number = dd.row_count();

@@ -20,9 +20,9 @@ use Rattle.lp_form.specs.Programs.{side_total, on_parts, dual_unknowns, benson_s
 use Rattle.overflow_rules.specs.Base.{IsSolutionOff}
 use Rattle.overflow_rules.specs.Turns.{said_row}
 
-pub length-on_parts : (a b c : ℕ) (u w behind : List ℚ) → length u ≡ a → length w ≡ b → length behind ≡ c → length (on_parts u w behind) ≡ a + b + b + c
-length-on_parts a b c u w behind h k l =
-    omega (arith, length-append u w, length-append (u ++ w) (negated w), length-append (u ++ w ++ negated w) behind, length-map w neg_ℚ)
+pub length-on_parts : (a b c : ℕ) (u w after : List ℚ) → length u ≡ a → length w ≡ b → length after ≡ c → length (on_parts u w after) ≡ a + b + b + c
+length-on_parts a b c u w after h k l =
+    omega (arith, length-append u w, length-append (u ++ w) (negated w), length-append (u ++ w ++ negated w) after, length-map w neg_ℚ)
 
 pub length-side_bounds : (file : Problem) → length (side_bounds file) ≡ side_total file
 length-side_bounds file = length-map (sides file) (λ s. s.bound)

@@ -72,8 +72,8 @@ module _ (c y front : List ℚ) (gamma : ℚ) (t : Bool) (some : 1 ≤ length c)
   front-is : take k g ≡ front
   front-is = ap (λ n. take n g) (sym front_long) ∙ take-append_seam front (gamma ∷ one_ℚ ∷ [])
 
-  behind-is : drop k g ≡ gamma ∷ one_ℚ ∷ []
-  behind-is = ap (λ n. drop n g) (sym front_long) ∙ drop-append_seam front (gamma ∷ one_ℚ ∷ [])
+  after-is : drop k g ≡ gamma ∷ one_ℚ ∷ []
+  after-is = ap (λ n. drop n g) (sym front_long) ∙ drop-append_seam front (gamma ∷ one_ℚ ∷ [])
 
   abbrev weighed : ℚ
   weighed = dot (take k c) front
@@ -92,7 +92,7 @@ module _ (c y front : List ℚ) (gamma : ℚ) (t : Bool) (some : 1 ≤ length c)
       dot-append start ((if t then neg_ℚ one_ℚ else zero_ℚ) ∷ last ∷ []) g
       ∙ ap₂ (λ a b. a +ℚ b) start_value
       (ap (λ n. dot ((if t then neg_ℚ one_ℚ else zero_ℚ) ∷ last ∷ []) (drop n g)) start_long
-      ∙ ap (λ v. dot ((if t then neg_ℚ one_ℚ else zero_ℚ) ∷ last ∷ []) v) behind-is
+      ∙ ap (λ v. dot ((if t then neg_ℚ one_ℚ else zero_ℚ) ∷ last ∷ []) v) after-is
       ∙ ap (λ q. (if t then neg_ℚ one_ℚ else zero_ℚ) *ℚ gamma +ℚ q) (add_zero (last *ℚ one_ℚ) ∙ mul_one last))
 
   weight_parts : dot (weight_of c g) y ≡ dot front y +ℚ (last +ℚ neg_ℚ (last *ℚ weighed))

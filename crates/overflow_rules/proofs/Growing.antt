@@ -115,7 +115,7 @@ goes_on holds file c weights trail whole e s m b =
   where
     go : Completes c weights trail whole → Completes c weights (trail ++ e ∷ []) (whole ++ e ∷ [])
     go (Completes.itself h) = Completes.itself (ap (λ (es : List Entry). es ++ e ∷ []) h)
-    go (Completes.behind picks inverse h) = Completes.behind picks inverse (ap (λ (es : List Entry). es ++ e ∷ []) h)
+    go (Completes.after_opening picks inverse h) = Completes.after_opening picks inverse (ap (λ (es : List Entry). es ++ e ∷ []) h)
 
 pub trail_laws : TrailLaws
 trail_laws = record {
@@ -127,7 +127,7 @@ trail_laws = record {
   cut = cut;
   begins = λ holds file c weights picks inverse held fits base. record {
     possible = possible holds file c weights picks inverse held fits base;
-    completes = Completes.behind picks inverse refl;
+    completes = Completes.after_opening picks inverse refl;
     base = opened file c weights picks inverse fits base;
   };
   own = λ holds file c weights picks inverse held fits base. record {

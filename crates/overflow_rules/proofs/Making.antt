@@ -34,13 +34,13 @@ grows n rows list row h =
           ∙ sym (steps-push h.first (starting 1 h.vectors) h.more row);
     }
 
-wide_behind : (n : ℕ) (first more : List (List ℚ)) → AreWide n (first ++ more) → AreWide n more
-wide_behind n [] more w = w
-wide_behind n (r ∷ first) more w = wide_behind n first more (wide-tail n r (first ++ more) w)
+wide_after : (n : ℕ) (first more : List (List ℚ)) → AreWide n (first ++ more) → AreWide n more
+wide_after n [] more w = w
+wide_after n (r ∷ first) more w = wide_after n first more (wide-tail n r (first ++ more) w)
 
 live : (n : ℕ) (rows : List (List ℚ)) (list : LiveList) → AreWide n rows → IsMadeOver n rows list → IsLive n rows list
 live n rows list w h =
-    let wide : AreWide n h.more = wide_behind n h.first h.more (subst (λ (rs : List (List ℚ)). AreWide n rs) h.parted w) in
+    let wide : AreWide n h.more = wide_after n h.first h.more (subst (λ (rs : List (List ℚ)). AreWide n rs) h.parted w) in
     let made : IsLive n (h.first ++ h.more) (steps h.first (starting 1 h.vectors) h.more) =
     are_live.after n h.first (starting 1 h.vectors) h.more wide (are_live.start n 1 h.first h.vectors (start n h.first h.vectors h.corners) h.normed) in
     subst (λ (rs : List (List ℚ)). IsLive n rs list) (sym h.parted)

@@ -97,12 +97,12 @@ module _ (s : System) (right : List ℚ) (ok : IsSystem s) (signs : map artifici
               ∙ ap (λ r. entry r j) (row-second (with_right s right) right_ok ∙ sym (row-second s ok)) ∙ ap (λ k. at (table_of s) k j) (sym last)
         ]
         | inr low ↦ elim (cases_lt n j) [
-          | inl behind ↦
-              let back : j ≡ n + (j - n) = omega (arith, behind) in
+          | inl after ↦
+              let back : j ≡ n + (j - n) = omega (arith, after) in
               ap (λ k. at (table_of (with_right s right)) i k) back
-              ∙ equation-artificial (with_right s right) right_ok i (j - n) l low (omega (arith, behind)) (omega (arith, behind, b))
+              ∙ equation-artificial (with_right s right) right_ok i (j - n) l low (omega (arith, after)) (omega (arith, after, b))
               ∙ ap (λ q. q *ℚ delta i (j - n)) (sign_same i)
-              ∙ sym (equation-artificial s ok i (j - n) l low (omega (arith, behind)) (omega (arith, behind, b)))
+              ∙ sym (equation-artificial s ok i (j - n) l low (omega (arith, after)) (omega (arith, after, b)))
               ∙ ap (λ k. at (table_of s) i k) (sym back)
           | inr front ↦ equation-unknown (with_right s right) right_ok i j l low a front ∙ sym (equation-unknown s ok i j l low a front)
         ]

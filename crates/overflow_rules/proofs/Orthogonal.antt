@@ -31,8 +31,8 @@ module _ (n c : ℕ) (a : Table) (basis : List ℕ) (d : Table) (a_long : length
   abbrev part : ℕ → ℚ
   part j = if j == c then one_ℚ else neg_ℚ (value_of_column basis (column_of d c) j)
 
-  part_behind : (j : ℕ) → n < j → part j ≡ zero_ℚ
-  part_behind j l =
+  part_after : (j : ℕ) → n < j → part j ≡ zero_ℚ
+  part_after j l =
       elim (same_or_other j c) [
         | inl s ↦ absurd (let e : j ≡ c = s.0 in omega (arith, e, l, high))
         | inr o ↦ if_false (j == c) one_ℚ (neg_ℚ (value_of_column basis (column_of d c) j)) o.1
@@ -41,7 +41,7 @@ module _ (n c : ℕ) (a : Table) (basis : List ℕ) (d : Table) (a_long : length
 
   past : (j m s : ℕ) → n < s → slice_index_or (list_from s m part) j zero_ℚ ≡ zero_ℚ
   past j zero s l = refl
-  past zero (suc m) s l = part_behind s l
+  past zero (suc m) s l = part_after s l
   past (suc j) (suc m) s l = past j m (suc s) (omega arith)
 
   long : length (beside_unit a) ≡ n

@@ -258,7 +258,7 @@ licence_laws = record {
     whole = opening c weights possible.picks possible.inverse;
     stands = record {
       possible = possible;
-      completes = Completes.behind possible.picks possible.inverse
+      completes = Completes.after_opening possible.picks possible.inverse
           (ap (λ (trail : List Entry). Version 1 ∷ Duality c weights possible.picks possible.inverse ∷ trail) (sym h.trail));
       base = possible.trail;
     };

@@ -31,7 +31,7 @@ use Rattle.lp_form.specs.Programs.{side_total, interior_system, benson_system, u
 use Rattle.overflow_rules.specs.Base.{IsSolutionOff, IsBaseChoice, IsBaseCut, IsConeDirection}
 use Rattle.overflow_rules.specs.Examples.{n, minus, half, minus_half, ones}
 use Rattle.lp_form.specs.Examples.{numbers}
-use Rattle.overflow_rules.specs.ImageExamples.{leaning, weights, is_some, behind, started, point, ray, at_point, at_begin, EntryExamples, WorkedImages}
+use Rattle.overflow_rules.specs.ImageExamples.{leaning, weights, is_some, after_duality, started, point, ray, at_point, at_begin, EntryExamples, WorkedImages}
 use Rattle.overflow_rules.specs.Licence.{IsOverflow, opening, IsPossible, Completes, Licensed}
 use Rattle.overflow_rules.specs.Operands.{Setting, IsTrailEntry, IsBaseX, AreBaseShares, AreMultiplied}
 use Rattle.overflow_rules.specs.PairExamples.{third}
@@ -171,7 +171,7 @@ entry_meets = events_give_meets (λ q. true) leaning (with_point ++ ray ∷ []) 
 
 opened_is : IsBaseTrail leaning ones weights opened
 opened_is = trail_laws.opened leaning ones weights (1 ∷ 2 ∷ []) inverse
-    (entry_meets (Version 1 ∷ []) (Duality ones weights (1 ∷ 2 ∷ []) inverse) (behind ++ point ∷ ray ∷ []) refl).rules duality_is
+    (entry_meets (Version 1 ∷ []) (Duality ones weights (1 ∷ 2 ∷ []) inverse) (after_duality ++ point ∷ ray ∷ []) refl).rules duality_is
 
 more : (trail : List Entry) (e : Entry) (after : List Entry) → IsBaseTrail leaning ones weights trail → with_point ++ ray ∷ [] ≡ trail ++ e ∷ after →
     IsBaseEntry leaning ones weights trail e → IsBaseTrail leaning ones weights (trail ++ e ∷ [])
@@ -246,11 +246,11 @@ possible = record {
   trail = opened_is;
 }
 
-licence : Licensed is_some leaning ones (record { place = Elim [] [] 0 2 2; left = operation Mul (n 2) (n 1); trail = behind ++ point ∷ [] })
+licence : Licensed is_some leaning ones (record { place = Elim [] [] 0 2 2; left = operation Mul (n 2) (n 1); trail = after_duality ++ point ∷ [] })
 licence = record {
   weights = weights;
   whole = with_point;
-  stands = record { possible = possible; completes = Completes.behind (1 ∷ 2 ∷ []) inverse refl; base = with_point_is };
+  stands = record { possible = possible; completes = Completes.after_opening (1 ∷ 2 ∷ []) inverse refl; base = with_point_is };
   overflow = m_of_ray;
 }
 

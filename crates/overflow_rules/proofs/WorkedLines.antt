@@ -380,7 +380,7 @@ licence : Licensed is_few half_plane ones (record { place = Elim short_rows [] 2
 licence = record {
   weights = [];
   whole = along;
-  stands = record { possible = begun.possible; completes = Completes.behind [] [] refl; base = with_line };
+  stands = record { possible = begun.possible; completes = Completes.after_opening [] [] refl; base = with_line };
   overflow = elimination;
 }
 

@@ -483,10 +483,10 @@ unfolding whole le_ℚ
 negative h = true≢false (sym (h 0 zero_ℚ (lit< tt)))
 
 -- what stands after u and w has two entries, neither of them negative
-behind : (m : List Spot) (x : List ℚ) → length x ≡ 7 → AtLeastZero x → dense (length (v_of in_dual_form in_dual_form.cone x)) m ≡ v_of in_dual_form in_dual_form.cone x →
+two_after_w : (m : List Spot) (x : List ℚ) → length x ≡ 7 → AtLeastZero x → dense (length (v_of in_dual_form in_dual_form.cone x)) m ≡ v_of in_dual_form in_dual_form.cone x →
     AtLeastZero (dense 2 m)
 unfolding whole
-behind m x long = seven
+two_after_w m x long = seven
     (λ (y : List ℚ). AtLeastZero y → dense (length (v_of in_dual_form in_dual_form.cone y)) m ≡ v_of in_dual_form in_dual_form.cone y → AtLeastZero (dense 2 m))
     (λ u a b c d k l h e. subst (λ (y : List ℚ). AtLeastZero y) (sym e) (All-drop Nonneg 5 (u ∷ a ∷ b ∷ c ∷ d ∷ k ∷ l ∷ []) h)) x long
 
@@ -505,9 +505,9 @@ no_of_cut (AreBaseShares.of_entry e h is) = go e is
     go (Line d x ray m back l) (inr e) = none [] e
     go e h = h
 no_of_cut (AreBaseShares.of_cut c w u m known (IsBaseCut.of_benson x read same parts) is) =
-    negative (subst (λ (y : List ℚ). AtLeastZero y) (sym is) (behind m x (ap (λ (y : List ℚ). length y) read.0.reads) read.1.at_least_zero parts.cone))
+    negative (subst (λ (y : List ℚ). AtLeastZero y) (sym is) (two_after_w m x (ap (λ (y : List ℚ). length y) read.0.reads) read.1.at_least_zero parts.cone))
 no_of_cut (AreBaseShares.of_cut c w u m known (IsBaseCut.of_weight x b read parts) is) =
-    negative (subst (λ (y : List ℚ). AtLeastZero y) (sym is) (behind m x (ap (λ (y : List ℚ). length y) read.0.reads) read.1.at_least_zero parts.cone))
+    negative (subst (λ (y : List ℚ). AtLeastZero y) (sym is) (two_after_w m x (ap (λ (y : List ℚ). length y) read.0.reads) read.1.at_least_zero parts.cone))
 no_of_cut (AreBaseShares.mu off sign) = negative sign
 
 -- ---- other places

@@ -101,8 +101,8 @@ abbrev pub is_some : ℚ → Bool
 is_some q = is_few q || same_ℚ q half || same_ℚ q minus_half
 
 -- y_1 / 3 + 2 y_2 / 3 ≥ 0 and 2 y_1 - y_2 ≥ 15 meet in (6, -3), the value of 3
-abbrev pub behind : List Entry
-behind =
+abbrev pub after_duality : List Entry
+after_duality =
     Cut (third ∷ fraction (pos 2) 3 ∷ []) (n 0) [] []
     ∷ Cut (n 2 ∷ minus 1 ∷ []) (n 15) (record { at = 1; value = n 5 } ∷ []) []
     ∷ Start (1 ∷ 2 ∷ []) (n 6 ∷ minus 3 ∷ []) (n 1 ∷ n 2 ∷ n 1 ∷ minus_half ∷ [])
@@ -110,7 +110,7 @@ behind =
 
 -- these entries, after a `version` and a `duality` entry
 abbrev pub started : List Entry
-started = opening ones weights (1 ∷ 2 ∷ []) (n 1 ∷ minus_half ∷ n 0 ∷ half ∷ []) ++ behind
+started = opening ones weights (1 ∷ 2 ∷ []) (n 1 ∷ minus_half ∷ n 0 ∷ half ∷ []) ++ after_duality
 
 -- the pre-image of the point, and that of the direction (1, 2), which is the second generator
 abbrev pub point : Entry
@@ -135,7 +135,7 @@ pub record EntryExamples : Type 0 where
   pub x_of_point : IsOverflow is_some at_point (Elim [] [] 0 1 2) (operation Mul (n 1) (n 3))
   pub m_of_ray : IsOverflow is_some at_point (Elim [] [] 0 2 2) (operation Mul (n 2) (n 1))
   pub licence : Licensed is_some leaning ones
-      (record { place = Elim [] [] 0 2 2; left = operation Mul (n 2) (n 1); trail = behind ++ point ∷ [] })
+      (record { place = Elim [] [] 0 2 2; left = operation Mul (n 2) (n 1); trail = after_duality ++ point ∷ [] })
   -- the other generator is not (1, 2), 4 has another value than the point, and the second generator
   -- of the image is a direction
   pub no_ray : IsTrailEntry at_point (Ray 2 [] (record { at = 1; value = n 1 } ∷ [])) → ⊥

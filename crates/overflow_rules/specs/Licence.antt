@@ -58,7 +58,7 @@ pub record IsPossible (holds : ℚ → Bool) (file : Problem) (c weights : List 
 -- entry
 pub data Completes (c weights : List ℚ) (trail whole : List Entry) : Type 0 where
   itself : whole ≡ trail → Completes c weights trail whole
-  behind : (picks : List ℕ) (inverse : List ℚ) → whole ≡ Version 1 ∷ Duality c weights picks inverse ∷ trail → Completes c weights trail whole
+  after_opening : (picks : List ℕ) (inverse : List ℚ) → whole ≡ Version 1 ∷ Duality c weights picks inverse ∷ trail → Completes c weights trail whole
 
 -- a trail stands for this base trail with the duality vector c, which is possible
 pub record StandsFor (holds : ℚ → Bool) (file : Problem) (c weights : List ℚ) (trail whole : List Entry) : Type 0 where

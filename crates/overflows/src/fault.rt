@@ -29,7 +29,7 @@ impl SolveFault {
     ghost use Rattle.overflows.specs.Faults.{Overflows, with_trail};
 
     /// The fault with this trail in place of its own.
-    pub fn behind(self, trail: Entries) -> SolveFault
+    pub fn with_trail(self, trail: Entries) -> SolveFault
         ensures told { result ≡ with_trail self trail }
         ensures licensed { (holds : ℚ → Bool) (s : Setting) → Overflows holds s [] self
             → Overflows holds s trail result }

@@ -6,7 +6,7 @@ use Rattle.std.proofs.lemmas.List.Elements.{All-nil, All-cons}
 use Rattle.exact_field.specs.Rational.{ℚ, whole, one_ℚ, neg_ℚ}
 use Rattle.frac128.specs.Sparse.{is_zero}
 use Rattle.frac128.specs.Held.{size-neg}
-use Rattle.vlp_problem.specs.Cells.{cells_behind, are_cells}
+use Rattle.vlp_problem.specs.Cells.{cells_after, are_cells}
 use Rattle.vlp_problem.specs.Sides.{numbers_from}
 use Rattle.vlp_problem.specs.declared.problem.Cell.{Cell}
 use Rattle.vlp_problem.specs.declared.problem.Problem.{Problem}
@@ -26,8 +26,8 @@ negated_not_zero q h = ap (λ n. n == 0) (size-neg q.num) ∙ h
 -- ---- the same cells from an earlier place
 pub placed_earlier : (rows cols i j i' j' : ℕ) (c : Cell) → IsPlaced rows cols i j c → i' ≤ i → (i' ≡ i → j' ≤ j) → IsPlaced rows cols i' j' c
 placed_earlier rows cols i j i' j' c h l e = record {
-  row_behind = below c.row h.row_behind;
-  col_behind = behind c.row c.col h.row_behind h.col_behind;
+  row_after = below c.row h.row_after;
+  col_after = to_right c.row c.col h.row_after h.col_after;
   row_low = h.row_low;
   row_high = h.row_high;
   col_low = h.col_low;
@@ -38,8 +38,8 @@ placed_earlier rows cols i j i' j' c h l e = record {
     below : (r : ℕ) → i ≤ r → i' ≤ r
     below r a = omega arith
 
-    behind : (r k : ℕ) → i ≤ r → (i ≡ r → j < k) → i' ≡ r → j' < k
-    behind r k a b f = grind arith
+    to_right : (r k : ℕ) → i ≤ r → (i ≡ r → j < k) → i' ≡ r → j' < k
+    to_right r k a b f = grind arith
 
 pub earlier : (rows cols i j i' j' : ℕ) (cells : List Cell) → AreRising rows cols i j cells → i' ≤ i → (i' ≡ i → j' ≤ j) → AreRising rows cols i' j' cells
 earlier rows cols i j i' j' [] h l e = tt
@@ -53,8 +53,8 @@ rising-append : (rows cols i j to : ℕ) (xs ys : List Cell) → i ≤ to → to
 rising-append rows cols i j to [] ys l u k h g = earlier rows cols to cols i j ys g l (λ _. k)
 rising-append rows cols i j to (c ∷ xs) ys l u k h g = (
   record {
-    row_behind = h.0.row_behind;
-    col_behind = h.0.col_behind;
+    row_after = h.0.row_after;
+    col_after = h.0.col_after;
     row_low = h.0.row_low;
     row_high = below c.row h.0.row_high;
     col_low = h.0.col_low;
@@ -79,7 +79,7 @@ block_cells rows cols cells h = of_rising rows cols 0 0 cells (earlier rows cols
     none : (n : ℕ) → 0 ≤ n
     none n = omega arith
 
-pub file_block : (rows cols : ℕ) (cells : List Cell) → cells_behind rows cols 0 0 cells ≡ true → IsBlock cols 0 rows cells
+pub file_block : (rows cols : ℕ) (cells : List Cell) → cells_after rows cols 0 0 cells ≡ true → IsBlock cols 0 rows cells
 file_block rows cols cells h = go cells (rising rows cols 0 0 cells h)
   where
     apart : (r : ℕ) → 1 ≤ r → 0 ≡ r → ⊥
@@ -89,8 +89,8 @@ file_block rows cols cells h = go cells (rising rows cols 0 0 cells h)
     go [] g = tt
     go (c ∷ cells) g = (
       record {
-        row_behind = g.0.row_behind;
-        col_behind = λ e. absurd (apart c.row g.0.row_low e);
+        row_after = g.0.row_after;
+        col_after = λ e. absurd (apart c.row g.0.row_low e);
         row_low = g.0.row_low;
         row_high = g.0.row_high;
         col_low = g.0.col_low;
@@ -105,8 +105,8 @@ moved_rising : (rows cols r k wide i j : ℕ) (cells : List Cell) → cols + k �
 moved_rising rows cols r k wide i j [] l h = tt
 moved_rising rows cols r k wide i j (c ∷ cells) l h = (
   record {
-    row_behind = row c.row h.0.row_behind;
-    col_behind = col c.row c.col h.0.col_behind;
+    row_after = row c.row h.0.row_after;
+    col_after = col c.row c.col h.0.col_after;
     row_low = low c.row r h.0.row_low;
     row_high = high c.row h.0.row_high;
     col_low = low c.col k h.0.col_low;
@@ -131,7 +131,7 @@ moved_rising rows cols r k wide i j (c ∷ cells) l h = (
     wide_enough : (x : ℕ) → x ≤ cols → x + k ≤ wide
     wide_enough x a = omega arith
 
-pub moved_block : (rows cols r k wide : ℕ) (cells : List Cell) → cells_behind rows cols 0 0 cells ≡ true → cols + k ≤ wide → IsBlock wide r (r + rows) (moved r k cells)
+pub moved_block : (rows cols r k wide : ℕ) (cells : List Cell) → cells_after rows cols 0 0 cells ≡ true → cols + k ≤ wide → IsBlock wide r (r + rows) (moved r k cells)
 moved_block rows cols r k wide cells h l = go cells (rising rows cols 0 0 cells h)
   where
     apart : (x : ℕ) → 1 ≤ x → r ≡ x + r → ⊥
@@ -153,8 +153,8 @@ moved_block rows cols r k wide cells h l = go cells (rising rows cols 0 0 cells 
     go [] g = tt
     go (c ∷ cells) g = (
       record {
-        row_behind = row c.row;
-        col_behind = λ e. absurd (apart c.row g.0.row_low e);
+        row_after = row c.row;
+        col_after = λ e. absurd (apart c.row g.0.row_low e);
         row_low = low c.row r g.0.row_low;
         row_high = high c.row g.0.row_high;
         col_low = low c.col k g.0.col_low;
@@ -169,8 +169,8 @@ units_from : (r t n rows cols : ℕ) → r + (t + n) ≤ rows → t + n ≤ cols
 units_from r t zero rows cols u l = tt
 units_from r t (suc n) rows cols u l = (
   record {
-    row_behind = omega arith;
-    col_behind = λ e. absurd (apart e);
+    row_after = omega arith;
+    col_after = λ e. absurd (apart e);
     row_low = omega arith;
     row_high = omega arith;
     col_low = omega arith;
@@ -222,8 +222,8 @@ taken_rising objs width q row cols i j k (c ∷ o) h w l e f =
     unequal : (x : ℕ) → (x == row) ≡ false → x ≡ row → ⊥
     unequal x g = grind (arith, nat_tests)
 
-    behind : (x y : ℕ) → i ≤ x → (i ≡ x → j < y) → 1 ≤ y → x ≡ row → row ≡ row → k < q + y
-    behind x y a b d g _ = grind arith
+    to_right : (x y : ℕ) → i ≤ x → (i ≡ x → j < y) → 1 ≤ y → x ≡ row → row ≡ row → k < q + y
+    to_right x y a b d g _ = grind arith
 
     low : (y : ℕ) → 1 ≤ y → 1 ≤ q + y
     low y a = omega arith
@@ -249,8 +249,8 @@ taken_rising objs width q row cols i j k (c ∷ o) h w l e f =
         AreRising row cols row k (map (λ c. cell row (q + c.col) (neg_ℚ c.value)) (cond b (c ∷ filter (λ c. c.row == row) o) (filter (λ c. c.row == row) o)))
     go true g again = (
       record {
-        row_behind = itself row;
-        col_behind = behind c.row c.col h.0.row_behind h.0.col_behind h.0.col_low (equal c.row g);
+        row_after = itself row;
+        col_after = to_right c.row c.col h.0.row_after h.0.col_after h.0.col_low (equal c.row g);
         row_low = l;
         row_high = itself row;
         col_low = low c.col h.0.col_low;
@@ -259,13 +259,13 @@ taken_rising objs width q row cols i j k (c ∷ o) h w l e f =
       },
       again 0 (q + c.col) (λ _. from c.row (equal c.row g)) (λ _ _. itself (q + c.col)),
     )
-    go false g again = again 0 k (past c.row h.0.row_behind) (λ _ b. never c.row (unequal c.row g) b k)
+    go false g again = again 0 k (past c.row h.0.row_after) (λ _ b. never c.row (unequal c.row g) b k)
 
 value_block : (a : Problem) (i : ℕ) → i < a.objs → IsBlock (a.objs + a.cols) i (suc i) (value_row a (suc i))
 value_block a i l = (
   record {
-    row_behind = omega arith;
-    col_behind = λ e. absurd (apart e);
+    row_after = omega arith;
+    col_after = λ e. absurd (apart e);
     row_low = omega arith;
     row_high = omega arith;
     col_low = omega arith;
@@ -312,8 +312,8 @@ sum_row_block n i cols l u = (
 
     placed : (r k j : ℕ) (v : ℚ) → is_zero v ≡ false → r ≤ suc i → (r ≡ suc i → k < j) → 1 ≤ j → j ≤ cols → IsPlaced (suc i) cols r k (cell (suc i) j v)
     placed r k j v z a b d e = record {
-      row_behind = a;
-      col_behind = b;
+      row_after = a;
+      col_after = b;
       row_low = omega arith;
       row_high = omega arith;
       col_low = d;
@@ -337,7 +337,7 @@ sum_block a b e = block_cells (a.cols + a.rows + b.rows) (a.cols + a.cols + a.co
     itself n = omega arith
 
 -- ---- small numbers
-pub near : (rows cols : ℕ) (cells : List Cell) → cells_behind rows cols 0 0 cells ≡ true → rows ≤ 100000 → cols ≤ 100000 → All IsNear cells
+pub near : (rows cols : ℕ) (cells : List Cell) → cells_after rows cols 0 0 cells ≡ true → rows ≤ 100000 → cols ≤ 100000 → All IsNear cells
 near rows cols cells h l u = go 0 0 cells (rising rows cols 0 0 cells h)
   where
     below : (x y : ℕ) → x ≤ y → y ≤ 100000 → x ≤ 100000

@@ -9,7 +9,7 @@ use Rattle.poly_calc.specs.Made.{moved, unit_cells, meet_cells, IsMeet}
 use Rattle.poly_calc.specs.Laws.{MeetProjects}
 use Rattle.poly_calc.proofs.Sums.{cell_sum}
 use Rattle.poly_calc.proofs.Bounds.{IsInBounds, in_bounds, of_bounds, within-append, within-left, within-right, within-same}
-use Rattle.poly_calc.proofs.Parts.{Fits, fits, fitting, IsInside, inside, none_past, none_before, none_behind, none_append, moved_at, left_part, right_part, none_units, unit_at, take-all}
+use Rattle.poly_calc.proofs.Parts.{Fits, fits, fitting, IsInside, inside, none_past, none_before, none_after, none_append, moved_at, left_part, right_part, none_units, unit_at, take-all}
 
 module _ (a b : Problem) (u : ℕ → ℚ) where
   first_inside : All (IsInside a.rows a.cols) a.a
@@ -34,7 +34,7 @@ module _ (a b : Problem) (u : ℕ → ℚ) where
 
   unit_rows : (i k : ℕ) → 1 ≤ i → i ≤ b.cols → k ≡ (a.rows + b.rows) + i → cell_sum (meet_cells a b) k u ≡ u i
   unit_rows i k l h e = right_part a.a (moved a.rows 0 b.a ++ unit_cells (a.rows + b.rows) b.cols) k u (none_past a.rows a.cols k a.a first_inside (omega arith))
-      ∙ right_part (moved a.rows 0 b.a) (unit_cells (a.rows + b.rows) b.cols) k u (none_behind b.rows b.cols a.rows 0 k b.a second_inside (omega arith))
+      ∙ right_part (moved a.rows 0 b.a) (unit_cells (a.rows + b.rows) b.cols) k u (none_after b.rows b.cols a.rows 0 k b.a second_inside (omega arith))
       ∙ unit_at (a.rows + b.rows) b.cols i k u e l h
 
 module _ (a b made : Problem) (same : a.cols ≡ b.cols) (m : IsMeet a b made) (z : List ℚ) where

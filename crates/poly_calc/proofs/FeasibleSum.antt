@@ -16,7 +16,7 @@ use Rattle.poly_calc.specs.Made.{moved, sum_row, sum_cells, IsSum}
 use Rattle.poly_calc.specs.Laws.{SumProjects}
 use Rattle.poly_calc.proofs.Sums.{cell_sum}
 use Rattle.poly_calc.proofs.Bounds.{IsInBounds, in_bounds, of_bounds, within-append, within-left, within-right, within-same, within_free, within_zero, zero_within}
-use Rattle.poly_calc.proofs.Parts.{Fits, fits, fitting, IsInside, inside, none_before, none_behind, none_append, moved_at, left_part, right_part, none_rows, row_at, AreParts, parts, entry-left, entry-right, take-first}
+use Rattle.poly_calc.proofs.Parts.{Fits, fits, fitting, IsInside, inside, none_before, none_after, none_append, moved_at, left_part, right_part, none_rows, row_at, AreParts, parts, entry-left, entry-right, take-first}
 use Rattle.poly_calc.proofs.Added.{sum_own, sum_row_is, entries_add, from_entries}
 
 module _ (a b : Problem) (same : a.cols ≡ b.cols) (z x y : List ℚ) (z_width : length z ≡ a.cols) (x_width : length x ≡ a.cols) (y_width : length y ≡ b.cols) where
@@ -65,7 +65,7 @@ module _ (a b : Problem) (same : a.cols ≡ b.cols) (z x y : List ℚ) (z_width 
       right_part (flat_map (sum_row a.cols) (numbers_from 1 a.cols)) (moved a.cols a.cols a.a ++ moved (a.cols + a.rows) (a.cols + a.cols) b.a) (t + (n + (m + 1))) (entry (z ++ (x ++ y)))
       (none_rows (sum_row a.cols) (sum_own a.cols) 1 a.cols (t + (n + (m + 1))) (λ i _ u f. away i u f))
       ∙ right_part (moved a.cols a.cols a.a) (moved (a.cols + a.rows) (a.cols + a.cols) b.a) (t + (n + (m + 1))) (entry (z ++ (x ++ y)))
-      (none_behind a.rows a.cols a.cols a.cols (t + (n + (m + 1))) a.a first_inside (omega arith))
+      (none_after a.rows a.cols a.cols a.cols (t + (n + (m + 1))) a.a first_inside (omega arith))
       ∙ moved_at b.rows b.cols (a.cols + a.rows) (a.cols + a.cols) (t + 1) (t + (n + (m + 1))) b.a (entry (z ++ (x ++ y))) (entry y) second_inside (omega arith)
       (λ j k _. third_entry j (j + (a.cols + a.cols)) k refl)
     where

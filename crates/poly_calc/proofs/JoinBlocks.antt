@@ -16,10 +16,10 @@ use Rattle.poly_calc.proofs.SideRows.{AreOfWidth, sides_wide}
 use Rattle.poly_calc.proofs.Blocks.{one_not_zero, IsBlock, earlier, block-append, block_cells, row_blocks, sum_row_block}
 
 -- a cell after another one of its row
-placed_behind : (row cols j k : ℕ) (v : ℚ) → 1 ≤ row → j < k → k ≤ cols → is_zero v ≡ false → IsPlaced row cols row j (cell row k v)
-placed_behind row cols j k v l u h z = record {
-  row_behind = omega arith;
-  col_behind = λ _. u;
+placed_after : (row cols j k : ℕ) (v : ℚ) → 1 ≤ row → j < k → k ≤ cols → is_zero v ≡ false → IsPlaced row cols row j (cell row k v)
+placed_after row cols j k v l u h z = record {
+  row_after = omega arith;
+  col_after = λ _. u;
   row_low = l;
   row_high = omega arith;
   col_low = omega arith;
@@ -37,7 +37,7 @@ entries_then row cols col j (x ∷ v) rest l u h g =
     go : (b : Bool) → is_zero x ≡ b → ((k : ℕ) → k < suc col → AreRising row cols row k (row_cells row (suc col) v ++ rest)) →
         AreRising row cols row j (cond b (row_cells row (suc col) v) (cell row col x ∷ row_cells row (suc col) v) ++ rest)
     go true e again = again j (omega arith)
-    go false e again = (placed_behind row cols j col x l u (omega arith) e, again col (omega arith))
+    go false e again = (placed_after row cols j col x l u (omega arith) e, again col (omega arith))
 
 side_row_block : (t col m cols : ℕ) (e : Inequality) → 1 ≤ col → col + length e.normal ≤ m → m ≤ cols → IsBlock cols t (suc t) (side_row (suc t) col m e)
 side_row_block t col m cols e l u h =
@@ -60,15 +60,15 @@ side_blocks t w col m cols to (e ∷ es) a l u h f =
 weights_block : (n : ℕ) → IsBlock (n + n + n + 2) n (n + 1) (weights_row n)
 weights_block n = (
   record {
-    row_behind = omega arith;
-    col_behind = λ e. absurd (apart e);
+    row_after = omega arith;
+    col_after = λ e. absurd (apart e);
     row_low = omega arith;
     row_high = omega arith;
     col_low = omega arith;
     col_high = omega arith;
     not_zero = one_not_zero;
   },
-  (placed_behind (n + 1) (n + n + n + 2) (n + n + n + 1) (n + n + n + 2) one_ℚ (omega arith) (omega arith) (omega arith) one_not_zero, tt),
+  (placed_after (n + 1) (n + n + n + 2) (n + n + n + 1) (n + n + n + 2) one_ℚ (omega arith) (omega arith) (omega arith) one_not_zero, tt),
 )
   where
     apart : n ≡ n + 1 → ⊥

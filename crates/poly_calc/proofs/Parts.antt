@@ -10,7 +10,7 @@ use Rattle.exact_field.specs.Vector.{entry}
 use Rattle.polyhedra.proofs.Laws.{add_zero}
 use Rattle.polyhedra.proofs.Algebra.{zero_add, one_mul}
 use Rattle.polyhedra.proofs.Members.{all_of_members, member_of}
-use Rattle.vlp_problem.specs.Cells.{cells_behind}
+use Rattle.vlp_problem.specs.Cells.{cells_after}
 use Rattle.vlp_problem.specs.Sides.{numbers_from, IsFeasible}
 use Rattle.vlp_problem.specs.declared.problem.Bound.{Bound}
 use Rattle.vlp_problem.specs.declared.problem.Cell.{Cell}
@@ -74,7 +74,7 @@ inside_rising rows cols i j (c ∷ cells) h = All-cons (IsInside rows cols) c ce
     (record { row_low = h.0.row_low; row_high = h.0.row_high; columns = record { low = h.0.col_low; high = h.0.col_high } })
     (inside_rising rows cols c.row c.col cells h.1)
 
-pub inside : (rows cols : ℕ) (cells : List Cell) → cells_behind rows cols 0 0 cells ≡ true → All (IsInside rows cols) cells
+pub inside : (rows cols : ℕ) (cells : List Cell) → cells_after rows cols 0 0 cells ≡ true → All (IsInside rows cols) cells
 inside rows cols cells h = inside_rising rows cols 0 0 cells (rising rows cols 0 0 cells h)
 
 pub in_columns : (rows cols : ℕ) (cells : List Cell) → All (IsInside rows cols) cells → All (IsInColumns cols) cells
@@ -93,8 +93,8 @@ none_before rows cols r k i cells h l = All-map (λ (c : Cell). c.row ≡ i → 
     apart : (q : ℕ) → 1 ≤ q → q + r ≡ i → ⊥
     apart q a b = omega arith
 
-pub none_behind : (rows cols r k i : ℕ) (cells : List Cell) → All (IsInside rows cols) cells → rows + r < i → NoneIn i (moved r k cells)
-none_behind rows cols r k i cells h l = All-map (λ (c : Cell). c.row ≡ i → ⊥) (λ c. cell (c.row + r) (c.col + k) c.value) cells
+pub none_after : (rows cols r k i : ℕ) (cells : List Cell) → All (IsInside rows cols) cells → rows + r < i → NoneIn i (moved r k cells)
+none_after rows cols r k i cells h l = All-map (λ (c : Cell). c.row ≡ i → ⊥) (λ c. cell (c.row + r) (c.col + k) c.value) cells
     (all_of_members (λ (c : Cell). c.row + r ≡ i → ⊥) cells (λ c m e. apart c.row (member_of (IsInside rows cols) cells c h m).row_high e))
   where
     apart : (q : ℕ) → q ≤ rows → q + r ≡ i → ⊥

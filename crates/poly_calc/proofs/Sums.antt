@@ -9,7 +9,7 @@ use Rattle.frac128.specs.Sparse.{is_zero}
 use Rattle.polyhedra.proofs.Laws.{add_assoc, add_zero}
 use Rattle.polyhedra.proofs.Algebra.{zero_add, zero_mul, one_mul, add_left_comm}
 use Rattle.polyhedra.proofs.Tests.{both_true}
-use Rattle.vlp_problem.specs.Cells.{coefficient, cells_behind, place_before, is_within}
+use Rattle.vlp_problem.specs.Cells.{coefficient, cells_after, place_before, is_within}
 use Rattle.vlp_problem.specs.Sides.{numbers_from, unit}
 use Rattle.vlp_problem.specs.declared.problem.Cell.{Cell}
 use Rattle.projection.specs.Associated.{cell}
@@ -17,8 +17,8 @@ use Rattle.poly_calc.specs.Made.{moved}
 
 -- ---- cells that lie within the sizes and rise
 pub record IsPlaced (rows cols i j : ℕ) (c : Cell) : Type 0 where
-  pub row_behind : i ≤ c.row
-  pub col_behind : i ≡ c.row → j < c.col
+  pub row_after : i ≤ c.row
+  pub col_after : i ≡ c.row → j < c.col
   pub row_low : 1 ≤ c.row
   pub row_high : c.row ≤ rows
   pub col_low : 1 ≤ c.col
@@ -30,15 +30,15 @@ abbrev pub AreRising : ℕ → ℕ → ℕ → ℕ → List Cell → Type 0
 AreRising rows cols i j [] = Unit {0}
 AreRising rows cols i j (c ∷ cells) = IsPlaced rows cols i j c × AreRising rows cols c.row c.col cells
 
-pub rising : (rows cols i j : ℕ) (cells : List Cell) → cells_behind rows cols i j cells ≡ true → AreRising rows cols i j cells
+pub rising : (rows cols i j : ℕ) (cells : List Cell) → cells_after rows cols i j cells ≡ true → AreRising rows cols i j cells
 rising rows cols i j [] h = tt
 rising rows cols i j (c ∷ cells) h =
-    let a = both_true (place_before i j c.row c.col) (is_within rows cols c.row c.col && (not (is_zero c.value) && cells_behind rows cols c.row c.col cells)) h in
-    let b = both_true (is_within rows cols c.row c.col) (not (is_zero c.value) && cells_behind rows cols c.row c.col cells) a.1 in
-    let d = both_true (not (is_zero c.value)) (cells_behind rows cols c.row c.col cells) b.1 in (
+    let a = both_true (place_before i j c.row c.col) (is_within rows cols c.row c.col && (not (is_zero c.value) && cells_after rows cols c.row c.col cells)) h in
+    let b = both_true (is_within rows cols c.row c.col) (not (is_zero c.value) && cells_after rows cols c.row c.col cells) a.1 in
+    let d = both_true (not (is_zero c.value)) (cells_after rows cols c.row c.col cells) b.1 in (
       record {
-        row_behind = row c.row c.col a.0;
-        col_behind = col c.row c.col a.0;
+        row_after = row c.row c.col a.0;
+        col_after = col c.row c.col a.0;
         row_low = row_from c.row c.col b.0;
         row_high = row_to c.row c.col b.0;
         col_low = col_from c.row c.col b.0;
@@ -69,9 +69,9 @@ rising rows cols i j (c ∷ cells) h =
     of_not : (b : Bool) → not b ≡ true → b ≡ false
     of_not b h = grind (arith, nat_tests)
 
-pub of_rising : (rows cols i j : ℕ) (cells : List Cell) → AreRising rows cols i j cells → cells_behind rows cols i j cells ≡ true
+pub of_rising : (rows cols i j : ℕ) (cells : List Cell) → AreRising rows cols i j cells → cells_after rows cols i j cells ≡ true
 of_rising rows cols i j [] h = refl
-of_rising rows cols i j (c ∷ cells) h = all_true (before c.row c.col h.0.row_behind h.0.col_behind) (within c.row c.col h.0.row_low h.0.row_high h.0.col_low h.0.col_high)
+of_rising rows cols i j (c ∷ cells) h = all_true (before c.row c.col h.0.row_after h.0.col_after) (within c.row c.col h.0.row_low h.0.row_high h.0.col_low h.0.col_high)
     h.0.not_zero (of_rising rows cols c.row c.col cells h.1)
   where
     all_true : {p q r s : Bool} → p ≡ true → q ≡ true → r ≡ false → s ≡ true → (p && (q && (not r && s))) ≡ true
@@ -138,8 +138,8 @@ cell_sum-moved r k i i' (c ∷ cells) u e = ap₂ (λ b q. cond b (c.value *ℚ 
 later : (rows cols i j i' k : ℕ) (cells : List Cell) → AreRising rows cols i j cells → i' ≤ i → (i' ≡ i → k ≤ j) → coefficient cells i' k ≡ zero_ℚ
 later rows cols i j i' k [] h l e = refl
 later rows cols i j i' k (c ∷ cells) h l e =
-    cond-false (c.row == i' && c.col == k) c.value (coefficient cells i' k) (off c.row c.col h.0.row_behind h.0.col_behind)
-    ∙ later rows cols c.row c.col i' k cells h.1 (below c.row h.0.row_behind) (behind c.row c.col h.0.row_behind h.0.col_behind)
+    cond-false (c.row == i' && c.col == k) c.value (coefficient cells i' k) (off c.row c.col h.0.row_after h.0.col_after)
+    ∙ later rows cols c.row c.col i' k cells h.1 (below c.row h.0.row_after) (to_right c.row c.col h.0.row_after h.0.col_after)
   where
     off : (r m : ℕ) → i ≤ r → (i ≡ r → j < m) → (r == i' && m == k) ≡ false
     off r m a b = grind (arith, nat_tests)
@@ -147,8 +147,8 @@ later rows cols i j i' k (c ∷ cells) h l e =
     below : (r : ℕ) → i ≤ r → i' ≤ r
     below r a = omega arith
 
-    behind : (r m : ℕ) → i ≤ r → (i ≡ r → j < m) → i' ≡ r → k ≤ m
-    behind r m a b f = grind (arith, nat_tests)
+    to_right : (r m : ℕ) → i ≤ r → (i ≡ r → j < m) → i' ≡ r → k ≤ m
+    to_right r m a b f = grind (arith, nat_tests)
 
 -- a number at one place more
 tail_same : (k s : ℕ) (v : ℚ) (f : ℕ → ℚ) (m : ℕ) → k < s → map (λ j. cond (k == j) v (f j)) (numbers_from s m) ≡ map f (numbers_from s m)
@@ -224,7 +224,7 @@ row_product rows i j k (c ∷ cells) x h = go (c.row == k) refl (row_product row
         ap (λ b. dot (map (λ m. cond (b && c.col == m) c.value (coefficient cells k m)) (numbers_from 1 (length x))) x) e
         ∙ again ∙ sym (zero_add (cell_sum cells k (entry x))) ∙ ap (λ b. cond b (c.value *ℚ entry x c.col) zero_ℚ +ℚ cell_sum cells k (entry x)) (sym e)
 
-pub row-product : (rows cols k : ℕ) (cells : List Cell) (x : List ℚ) → cells_behind rows cols 0 0 cells ≡ true → length x ≡ cols →
+pub row-product : (rows cols k : ℕ) (cells : List Cell) (x : List ℚ) → cells_after rows cols 0 0 cells ≡ true → length x ≡ cols →
     dot (map (λ m. coefficient cells k m) (numbers_from 1 cols)) x ≡ cell_sum cells k (entry x)
 row-product rows cols k cells x h e = subst (λ (n : ℕ). dot (map (λ m. coefficient cells k m) (numbers_from 1 n)) x ≡ cell_sum cells k (entry x)) e
     (row_product rows 0 0 k cells x (subst (λ (n : ℕ). AreRising rows n 0 0 cells) (sym e) (rising rows cols 0 0 cells h)))

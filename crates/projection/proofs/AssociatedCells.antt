@@ -5,7 +5,7 @@ use Rattle.std.proofs.lemmas.List.{append_assoc}
 use Rattle.exact_field.specs.Rational.{ℚ, one_ℚ, neg_ℚ, whole}
 use Rattle.exact_field.proofs.RationalLaws.{whole-neg}
 use Rattle.frac128.specs.Sparse.{is_zero}
-use Rattle.vlp_problem.specs.Cells.{place_before, is_within, cells_behind, are_cells}
+use Rattle.vlp_problem.specs.Cells.{place_before, is_within, cells_after, are_cells}
 use Rattle.vlp_problem.specs.Sides.{numbers_from}
 use Rattle.vlp_problem.specs.declared.problem.Cell.{Cell}
 use Rattle.projection.specs.Associated.{cell, associated_cells}
@@ -33,33 +33,33 @@ within : (m n i j : ℕ) → 1 ≤ i → i ≤ m → 1 ≤ j → j ≤ n → is_
 within m n i j a b c d = grind (arith, nat_tests)
 
 -- the last row, after a cell of the same row
-last_behind : (k n c s m : ℕ) → c < s → s + m ≤ suc n → cells_behind (suc k) n (suc k) c (last_row k s m) ≡ true
-last_behind k n c s zero h u = refl
-last_behind k n c s (suc m) h u =
+last_after : (k n c s m : ℕ) → c < s → s + m ≤ suc n → cells_after (suc k) n (suc k) c (last_row k s m) ≡ true
+last_after k n c s zero h u = refl
+last_after k n c s (suc m) h u =
     all_four (place_before (suc k) c (suc k) s) (is_within (suc k) n (suc k) s) (not (is_zero (neg_ℚ one_ℚ)))
-    (cells_behind (suc k) n (suc k) s (map (λ j. cell (suc k) j (neg_ℚ one_ℚ)) (numbers_from (suc s) m)))
+    (cells_after (suc k) n (suc k) s (map (λ j. cell (suc k) j (neg_ℚ one_ℚ)) (numbers_from (suc s) m)))
     (beside (suc k) c s h) (within (suc k) n (suc k) s (omega arith) (omega arith) (omega arith) (omega arith)) minus_one_kept
-    (last_behind k n s (suc s) m (omega arith) (omega arith))
+    (last_after k n s (suc s) m (omega arith) (omega arith))
 
 -- the whole last row, after one of an earlier row
-last_whole : (k n r c s m : ℕ) → r < suc k → 1 ≤ s → s + m ≤ suc n → cells_behind (suc k) n r c (last_row k s m) ≡ true
+last_whole : (k n r c s m : ℕ) → r < suc k → 1 ≤ s → s + m ≤ suc n → cells_after (suc k) n r c (last_row k s m) ≡ true
 last_whole k n r c s zero h l u = refl
 last_whole k n r c s (suc m) h l u =
     all_four (place_before r c (suc k) s) (is_within (suc k) n (suc k) s) (not (is_zero (neg_ℚ one_ℚ)))
-    (cells_behind (suc k) n (suc k) s (map (λ j. cell (suc k) j (neg_ℚ one_ℚ)) (numbers_from (suc s) m)))
+    (cells_after (suc k) n (suc k) s (map (λ j. cell (suc k) j (neg_ℚ one_ℚ)) (numbers_from (suc s) m)))
     (below r c (suc k) s h) (within (suc k) n (suc k) s (omega arith) (omega arith) (omega arith) (omega arith)) minus_one_kept
-    (last_behind k n s (suc s) m (omega arith) (omega arith))
+    (last_after k n s (suc s) m (omega arith) (omega arith))
 
-all_behind : (k n r c s m : ℕ) → r < s → s + m ≡ suc k → k ≤ n → cells_behind (suc k) n r c (diagonal s m ++ last_row k 1 k) ≡ true
-all_behind k n r c s zero h e u = last_whole k n r c 1 k (omega arith) (omega arith) (omega arith)
-all_behind k n r c s (suc m) h e u =
+all_after : (k n r c s m : ℕ) → r < s → s + m ≡ suc k → k ≤ n → cells_after (suc k) n r c (diagonal s m ++ last_row k 1 k) ≡ true
+all_after k n r c s zero h e u = last_whole k n r c 1 k (omega arith) (omega arith) (omega arith)
+all_after k n r c s (suc m) h e u =
     all_four (place_before r c s s) (is_within (suc k) n s s) (not (is_zero one_ℚ))
-    (cells_behind (suc k) n s s (map (λ j. cell j j one_ℚ) (numbers_from (suc s) m) ++ last_row k 1 k))
+    (cells_after (suc k) n s s (map (λ j. cell j j one_ℚ) (numbers_from (suc s) m) ++ last_row k 1 k))
     (below r c s s h) (within (suc k) n s s (omega arith) (omega arith) (omega arith) (omega arith)) one_kept
-    (all_behind k n s s (suc s) m (omega arith) (omega arith) u)
+    (all_after k n s s (suc s) m (omega arith) (omega arith) u)
 
 pub associated_are_cells : (k n : ℕ) → k ≤ n → are_cells (suc k) n (associated_cells k) ≡ true
-associated_are_cells k n h = all_behind k n 0 0 1 k (omega arith) (omega arith) h
+associated_are_cells k n h = all_after k n 0 0 1 k (omega arith) (omega arith) h
 
 -- ---- how they are made
 one_more : (m : ℕ) → m + 1 ≡ suc m

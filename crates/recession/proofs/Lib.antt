@@ -1,6 +1,6 @@
 pub mod Agreeing
 pub mod Asking_ends
-pub mod Behind
+pub mod Across
 pub mod Excluded
 pub mod Free
 pub mod Grown

@@ -29,7 +29,7 @@ use Rattle.overflows.specs.declared.fault.SolveFault.TheVariants.{Left, NoMemory
 use Rattle.cone_dual.specs.Fitting.{IsDualityOf}
 use Rattle.cone_dual.specs.declared.duality.Duality.{Duality}
 use Rattle.outer_approx.specs.Standing.{IsEnded, IsOpenTrail}
-use Rattle.outer_approx.specs.Task.{Task, IsFitting, behind}
+use Rattle.outer_approx.specs.Task.{Task, IsFitting, setting}
 use Rattle.outer_approx.specs.declared.log.Line.{Line}
 use Rattle.lp_form.specs.Data.{IsDataOf}
 use Rattle.lp_form.specs.declared.data.Data.{Data}
@@ -96,7 +96,7 @@ own_log holds task h log e =
 
 -- an overflow after an open trail, which is that of its licence
 pub licensed : (holds : ℚ → Bool) (task : Task) → IsFitting holds task → (trail : List Entry) (fault : SolveFault) → OnLicence fault (λ licence. IsOpenTrail task trail) →
-    Overflows holds (behind task trail) trail fault → OnLicence fault (Licensed holds task.file task.c)
+    Overflows holds (setting task trail) trail fault → OnLicence fault (Licensed holds task.file task.c)
 licensed holds task h trail (Left licence) open_trail (own, overflow) =
     licence_laws.licensed holds task.file task.c task.weights trail licence
     (subst (λ (t : List Entry). StandsFor holds task.file task.c task.weights t trail) (sym own)

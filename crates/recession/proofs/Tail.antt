@@ -272,9 +272,9 @@ back_from {X} (y ∷ z ∷ xs) h =
     let m : (front : List X) × (x : X) × (z ∷ xs ≡ front ++ x ∷ []) = back_from (z ∷ xs) (λ e. let l = ap length e in omega (arith, l)) in
     (y ∷ m.0, m.1, ap (λ ws. y ∷ ws) m.2)
 
-entry_behind : {X : Type 0} (front back : List X) (x d : X) → slice_index_or (front ++ x ∷ back) (length front) d ≡ x
-entry_behind [] back x d = refl
-entry_behind (y ∷ front) back x d = entry_behind front back x d
+entry_after : {X : Type 0} (front back : List X) (x d : X) → slice_index_or (front ++ x ∷ back) (length front) d ≡ x
+entry_after [] back x d = refl
+entry_after (y ∷ front) back x d = entry_after front back x d
 
 row_value : {F : Type 0} (value : F → ℚ) (rows : List (List F)) (i : ℕ) → slice_index_or (numbers value rows) i [] ≡ map value (slice_index_or rows i [])
 row_value value [] i = refl
@@ -294,7 +294,7 @@ next_side q normals vs ls k h t few is =
     let long : length vs ≡ length front + suc (length ls) = ap length all ∙ length-append front (d ∷ ls) in
     let h' : AreComplement q normals (front ++ d ∷ ls) = subst (AreComplement q normals) all h in
     let here : d ≡ slice_index_or vs (k - 1) [] =
-    sym (entry_behind front ls d []) ∙ ap₂ (λ us i. slice_index_or us i []) (sym all) (let e = is in omega (arith, e, long)) in (
+    sym (entry_after front ls d []) ∙ ap₂ (λ us i. slice_index_or us i []) (sym all) (let e = is in omega (arith, e, long)) in (
       omega (arith, is, long),
       omega (arith, is, long),
       subst (IsNextSide q normals ls) here (record { side = side_at q normals front ls d h'; tail = tail_back q normals front (d ∷ ls) h' }),

@@ -18,7 +18,7 @@ use Rattle.overflows.specs.declared.fault.SolveFault.{SolveFault}
 use Rattle.overflows.specs.declared.fault.SolveFault.TheVariants.{Left, NoMemory}
 use Rattle.lp_form.specs.declared.shown.Cut.{Cut}
 use Rattle.outer_approx.specs.Cuts.{IsCutFor, SaysCut}
-use Rattle.outer_approx.specs.Task.{Task, IsFitting, behind}
+use Rattle.outer_approx.specs.Task.{Task, IsFitting, setting}
 use Rattle.recession.specs.Further.{SayCuts, normals_of}
 
 -- one more cut has its normal after the others
@@ -41,24 +41,24 @@ module _ (holds : ℚ → Bool) (task : Task) (fitting : IsFitting holds task) w
 
   -- an overflow after such a trail is licensed
   pub licensed : (entries : List Entry) → IsBaseTrail task.file task.c task.weights (trail_of entries) → (fault : SolveFault) →
-      Overflows holds (behind task (trail_of entries)) entries fault → OnLicence fault (Licensed holds task.file task.c)
+      Overflows holds (setting task (trail_of entries)) entries fault → OnLicence fault (Licensed holds task.file task.c)
   licensed entries base (Left licence) (same, overflow) =
       licence_laws.licensed holds task.file task.c task.weights (trail_of entries) licence
       (subst (λ (t : List Entry). StandsFor holds task.file task.c task.weights t (trail_of entries)) (sym same) record {
         possible = record { picks = fitting.picks; inverse = fitting.inverse; held = fitting.held; trail = opens };
-        completes = Completes.behind fitting.picks fitting.inverse refl;
+        completes = Completes.after_opening fitting.picks fitting.inverse refl;
         base = base;
       }) overflow
   licensed entries base NoMemory o = tt
 
   -- the entries of cuts follow
   module _ {F : Type 0} (value : F → ℚ) where
-    record IsBehind (cuts : List (Cut F)) (before entries : List Entry) : Type 0 where
+    record IsAfter (cuts : List (Cut F)) (before entries : List Entry) : Type 0 where
       base : IsBaseTrail task.file task.c task.weights (trail_of (before ++ entries))
       normals : trail_normals task.file.objs (trail_of (before ++ entries)) ≡ trail_normals task.file.objs (trail_of before) ++ normals_of value cuts
 
     follow : (cuts : List (Cut F)) (before entries : List Entry) → IsBaseTrail task.file task.c task.weights (trail_of before) →
-        All (IsCutFor value task) cuts → SayCuts value cuts entries → IsBehind cuts before entries
+        All (IsCutFor value task) cuts → SayCuts value cuts entries → IsAfter cuts before entries
     follow [] before [] base all says = record {
       base = subst (λ (es : List Entry). IsBaseTrail task.file task.c task.weights (trail_of es)) (sym (append-nil before)) base;
       normals = ap (λ (es : List Entry). trail_normals task.file.objs (trail_of es)) (append-nil before) ∙ sym (append-nil (trail_normals task.file.objs (trail_of before)));

@@ -6,7 +6,7 @@ ghost use Rattle.exact_field.specs.Rational.{ℚ};
 ghost use Rattle.overflow_rules.specs.Base.{IsBaseStart};
 ghost use Rattle.lp_form.specs.Data.{IsDataOf};
 ghost use Rattle.lp_form.specs.Programs.{benson_system};
-ghost use Rattle.outer_approx.specs.Task.{IsFitting, Task, behind};
+ghost use Rattle.outer_approx.specs.Task.{IsFitting, Task, setting};
 ghost use Rattle.overflows.specs.Faults.{Overflows};
 ghost use Rattle.recession.specs.Asking.{IsAsked, IsProper};
 
@@ -49,7 +49,7 @@ fn read_off<F: Field>(
         (map F.value z.now) (map F.value dual.now) }
     ensures ok { IfOk result (IsAsked F.value task (map F.value v.now) t) }
     ensures left { (trail : List Entry) → IsBaseStart task.file.objs trail (map F.value v.now) t
-        → IfErr result (Overflows F.holds (behind task trail) []) }
+        → IfErr result (Overflows F.holds (setting task trail) []) }
 {
     if is_positive(dual[dual.len() - 1]) {
         let cut = cut_of(alloc, form, c, v, t, z)?;
@@ -81,7 +81,7 @@ pub fn ask<F: Field>(
     requires some { IsProper task }
     ensures ok { IfOk result (IsAsked F.value task (map F.value v.now) t) }
     ensures left { (trail : List Entry) → IsBaseStart task.file.objs trail (map F.value v.now) t
-        → IfErr result (Overflows F.holds (behind task trail) []) }
+        → IfErr result (Overflows F.holds (setting task trail) []) }
 {
     let end = benson_end(alloc, form, c, v, t, kept)?;
     match end {

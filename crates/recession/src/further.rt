@@ -8,7 +8,7 @@ ghost use Rattle.overflow_rules.specs.Licence.{Licensed};
 ghost use Rattle.lp_form.specs.Data.{IsDataOf};
 ghost use Rattle.outer_approx.specs.Cuts.{IsCutFor};
 ghost use Rattle.outer_approx.specs.Lines.{RunsBothWays, told_by};
-ghost use Rattle.outer_approx.specs.Task.{IsFitting, Task, behind};
+ghost use Rattle.outer_approx.specs.Task.{IsFitting, Task, setting};
 ghost use Rattle.outer_approx.specs.declared.log.Line.{Line as LineOf};
 ghost use Rattle.overflows.specs.Faults.{OnLicence, Overflows};
 ghost use Rattle.recession.specs.Asking.{IsProper};
@@ -59,7 +59,7 @@ fn opposite<F: Field>(
         → IfOk result (IsNext F.value task cuts ls) }
     ensures left { (trail : List Entry)
         → IsSide task.file.objs (trail_normals task.file.objs trail) (map F.value d)
-        → IfErr result (Overflows F.holds (behind task trail) []) }
+        → IfErr result (Overflows F.holds (setting task trail) []) }
 {
     let negated = negative(alloc, d.as_slice())?;
     let asked = ask(alloc, form, c, weights, negated.as_slice(), false, kept)?;
@@ -92,7 +92,7 @@ fn cut_or_line<F: Field>(
     ensures ok { IfOk result (IsNext F.value task cuts.now (reverse lines.now)) }
     ensures left { (trail : List Entry)
         → trail_normals task.file.objs trail ≡ normals_of F.value cuts.now
-        → IfErr result (Overflows F.holds (behind task trail) []) }
+        → IfErr result (Overflows F.holds (setting task trail) []) }
 {
     let d = across(alloc, form.p.len() as u32, cuts, lines)?;
     let asked = ask(alloc, form, c, weights, d.as_slice(), false, kept)?;
@@ -141,7 +141,7 @@ pub(crate) fn next_of<F: Field>(
         Ok(next) => Ok(next),
         Err(fault) => {
             let entries = entries_of(alloc, cuts)?;
-            Err(fault.behind(entries))
+            Err(fault.with_trail(entries))
         }
     }
 }

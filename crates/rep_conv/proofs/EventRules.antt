@@ -296,15 +296,15 @@ entry_passes holds rep before e h k = none_fails holds 1 (events rep before e) (
 
 -- ---- the log
 -- no event of an entry fails, for each of the entries after those before it
-abbrev NoneBehind : (ℚ → Bool) → Rep → List ConvEntry → List ConvEntry → Type 0
-NoneBehind holds rep before entries = (mid : List ConvEntry) (e : ConvEntry) (later : List ConvEntry) → entries ≡ mid ++ e ∷ later →
+abbrev NoneAfter : (ℚ → Bool) → Rep → List ConvEntry → List ConvEntry → Type 0
+NoneAfter holds rep before entries = (mid : List ConvEntry) (e : ConvEntry) (later : List ConvEntry) → entries ≡ mid ++ e ∷ later →
     first_failure holds 1 (events rep (before ++ mid) e) ≡ None
 
 both_none : {X Y : Type 0} (o : Option X) (f : X → Y) (r : Option Y) → ◌≡◌ {A = Option Y} (elim o [ Some x ↦ Some (f x) | None ↦ r ]) None → (o ≡ None) × (r ≡ None)
 both_none None f r h = (refl, h)
 both_none (Some x) f r h = absurd cc
 
-splits : (holds : ℚ → Bool) (rep : Rep) (before entries : List ConvEntry) → first_failing holds rep before entries ≡ None → NoneBehind holds rep before entries
+splits : (holds : ℚ → Bool) (rep : Rep) (before entries : List ConvEntry) → first_failing holds rep before entries ≡ None → NoneAfter holds rep before entries
 splits holds rep before [] h [] e later same = absurd cc
 splits holds rep before [] h (m ∷ mid) e later same = absurd cc
 splits holds rep before (f ∷ entries) h mid e later same =
@@ -325,7 +325,7 @@ splits holds rep before (f ∷ entries) h mid e later same =
         subst (λ (b : List ConvEntry). first_failure holds 1 (events rep b e) ≡ None)
         (append_assoc before (f ∷ []) ms ∙ ap (λ (d : ConvEntry). before ++ d ∷ ms) first) (again ms e later rest)
 
-none_failing : (holds : ℚ → Bool) (rep : Rep) (before entries : List ConvEntry) → NoneBehind holds rep before entries → first_failing holds rep before entries ≡ None
+none_failing : (holds : ℚ → Bool) (rep : Rep) (before entries : List ConvEntry) → NoneAfter holds rep before entries → first_failing holds rep before entries ≡ None
 none_failing holds rep before [] h = refl
 none_failing holds rep before (f ∷ entries) h =
     ap (λ (o : Option Failure). elim o [
@@ -339,7 +339,7 @@ none_failing holds rep before (f ∷ entries) h =
 pub events_are_rules : EventsAreRules
 events_are_rules holds rep entries = (
   λ h.
-      let none : NoneBehind holds rep [] entries = splits holds rep [] entries h in (
+      let none : NoneAfter holds rep [] entries = splits holds rep [] entries h in (
         λ before e later same. entry_meets holds rep before e (none before e later same),
         λ before e later same. held_of holds 1 (events rep before e) (none before e later same),
       ),

@@ -18,15 +18,15 @@ module _ (rep : Rep) (log : List ConvEntry) (i : ℕ) (standing : Standing) (e :
   before : take (i + 1) log ≡ take i log ++ e ∷ []
   before = take_more log i e inside ∙ ap (λ x. take i log ++ x ∷ []) (sym is)
 
-  behind : drop i log ≡ e ∷ drop (i + 1) log
-  behind = drop_more log i e inside ∙ ap (λ x. x ∷ drop (i + 1) log) (sym is)
+  rest_is : drop i log ≡ e ∷ drop (i + 1) log
+  rest_is = drop_more log i e inside ∙ ap (λ x. x ∷ drop (i + 1) log) (sym is)
 
   -- by what fails first in this entry
   at_entry : conv_failure is_held rep log ≡ elim (first_failure is_held 1 (events rep (take i log) e)) [
     | Some f ↦ Some (record { entry = suc (length (take i log)); failure = f })
     | None ↦ first_failing is_held rep (take i log ++ e ∷ []) (drop (i + 1) log)
   ]
-  at_entry = h.rest ∙ ap (λ es. first_failing is_held rep (take i log) es) behind
+  at_entry = h.rest ∙ ap (λ es. first_failing is_held rep (take i log) es) rest_is
 
   pub one_taken : (new : Standing) → first_failure is_held 1 (events rep (take i log) e) ≡ None → StandsAfter rep (take i log ++ e ∷ []) new → IsTaken rep log (i + 1) new
   one_taken new none stands = record {

@@ -40,12 +40,12 @@ module _ (rep : Rep) (some : 0 < length (text_rows rep)) (lines : List (List ℚ
           (All-tail (λ e. IsTrue (is_formed conv_grammar e)) (Conv 1) (map Line lines)
           (subst (All (λ e. IsTrue (is_formed conv_grammar e))) first_is written))) c
 
-  behind : state rep log ≡ record { lines = lines; used = picks; list = (state rep log).list }
-  behind = ap (λ (s : State). record { lines = s.lines; used = s.used; list = (state rep log).list })
+  begun_state : state rep log ≡ record { lines = lines; used = picks; list = (state rep log).list }
+  begun_state = ap (λ (s : State). record { lines = s.lines; used = s.used; list = (state rep log).list })
       (ap (state rep) whole ∙ state_is rep (some_rows rep some) lines are picks gens dd started)
 
   pub begun_lines : (state rep log).lines ≡ lines
-  begun_lines = ap (λ (s : State). s.lines) behind
+  begun_lines = ap (λ (s : State). s.lines) begun_state
 
   pub begun_used : (state rep log).used ≡ picks
-  begun_used = ap (λ (s : State). s.used) behind
+  begun_used = ap (λ (s : State). s.used) begun_state

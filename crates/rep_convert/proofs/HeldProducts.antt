@@ -15,8 +15,8 @@ use Rattle.log_rules.proofs.PassedTests.{zero_number, zero_passes}
 use Rattle.rep_conv.specs.Events.{IsHeldStep}
 
 -- each product at a place where neither vector is 0 is held, and each sum after a total
-abbrev AreHeldBehind : (ℚ → Bool) → ℚ → List ℚ → List ℚ → Type 0
-AreHeldBehind holds total xs ys = (j : ℕ) → j < length xs → (slice_index_or xs j zero_ℚ ≡ zero_ℚ → ⊥) → (slice_index_or ys j zero_ℚ ≡ zero_ℚ → ⊥) →
+abbrev AreHeldAfter : (ℚ → Bool) → ℚ → List ℚ → List ℚ → Type 0
+AreHeldAfter holds total xs ys = (j : ℕ) → j < length xs → (slice_index_or xs j zero_ℚ ≡ zero_ℚ → ⊥) → (slice_index_or ys j zero_ℚ ≡ zero_ℚ → ⊥) →
     IsTrue (holds (slice_index_or xs j zero_ℚ *ℚ slice_index_or ys j zero_ℚ)) × IsTrue (holds (total +ℚ dot (take (suc j) xs) (take (suc j) ys)))
 
 no_product : (x y : ℚ) → ((x ≡ zero_ℚ) ⊎ (y ≡ zero_ℚ)) → x *ℚ y ≡ zero_ℚ
@@ -26,14 +26,14 @@ no_product x y (inr e) = ap (λ b. x *ℚ b) e ∙ mul_zero x
 shorter : (x y : ℚ) (xs ys : List ℚ) → length (x ∷ xs) ≡ length (y ∷ ys) → length xs ≡ length ys
 shorter x y xs ys h = omega (arith, h)
 
-sum_held : (holds : ℚ → Bool) (total : ℚ) (xs ys : List ℚ) → length xs ≡ length ys → AreHeldBehind holds total xs ys →
+sum_held : (holds : ℚ → Bool) (total : ℚ) (xs ys : List ℚ) → length xs ≡ length ys → AreHeldAfter holds total xs ys →
     All (IsHeldStep holds) (sum_from total (zip xs ys))
 sum_held holds total [] ys same h = All-nil (IsHeldStep holds)
 sum_held holds total (x ∷ xs) [] same h = absurd (omega (arith, same))
 sum_held holds total (x ∷ xs) (y ∷ ys) same h = go (is_zero x || is_zero y) refl (λ t k. sum_held holds t xs ys (shorter x y xs ys same) k)
   where
     -- the rest after the total with this product
-    rest : AreHeldBehind holds (total +ℚ x *ℚ y) xs ys
+    rest : AreHeldAfter holds (total +ℚ x *ℚ y) xs ys
     rest j l u v =
         let held = h (suc j) (omega (arith, l)) u v in
         (held.0, subst (λ (q : ℚ). IsTrue (holds q)) (sym (add_assoc total (x *ℚ y) (dot (take (suc j) xs) (take (suc j) ys)))) held.1)
@@ -48,9 +48,9 @@ sum_held holds total (x ∷ xs) (y ∷ ys) same h = go (is_zero x || is_zero y) 
     no : (b : Bool) → b ≡ true → b ≡ false → ⊥
     no b e f = cc
 
-    go : (b : Bool) → (is_zero x || is_zero y) ≡ b → ((t : ℚ) → AreHeldBehind holds t xs ys → All (IsHeldStep holds) (sum_from t (zip xs ys))) →
+    go : (b : Bool) → (is_zero x || is_zero y) ≡ b → ((t : ℚ) → AreHeldAfter holds t xs ys → All (IsHeldStep holds) (sum_from t (zip xs ys))) →
         All (IsHeldStep holds) (if b then sum_from total (zip xs ys) else step op.Mul x y ∷ step op.Add total (x *ℚ y) ∷ sum_from (total +ℚ x *ℚ y) (zip xs ys))
-    go true e again = again total (subst (λ (t : ℚ). AreHeldBehind holds t xs ys) (same_total (zero_of (either_true (is_zero x) (is_zero y) e))) rest)
+    go true e again = again total (subst (λ (t : ℚ). AreHeldAfter holds t xs ys) (same_total (zero_of (either_true (is_zero x) (is_zero y) e))) rest)
     go false e again =
         let first = h 0 (omega arith) (λ z. no (is_zero x || is_zero y) (or_left (is_zero x) (is_zero y) (zero_passes x z)) e) (λ z. no (is_zero x || is_zero y) (or_right (is_zero x) (is_zero y) (zero_passes y z)) e) in
         All-cons (IsHeldStep holds) (step op.Mul x y) (step op.Add total (x *ℚ y) ∷ sum_from (total +ℚ x *ℚ y) (zip xs ys)) first.0

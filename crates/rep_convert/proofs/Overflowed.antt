@@ -42,16 +42,16 @@ use Rattle.rep_convert.specs.declared.fault.ConvFault.TheVariants as converting
 same_operation : (o o' : Op) (a a' b b' : ℚ) → o ≡ o' → a ≡ a' → b ≡ b' → operation o a b ≡ operation o' a' b'
 same_operation o o' a a' b b' e f g = cc
 
-behind : (done rest : List Event) (e : Event) → slice_get (done ++ e ∷ rest) (length done) ≡ Some e
-behind [] rest e = refl
-behind (d ∷ done) rest e = behind done rest e
+event_after : (done rest : List Event) (e : Event) → slice_get (done ++ e ∷ rest) (length done) ≡ Some e
+event_after [] rest e = refl
+event_after (d ∷ done) rest e = event_after done rest e
 
 numbered : (steps done rest : List Event) (o : Op) (a b : ℚ) → steps ≡ done ++ step o a b ∷ rest → IsNumbered steps (suc (length done)) (operation o a b)
 numbered steps done rest o a b same = record {
   from_one = omega arith;
   there =
       let place : suc (length done) - 1 ≡ length done = omega arith in
-      ap (slice_get steps) place ∙ ap (λ (es : List Event). slice_get es (length done)) same ∙ behind done rest (step o a b);
+      ap (slice_get steps) place ∙ ap (λ (es : List Event). slice_get es (length done)) same ∙ event_after done rest (step o a b);
 }
 
 module _ {F : Type 0} (value : F → ℚ) (holds : ℚ → Bool) where

@@ -192,16 +192,16 @@ module _ (rep : Rep) (some : has_rows rep ≡ true) (lines : List (List ℚ)) (a
   abbrev log : List ConvEntry
   log = lines_log lines ++ Start picks (joined gens) ∷ []
 
-  abbrev behind : State
-  behind = record { lines = lines; used = picks; list = starting 1 gens }
+  abbrev state_after : State
+  state_after = record { lines = lines; used = picks; list = starting 1 gens }
 
-  pub state_is : state rep log ≡ behind
+  pub state_is : state rep log ≡ state_after
   state_is =
       state_more rep (lines_log lines) (Start picks (joined gens))
       ∙ ap (λ (s : State). after rep s (Start picks (joined gens))) (lines_state rep lines)
       ∙ ap (λ (vs : List (List ℚ)). record { lines = lines; used = picks; list = starting 1 vs }) parts
 
-  record Behind (s : State) : Type 0 where
+  record IsAfter (s : State) : Type 0 where
     pub lines_are : AreLinesOf rep s.lines
     pub wide : AreWide (suc rep.width) (vectors s.list.live)
     pub clear : All (IsClear (marks_of rep s.lines)) (vectors s.list.live)
@@ -212,8 +212,8 @@ module _ (rep : Rep) (some : has_rows rep ≡ true) (lines : List (List ℚ)) (a
   numbered_gens : vectors (starting 1 gens).live ≡ gens
   numbered_gens = vectors-numbered 1 gens
 
-  stands_behind : Behind behind
-  stands_behind = record {
+  stands_after : IsAfter state_after
+  stands_after = record {
     lines_are = are;
     wide = subst (AreWide (suc rep.width)) (sym numbered_gens) gens_wide;
     clear = subst (All (IsClear bs)) (sym numbered_gens) (gens_all (IsClear bs) (λ v c. clear_filled bs v));
@@ -231,7 +231,7 @@ module _ (rep : Rep) (some : has_rows rep ≡ true) (lines : List (List ℚ)) (a
 
   pub stands_at : IsOpenLog rep (lines_log lines) → IsTrue (is_formed conv_grammar (Start picks (joined gens))) → StandsAt rep log dd
   stands_at opened written =
-      let b : Behind (state rep log) = subst Behind (sym state_is) stands_behind in
+      let b : IsAfter (state rep log) = subst IsAfter (sym state_is) stands_after in
       record {
         open_log = open_more rep (lines_log lines) (Start picks (joined gens)) opened meets steps_held written refl;
         started = list_any-append is_start (lines_log lines) (Start picks (joined gens) ∷ []) ∙ or_right (has_start (lines_log lines)) true refl;

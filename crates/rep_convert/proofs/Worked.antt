@@ -234,7 +234,7 @@ unfolding whole fraction gcd ◌+ℚ◌ ◌*ℚ◌ neg_ℚ inverse_ℚ le_ℚ
 licence_examples = record {
   value = record { trail = refl; not_held = not_held (all_but 6) six refl refl; operands = added };
   held = λ h. true≢false h.not_held.not_held;
-  behind = λ h. cc;
+  after_entry = λ h. cc;
   of_image = λ h. h.operands;
   at_scale = λ h. h.operands;
   not_its_row = λ h. no_addition h.operands;

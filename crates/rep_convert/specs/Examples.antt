@@ -72,7 +72,7 @@ pub record LicenceExamples : Type 0 where
   -- where 6 is held, after an entry, for rows of another family, at another place, and for a row
   -- that the segment does not have, it is no licence
   pub held : IsLicensedWith 7 (adding third) six [] → ⊥
-  pub behind : IsLicensedWith 6 (adding third) six (Version 1 ∷ []) → ⊥
+  pub after_entry : IsLicensedWith 6 (adding third) six (Version 1 ∷ []) → ⊥
   pub of_image :
       IsLicensedWith 6 (Pair Image (first ∷ second ∷ third ∷ []) 1 0 1) six [] → ⊥
   pub at_scale : IsLicensedWith 6 (Scale third 2) six [] → ⊥

@@ -21,11 +21,11 @@ use Rattle.rep_conv.specs.declared.check.ConvRefusal.TheVariants as refusal
 same_failing : (f g : Failing) → Some f ≡ Some g → f ≡ g
 same_failing f g e = cc
 
-entry_behind : (rep : Rep) (before entries : List ConvEntry) (f : Failing) →
+entry_after : (rep : Rep) (before entries : List ConvEntry) (f : Failing) →
     first_failing is_held rep before entries ≡ Some f → f.entry ≤ length before + length entries
-entry_behind rep before [] f h = cc
-entry_behind rep before (e ∷ entries) f h =
-    by (λ k. entry_behind rep (before ++ e ∷ []) entries f k) (first_failure is_held 1 (events rep before e)) h
+entry_after rep before [] f h = cc
+entry_after rep before (e ∷ entries) f h =
+    by (λ k. entry_after rep (before ++ e ∷ []) entries f k) (first_failure is_held 1 (events rep before e)) h
   where
     by : (first_failing is_held rep (before ++ e ∷ []) entries ≡ Some f → f.entry ≤ length (before ++ e ∷ []) + length entries) →
         (o : Option Failure) → (elim o [
@@ -36,9 +36,9 @@ entry_behind rep before (e ∷ entries) f h =
         let is : suc (length before) ≡ f.entry = ap (λ (g : Failing). g.entry) (same_failing _ f k) in
         omega (arith, is)
     by later None k =
-        let behind : f.entry ≤ length (before ++ e ∷ []) + length entries = later k in
+        let after : f.entry ≤ length (before ++ e ∷ []) + length entries = later k in
         let more : length (before ++ e ∷ []) ≡ length before + 1 = length-append before (e ∷ []) in
-        omega (arith, behind, more)
+        omega (arith, after, more)
 
 -- a refusal names an entry of the log
 abbrev pub IsWithin : List ConvEntry → ConvRefusal → Type 0
@@ -49,10 +49,10 @@ IsWithin log refusal.NoMemory = Unit {0}
 entry_within : (rep : Rep) (log : List ConvEntry) (why : ConvRefusal) → IsRefusal rep log why →
     IsWithin log why
 entry_within rep log (refusal.Wrong n r) h =
-    let within : n ≤ length {A = ConvEntry} [] + length log = entry_behind rep [] log _ h in
+    let within : n ≤ length {A = ConvEntry} [] + length log = entry_after rep [] log _ h in
     omega (arith, within)
 entry_within rep log (refusal.Left n k l) h =
-    let within : n ≤ length {A = ConvEntry} [] + length log = entry_behind rep [] log _ h in
+    let within : n ≤ length {A = ConvEntry} [] + length log = entry_after rep [] log _ h in
     omega (arith, within)
 entry_within rep log refusal.NoMemory h = tt
 

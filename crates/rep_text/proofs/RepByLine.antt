@@ -4,11 +4,11 @@ use Rattle.std.specs.Borrow.{Bor}
 use Rattle.std.specs.List.{flat_map, slice_split}
 use Rattle.std.specs.Result.{IsErr, IsErrAnd, IfErr}
 use Rattle.std.proofs.lemmas.List.{append-nil}
-use Rattle.src_sink.specs.Texts.{TextLine, line_text, lines_of, pieces_behind}
+use Rattle.src_sink.specs.Texts.{TextLine, line_text, lines_of, pieces_after}
 use Rattle.exact_field.specs.Rational.{ℚ}
 use Rattle.frac128.specs.Text.{frac_text}
 use Rattle.word_lines.specs.Printing.{spaced}
-use Rattle.word_lines.specs.Taking.{text_behind}
+use Rattle.word_lines.specs.Taking.{text_after}
 use Rattle.word_lines.proofs.Forms.{one_each}
 use Rattle.word_lines.proofs.LineByLine.{next_lines}
 use Rattle.word_lines.proofs.Spaced.{line_of_words}
@@ -27,28 +27,28 @@ refusal_handed bytes (Ok rep) end h k = tt
 refusal_handed bytes (Err t) end h k = subst (RefusesRep bytes) (sym h.1) k
 
 -- the first line is refused
-pub first_refuses : (bytes line : List ℕ) (behind : Option (Bor (List ℕ))) (end : RepEnd) → 0 < length bytes → slice_split (λ b. b == 10) bytes ≡ line ∷ pieces_behind 10 behind → RefusesFirst (is_some behind) line end → RefusesRep bytes end
-first_refuses bytes line behind (Fault at kind) some cut h =
-    let first = first_refused bytes (record { text = line; whole = is_some behind }) (lines_of (text_behind behind)) kind (next_lines bytes line behind some cut) h.1 in
+pub first_refuses : (bytes line : List ℕ) (after : Option (Bor (List ℕ))) (end : RepEnd) → 0 < length bytes → slice_split (λ b. b == 10) bytes ≡ line ∷ pieces_after 10 after → RefusesFirst (is_some after) line end → RefusesRep bytes end
+first_refuses bytes line after (Fault at kind) some cut h =
+    let first = first_refused bytes (record { text = line; whole = is_some after }) (lines_of (text_after after)) kind (next_lines bytes line after some cut) h.1 in
     subst (λ (n : ℕ). RepFirstFault bytes (record { line = n; kind = kind })) (sym h.0) first
-first_refuses bytes line behind NoMemory some cut h = tt
+first_refuses bytes line after NoMemory some cut h = tt
 
 -- the first line is read
-pub first_reads : (bytes line : List ℕ) (behind : Option (Bor (List ℕ))) (s : Reading) → 0 < length bytes → slice_split (λ b. b == 10) bytes ≡ line ∷ pieces_behind 10 behind → ReadsFirst (is_some behind) line s → IsReadTo bytes (lines_of (text_behind behind)) s
-first_reads bytes line behind s some cut h = first_read bytes (record { text = line; whole = is_some behind }) (lines_of (text_behind behind)) s (next_lines bytes line behind some cut) h
+pub first_reads : (bytes line : List ℕ) (after : Option (Bor (List ℕ))) (s : Reading) → 0 < length bytes → slice_split (λ b. b == 10) bytes ≡ line ∷ pieces_after 10 after → ReadsFirst (is_some after) line s → IsReadTo bytes (lines_of (text_after after)) s
+first_reads bytes line after s some cut h = first_read bytes (record { text = line; whole = is_some after }) (lines_of (text_after after)) s (next_lines bytes line after some cut) h
 
 -- the next line is refused
-pub row_refuses : (bytes rest line : List ℕ) (behind : Option (Bor (List ℕ))) (s : Reading) (end : RepEnd) → 0 < length rest → slice_split (λ b. b == 10) rest ≡ line ∷ pieces_behind 10 behind → IsReadTo bytes (lines_of rest) s → RefusesLine s.head s.before s.ended (is_some behind) line end → RefusesRep bytes end
-row_refuses bytes rest line behind s (Fault at kind) some cut read h =
-    let l : TextLine = record { text = line; whole = is_some behind } in
-    let first = read_fault bytes l (lines_of (text_behind behind)) s kind (subst (λ ls. IsReadTo bytes ls s) (next_lines rest line behind some cut) read) h.1 in
+pub row_refuses : (bytes rest line : List ℕ) (after : Option (Bor (List ℕ))) (s : Reading) (end : RepEnd) → 0 < length rest → slice_split (λ b. b == 10) rest ≡ line ∷ pieces_after 10 after → IsReadTo bytes (lines_of rest) s → RefusesLine s.head s.before s.ended (is_some after) line end → RefusesRep bytes end
+row_refuses bytes rest line after s (Fault at kind) some cut read h =
+    let l : TextLine = record { text = line; whole = is_some after } in
+    let first = read_fault bytes l (lines_of (text_after after)) s kind (subst (λ ls. IsReadTo bytes ls s) (next_lines rest line after some cut) read) h.1 in
     subst (λ (n : ℕ). RepFirstFault bytes (record { line = n; kind = kind })) (sym h.0) first
-row_refuses bytes rest line behind s NoMemory some cut read h = tt
+row_refuses bytes rest line after s NoMemory some cut read h = tt
 
 -- the next line is read
-pub row_reads : (bytes rest line : List ℕ) (behind : Option (Bor (List ℕ))) (s : Reading) (row : Option RepRow) → 0 < length rest → slice_split (λ b. b == 10) rest ≡ line ∷ pieces_behind 10 behind → IsReadTo bytes (lines_of rest) s → ReadsLine s.head s.before s.ended (is_some behind) line row → IsReadTo bytes (lines_of (text_behind behind)) (with_line s row)
-row_reads bytes rest line behind s row some cut read h =
-    read_next bytes (record { text = line; whole = is_some behind }) (lines_of (text_behind behind)) s row (subst (λ ls. IsReadTo bytes ls s) (next_lines rest line behind some cut) read) h
+pub row_reads : (bytes rest line : List ℕ) (after : Option (Bor (List ℕ))) (s : Reading) (row : Option RepRow) → 0 < length rest → slice_split (λ b. b == 10) rest ≡ line ∷ pieces_after 10 after → IsReadTo bytes (lines_of rest) s → ReadsLine s.head s.before s.ended (is_some after) line row → IsReadTo bytes (lines_of (text_after after)) (with_line s row)
+row_reads bytes rest line after s row some cut read h =
+    read_next bytes (record { text = line; whole = is_some after }) (lines_of (text_after after)) s row (subst (λ ls. IsReadTo bytes ls s) (next_lines rest line after some cut) read) h
 
 -- ---- printing
 

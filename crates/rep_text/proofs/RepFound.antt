@@ -15,7 +15,7 @@ use Rattle.word_lines.specs.declared.fault.LogKind.TheVariants.{BadLine, OutOfRa
 use Rattle.word_lines.proofs.Forms.{Words, word_read}
 use Rattle.word_lines.proofs.Numerals.{natural_text, same_word-true}
 use Rattle.rep_text.specs.Fits.{kind_fits, row_length}
-use Rattle.rep_text.specs.RepFault.{behind_head, behind_kind, behind_row, head_fault, is_head, kind_named, row_fault, width_fault}
+use Rattle.rep_text.specs.RepFault.{head_fault, is_head, kind_named, left_after_head, left_after_kind, left_after_row, row_fault, width_fault}
 use Rattle.rep_text.specs.RepReading.{ReadsFirst, ReadsLine, ReadsRow, checked, is_width, place_fault}
 use Rattle.rep_text.specs.RepText.{head_name, head_words}
 use Rattle.rep_text.specs.declared.reader.Head.{Head}
@@ -67,7 +67,7 @@ Heads words = (gens : Bool) × (width : ℕ) × (is_width width ≡ true) × (wo
 
 words_head : (words : Words) → head_fault words ≡ None → Heads words
 words_head [] h = cc
-words_head (name ∷ ws) h = by (is_head name) refl (nothing_left (behind_head name ws) h)
+words_head (name ∷ ws) h = by (is_head name) refl (nothing_left (left_after_head name ws) h)
   where
     by : (b : Bool) → is_head name ≡ b → (if b then word width_fault ws else Err BadLine) ≡ Ok [] → Heads (name ∷ ws)
     by true e k =
@@ -116,13 +116,13 @@ numbers_found head name ws kind e h =
 
 words_row : (head : Head) (words : Words) → row_fault head.gens head.width words ≡ None → Rows head words
 words_row head [] h = cc
-words_row head (name ∷ ws) h = by (same_word name (codes "end")) refl (nothing_left (behind_row head.gens head.width name ws) h)
+words_row head (name ∷ ws) h = by (same_word name (codes "end")) refl (nothing_left (left_after_row head.gens head.width name ws) h)
   where
-    by_kind : (o : Option RepKind) → kind_named head.gens name ≡ o → behind_kind head.width o ws ≡ Ok [] → Rows head (name ∷ ws)
+    by_kind : (o : Option RepKind) → kind_named head.gens name ≡ o → left_after_kind head.width o ws ≡ Ok [] → Rows head (name ∷ ws)
     by_kind None e k = cc
     by_kind (Some kind) e k = numbers_found head name ws kind e k
 
-    by : (b : Bool) → same_word name (codes "end") ≡ b → (if b then Ok ws else behind_kind head.width (kind_named head.gens name) ws) ≡ Ok [] → Rows head (name ∷ ws)
+    by : (b : Bool) → same_word name (codes "end") ≡ b → (if b then Ok ws else left_after_kind head.width (kind_named head.gens name) ws) ≡ Ok [] → Rows head (name ∷ ws)
     by true e k =
         let none : ws ≡ [] = cc in
         (None, λ text is. is ∙ ap words_text (λ i. same_word-true name (codes "end") e i ∷ none i))

@@ -17,14 +17,14 @@ use Rattle.word_lines.specs.declared.fault.LogKind.TheVariants.{BadLine, OutOfRa
 use Rattle.word_lines.proofs.Forms.{Words, one_each, word_passes}
 use Rattle.word_lines.proofs.Numerals.{natural_passes, same_word-true, value_of_decimal}
 use Rattle.rep_text.specs.Fits.{kind_fits, row_length}
-use Rattle.rep_text.specs.RepFault.{behind_row, kind_named, row_fault, width_fault}
+use Rattle.rep_text.specs.RepFault.{kind_named, left_after_row, row_fault, width_fault}
 use Rattle.rep_text.specs.RepReading.{ReadsRow, TakesRow, checked, is_width}
 use Rattle.rep_text.specs.RepText.{head_name, head_words, kind_name}
 use Rattle.rep_text.specs.declared.reader.Head.{Head}
 use Rattle.rep_text.specs.declared.rep.RepKind.{RepKind}
 use Rattle.rep_text.specs.declared.rep.RepKind.TheVariants.{Side, Equal, Line, Point, Direction}
 use Rattle.rep_text.specs.declared.rep.RepRow.{RepRow}
-use Rattle.rep_text.proofs.RowWords.{row_behind, width_passes}
+use Rattle.rep_text.proofs.RowWords.{row_after, width_passes}
 
 -- ---- the width
 
@@ -92,17 +92,17 @@ row_taken head name old new kind v named h =
     (and_from (kind_fits head.gens kind) _ k.0 (eq-eqb (length v) (row_length head.width kind) h.0), h.1, k.1, h.2 ∙ ap (λ ws. ws ++ new) (one_each frac_text v))
 
 -- the words that are left after it
-taken_behind : (head : Head) (name : List ℕ) (old new : Words) (row : Option RepRow) → TakesRow head name old new (Ok row) → behind_row head.gens head.width name old ≡ Ok new
-taken_behind head name old new (Some row) h =
-    (λ i. behind_row head.gens head.width (h.2 i) (h.3 i)) ∙ row_behind head.gens head.width row new h.0 h.1
-taken_behind head name old new None h = (λ i. behind_row head.gens head.width (h.0 i) (h.1 i))
+taken_after : (head : Head) (name : List ℕ) (old new : Words) (row : Option RepRow) → TakesRow head name old new (Ok row) → left_after_row head.gens head.width name old ≡ Ok new
+taken_after head name old new (Some row) h =
+    (λ i. left_after_row head.gens head.width (h.2 i) (h.3 i)) ∙ row_after head.gens head.width row new h.0 h.1
+taken_after head name old new None h = (λ i. left_after_row head.gens head.width (h.0 i) (h.1 i))
 
 -- words that are left over
 pub row_too_long : (head : Head) (text name : List ℕ) (ws new : Words) (w : List ℕ) (rest : Words) (row : Option RepRow) → list_any (λ v. length v == 0) (slice_split (λ b. b == 32) text) ≡ false → slice_split (λ b. b == 32) text ≡ name ∷ ws → TakesRow head name ws new (Ok row) → new ≡ w ∷ rest → checked (row_fault head.gens head.width) text ≡ Some BadLine
 row_too_long head text name ws new w rest row none cut h left =
     ap (λ b. cond b (Some BadLine) (row_fault head.gens head.width (slice_split (λ b. b == 32) text))) none
     ∙ ap (row_fault head.gens head.width) cut
-    ∙ ap left_over (taken_behind head name ws new row h)
+    ∙ ap left_over (taken_after head name ws new row h)
     ∙ ap (λ v. left_over (Ok v)) left
 
 -- all words of a line are those of its row

@@ -20,7 +20,7 @@ use Rattle.word_lines.proofs.Fractions.{number_passes, number_text}
 use Rattle.word_lines.proofs.Numerals.{natural_passes, value_of_decimal}
 use Rattle.word_lines.proofs.PrintedWords.{IsPrinted, Printed, no_blanks, no_feeds, none_empty, printed_letters, printed_map, printed_natural, printed_number}
 use Rattle.rep_text.specs.Fits.{kind_fits, row_fits, row_held, row_length}
-use Rattle.rep_text.specs.RepFault.{behind_kind, behind_row, head_fault, is_head, kind_named, row_fault, row_under, width_fault, words_in}
+use Rattle.rep_text.specs.RepFault.{head_fault, is_head, kind_named, left_after_kind, left_after_row, row_fault, row_under, width_fault, words_in}
 use Rattle.rep_text.specs.RepReading.{checked, is_width}
 use Rattle.rep_text.specs.RepText.{end_words, head_name, head_words, kind_name, row_words}
 use Rattle.rep_text.specs.declared.rep.RepKind.{RepKind}
@@ -124,20 +124,20 @@ named_kind false Point h = cc
 named_kind false Direction h = cc
 
 -- they leave what stands after them
-pub row_behind : (gens : Bool) (width : ℕ) (row : RepRow) (rest : Words) → row_fits gens width row ≡ true → row_held row ≡ true → behind_row gens width (kind_name row.kind) (map frac_text row.v ++ rest) ≡ Ok rest
-row_behind gens width row rest h k =
+pub row_after : (gens : Bool) (width : ℕ) (row : RepRow) (rest : Words) → row_fits gens width row ≡ true → row_held row ≡ true → left_after_row gens width (kind_name row.kind) (map frac_text row.v ++ rest) ≡ Ok rest
+row_after gens width row rest h k =
     let p = and_parts (kind_fits gens row.kind) (length row.v == row_length width row.kind) h in
     let long : length row.v ≡ row_length width row.kind = eqb-true (length row.v) (row_length width row.kind) p.1 in
     let ws : Words = map frac_text row.v ++ rest in
-    ap (λ b. cond b (Ok ws) (behind_kind width (kind_named gens (kind_name row.kind)) ws)) (no_end_row row.kind)
-    ∙ ap (λ o. behind_kind width o ws) (named_kind gens row.kind p.0)
+    ap (λ b. cond b (Ok ws) (left_after_kind width (kind_named gens (kind_name row.kind)) ws)) (no_end_row row.kind)
+    ∙ ap (λ o. left_after_kind width o ws) (named_kind gens row.kind p.0)
     ∙ ap (λ n. times (word number_fault) n ws) (sym long)
     ∙ numbers_pass row.v rest k
 
 pub row_passes : (gens : Bool) (width : ℕ) (row : RepRow) → row_fits gens width row ≡ true → row_held row ≡ true → row_fault gens width (row_words row) ≡ None
 row_passes gens width row h k =
-    ap (λ ws. left_over (behind_row gens width (kind_name row.kind) ws)) (sym (append-nil (map frac_text row.v)))
-    ∙ ap left_over (row_behind gens width row [] h k)
+    ap (λ ws. left_over (left_after_row gens width (kind_name row.kind) ws)) (sym (append-nil (map frac_text row.v)))
+    ∙ ap left_over (row_after gens width row [] h k)
 
 head_known : (gens : Bool) → is_head (head_name gens) ≡ true
 head_known true = refl

@@ -24,13 +24,13 @@ abbrev pub is_head : List ℕ → Bool
 is_head name = same_word name (codes "sides") || same_word name (codes "gens")
 
 -- the words that are left after the first line's, or the first test that fails
-abbrev pub behind_head : List ℕ → List (List ℕ) → Left
-behind_head name words = if is_head name then word width_fault words else Err BadLine
+abbrev pub left_after_head : List ℕ → List (List ℕ) → Left
+left_after_head name words = if is_head name then word width_fault words else Err BadLine
 
 -- the first test that the words of the first line fail
 abbrev pub head_fault : List (List ℕ) → Option LogKind
 head_fault [] = Some BadLine
-head_fault (name ∷ words) = left_over (behind_head name words)
+head_fault (name ∷ words) = left_over (left_after_head name words)
 
 -- ---- the others
 -- the kind of a row with this first word, under a first line `gens` or `sides`
@@ -46,18 +46,18 @@ kind_named false name =
     else None
 
 -- so many numbers as a row of this kind has
-abbrev pub behind_kind : ℕ → Option RepKind → List (List ℕ) → Left
-behind_kind width None words = Err BadLine
-behind_kind width (Some kind) words = times (word number_fault) (row_length width kind) words
+abbrev pub left_after_kind : ℕ → Option RepKind → List (List ℕ) → Left
+left_after_kind width None words = Err BadLine
+left_after_kind width (Some kind) words = times (word number_fault) (row_length width kind) words
 
 -- what stands after the first word of a row or of the end, under a first line of this kind and width
-abbrev pub behind_row : Bool → ℕ → List ℕ → List (List ℕ) → Left
-behind_row gens width name words = if same_word name (codes "end") then Ok words else behind_kind width (kind_named gens name) words
+abbrev pub left_after_row : Bool → ℕ → List ℕ → List (List ℕ) → Left
+left_after_row gens width name words = if same_word name (codes "end") then Ok words else left_after_kind width (kind_named gens name) words
 
 -- the first test that the words of another line fail
 abbrev pub row_fault : Bool → ℕ → List (List ℕ) → Option LogKind
 row_fault gens width [] = Some BadLine
-row_fault gens width (name ∷ words) = left_over (behind_row gens width name words)
+row_fault gens width (name ∷ words) = left_over (left_after_row gens width name words)
 
 -- the words of a line, cut at each blank
 abbrev pub words_in : TextLine → List (List ℕ)
@@ -69,13 +69,13 @@ row_under (head ∷ width ∷ _) words = row_fault (same_word head (codes "gens"
 row_under _ words = Some BadLine
 
 -- the first line, or one after it
-abbrev pub fault_behind : List TextLine → List (List ℕ) → Option LogKind
-fault_behind [] words = head_fault words
-fault_behind (first ∷ _) words = row_under (words_in first) words
+abbrev pub fault_after : List TextLine → List (List ℕ) → Option LogKind
+fault_after [] words = head_fault words
+fault_after (first ∷ _) words = row_under (words_in first) words
 
 -- the same where no word may be empty
 abbrev pub words_fault : List TextLine → List (List ℕ) → Option LogKind
-words_fault before words = if list_any (λ w. length w == 0) words then Some BadLine else fault_behind before words
+words_fault before words = if list_any (λ w. length w == 0) words then Some BadLine else fault_after before words
 
 -- the first test that a line fails, after the lines before it; the first is that it is none after the 10,000th
 abbrev pub rep_test : LineTest

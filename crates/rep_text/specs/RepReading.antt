@@ -9,7 +9,7 @@ use Rattle.word_lines.specs.declared.fault.LogKind.TheVariants.{BadLine, OutOfRa
 use Rattle.word_lines.specs.declared.fault.Stop.{Stop}
 use Rattle.word_lines.specs.declared.fault.Stop.TheVariants as stop
 use Rattle.rep_text.specs.Fits.{row_fits, row_held}
-use Rattle.rep_text.specs.RepFault.{behind_row, head_fault, row_fault, RepFirstFault}
+use Rattle.rep_text.specs.RepFault.{left_after_row, head_fault, row_fault, RepFirstFault}
 use Rattle.rep_text.specs.RepText.{head_words, kind_name, row_words}
 use Rattle.rep_text.specs.declared.reader.Head.{Head}
 use Rattle.rep_text.specs.declared.reader.Reading.{Reading}
@@ -35,7 +35,7 @@ ReadsHead text (Err stop.NoMemory) = Unit {0}
 abbrev pub TakesRow : Head → List ℕ → List (List ℕ) → List (List ℕ) → Result (Option RepRow) Stop → Type 0
 TakesRow head name old new (Ok (Some row)) = (row_fits head.gens head.width row ≡ true) × (row_held row ≡ true) × (name ≡ kind_name row.kind) × (old ≡ map frac_text row.v ++ new)
 TakesRow head name old new (Ok None) = (name ≡ codes "end") × (old ≡ new)
-TakesRow head name old new (Err (stop.Fault k)) = behind_row head.gens head.width name old ≡ Err k
+TakesRow head name old new (Err (stop.Fault k)) = left_after_row head.gens head.width name old ≡ Err k
 TakesRow head name old new (Err stop.NoMemory) = Unit {0}
 
 -- this row or the end was read, or the words of the line fail their tests

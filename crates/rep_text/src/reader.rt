@@ -11,7 +11,7 @@ use crate::fault::{RepEnd, end_at};
 use crate::rep::{Rep, RepKind, RepRow};
 use src_sink::{Items, NoMemory, first_piece};
 use std::alloc::Global;
-use word_lines::{Item, LogKind, Stop, Words, has_empty_word, is_word, take_items, text_behind};
+use word_lines::{Item, LogKind, Stop, Words, has_empty_word, is_word, take_items, text_after};
 
 /// The most lines of a text.
 const MOST_LINES: u32 = 10_000;
@@ -242,14 +242,14 @@ pub fn read_rep(alloc: Global, bytes: &[u8]) -> Result<Rep, RepEnd>
     if bytes.is_empty() {
         return Err(end_at(Stop::Fault(LogKind::NoEnd), 1));
     }
-    let (line, behind) = first_piece(bytes, b'\n');
-    let mut reading = read_first(alloc, line, behind.is_some())?;
-    let mut rest = text_behind(behind);
+    let (line, after) = first_piece(bytes, b'\n');
+    let mut reading = read_first(alloc, line, after.is_some())?;
+    let mut rest = text_after(after);
     while !rest.is_empty() {
-        let (line, behind) = first_piece(rest, b'\n');
-        let row = reading.row(alloc, line, behind.is_some())?;
+        let (line, after) = first_piece(rest, b'\n');
+        let row = reading.row(alloc, line, after.is_some())?;
         reading.add(row)?;
-        rest = text_behind(behind);
+        rest = text_after(after);
     }
     if !reading.ended {
         return Err(end_at(Stop::Fault(LogKind::NoEnd), reading.before + 1));

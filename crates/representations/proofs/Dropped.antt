@@ -28,14 +28,14 @@ use Rattle.representations.proofs.Slices.{sum-plus, sum-zeros, spread-sum}
 -- vector
 record IsParted (e : List ℚ) : Type 0 where
   pub before : ℕ
-  pub behind : ℕ
-  pub places : before + suc behind ≡ length e
+  pub after : ℕ
+  pub places : before + suc after ≡ length e
   pub factor : ℚ
   pub positive : zero_ℚ <ℚ factor
   pub others : List ℚ
   pub wide : length others ≡ length e
   pub at_least_zero : AtLeastZero others
-  pub same : e ≡ plus (scaled factor (unit_at before behind)) others
+  pub same : e ≡ plus (scaled factor (unit_at before after)) others
 
 scaled-zeros : (c : ℚ) (n : ℕ) → scaled c (zeros n) ≡ zeros n
 scaled-zeros c zero = refl
@@ -52,7 +52,7 @@ parted (x ∷ e) h = go (zero_or_positive x (nonneg-head x e h)) (parted e (nonn
     go : (x ≡ zero_ℚ) ⊎ (zero_ℚ <ℚ x) → (e ≡ zeros (length e)) ⊎ IsParted e → (x ∷ e ≡ zeros (length (x ∷ e))) ⊎ IsParted (x ∷ e)
     go (inr p) again = inr (record {
       before = 0;
-      behind = length e;
+      after = length e;
       places = omega arith;
       factor = x;
       positive = p;
@@ -65,8 +65,8 @@ parted (x ∷ e) h = go (zero_or_positive x (nonneg-head x e h)) (parted e (nonn
     go (inl z) (inl a) = inl (ap₂ (λ p q. p ∷ q) z a)
     go (inl z) (inr a) = inr (record {
       before = suc a.before;
-      behind = a.behind;
-      places = deeper a.before a.behind (length e) a.places;
+      after = a.after;
+      places = deeper a.before a.after (length e) a.places;
       factor = a.factor;
       positive = a.positive;
       others = zero_ℚ ∷ a.others;
@@ -152,7 +152,7 @@ module _ (n k : ℕ) (rows objectives : List (List ℚ)) (many : length objectiv
     -- a positive multiple of a unit vector, and the rest
     module _ (p : IsParted own.beyond) where
       abbrev unit : List ℚ
-      unit = unit_at p.before p.behind
+      unit = unit_at p.before p.after
 
       abbrev part : List ℚ
       part = scaled p.factor unit
@@ -160,11 +160,11 @@ module _ (n k : ℕ) (rows objectives : List (List ℚ)) (many : length objectiv
       abbrev rest : List ℚ
       rest = plus base p.others
 
-      places : p.before + suc p.behind ≡ suc k
+      places : p.before + suc p.after ≡ suc k
       places = p.places ∙ own.in_cone.wide
 
       unit_width : length unit ≡ suc k
-      unit_width = length-unit p.before p.behind (suc k) places
+      unit_width = length-unit p.before p.after (suc k) places
 
       part_width : length part ≡ suc k
       part_width = length-scaled p.factor unit ∙ unit_width
@@ -173,7 +173,7 @@ module _ (n k : ℕ) (rows objectives : List (List ℚ)) (many : length objectiv
       others_width = p.wide ∙ own.in_cone.wide
 
       part_in : Directions part
-      part_in = in_image part (record { wide = part_width; at_least_zero = nonneg-scaled p.factor unit (le_of_lt zero_ℚ p.factor p.positive) (nonneg-unit p.before p.behind) })
+      part_in = in_image part (record { wide = part_width; at_least_zero = nonneg-scaled p.factor unit (le_of_lt zero_ℚ p.factor p.positive) (nonneg-unit p.before p.after) })
 
       rest_in : Directions rest
       rest_in = record {
@@ -208,7 +208,7 @@ module _ (n k : ℕ) (rows objectives : List (List ℚ)) (many : length objectiv
       left : IsReducedUnit (suc k) lines d
       left = record {
         before = p.before;
-        behind = p.behind;
+        after = p.after;
         places = places;
         multiple = record {
           factor = inverse_ℚ p.factor *ℚ multiple.factor;

@@ -342,7 +342,7 @@ minus_one_below = refl
 
 left : IsReducedUnit 2 (across ∷ []) upward
 unfolding whole fraction ◌+ℚ◌ ◌*ℚ◌ neg_ℚ le_ℚ gcd
-left = record { before = 0; behind = 1; places = refl; multiple = record { factor = one_ℚ; same = same_vector_is _ _ refl } }
+left = record { before = 0; after = 1; places = refl; multiple = record { factor = one_ℚ; same = same_vector_is _ _ refl } }
 
 times : MeetsTimes (whole (pos 2)) (from_one ∷ []) (wholes (pos 2 ∷ []))
 unfolding whole fraction ◌+ℚ◌ ◌*ℚ◌ neg_ℚ le_ℚ gcd

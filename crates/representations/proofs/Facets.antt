@@ -111,9 +111,9 @@ module _ (n : ℕ) (Set Directions : List ℚ → Type 0) (c : List ℚ) (cuts :
         positive = record { row = g.0; listed = g.1; positive = subst (λ (x : ℚ). zero_ℚ <ℚ x) (dot_comm (row_of f) g.0) g.2 };
       }
 
-  -- after each row in use stands one
-  behind : (r e : List ℚ) → Contains (rows_of n cuts) e → LiesIn gens r e → IsTaken r
-  behind r e k l = go (Contains-cases (level n) (map row_of cuts) e k)
+  -- what lies in a row in use is taken
+  used_taken : (r e : List ℚ) → Contains (rows_of n cuts) e → LiesIn gens r e → IsTaken r
+  used_taken r e k l = go (Contains-cases (level n) (map row_of cuts) e k)
     where
       by_cut : (f : Inequality) → Contains cuts f → row_of f ≡ e →
           (TightLiesIn gens (row_of f) (level n) ⊎ ((h : Inequality) × Contains named h × TightLiesIn gens (row_of f) (row_of h))) → IsTaken r
@@ -132,7 +132,7 @@ module _ (n : ℕ) (Set Directions : List ℚ → Type 0) (c : List ℚ) (cuts :
   all_zero r width h t =
       let g : IsGenerated (suc n) (rows_of n cuts) r = from_rows r width h in
       let ray : IsOnRay (zeros (suc n)) r = one_ray (suc n) (rows_of n cuts) r (zeros (suc n)) s.described.rows_wide (length-zeros (suc n)) g
-      (λ v m. absurd (none v (behind r v (support_listed g.multipliers (rows_of n cuts) v m) (support_tight r v g m)))) in
+      (λ v m. absurd (none v (used_taken r v (support_listed g.multipliers (rows_of n cuts) v m) (support_tight r v g m)))) in
       same_wide (suc n) r (zeros (suc n)) width (length-zeros (suc n)) (λ w.
       ap (λ v. dot w v) ray.same ∙ dot-scaled w ray.factor (zeros (suc n)) ∙ ap (λ x. ray.factor *ℚ x) (dot-zeros w (suc n)) ∙ mul_zero ray.factor
       ∙ sym (dot-zeros w (suc n)))
@@ -195,7 +195,7 @@ module _ (n : ℕ) (Set Directions : List ℚ → Type 0) (c : List ℚ) (cuts :
           let u : (v : List ℚ) × InSupport g.multipliers (rows_of n cuts) v × (zero_ℚ <ℚ dot v p.row) =
           support_positive g.multipliers (rows_of n cuts) p.row g.at_least_zero
           (subst (λ (x : ℚ). zero_ℚ <ℚ x) (generated_value (suc n) (rows_of n cuts) r g p.row) p.positive) in
-          let k : IsTaken r = behind r u.0 (support_listed g.multipliers (rows_of n cuts) u.0 u.1) (support_tight r u.0 g u.1) in
+          let k : IsTaken r = used_taken r u.0 (support_listed g.multipliers (rows_of n cuts) u.0 u.1) (support_tight r u.0 g u.1) in
           let less_loose : loose gens (rest r width h k) < loose gens r = fewer r width h k in
           back r width h k (again (rest r width h k) (omega arith) (rest_width r width h k) (rest_nonneg r width h k))
 

@@ -60,19 +60,19 @@ module _ (n : ℕ) where
   reads [] h = tt
   reads (d ∷ lines) h = (own, later, earlier, reads lines (echelon-tail n d lines h))
     where
-      behind : All (ComesFirst d) lines
-      behind = pairs-head ComesFirst d lines h.pairs
+      after : All (ComesFirst d) lines
+      after = pairs-head ComesFirst d lines h.pairs
 
       own : dot (reader_of n d) d ≡ one_ℚ
       own = read n d d ∙ entry_at d d ∙ All-head IsOne d lines h.ones
 
       later : All (λ k. dot (reader_of n d) k ≡ zero_ℚ) lines
       later = all_of_members (λ k. dot (reader_of n d) k ≡ zero_ℚ) lines
-          (λ k c. read n d k ∙ entry_at k d ∙ before_first k (first d) (member_of (ComesFirst d) lines k behind c).rises)
+          (λ k c. read n d k ∙ entry_at k d ∙ before_first k (first d) (member_of (ComesFirst d) lines k after c).rises)
 
       earlier : All (λ s. IsTight s d) (map (reader_of n) lines)
       earlier = All-map (λ s. IsTight s d) (reader_of n) lines (all_of_members (λ k. IsTight (reader_of n k) d) lines
-          (λ k c. read n k d ∙ entry_at d k ∙ (member_of (ComesFirst d) lines k behind c).off))
+          (λ k c. read n k d ∙ entry_at d k ∙ (member_of (ComesFirst d) lines k after c).off))
 
 pub places_are_readers : PlacesAreReaders
 unfolding reader_of

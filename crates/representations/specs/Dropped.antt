@@ -18,9 +18,9 @@ pub record IsInOrthant (n : ℕ) (d : List ℚ) : Type 0 where
 -- what the reduction along the lines leaves of some unit vector is a multiple of d
 pub record IsReducedUnit (n : ℕ) (lines : List (List ℚ)) (d : List ℚ) : Type 0 where
   pub before : ℕ
-  pub behind : ℕ
-  pub places : before + suc behind ≡ n
-  pub multiple : IsMultiple d (reduction n lines (unit_at before behind))
+  pub after : ℕ
+  pub places : before + suc after ≡ n
+  pub multiple : IsMultiple d (reduction n lines (unit_at before after))
 
 -- an extreme direction of the reduced part of such an image has entries that sum to 0, or is what
 -- is left of a unit vector

@@ -29,7 +29,7 @@ AreReaders (r ∷ readers) (l ∷ lines) =
 
 -- the vector with 1 after so many zeros and before so many
 abbrev pub unit_at : ℕ → ℕ → List ℚ
-unit_at before behind = zeros before ++ one_ℚ ∷ zeros behind
+unit_at before after = zeros before ++ one_ℚ ∷ zeros after
 
 -- the unit vectors of the places of lines
 abbrev pub places_of : ℕ → List (List ℚ) → List (List ℚ)

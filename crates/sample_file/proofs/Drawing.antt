@@ -99,9 +99,9 @@ module _ (number cols : ℕ) where
       }
 
 -- three rows one after the other
-pub three_rows : (number cols behind last : ℕ) (none one two three : List Cell) → none ≡ [] → behind ≡ state_after number cols → last ≡ state_after behind cols →
-    one ≡ none ++ drawn_row number 1 cols → two ≡ one ++ drawn_row behind 2 cols → three ≡ two ++ drawn_row last 3 cols → HasDraws number cols three
-three_rows number cols behind last none one two three empty second_is third_is a b c =
+pub three_rows : (number cols after last : ℕ) (none one two three : List Cell) → none ≡ [] → after ≡ state_after number cols → last ≡ state_after after cols →
+    one ≡ none ++ drawn_row number 1 cols → two ≡ one ++ drawn_row after 2 cols → three ≡ two ++ drawn_row last 3 cols → HasDraws number cols three
+three_rows number cols after last none one two three empty second_is third_is a b c =
     let first_row : one ≡ drawn_row number 1 cols = a ∙ ap (λ l. l ++ drawn_row number 1 cols) empty in
     let second_row : two ≡ drawn_row number 1 cols ++ drawn_row (second number cols) 2 cols = b ∙ ap₂ (λ l s. l ++ drawn_row s 2 cols) first_row second_is in
     let state : last ≡ third number cols = third_is ∙ ap (λ s. state_after s cols) second_is in

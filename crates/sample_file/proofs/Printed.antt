@@ -120,4 +120,4 @@ without_front P [] q ys h = All-head P q ys h
 without_front P (x ∷ xs) q ys h = without_front P xs q ys (All-tail P x (xs ++ q ∷ ys) h)
 
 pub no_first : (number : ℕ) (file : Problem) (q : ℚ) → IsSample number file → IsFirstWithoutWord (printed_numbers file) q → ⊥
-no_first number file q s h = h.no_word (without_front HasWord h.before q h.behind (subst (All HasWord) h.place (all_words number file s)))
+no_first number file q s h = h.no_word (without_front HasWord h.before q h.after (subst (All HasWord) h.place (all_words number file s)))

@@ -29,7 +29,7 @@ use Rattle.lp_form.specs.declared.data.Data.{Data}
 use Rattle.lp_form.specs.declared.data.SideOf.{SideOf}
 use Rattle.lp_form.proofs.Figures.{objective_column_is, objective_number, places_rise, side_column_is, side_number}
 use Rattle.lp_form.proofs.Systems.{IsWideCone, cone_wide, length-negated, length-zeros}
-use Rattle.shown_program.specs.Entries.{across, behind, behind_row, benson_equations, member, placed, single, weight_entry, weight_row}
+use Rattle.shown_program.specs.Entries.{across, after_w, benson_equations, member, placed, row_after_w, single, weight_entry, weight_row}
 use Rattle.shown_program.specs.Written.{AreOthers}
 use Rattle.shown_program.proofs.Entered.{placed-at, placed-low, single_none, single_same, sum_at-above}
 use Rattle.shown_program.proofs.Listed.{passes_at}
@@ -79,10 +79,10 @@ module _ (cols q : ℕ) where
   member-low (Gens vectors) j k low l = placed-low cols (column_of vectors j) k l
   member-low (Dual vectors) j k low l = single_none (cols + j) one_ℚ k (omega arith)
 
-  behind-low : (cone : Cone) (d k : ℕ) → 1 ≤ d → k ≤ cols → behind cols cone d k ≡ zero_ℚ
-  behind-low Orthant d k low l = single_none (cols + d) (neg_ℚ one_ℚ) k (omega arith)
-  behind-low (Gens vectors) d k low l = single_none (cols + d) (neg_ℚ one_ℚ) k (omega arith)
-  behind-low (Dual vectors) d k low l = placed-low cols (negated (row_of vectors d)) k l
+  after_w-low : (cone : Cone) (d k : ℕ) → 1 ≤ d → k ≤ cols → after_w cols cone d k ≡ zero_ℚ
+  after_w-low Orthant d k low l = single_none (cols + d) (neg_ℚ one_ℚ) k (omega arith)
+  after_w-low (Gens vectors) d k low l = single_none (cols + d) (neg_ℚ one_ℚ) k (omega arith)
+  after_w-low (Dual vectors) d k low l = placed-low cols (negated (row_of vectors d)) k l
 
   placed-high : (xs : List ℚ) (n : ℕ) → length xs ≤ n → placed cols xs (suc (cols + n)) ≡ zero_ℚ
   placed-high xs n l =
@@ -98,13 +98,13 @@ module _ (cols q : ℕ) where
       (omega (arith, length-map vectors (λ r. entry r j)))
   member-high (Dual vectors) j high = single_none (cols + j) one_ℚ (suc (cols + q)) (omega arith)
 
-  behind-high : (cone : Cone) (d : ℕ) → IsWideCone q cone → 1 ≤ d → d ≤ dual_unknowns q cone →
-      behind cols cone d (suc (cols + dual_equations q cone)) ≡ zero_ℚ
-  behind-high Orthant d wide low high =
+  after_w-high : (cone : Cone) (d : ℕ) → IsWideCone q cone → 1 ≤ d → d ≤ dual_unknowns q cone →
+      after_w cols cone d (suc (cols + dual_equations q cone)) ≡ zero_ℚ
+  after_w-high Orthant d wide low high =
       single_none (cols + d) (neg_ℚ one_ℚ) (suc (cols + q)) (omega arith)
-  behind-high (Gens vectors) d wide low high =
+  after_w-high (Gens vectors) d wide low high =
       single_none (cols + d) (neg_ℚ one_ℚ) (suc (cols + length vectors)) (omega arith)
-  behind-high (Dual vectors) d wide low high =
+  after_w-high (Dual vectors) d wide low high =
       placed-high (negated (row_of vectors d)) q
       (let long : length (negated (row_of vectors d)) ≡ q =
       length-negated (row_of vectors d) q (row-wide q vectors d wide low high) in omega arith)
@@ -151,7 +151,7 @@ module _ (cols q : ℕ) where
   member_row : (m : ℕ) (cone : Cone) (i : ℕ) → IsWideCone q cone → 1 ≤ i →
       i ≤ dual_equations q cone →
       on_parts (zeros m) (listed q (λ j. member cols cone j (cols + i)))
-      (listed (dual_unknowns q cone) (λ d. behind cols cone d (cols + i)))
+      (listed (dual_unknowns q cone) (λ d. after_w cols cone d (cols + i)))
       ≡ row_of (dual_members m q cone) i
   member_row m Orthant i wide low high =
       ap₂ (on_parts (zeros m)) (units q i) (negative_units q i)
@@ -168,7 +168,7 @@ module _ (cols q : ℕ) where
   member_row m (Dual vectors) i wide low high =
       let n : ℕ = length vectors in
       ap₂ (on_parts (zeros m)) (units q i)
-      (listed-is n (λ d. behind cols (Dual vectors) d (cols + i)) (negated (column_of vectors i))
+      (listed-is n (λ d. after_w cols (Dual vectors) d (cols + i)) (negated (column_of vectors i))
       (length-negated (column_of vectors i) n (length-map vectors (λ r. entry r i)))
       (λ d from_one to_end. placed_number (negated (row_of vectors d)) i low
       ∙ get_or-map neg_ℚ (row_of vectors d) (i - 1) zero_ℚ zero_ℚ
@@ -201,7 +201,7 @@ module _ {F : Type 0} (value : F → ℚ) (file : Problem) (form : Data F) (c : 
   side_row k = map (λ s. sum_at (entries value s.g) k) form.sides
 
   abbrev row : ℕ → List ℚ
-  row k = on_parts (side_row k) (weight_row value form c k) (behind_row value form k)
+  row k = on_parts (side_row k) (weight_row value form c k) (row_after_w value form k)
 
   wide : IsWideCone q cone
   wide =
@@ -228,7 +228,7 @@ module _ {F : Type 0} (value : F → ℚ) (file : Problem) (form : Data F) (c : 
   first_row : (k : ℕ) → 1 ≤ k → k ≤ form.cols →
       row k ≡ on_parts (side_column file k) (negated (objective_column file k)) (zeros more)
   first_row k low high =
-      ap₂ (λ u w. on_parts u w (behind_row value form k))
+      ap₂ (λ u w. on_parts u w (row_after_w value form k))
       (side_column_is value file form stands k low high)
       (same_listed q (λ i. weight_entry value form c i k)
       (λ i. neg_ℚ (sum_at (entries value (slice_index_or form.p (i - 1) [])) k))
@@ -241,15 +241,15 @@ module _ {F : Type 0} (value : F → ℚ) (file : Problem) (form : Data F) (c : 
       ∙ mapped (λ r. neg_ℚ (sum_at (entries value r) k)) [] form.p
       ∙ objective_column_is value file form stands k low high)
       ∙ ap (on_parts (side_column file k) (negated (objective_column file k)))
-      (all_zero more (λ d. behind form.cols cone d k)
-      (λ d from_one to_end. behind-low form.cols q cone d k from_one high))
+      (all_zero more (λ d. after_w form.cols cone d k)
+      (λ d from_one to_end. after_w-low form.cols q cone d k from_one high))
 
   -- those of the cone
   middle_row : (i : ℕ) → 1 ≤ i → i ≤ extra →
       row (form.cols + i) ≡ row_of (dual_members m q cone) i
   middle_row i low high =
       let k : ℕ = form.cols + i in
-      ap₂ (λ u w. on_parts u w (behind_row value form k)) (side-zero k (omega arith))
+      ap₂ (λ u w. on_parts u w (row_after_w value form k)) (side-zero k (omega arith))
       (same_listed q (λ j. weight_entry value form c j k) (λ j. member form.cols cone j k)
       (λ j from_one to_end.
       ap₂ (λ a b. (a +ℚ member form.cols cone j k) +ℚ b)
@@ -263,7 +263,7 @@ module _ {F : Type 0} (value : F → ℚ) (file : Problem) (form : Data F) (c : 
   last_row : row (suc (form.cols + extra)) ≡ on_parts (zeros m) (map value c) (zeros more)
   last_row =
       let k : ℕ = suc (form.cols + extra) in
-      ap₂ (λ u w. on_parts u w (behind_row value form k)) (side-zero k (omega arith))
+      ap₂ (λ u w. on_parts u w (row_after_w value form k)) (side-zero k (omega arith))
       (listed-is q (λ j. weight_entry value form c j k) (map value c) (length-map c value ∙ c_long)
       (λ j from_one to_end.
       ap₂ (λ a b. (a +ℚ b) +ℚ single k (entry (map value c) j) k)
@@ -271,8 +271,8 @@ module _ {F : Type 0} (value : F → ℚ) (file : Problem) (form : Data F) (c : 
       ∙ ap₂ (λ a b. a +ℚ b) (add-zero_ℚ zero_ℚ) (single_same k (entry (map value c) j) k refl)
       ∙ zero-add_ℚ (entry (map value c) j)))
       ∙ ap (on_parts (zeros m) (map value c))
-      (all_zero more (λ d. behind form.cols cone d k)
-      (λ d from_one to_end. behind-high form.cols q cone d wide from_one to_end))
+      (all_zero more (λ d. after_w form.cols cone d k)
+      (λ d from_one to_end. after_w-high form.cols q cone d wide from_one to_end))
 
   abbrev front : Table
   front = listed form.cols
@@ -306,9 +306,9 @@ module _ {F : Type 0} (value : F → ℚ) (file : Problem) (form : Data F) (c : 
       last : List ℚ
       last = on_parts (zeros m) (map value c) (zeros more)
 
-      behind_columns : form.cols < k → (extra < k - form.cols) ⊎ (k - form.cols ≤ extra) →
+      after_columns : form.cols < k → (extra < k - form.cols) ⊎ (k - form.cols ≤ extra) →
           row k ≡ row_of equations k
-      behind_columns over (inr inside) =
+      after_columns over (inr inside) =
           let i : ℕ = k - form.cols in
           let place : k ≡ form.cols + i = omega arith in
           let from_one : 1 ≤ i = omega arith in
@@ -318,7 +318,7 @@ module _ {F : Type 0} (value : F → ℚ) (file : Problem) (form : Data F) (c : 
           ∙ get_or-append_right front (dual_members m q cone) form.cols (k - 1) [] front-long (omega arith)
           ∙ ap (λ j. slice_index_or (dual_members m q cone) j [])
           (let same : k - 1 - form.cols ≡ i - 1 = omega arith in same))
-      behind_columns over (inl past) =
+      after_columns over (inl past) =
           let place : k ≡ suc (form.cols + extra) = omega arith in
           ap row place ∙ last_row
           ∙ sym (get_or-append_right (front ++ dual_members m q cone)
@@ -328,7 +328,7 @@ module _ {F : Type 0} (value : F → ℚ) (file : Problem) (form : Data F) (c : 
           (let same : k - 1 - (form.cols + extra) ≡ 0 = omega arith in same))
 
       by_place : (form.cols < k) ⊎ (k ≤ form.cols) → row k ≡ row_of equations k
-      by_place (inl over) = behind_columns over (cases_lt extra (k - form.cols))
+      by_place (inl over) = after_columns over (cases_lt extra (k - form.cols))
       by_place (inr inside) =
           first_row k low inside
           ∙ sym (get_or_append_left (front ++ dual_members m q cone)
@@ -356,7 +356,7 @@ module _ {F : Type 0} (value : F → ℚ) (file : Problem) (form : Data F) (c : 
   -- the numbers of the columns in equation k
   pub benson_row : (others : List (List (Cell F))) (v : List ℚ) (t : _) (k : ℕ) →
       ((j : ℕ) → across value j others
-      ≡ (weight_row value form c j ++ negated (weight_row value form c j)) ++ behind_row value form j) →
+      ≡ (weight_row value form c j ++ negated (weight_row value form c j)) ++ row_after_w value form j) →
       1 ≤ k → k ≤ benson_equations value form →
       across value k (map (λ s. s.g) form.sides ++ others)
       ≡ row_of (benson_system file (map value c) v t).equations k
@@ -365,7 +365,7 @@ module _ {F : Type 0} (value : F → ℚ) (file : Problem) (form : Data F) (c : 
       ∙ ap₂ (λ a b. a ++ b)
       (map-map (λ cells. sum_at (entries value cells) k) (λ s. s.g) form.sides) (numbers k)
       ∙ parts (side_row k) (weight_row value form c k) (negated (weight_row value form c k))
-      (behind_row value form k)
+      (row_after_w value form k)
       ∙ row_is k low high ∙ ap (λ rows. row_of rows k) (equations_are v t)
 
 -- how many columns there are
@@ -374,12 +374,12 @@ pub others_long : {F : Type 0} (value : F → ℚ) (form : Data F) (c : List F)
     ≡ length form.p + length form.p + dual_unknowns (length form.p) (cone_of value form.cone)
 others_long value form c others h =
     let w : List ℚ = weight_row value form c 0 in
-    let b : List ℚ = behind_row value form 0 in
+    let b : List ℚ = row_after_w value form 0 in
     let w_long : length w ≡ length form.p =
     length-list_from 1 (length form.p) (λ i. weight_entry value form c i 0) in
     let b_long : length b ≡ dual_unknowns (length form.p) (cone_of value form.cone) =
     length-list_from 1 (dual_unknowns (length form.p) (cone_of value form.cone))
-    (λ d. behind form.cols (cone_of value form.cone) d 0) in
+    (λ d. after_w form.cols (cone_of value form.cone) d 0) in
     sym (length-map others (λ cells. sum_at (entries value cells) 0)) ∙ ap length (h.numbers 0)
     ∙ omega (
       arith,

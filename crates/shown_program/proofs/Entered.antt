@@ -264,7 +264,7 @@ single_longer n cols q i x y old new low high w same rises last fits =
       sums = λ k. step.sums k ∙ ap (λ z. sum_at old k +ℚ single (cols + i) z k) same;
     }
 
--- the negative of an objective, and one number in an equation behind
+-- the negative of an objective, and one number in an equation after them
 pub given_line : (cols q i : ℕ) (x y : ℚ) (own first last : List Entry) → first ≡ negatives own →
     1 ≤ i → i ≤ q → x ≡ y → Rises cols 0 own → Writes (cols + i) x first last →
     IsLineWith (cols + q) (λ k. neg_ℚ (sum_at own k) +ℚ single (cols + i) y k) last
@@ -364,7 +364,7 @@ negated-zeros : (n : ℕ) → negated (zeros n) ≡ zeros n
 negated-zeros zero = refl
 negated-zeros (suc n) = ap₂ (λ a b. a ∷ b) neg-zero_ℚ (negated-zeros n)
 
--- .. where those behind the first cost nothing, and none are behind w
+-- .. where those after the first cost nothing, and none are after w
 pub costs_given : (l0 l1 l2 a b u : List ℚ) (q : ℕ) → l1 ≡ l0 ++ a → l2 ≡ l1 ++ b → l0 ≡ u →
     a ≡ zeros q → b ≡ zeros q → l2 ≡ on_parts u (zeros q) []
 costs_given l0 l1 l2 a b u q e1 e2 h0 ha hb =

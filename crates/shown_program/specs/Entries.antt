@@ -53,10 +53,10 @@ member cols (Gens vectors) i k = placed cols (column_of vectors i) k
 member cols (Dual vectors) i k = single (cols + i) one_ℚ k
 
 -- what unknown d after w has in them
-abbrev pub behind : ℕ → Cone → ℕ → ℕ → ℚ
-behind cols Orthant d k = single (cols + d) (neg_ℚ one_ℚ) k
-behind cols (Gens vectors) d k = single (cols + d) (neg_ℚ one_ℚ) k
-behind cols (Dual vectors) d k = placed cols (negated (row_of vectors d)) k
+abbrev pub after_w : ℕ → Cone → ℕ → ℕ → ℚ
+after_w cols Orthant d k = single (cols + d) (neg_ℚ one_ℚ) k
+after_w cols (Gens vectors) d k = single (cols + d) (neg_ℚ one_ℚ) k
+after_w cols (Dual vectors) d k = placed cols (negated (row_of vectors d)) k
 
 -- how many equations Benson's program has: the last is that of the duality vector
 abbrev pub benson_equations : {F : Type 0} → (F → ℚ) → Data F → ℕ
@@ -89,10 +89,10 @@ across value k columns = map (λ cells. sum_at (entries value cells) k) columns
 abbrev pub weight_row : {F : Type 0} → (F → ℚ) → Data F → List F → ℕ → List ℚ
 weight_row value form c k = listed (length form.p) (λ i. weight_entry value form c i k)
 
-abbrev pub behind_row : {F : Type 0} → (F → ℚ) → Data F → ℕ → List ℚ
-behind_row value form k =
+abbrev pub row_after_w : {F : Type 0} → (F → ℚ) → Data F → ℕ → List ℚ
+row_after_w value form k =
     listed (dual_unknowns (length form.p) (cone_of value form.cone))
-    (λ d. behind form.cols (cone_of value form.cone) d k)
+    (λ d. after_w form.cols (cone_of value form.cone) d k)
 
 -- what the unknowns of w have in equation k of the program of a weight
 abbrev pub given_row : {F : Type 0} → (F → ℚ) → Data F → ℕ → List ℚ

@@ -9,7 +9,7 @@ use Rattle.vlp_problem.specs.declared.problem.Cone.{Cone}
 use Rattle.vlp_problem.specs.declared.problem.Cone.TheVariants.{Orthant, Gens, Dual}
 use Rattle.lp_form.specs.Shapes.{are_places}
 use Rattle.lp_form.specs.declared.data.Data.{Data}
-use Rattle.shown_program.specs.Entries.{across, behind_row, benson_equations, given_equations, given_row, unit_entries, weight_row}
+use Rattle.shown_program.specs.Entries.{across, benson_equations, given_equations, given_row, row_after_w, unit_entries, weight_row}
 use Rattle.shown_program.specs.declared.columns.Columns.{Columns}
 
 -- the columns of the two lists of w, and those after them
@@ -17,7 +17,7 @@ pub record AreOthers {F : Type 0} (value : F → ℚ) (form : Data F) (c : List 
     (others : List (List (Cell F))) : Type 0 where
   pub numbers : (k : ℕ) → across value k others
       ≡ (weight_row value form c k ++ negated (weight_row value form c k))
-      ++ behind_row value form k
+      ++ row_after_w value form k
   pub places : IsTrue (list_all (are_places (benson_equations value form) 0) others)
 
 -- the cone is not in dual form, so that the program of a weight says no more of it than its entries

@@ -13,7 +13,7 @@ ghost use Rattle.lp_form.specs.Data.{IsDataOf, cone_of};
 ghost use Rattle.lp_form.specs.Names.{HasWidths, named};
 ghost use Rattle.lp_form.specs.Programs.{benson_system, dual_equations, dual_unknowns, feasible_system, named_system, side_total, weight_system};
 ghost use Rattle.lp_form.specs.Shapes.{are_places};
-ghost use Rattle.shown_program.specs.Entries.{AreAppended, IsLineWith, IsLonger, across, behind, behind_row, benson_equations, given_entry, given_equations, given_row, member, negatives, placed, single, unit_entries, weight_entry, weight_row};
+ghost use Rattle.shown_program.specs.Entries.{AreAppended, IsLineWith, IsLonger, across, after_w, benson_equations, given_entry, given_equations, given_row, member, negatives, placed, row_after_w, single, unit_entries, weight_entry, weight_row};
 ghost use Rattle.shown_program.specs.Program.{IsProgramOf};
 ghost use Rattle.shown_program.specs.Written.{AreGiven, AreOthers, IsAssembled, IsDirect};
 
@@ -190,7 +190,7 @@ fn list_column<F: Field>(
 }
 
 /// The column of unknown `d` after w.
-fn behind_column<F: Field>(
+fn column_after_w<F: Field>(
     alloc: Global,
     form: &Data<F>,
     d: u32,
@@ -198,7 +198,7 @@ fn behind_column<F: Field>(
     requires low { 1 ≤ d }
     requires high { d ≤ dual_unknowns (length form.now.p) (cone_of F.value form.now.cone) }
     ensures { IfOk result (λ list. IsLineWith (benson_equations F.value form.now)
-        (behind form.now.cols (cone_of F.value form.now.cone) d) (entries F.value list)) }
+        (after_w form.now.cols (cone_of F.value form.now.cone) d) (entries F.value list)) }
 {
     match &form.cone {
         ConeOf::Orthant | ConeOf::Gens(_) => single_column(alloc, form.cols + d, F::one().neg()),
@@ -210,16 +210,16 @@ fn behind_column<F: Field>(
 }
 
 /// Appends the columns of the unknowns after w.
-fn push_behind<F: Field>(
+fn push_after_w<F: Field>(
     alloc: Global,
     list: &mut Items<Items<Cell<F>>>,
     form: &Data<F>,
 ) -> Result<(), NoMemory>
     ensures { OnOk result (AreAppended F.value (benson_equations F.value form.now)
-        (behind_row F.value form.now) list.old list.new) }
+        (row_after_w F.value form.now) list.old list.new) }
 {
     for d in 0..cone_unknowns(form) {
-        let cells = behind_column(alloc, form, d + 1)?;
+        let cells = column_after_w(alloc, form, d + 1)?;
         list.push(cells)?;
     }
     Ok(())
@@ -237,7 +237,7 @@ fn others<F: Field>(
     let mut list = Items::new(alloc);
     push_weights(alloc, &mut list, form, c)?;
     push_negatives(alloc, &mut list)?;
-    push_behind(alloc, &mut list, form)?;
+    push_after_w(alloc, &mut list, form)?;
     Ok(list)
 }
 
@@ -326,8 +326,8 @@ fn benson_cost<F: Field>(
     let minus = negative(alloc, v)?;
     cost.append(minus.as_slice())?;
     cost.append(v)?;
-    let behind = zeros(alloc, cone_unknowns(form))?;
-    cost.append(behind.as_slice())?;
+    let after = zeros(alloc, cone_unknowns(form))?;
+    cost.append(after.as_slice())?;
     Ok(cost)
 }
 

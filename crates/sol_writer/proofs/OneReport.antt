@@ -341,8 +341,8 @@ same_section name line line' good xs ys r s h k e =
     let q = and_parts (is_short (length ys)) (list_all good ys) k in
     let count : decimal (length xs) ≡ decimal (length ys) = cc in
     let same = same_short (length xs) (length ys) p.0 q.0 count in
-    let behind : map line xs ++ r ≡ map line' ys ++ s = cc in
-    let maps = same_maps line line' xs ys r s same behind in
+    let rests : map line xs ++ r ≡ map line' ys ++ s = cc in
+    let maps = same_maps line line' xs ys r s same rests in
     record { count = same; lines = maps.0; rest = maps.1 }
 
 same_gen : (g h : Gen) → g.y ≡ h.y → g.pre ≡ h.pre → g ≡ h
@@ -419,12 +419,12 @@ same_ways (l ∷ ls) (m ∷ ms) r s h k e d =
     let lines : map line_of ls ≡ map line_of ms = cc in
     let ray : sparse_line (codes "r") l.ray ≡ sparse_line (codes "r") m.ray = cc in
     let back : sparse_line (codes "r") l.back ≡ sparse_line (codes "r") m.back = cc in
-    let behind : flat_map ways ls ++ r ≡ flat_map ways ms ++ s = cc in
+    let rests : flat_map ways ls ++ r ≡ flat_map ways ms ++ s = cc in
     let heads = same_gen_of_line l m
     (same_vector (codes "l") (codes "l") l.d m.d one.d_held two.d_held line)
     (same_sparse (codes "r") (codes "r") l.ray m.ray one.ray_held two.ray_held ray)
     (same_sparse (codes "r") (codes "r") l.back m.back one.back_held two.back_held back) in
-    let tails = same_ways ls ms r s p.1 q.1 lines behind in
+    let tails = same_ways ls ms r s p.1 q.1 lines rests in
     ((λ i. heads i ∷ tails.0 i), tails.1)
 
 -- ---- what a report tells

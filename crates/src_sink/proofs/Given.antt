@@ -31,8 +31,8 @@ next_lines Whole bytes line rest later ended cut lacks h =
 next_lines Torn bytes line rest later ended (same, some, none, over) lacks h =
     let last = h over in
     let front : bytes ++ later ≡ line = ap (λ l. bytes ++ l) last ∙ append-nil bytes ∙ same in
-    let behind : rest ++ later ≡ [] = ap (λ l. rest ++ l) last ∙ append-nil rest ∙ none in
-    ap lines_of front ∙ lines-torn line lacks some ∙ ap (λ l. given_line Torn line ++ lines_of l) (sym behind)
+    let no_more : rest ++ later ≡ [] = ap (λ l. rest ++ l) last ∙ append-nil rest ∙ none in
+    ap lines_of front ∙ lines-torn line lacks some ∙ ap (λ l. given_line Torn line ++ lines_of l) (sym no_more)
 next_lines End bytes line rest later ended (same, empty, none, over) lacks h =
     ap (λ l. lines_of (l ++ later)) same ∙ ap (λ l. lines_of (l ++ later)) (sym none)
 
@@ -58,11 +58,11 @@ module _ (first left left' : Option (List ℕ)) (bytes : List ℕ) (lines : List
 
     end_by : (e : Bool) → before.ended ≡ e → after.ended ≡ true → IsAtEnd left'
     end_by false e over = takes.at_end e over
-    end_by true e over = subst IsAtEnd (sym (takes.none_behind e).2) (given.at_end e)
+    end_by true e over = subst IsAtEnd (sym (takes.none_after e).2) (given.at_end e)
 
     -- what follows the bytes taken before, where this call took these and others come later
     later_of : (later : List ℕ) → (after.ended ≡ true → later ≡ []) → before.ended ≡ true → front ++ later ≡ []
-    later_of later h e = let p = takes.none_behind e in ap (λ l. l ++ later) p.0 ∙ h p.1
+    later_of later h e = let p = takes.none_after e in ap (λ l. l ++ later) p.0 ∙ h p.1
 
     more : (end : LineEnd) (line : List ℕ) → BeginsWith end (before.kept ++ front) line after.kept after.ended → LacksLineFeed line → HasGiven first left' (bytes ++ front) (lines ++ given_line end line) after
     more end line cut lacks = record {

@@ -14,13 +14,13 @@ use Rattle.src_sink.proofs.Known.{Rose-before}
 module _ (a b c : Reading) (l0 l1 l2 : Option (List ℕ)) (f g : List ℕ) (first : Takes a b l0 l1 f) (second : Takes b c l1 l2 g) where
   both : a.ended ≡ true → (f ++ g ≡ []) × (c.ended ≡ true) × (l2 ≡ l0)
   both e =
-      let p = first.none_behind e in
-      let q = second.none_behind p.1 in
+      let p = first.none_after e in
+      let q = second.none_after p.1 in
       (ap (λ l. l ++ g) p.0 ∙ q.0, q.1, q.2 ∙ p.2)
 
   end_by : (e : Bool) → b.ended ≡ e → a.ended ≡ false → c.ended ≡ true → IsAtEnd l2
   end_by false e going last = second.at_end e last
-  end_by true e going last = subst IsAtEnd (sym (second.none_behind e).2) (first.at_end going e)
+  end_by true e going last = subst IsAtEnd (sym (second.none_after e).2) (first.at_end going e)
 
   -- what two calls took, one after the other
   pub Takes-trans : Takes a c l0 l2 (f ++ g)
@@ -28,7 +28,7 @@ module _ (a b c : Reading) (l0 l1 l2 : Option (List ℕ)) (f g : List ℕ) (firs
     consumed = Consumes-trans l0 l1 l2 f g first.consumed second.consumed;
     count = omega (arith, first.count, second.count, length-append f g);
     limit = second.limit ∙ first.limit;
-    none_behind = both;
+    none_after = both;
     at_end = end_by b.ended refl;
   }
 
@@ -39,7 +39,7 @@ Takes-same a a' b b' left left' front at al ae bt bl be h = record {
   consumed = h.consumed;
   count = bt ∙ h.count ∙ ap (λ n. n + length front) (sym at);
   limit = bl ∙ h.limit ∙ sym al;
-  none_behind = λ e. let p = h.none_behind (sym ae ∙ e) in (p.0, be ∙ p.1, p.2);
+  none_after = λ e. let p = h.none_after (sym ae ∙ e) in (p.0, be ∙ p.1, p.2);
   at_end = λ going last. h.at_end (sym ae ∙ going) (sym be ∙ last);
 }
 

@@ -22,7 +22,7 @@ pub record Takes (before after : Reading) (left left' : Option (List ℕ)) (fron
   pub consumed : Consumes left left' front
   pub count : after.taken ≡ before.taken + length front
   pub limit : after.limit ≡ before.limit
-  pub none_behind : before.ended ≡ true → (front ≡ []) × (after.ended ≡ true) × (left' ≡ left)
+  pub none_after : before.ended ≡ true → (front ≡ []) × (after.ended ≡ true) × (left' ≡ left)
   pub at_end : before.ended ≡ false → after.ended ≡ true → IsAtEnd left'
 
 -- no byte of a line is a line feed

@@ -12,9 +12,9 @@ abbrev pub line_text : List (List ℕ) → List ℕ
 line_text words = words_text words ++ 10 ∷ []
 
 -- the pieces of what stands after a byte at which a text was cut, where something may stand there
-abbrev pub pieces_behind : ℕ → Option (Bor (List ℕ)) → List (List ℕ)
-pieces_behind byte None = []
-pieces_behind byte (Some rest) = slice_split (λ b. b == byte) rest.now
+abbrev pub pieces_after : ℕ → Option (Bor (List ℕ)) → List (List ℕ)
+pieces_after byte None = []
+pieces_after byte (Some rest) = slice_split (λ b. b == byte) rest.now
 
 -- a line without its line feed, and whether that stood
 pub record TextLine : Type 0 where

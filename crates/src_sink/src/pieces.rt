@@ -1,7 +1,7 @@
 //! Texts that are cut at a byte, one piece at a time.
 ghost use Rattle.std.specs.Prelude.{◌≡◌, ◌==◌, ◌<◌, ◌∷◌, length, position, IfSome};
 ghost use Rattle.std.specs.List.{slice_split};
-ghost use Rattle.src_sink.specs.Texts.{pieces_behind};
+ghost use Rattle.src_sink.specs.Texts.{pieces_after};
 
 use memchr::memchr;
 
@@ -16,7 +16,7 @@ pub fn place_of(text: &[u8], byte: u8) -> Option<usize>
 /// is one. It takes no memory, and looks at the piece alone.
 pub fn first_piece(text: &[u8], byte: u8) -> (&[u8], Option<&[u8]>)
     ensures pieces { slice_split (λ b. b == byte) text.now
-        ≡ result.0.now ∷ pieces_behind byte result.1 }
+        ≡ result.0.now ∷ pieces_after byte result.1 }
     ensures shorter { IfSome result.1 (λ rest. length rest.now < length text.now) }
 {
     match place_of(text, byte) {

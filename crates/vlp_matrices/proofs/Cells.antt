@@ -19,7 +19,7 @@ use Rattle.polyhedra.specs.Sparse.{value_at, values_from}
 use Rattle.upper_image.specs.Spots.{IsVector, dense, column, entry_of}
 use Rattle.upper_image.specs.UpperImage.{signed, normals, objectives, objective_column}
 use Rattle.upper_image.proofs.Widths.{entry-made, side_columns}
-use Rattle.vlp_problem.specs.Cells.{are_cells, cells_behind, place_before, is_within, coefficient}
+use Rattle.vlp_problem.specs.Cells.{are_cells, cells_after, place_before, is_within, coefficient}
 use Rattle.vlp_problem.specs.Sides.{numbers_from, sides, sides_of, sides_from, side_column, side_bounds, row_vector, unit}
 use Rattle.vlp_problem.specs.declared.problem.Problem.{Problem}
 use Rattle.vlp_problem.specs.declared.problem.Bound.{Bound}
@@ -152,7 +152,7 @@ record FirstCell (R C r c : ℕ) (cell : Cell) (cells : List Cell) : Type 0 wher
   col_low : 1 ≤ cell.col
   col_high : cell.col ≤ C
   filled : IsTrue (not (is_zero cell.value))
-  rest : IsTrue (cells_behind R C cell.row cell.col cells)
+  rest : IsTrue (cells_after R C cell.row cell.col cells)
 
 either : (r c row col : ℕ) → (nat_lt r row || r == row && nat_lt c col) ≡ true → (r < row) ⊎ ((r ≡ row) × (c < col))
 either r c row col h = go (nat_lt r row) refl
@@ -163,11 +163,11 @@ either r c row col h = go (nat_lt r row) refl
         let b = and_parts (r == row) (nat_lt c col) (ap (λ (y : Bool). y || (r == row && nat_lt c col)) (sym k) ∙ h) in
         inr (eqb-true r row b.0, ltb-true c col b.1)
 
-first_cell : (R C r c : ℕ) (cell : Cell) (cells : List Cell) → IsTrue (cells_behind R C r c (cell ∷ cells)) → FirstCell R C r c cell cells
+first_cell : (R C r c : ℕ) (cell : Cell) (cells : List Cell) → IsTrue (cells_after R C r c (cell ∷ cells)) → FirstCell R C r c cell cells
 first_cell R C r c cell cells h =
-    let a = and_parts (place_before r c cell.row cell.col) (is_within R C cell.row cell.col && (not (is_zero cell.value) && cells_behind R C cell.row cell.col cells)) h in
-    let b = and_parts (is_within R C cell.row cell.col) (not (is_zero cell.value) && cells_behind R C cell.row cell.col cells) a.1 in
-    let d = and_parts (not (is_zero cell.value)) (cells_behind R C cell.row cell.col cells) b.1 in
+    let a = and_parts (place_before r c cell.row cell.col) (is_within R C cell.row cell.col && (not (is_zero cell.value) && cells_after R C cell.row cell.col cells)) h in
+    let b = and_parts (is_within R C cell.row cell.col) (not (is_zero cell.value) && cells_after R C cell.row cell.col cells) a.1 in
+    let d = and_parts (not (is_zero cell.value)) (cells_after R C cell.row cell.col cells) b.1 in
     let w = and_parts (nat_lt 0 cell.row) (nat_le cell.row R && (nat_lt 0 cell.col && nat_le cell.col C)) b.0 in
     let x = and_parts (nat_le cell.row R) (nat_lt 0 cell.col && nat_le cell.col C) w.1 in
     let y = and_parts (nat_lt 0 cell.col) (nat_le cell.col C) x.1 in
@@ -186,13 +186,13 @@ unfolding neg_ℚ
 zero-signed Min q = refl
 zero-signed Max q = ap (λ (n : ℕ). n == 0) (size-neg q.num)
 
-behind : (r c r' c' row col : ℕ) → ((r < r') ⊎ ((r ≡ r') × (c < c'))) → ((r' < row) ⊎ ((r' ≡ row) × (c' < col))) → (r < row) ⊎ ((r ≡ row) × (c < col))
-behind r c r' c' row col (inl a) (inl b) = inl (omega (arith, a, b))
-behind r c r' c' row col (inl a) (inr b) = inl (omega (arith, a, b))
-behind r c r' c' row col (inr a) (inl b) = inl (omega (arith, a, b))
-behind r c r' c' row col (inr a) (inr b) = inr (omega (arith, a, b), omega (arith, a, b))
+before_trans : (r c r' c' row col : ℕ) → ((r < r') ⊎ ((r ≡ r') × (c < c'))) → ((r' < row) ⊎ ((r' ≡ row) × (c' < col))) → (r < row) ⊎ ((r ≡ row) × (c < col))
+before_trans r c r' c' row col (inl a) (inl b) = inl (omega (arith, a, b))
+before_trans r c r' c' row col (inl a) (inr b) = inl (omega (arith, a, b))
+before_trans r c r' c' row col (inr a) (inl b) = inl (omega (arith, a, b))
+before_trans r c r' c' row col (inr a) (inr b) = inr (omega (arith, a, b), omega (arith, a, b))
 
-rows_rise : (R C r c k i : ℕ) (dir : Dir) (cells : List Cell) → IsTrue (cells_behind R C r c cells) →
+rows_rise : (R C r c k i : ℕ) (dir : Dir) (cells : List Cell) → IsTrue (cells_after R C r c cells) →
     ((row col : ℕ) → ((r < row) ⊎ ((r ≡ row) × (c < col))) → 1 ≤ col → row ≡ i → k < col) → IsTrue (rises_above k (spots_in Row dir cells i))
 rows_rise R C r c k i dir [] h p = refl
 rows_rise R C r c k i dir (d ∷ cells) h p =
@@ -201,7 +201,7 @@ rows_rise R C r c k i dir (d ∷ cells) h p =
     (λ e. and_from (nat_lt k d.col) (not (is_zero (signed dir d.value)) && rises_above d.col (spots_in Row dir cells i)) (lt-ltb k d.col (p d.row d.col f.before f.col_low e))
     (and_from (not (is_zero (signed dir d.value))) (rises_above d.col (spots_in Row dir cells i)) (ap not (zero-signed dir d.value) ∙ f.filled)
     (rows_rise R C d.row d.col d.col i dir cells f.rest (λ row col b l q. later row col (omega (arith, e, q)) b))))
-    (rows_rise R C d.row d.col k i dir cells f.rest (λ row col b l q. p row col (behind r c d.row d.col row col f.before b) l q))
+    (rows_rise R C d.row d.col k i dir cells f.rest (λ row col b l q. p row col (before_trans r c d.row d.col row col f.before b) l q))
   where
     later : (row col : ℕ) → d.row ≡ row → ((d.row < row) ⊎ ((d.row ≡ row) × (d.col < col))) → d.col < col
     later row col e (inl b) = absurd (omega (arith, e, b))
@@ -213,7 +213,7 @@ rows_rise R C r c k i dir (d ∷ cells) h p =
     go (inl e) a b = ap (λ (x : Bool). rises_above k (if x then spot_of Row dir d ∷ spots_in Row dir cells i else spots_in Row dir cells i)) e.0 ∙ a e.1
     go (inr e) a b = ap (λ (x : Bool). rises_above k (if x then spot_of Row dir d ∷ spots_in Row dir cells i else spots_in Row dir cells i)) e.0 ∙ b
 
-columns_rise : (R C r c k j : ℕ) (dir : Dir) (cells : List Cell) → IsTrue (cells_behind R C r c cells) →
+columns_rise : (R C r c k j : ℕ) (dir : Dir) (cells : List Cell) → IsTrue (cells_after R C r c cells) →
     ((row col : ℕ) → ((r < row) ⊎ ((r ≡ row) × (c < col))) → 1 ≤ row → col ≡ j → k < row) → IsTrue (rises_above k (spots_in Column dir cells j))
 columns_rise R C r c k j dir [] h p = refl
 columns_rise R C r c k j dir (d ∷ cells) h p =
@@ -222,7 +222,7 @@ columns_rise R C r c k j dir (d ∷ cells) h p =
     (λ e. and_from (nat_lt k d.row) (not (is_zero (signed dir d.value)) && rises_above d.row (spots_in Column dir cells j)) (lt-ltb k d.row (p d.row d.col f.before f.row_low e))
     (and_from (not (is_zero (signed dir d.value))) (rises_above d.row (spots_in Column dir cells j)) (ap not (zero-signed dir d.value) ∙ f.filled)
     (columns_rise R C d.row d.col d.row j dir cells f.rest (λ row col b l q. later row col (omega (arith, e, q)) b))))
-    (columns_rise R C d.row d.col k j dir cells f.rest (λ row col b l q. p row col (behind r c d.row d.col row col f.before b) l q))
+    (columns_rise R C d.row d.col k j dir cells f.rest (λ row col b l q. p row col (before_trans r c d.row d.col row col f.before b) l q))
   where
     later : (row col : ℕ) → d.col ≡ col → ((d.row < row) ⊎ ((d.row ≡ row) × (d.col < col))) → d.row < row
     later row col e (inl b) = b
@@ -235,7 +235,7 @@ columns_rise R C r c k j dir (d ∷ cells) h p =
     go (inr e) a b = ap (λ (x : Bool). rises_above k (if x then spot_of Column dir d ∷ spots_in Column dir cells j else spots_in Column dir cells j)) e.0 ∙ b
 
 -- what holds of each cell
-pub each_cell : (P : Cell → Type 0) (R C r c : ℕ) (cells : List Cell) → IsTrue (cells_behind R C r c cells) →
+pub each_cell : (P : Cell → Type 0) (R C r c : ℕ) (cells : List Cell) → IsTrue (cells_after R C r c cells) →
     ((d : Cell) → 1 ≤ d.row → d.row ≤ R → 1 ≤ d.col → d.col ≤ C → P d) → All P cells
 each_cell P R C r c [] h p = All-nil P
 each_cell P R C r c (d ∷ cells) h p =
@@ -318,39 +318,39 @@ before_place : (r c row col : ℕ) → ((r < row) ⊎ ((r ≡ row) × (c < col))
 before_place r c row col (inl h) = ap (λ (b : Bool). b || (r == row && nat_lt c col)) (lt-ltb r row h)
 before_place r c row col (inr h) = or_right (nat_lt r row) (r == row && nat_lt c col) (and_from (r == row) (nat_lt c col) (eq-eqb r row h.0) (lt-ltb c col h.1))
 
-row_behind : (R C r c k l : ℕ) (spots : List Spot) (more : List Cell) → 1 ≤ k → k ≤ R → ((r < k) ⊎ ((r ≡ k) × (c ≤ l))) → IsTrue (rises_above l spots) →
-    All (λ s. s.at ≤ C) spots → ((r' c' : ℕ) → r' ≤ k → IsTrue (cells_behind R C r' c' more)) → IsTrue (cells_behind R C r c (row_cells k spots ++ more))
-row_behind R C r c k l [] more low high b rise wide m = m r c (at_most b)
+row_after : (R C r c k l : ℕ) (spots : List Spot) (more : List Cell) → 1 ≤ k → k ≤ R → ((r < k) ⊎ ((r ≡ k) × (c ≤ l))) → IsTrue (rises_above l spots) →
+    All (λ s. s.at ≤ C) spots → ((r' c' : ℕ) → r' ≤ k → IsTrue (cells_after R C r' c' more)) → IsTrue (cells_after R C r c (row_cells k spots ++ more))
+row_after R C r c k l [] more low high b rise wide m = m r c (at_most b)
   where
     at_most : ((r < k) ⊎ ((r ≡ k) × (c ≤ l))) → r ≤ k
     at_most (inl h) = omega (arith, h)
     at_most (inr h) = omega (arith, h)
-row_behind R C r c k l (s ∷ spots) more low high b rise wide m =
+row_after R C r c k l (s ∷ spots) more low high b rise wide m =
     let p = and_parts (nat_lt l s.at) (not (is_zero s.value) && rises_above s.at spots) rise in
     let q = and_parts (not (is_zero s.value)) (rises_above s.at spots) p.1 in
     let above : l < s.at = ltb-true l s.at p.0 in
     let within : s.at ≤ C = All-head (λ z. z.at ≤ C) s spots wide in
-    and_from (place_before r c k s.at) (is_within R C k s.at && (not (is_zero s.value) && cells_behind R C k s.at (row_cells k spots ++ more))) (before_place r c k s.at (next b above))
-    (and_from (is_within R C k s.at) (not (is_zero s.value) && cells_behind R C k s.at (row_cells k spots ++ more))
+    and_from (place_before r c k s.at) (is_within R C k s.at && (not (is_zero s.value) && cells_after R C k s.at (row_cells k spots ++ more))) (before_place r c k s.at (next b above))
+    (and_from (is_within R C k s.at) (not (is_zero s.value) && cells_after R C k s.at (row_cells k spots ++ more))
     (and_from (nat_lt 0 k) (nat_le k R && (nat_lt 0 s.at && nat_le s.at C)) (lt-ltb 0 k (omega (arith, low)))
     (and_from (nat_le k R) (nat_lt 0 s.at && nat_le s.at C) (le-leb k R high)
     (and_from (nat_lt 0 s.at) (nat_le s.at C) (lt-ltb 0 s.at (omega (arith, above))) (le-leb s.at C within))))
-    (and_from (not (is_zero s.value)) (cells_behind R C k s.at (row_cells k spots ++ more)) q.0
-    (row_behind R C k s.at k s.at spots more low high (inr (refl, omega arith)) q.1 (All-tail (λ z. z.at ≤ C) s spots wide) m)))
+    (and_from (not (is_zero s.value)) (cells_after R C k s.at (row_cells k spots ++ more)) q.0
+    (row_after R C k s.at k s.at spots more low high (inr (refl, omega arith)) q.1 (All-tail (λ z. z.at ≤ C) s spots wide) m)))
   where
     next : ((r < k) ⊎ ((r ≡ k) × (c ≤ l))) → l < s.at → (r < k) ⊎ ((r ≡ k) × (c < s.at))
     next (inl h) a = inl h
     next (inr h) a = inr (h.0, omega (arith, h, a))
 
-rows_behind : (R C r c k : ℕ) (rows : List (List Spot)) → r < k → k + length rows ≤ R + 1 → All (IsVector C) rows → IsTrue (cells_behind R C r c (cells_from k rows))
-rows_behind R C r c k [] h l all = refl
-rows_behind R C r c k (q ∷ rows) h l all =
+rows_after : (R C r c k : ℕ) (rows : List (List Spot)) → r < k → k + length rows ≤ R + 1 → All (IsVector C) rows → IsTrue (cells_after R C r c (cells_from k rows))
+rows_after R C r c k [] h l all = refl
+rows_after R C r c k (q ∷ rows) h l all =
     let v = All-head (IsVector C) q rows all in
-    row_behind R C r c k 0 q (cells_from (suc k) rows) (omega (arith, h)) (omega (arith, l)) (inl h) v.sparse v.places
-    (λ r' c' m. rows_behind R C r' c' (suc k) rows (omega (arith, m)) (omega (arith, l)) (All-tail (IsVector C) q rows all))
+    row_after R C r c k 0 q (cells_from (suc k) rows) (omega (arith, h)) (omega (arith, l)) (inl h) v.sparse v.places
+    (λ r' c' m. rows_after R C r' c' (suc k) rows (omega (arith, m)) (omega (arith, l)) (All-tail (IsVector C) q rows all))
 
 pub cells_from-are : (C : ℕ) (rows : List (List Spot)) → All (IsVector C) rows → IsTrue (are_cells (length rows) C (cells_from 1 rows))
-cells_from-are C rows h = rows_behind (length rows) C 0 0 1 rows (omega arith) (omega arith) h
+cells_from-are C rows h = rows_after (length rows) C 0 0 1 rows (omega arith) (omega arith) h
 
 -- their entries
 row-coefficient : (k j : ℕ) (spots : List Spot) (more : List Cell) → coefficient more k j ≡ zero_ℚ → coefficient (row_cells k spots ++ more) k j ≡ value_at (map entry_of spots) j

@@ -95,14 +95,14 @@ no_clash key keys s k (t ∷ earlier) h below =
     or_from (clashes s t) (list_any (clashes s) earlier) (false_from_ne_true (clashes s t) (λ e. let same : key s ≡ key t = keys.same s t e in absurd (omega arith))) (no_clash key keys s k earlier h parts.1)
 
 -- what stands below does not matter
-apart_behind : (key : Statement → ℕ) → Keys key → (k : ℕ) (earlier done xs : List Statement) → is_below key k earlier ≡ true → has_key key k xs ≡ true → apart done xs ≡ true → apart (earlier ++ done) xs ≡ true
-apart_behind key keys k earlier done [] below keyed h = refl
-apart_behind key keys k earlier done (x ∷ xs) below keyed h =
+apart_after : (key : Statement → ℕ) → Keys key → (k : ℕ) (earlier done xs : List Statement) → is_below key k earlier ≡ true → has_key key k xs ≡ true → apart done xs ≡ true → apart (earlier ++ done) xs ≡ true
+apart_after key keys k earlier done [] below keyed h = refl
+apart_after key keys k earlier done (x ∷ xs) below keyed h =
     let parts = and_parts (not (list_any (clashes x) done)) (apart (done ++ x ∷ []) xs) h in
     let of = and_parts (key x == k) (has_key key k xs) keyed in
     and_from _ _
     (ap not (list_any-append (clashes x) earlier done ∙ ap (λ b. b || list_any (clashes x) done) (no_clash key keys x k earlier of.0 below)) ∙ parts.0)
-    (ap (λ (l : List Statement). apart l xs) (append_assoc earlier done (x ∷ [])) ∙ apart_behind key keys k earlier (done ++ x ∷ []) xs below of.1 parts.1)
+    (ap (λ (l : List Statement). apart l xs) (append_assoc earlier done (x ∷ [])) ∙ apart_after key keys k earlier (done ++ x ∷ []) xs below of.1 parts.1)
 
 pub record Numbered (key : Statement → ℕ) (g : ℕ → List Statement) : Type 0 where
   pub keyed : (k : ℕ) → has_key key k (g k) ≡ true
@@ -126,7 +126,7 @@ pub apart_numbers : (key : Statement → ℕ) → Keys key → (g : ℕ → List
 apart_numbers key keys g numbered a zero earlier below = refl
 apart_numbers key keys g numbered a (suc n) earlier below =
     apart-append earlier (g a) (flat_map g (numbers_from (suc a) n))
-    ∙ and_from _ _ (ap (λ (l : List Statement). apart l (g a)) (sym (append-nil earlier)) ∙ apart_behind key keys a earlier [] (g a) below (numbered.keyed a) (numbered.each a))
+    ∙ and_from _ _ (ap (λ (l : List Statement). apart l (g a)) (sym (append-nil earlier)) ∙ apart_after key keys a earlier [] (g a) below (numbered.keyed a) (numbered.each a))
     (apart_numbers key keys g numbered (suc a) n (earlier ++ g a)
     (list_all-append (λ s. nat_lt (key s) (suc a)) earlier (g a) ∙ and_from _ _ (below_next key a earlier below) (below_own key a (g a) (numbered.keyed a))))
 

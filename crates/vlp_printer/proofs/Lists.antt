@@ -3,7 +3,7 @@ use Rattle.std.proofs.Common.{◌≡◌, refl, ℕ, zero, suc, ◌+◌, ◌-◌,
 use Rattle.std.specs.List.{flat_map, find}
 use Rattle.std.proofs.lemmas.List.{append_assoc}
 use Rattle.vlp_problem.specs.Sides.{numbers_from}
-use Rattle.vlp_problem.proofs.Pieces.{flat_map-one, behind_none}
+use Rattle.vlp_problem.proofs.Pieces.{flat_map-one, after_none}
 
 numbers-push : (k n : ℕ) → numbers_from k (suc n) ≡ numbers_from k n ++ (k + n) ∷ []
 numbers-push k zero = ap (λ (m : ℕ). m ∷ []) (omega arith)
@@ -18,8 +18,8 @@ flat_map_numbers f n =
     ∙ flat_map-one f (numbers_from 1 n) (1 + n) ∙ ap (λ (m : ℕ). flat_map f (numbers_from 1 n) ++ f m) last
 
 -- the first of two parts, or the second
-pub found_behind : {A : Type 0} (p : A → Bool) (xs ys : List A) (r : Option A) → find p xs ≡ None → find p ys ≡ r → find p (xs ++ ys) ≡ r
-found_behind p xs ys r none now = behind_none p xs ys none ∙ now
+pub found_after : {A : Type 0} (p : A → Bool) (xs ys : List A) (r : Option A) → find p xs ≡ None → find p ys ≡ r → find p (xs ++ ys) ≡ r
+found_after p xs ys r none now = after_none p xs ys none ∙ now
 
 default_free : {A : Type 0} (xs : List A) (i : ℕ) (d e : A) → i < length xs → get_or xs i d ≡ get_or xs i e
 default_free [] i d e h = absurd (omega arith)

@@ -23,11 +23,11 @@ all_weaker p q weaker (x ∷ xs) h =
     and_from (q x) (list_all q xs) (weaker x parts.0) (all_weaker p q weaker xs parts.1)
 
 -- after a piece in which no byte passes
-cut_behind : (p : ℕ → Bool) (piece : List ℕ) (b : ℕ) (rest : List ℕ) → list_all (λ c. not (p c)) piece ≡ true → p b ≡ true → slice_split p (piece ++ b ∷ rest) ≡ piece ∷ slice_split p rest
-cut_behind p [] b rest h k = slice_split-cons_yes p b rest k
-cut_behind p (c ∷ piece) b rest h k =
+cut_after : (p : ℕ → Bool) (piece : List ℕ) (b : ℕ) (rest : List ℕ) → list_all (λ c. not (p c)) piece ≡ true → p b ≡ true → slice_split p (piece ++ b ∷ rest) ≡ piece ∷ slice_split p rest
+cut_after p [] b rest h k = slice_split-cons_yes p b rest k
+cut_after p (c ∷ piece) b rest h k =
     let parts = and_parts (not (p c)) (list_all (λ d. not (p d)) piece) h in
-    slice_split-cons_no p c (piece ++ b ∷ rest) (not-true (p c) parts.0) ∙ ap (onto_first c) (cut_behind p piece b rest parts.1 k)
+    slice_split-cons_no p c (piece ++ b ∷ rest) (not-true (p c) parts.0) ∙ ap (onto_first c) (cut_after p piece b rest parts.1 k)
 
 uncut : (p : ℕ → Bool) (piece : List ℕ) → list_all (λ c. not (p c)) piece ≡ true → slice_split p piece ≡ piece ∷ []
 uncut p [] h = refl
@@ -50,7 +50,7 @@ words_back (w ∷ []) h =
 words_back (w ∷ v ∷ words) h =
     let parts = and_parts (is_plain w) (list_all is_plain (v ∷ words)) h in
     let word = and_parts (nat_lt 0 (length w)) (list_all (λ b. nat_lt 32 b) w) parts.0 in
-    ap (filter (λ u. nat_lt 0 (length u))) (cut_behind is_blank w 32 (words_text (v ∷ words)) (unblank w word.1) refl)
+    ap (filter (λ u. nat_lt 0 (length u))) (cut_after is_blank w 32 (words_text (v ∷ words)) (unblank w word.1) refl)
     ∙ keep_first w (slice_split is_blank (words_text (v ∷ words))) (ltb-true 0 (length w) word.0)
     ∙ ap (λ (l : List (List ℕ)). w ∷ l) (words_back (v ∷ words) parts.1)
 
@@ -81,7 +81,7 @@ whole piece h = cond-false (slice_index piece (length piece - 1) == 13) (take (l
 line_cut : (words : List (List ℕ)) (rest : List ℕ) → list_all is_plain words ≡ true → slice_split is_line_feed (line_text words ++ rest) ≡ words_text words ∷ slice_split is_line_feed rest
 line_cut words rest h =
     ap (slice_split is_line_feed) (append_assoc (words_text words) (10 ∷ []) rest)
-    ∙ cut_behind is_line_feed (words_text words) 10 rest (all_weaker (λ b. nat_lt 31 b) (λ b. not (b == 10)) (λ b k. other b k) (words_text words) (printable words h)) refl
+    ∙ cut_after is_line_feed (words_text words) 10 rest (all_weaker (λ b. nat_lt 31 b) (λ b. not (b == 10)) (λ b k. other b k) (words_text words) (printable words h)) refl
   where
     other : (b : ℕ) → nat_lt 31 b ≡ true → not (b == 10) ≡ true
     other b k = grind (arith, nat_tests)

@@ -7,7 +7,7 @@ use Rattle.std.proofs.lemmas.List.Folds.{list_all-append, list_any-append}
 use Rattle.exact_field.specs.Rational.{ℚ}
 use Rattle.exact_field.specs.Vector.{entry}
 use Rattle.frac128.specs.Sparse.{is_zero}
-use Rattle.vlp_problem.specs.Cells.{place_before, rises_behind}
+use Rattle.vlp_problem.specs.Cells.{place_before, rises_after}
 use Rattle.vlp_reader.specs.Grammar.{same_matrix, same_axis}
 use Rattle.vlp_problem.specs.Sides.{numbers_from, is_unsaid}
 use Rattle.vlp_reader.specs.declared.fault.FileKind.{FileKind}
@@ -200,11 +200,11 @@ before_trans a b c d e f h k = grind (arith, nat_tests)
 before_other : (a b c d : ℕ) → place_before a b c d ≡ true → (c == a && d == b) ≡ false
 before_other a b c d h = grind (arith, nat_tests)
 
-cells_apart : (m : Matrix) (row col : ℕ) (cells : List Cell) (earlier : List Statement) → rises_behind row col cells ≡ true
+cells_apart : (m : Matrix) (row col : ℕ) (cells : List Cell) (earlier : List Statement) → rises_after row col cells ≡ true
     → ((i j : ℕ) (number : Result ℚ FileKind) → place_before row col i j ≡ true → list_any (clashes (Entry m i j number)) earlier ≡ false) → apart earlier (cells_say m cells) ≡ true
 cells_apart m row col [] earlier rise free = refl
 cells_apart m row col (c ∷ cells) earlier rise free =
-    let parts = and_parts (place_before row col c.row c.col) (rises_behind c.row c.col cells) rise in
+    let parts = and_parts (place_before row col c.row c.col) (rises_after c.row c.col cells) rise in
     and_from _ _ (ap not (free c.row c.col (Ok c.value) parts.0))
     (cells_apart m c.row c.col cells (earlier ++ Entry m c.row c.col (Ok c.value) ∷ []) parts.1
     (λ i j number before. list_any-append (clashes (Entry m i j number)) earlier (Entry m c.row c.col (Ok c.value) ∷ [])
@@ -214,7 +214,7 @@ cells_apart m row col (c ∷ cells) earlier rise free =
     off true b h = h
     off false b h = refl
 
-pub part_numbered : (problem : Problem) → rises_behind 0 0 problem.a ≡ true → rises_behind 0 0 problem.o ≡ true → Numbered kind (part problem)
+pub part_numbered : (problem : Problem) → rises_after 0 0 problem.a ≡ true → rises_after 0 0 problem.o ≡ true → Numbered kind (part problem)
 part_numbered problem a o = record { keyed = λ k. part_key problem k; each = λ k. each k }
   where
     each : (k : ℕ) → apart [] (part problem k) ≡ true
@@ -234,5 +234,5 @@ part_numbered problem a o = record { keyed = λ k. part_key problem k; each = λ
     each (suc (suc (suc (suc (suc (suc (suc zero))))))) = refl
     each (suc (suc (suc (suc (suc (suc (suc (suc k)))))))) = refl
 
-pub statements_apart : (problem : Problem) → rises_behind 0 0 problem.a ≡ true → rises_behind 0 0 problem.o ≡ true → apart [] (statements problem) ≡ true
+pub statements_apart : (problem : Problem) → rises_after 0 0 problem.a ≡ true → rises_after 0 0 problem.o ≡ true → apart [] (statements problem) ≡ true
 statements_apart problem a o = apart_alone kind kinds (part problem) (part_numbered problem a o) 0 8

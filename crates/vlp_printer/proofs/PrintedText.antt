@@ -9,7 +9,7 @@ use Rattle.exact_field.specs.Rational.{ℚ, zero_ℚ}
 use Rattle.exact_field.specs.Vector.{entry, are_wide}
 use Rattle.frac128.specs.Sparse.{is_zero}
 use Rattle.src_sink.specs.Texts.{line_text}
-use Rattle.vlp_problem.specs.Cells.{place_before, is_within, cells_behind}
+use Rattle.vlp_problem.specs.Cells.{place_before, is_within, cells_after}
 use Rattle.vlp_problem.specs.Cones.{are_vectors, cone_fits, duality_fits}
 use Rattle.vlp_reader.specs.Grammar.{matrix_rows, matrix_cols, axis_length}
 use Rattle.vlp_problem.specs.Sides.{numbers_from, is_unsaid}
@@ -138,12 +138,12 @@ decimals problem h =
 abbrev fits : ℕ → ℕ → Cell → Bool
 fits rows cols c = is_within rows cols c.row c.col && is_decimal c.value
 
-cells_fit : (rows cols i j : ℕ) (cells : List Cell) → cells_behind rows cols i j cells ≡ true → list_all (λ c. is_decimal c.value) cells ≡ true → list_all (fits rows cols) cells ≡ true
+cells_fit : (rows cols i j : ℕ) (cells : List Cell) → cells_after rows cols i j cells ≡ true → list_all (λ c. is_decimal c.value) cells ≡ true → list_all (fits rows cols) cells ≡ true
 cells_fit rows cols i j [] h d = refl
 cells_fit rows cols i j (c ∷ cells) h d =
-    let one = and_parts (place_before i j c.row c.col) (is_within rows cols c.row c.col && (not (is_zero c.value) && cells_behind rows cols c.row c.col cells)) h in
-    let two = and_parts (is_within rows cols c.row c.col) (not (is_zero c.value) && cells_behind rows cols c.row c.col cells) one.1 in
-    let three = and_parts (not (is_zero c.value)) (cells_behind rows cols c.row c.col cells) two.1 in
+    let one = and_parts (place_before i j c.row c.col) (is_within rows cols c.row c.col && (not (is_zero c.value) && cells_after rows cols c.row c.col cells)) h in
+    let two = and_parts (is_within rows cols c.row c.col) (not (is_zero c.value) && cells_after rows cols c.row c.col cells) one.1 in
+    let three = and_parts (not (is_zero c.value)) (cells_after rows cols c.row c.col cells) two.1 in
     let of = and_parts (is_decimal c.value) (list_all (λ e. is_decimal e.value) cells) d in
     and_from _ _ (and_from _ _ two.0 of.0) (cells_fit rows cols c.row c.col cells three.1 of.1)
 

@@ -7,7 +7,7 @@ use Rattle.std.proofs.lemmas.Bool.{and_parts, cases_Bool, cond-true, cond-false}
 use Rattle.std.proofs.lemmas.Bool.Decides.{nat_tests}
 use Rattle.std.proofs.lemmas.List.Elements.{All-nil, All-cons, All-append}
 use Rattle.exact_field.specs.Rational.{ℚ, zero_ℚ}
-use Rattle.vlp_problem.specs.Cells.{coefficient, place_before, rises_behind}
+use Rattle.vlp_problem.specs.Cells.{coefficient, place_before, rises_after}
 use Rattle.vlp_reader.specs.FirstFault.{file_lines, Reads}
 use Rattle.vlp_reader.specs.Grammar.{first_given, given_entry, given_bound, same_matrix, same_axis, value_at, bound_at, column_of, cone_of, duality_of}
 use Rattle.vlp_reader.specs.Lines.{words_of, letter}
@@ -29,7 +29,7 @@ use Rattle.vlp_reader.specs.declared.statement.Matrix.{Matrix}
 use Rattle.vlp_reader.specs.declared.statement.Matrix.TheVariants.{Constraints, Objectives, ConeVectors, Duality}
 use Rattle.vlp_reader.specs.declared.statement.Statement.{Statement}
 use Rattle.vlp_reader.specs.declared.statement.Statement.TheVariants.{Silent, Heading, Entry, Limit, End}
-use Rattle.vlp_problem.proofs.CellPlaces.{coefficient_behind, not_before_itself, rises_from_cells}
+use Rattle.vlp_problem.proofs.CellPlaces.{coefficient_after, not_before_itself, rises_from_cells}
 use Rattle.vlp_printer.specs.Printing.{HasWord}
 use Rattle.vlp_printer.proofs.WordNumbers.{own_word, zero_decimal}
 
@@ -219,14 +219,14 @@ itself : (row col : ℕ) → (row == row && col == col) ≡ true
 itself row col = grind (arith, nat_tests)
 
 -- where each place of a matrix has a word, each cell has
-cell_words : (i j : ℕ) (cells : List Cell) → IsTrue (rises_behind i j cells) → ((row col : ℕ) → HasWord (coefficient cells row col)) → All HasWord (map (λ c. c.value) cells)
+cell_words : (i j : ℕ) (cells : List Cell) → IsTrue (rises_after i j cells) → ((row col : ℕ) → HasWord (coefficient cells row col)) → All HasWord (map (λ c. c.value) cells)
 cell_words i j [] h each = All-nil HasWord
 cell_words i j (c ∷ cells) h each =
-    let parts = and_parts (place_before i j c.row c.col) (rises_behind c.row c.col cells) h in
+    let parts = and_parts (place_before i j c.row c.col) (rises_after c.row c.col cells) h in
     All-cons HasWord c.value (map (λ d. d.value) cells)
     (subst HasWord (cond-true (c.row == c.row && c.col == c.col) c.value (coefficient cells c.row c.col) (itself c.row c.col)) (each c.row c.col))
     (cell_words c.row c.col cells parts.1 (λ row col. elim (cases_Bool (c.row == row && c.col == col)) [
-      | inl at ↦ subst HasWord (sym (coefficient_behind c.row c.col row col cells parts.1 (not_before_itself c.row c.col row col at))) zero_word
+      | inl at ↦ subst HasWord (sym (coefficient_after c.row c.col row col cells parts.1 (not_before_itself c.row c.col row col at))) zero_word
       | inr off ↦ subst HasWord (cond-false (c.row == row && c.col == col) c.value (coefficient cells row col) off) (each row col)
     ]))
 

@@ -7,7 +7,7 @@ use Rattle.std.proofs.lemmas.List.{append_assoc, append-nil, length-append, leng
 use Rattle.src_sink.specs.Texts.{words_text, line_text}
 use Rattle.vlp_problem.specs.Cells.{is_within}
 use Rattle.vlp_problem.specs.Cones.{cone_fits}
-use Rattle.vlp_reader.specs.FirstFault.{is_end, ends, looked_at, file_lines, Passes, fault_behind, HasNoFault, Reads}
+use Rattle.vlp_reader.specs.FirstFault.{is_end, ends, looked_at, file_lines, Passes, fault_after, HasNoFault, Reads}
 use Rattle.vlp_reader.specs.Grammar.{first_given, given_sizes, given_entry, given_bound, line_fault, words_fault, statement_fault, sizes_fault, must, closing_fault, counts_fit, are_positive, are_within_limits, cone_count, cone_entries, some_vector, matrix_rows, matrix_cols, axis_length, Gives}
 use Rattle.vlp_reader.specs.Lines.{lines_of, words_of}
 use Rattle.vlp_reader.specs.Statements.{statement_on, words_statement}
@@ -217,7 +217,7 @@ reads_back problem words limits =
     let pass : Passes texts (length texts) =
     passes_all sizes (first ∷ []) said.lines (body problem) said.each first_passes
     (ap (λ (s : Statement). first_given given_sizes (s ∷ [])) first_says) (ap (λ (s : Statement). apart (s ∷ []) (body problem)) first_says ∙ free) in
-    let closed : fault_behind texts ≡ None =
+    let closed : fault_after texts ≡ None =
     ap (λ (l : List Statement). closing_fault (first_given given_sizes l) l) says ∙ ap (λ o. closing_fault o (statements problem)) (sizes_given problem) ∙ passed (counts_fit sizes (statements problem)) CountWrong (counts_back problem) in
     let all : map statement_on (file_lines (problem_text problem)) ≡ statements problem = ap (map statement_on) looked ∙ says in
     record {

@@ -185,12 +185,12 @@ first_without_word [] q h = absurd (none-some q h)
 first_without_word (x ∷ numbers) q h = elim (cases_Bool (wide x)) [
   | inl here ↦
       let same : x ≡ q = same_Some x q (sym (cond-true (wide x) (Some x) (find wide numbers) here) ∙ h) in
-      record { before = []; behind = numbers; place = ap (λ (p : ℚ). p ∷ numbers) same; words = All-nil HasWord; no_word = no_word q (ap is_decimal (sym same) ∙ not-true (is_decimal x) here) }
+      record { before = []; after = numbers; place = ap (λ (p : ℚ). p ∷ numbers) same; words = All-nil HasWord; no_word = no_word q (ap is_decimal (sym same) ∙ not-true (is_decimal x) here) }
   | inr later ↦
       let rest = first_without_word numbers q (sym (cond-false (wide x) (Some x) (find wide numbers) later) ∙ h) in
       record {
         before = x ∷ rest.before;
-        behind = rest.behind;
+        after = rest.after;
         place = ap (λ (l : List ℚ). x ∷ l) rest.place;
         words = All-cons HasWord x rest.before (own_word x (not-false (is_decimal x) later)) rest.words;
         no_word = rest.no_word;

@@ -107,8 +107,8 @@ abbrev pub bounds_text : List ℕ → List Bound → List ℕ
 bounds_text letter bounds = flat_map (λ k. bound_line letter k (slice_index_or bounds (k - 1) Unsaid)) (numbers_from 1 (length bounds))
 
 -- words, each after a blank
-abbrev pub behind : List (List ℕ) → List ℕ
-behind words = flat_map (λ w. 32 ∷ w) words
+abbrev pub after_blanks : List (List ℕ) → List ℕ
+after_blanks words = flat_map (λ w. 32 ∷ w) words
 
 -- the text of a problem
 abbrev pub problem_text : Problem → List ℕ
@@ -129,8 +129,8 @@ IsWithinLimits problem = are_within_limits (printed_sizes problem) ≡ true
 -- a number is the first of these that is the value of no word
 pub record IsFirstWithoutWord (numbers : List ℚ) (q : ℚ) : Type 0 where
   pub before : List ℚ
-  pub behind : List ℚ
-  pub place : numbers ≡ before ++ q ∷ behind
+  pub after : List ℚ
+  pub place : numbers ≡ before ++ q ∷ after
   pub words : All HasWord before
   pub no_word : ¬ HasWord q
 

@@ -5,7 +5,7 @@ ghost use Rattle.src_sink.specs.Texts.{line_text};
 ghost use Rattle.vlp_problem.specs.Sides.{is_unsaid};
 ghost use Rattle.vlp_printer.specs.Decimal.{number_text};
 ghost use Rattle.vlp_problem.specs.Values.{cone_vectors, duality_entries};
-ghost use Rattle.vlp_printer.specs.Printing.{behind, bound_line, bound_words, bounds_text, cells_text, cone_words, direction_word, duality_text, entry_count, entry_line, heading_words, vector_entry, vector_text, vectors_text, Prints, RefusesText};
+ghost use Rattle.vlp_printer.specs.Printing.{after_blanks, bound_line, bound_words, bounds_text, cells_text, cone_words, direction_word, duality_text, entry_count, entry_line, heading_words, vector_entry, vector_text, vectors_text, Prints, RefusesText};
 
 use crate::decimal::Decimal;
 use crate::fault::PrintFault;
@@ -118,7 +118,7 @@ fn put_vectors(vectors: &Vectors, into: &mut Bytes) -> Result<(), NoMemory>
 
 /// Appends the type of bounds and its numbers, a blank before each.
 fn put_bound_words(bound: &Bound, into: &mut Bytes) -> Result<(), NoMemory>
-    ensures { OnOk result (into.new ≡ into.old ++ behind (bound_words bound.now)) }
+    ensures { OnOk result (into.new ≡ into.old ++ after_blanks (bound_words bound.now)) }
 {
     match bound {
         Bound::Unsaid => Ok(()),
@@ -202,7 +202,7 @@ fn entry_total(vectors: &Vectors) -> u128
 
 /// Appends the words of a cone and the numbers of its vectors and of their entries.
 fn put_cone(cone: &Cone, into: &mut Bytes) -> Result<(), NoMemory>
-    ensures { OnOk result (into.new ≡ into.old ++ behind (cone_words cone.now)) }
+    ensures { OnOk result (into.new ≡ into.old ++ after_blanks (cone_words cone.now)) }
 {
     let (word, vectors) = match cone {
         Cone::Orthant => return Ok(()),

@@ -26,8 +26,8 @@ flat_map_at {X = X} {A = A} f xs i x h e =
     ∙ ap (λ (y : X). flat_map f (take i xs) ++ (f y ++ flat_map f (drop (suc i) xs))) (sym e)
 
 -- none is found in the first part
-pub behind_none : {A : Type 0} (p : A → Bool) (xs ys : List A) → find p xs ≡ None → find p (xs ++ ys) ≡ find p ys
-behind_none {A = A} p xs ys none = find-append p xs ys ∙ ap (λ (o : Option A). option_or o (find p ys)) none
+pub after_none : {A : Type 0} (p : A → Bool) (xs ys : List A) → find p xs ≡ None → find p (xs ++ ys) ≡ find p ys
+after_none {A = A} p xs ys none = find-append p xs ys ∙ ap (λ (o : Option A). option_or o (find p ys)) none
 
 -- one is found in the first part
 pub found_first : {A : Type 0} (p : A → Bool) (xs ys : List A) (x : A) → find p xs ≡ Some x → find p (xs ++ ys) ≡ Some x
@@ -36,13 +36,13 @@ found_first {A = A} p xs ys x some = find-append p xs ys ∙ ap (λ (o : Option 
 -- none is found in one piece more
 pub not_yet : {X A : Type 0} (p : A → Bool) (f : X → List A) (xs : List X) (i : ℕ) (x : X) → i < length xs → x ≡ get_or xs i x → find p (flat_map f (take i xs)) ≡ None → find p (f x) ≡ None
     → find p (flat_map f (take (i + 1) xs)) ≡ None
-not_yet p f xs i x h e none now = ap (find p) (flat_map_take f xs i x h e) ∙ behind_none p (flat_map f (take i xs)) (f x) none ∙ now
+not_yet p f xs i x h e none now = ap (find p) (flat_map_take f xs i x h e) ∙ after_none p (flat_map f (take i xs)) (f x) none ∙ now
 
 -- the first piece in which one is found
 pub found_at : {X A : Type 0} (p : A → Bool) (f : X → List A) (xs : List X) (i : ℕ) (x : X) (a : A) → i < length xs → x ≡ get_or xs i x → find p (flat_map f (take i xs)) ≡ None → find p (f x) ≡ Some a
     → find p (flat_map f xs) ≡ Some a
 found_at p f xs i x a h e none now =
-    ap (find p) (flat_map_at f xs i x h e) ∙ behind_none p (flat_map f (take i xs)) (f x ++ flat_map f (drop (suc i) xs)) none
+    ap (find p) (flat_map_at f xs i x h e) ∙ after_none p (flat_map f (take i xs)) (f x ++ flat_map f (drop (suc i) xs)) none
     ∙ found_first p (f x) (flat_map f (drop (suc i) xs)) a now
 
 -- the same of the values of elements

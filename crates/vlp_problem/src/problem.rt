@@ -1,6 +1,6 @@
 //! A vector linear program.
 ghost use Rattle.std.specs.Prelude.{◌≡◌, ◌≤◌, ◌<◌, [], ◌∷◌, length, IsTrue, sum_by, count_by};
-ghost use Rattle.vlp_problem.specs.Cells.{are_cells, place_before, rises_behind, coefficient};
+ghost use Rattle.vlp_problem.specs.Cells.{are_cells, place_before, rises_after, coefficient};
 ghost use Rattle.vlp_problem.specs.Cones.{cone_fits, duality_fits};
 
 use frac128::{Frac, Vector, Vectors};
@@ -149,7 +149,7 @@ impl Cell {
 
 /// The entry of a matrix at a place, found by halving its cells.
 fn value_among(cells: &[Cell], row: u32, col: u32) -> Frac
-    requires { IsTrue (rises_behind 0 0 cells.now) }
+    requires { IsTrue (rises_after 0 0 cells.now) }
     ensures { result ≡ coefficient cells.now row col }
 {
     let at = cells.partition_point(|c| c.is_before(row, col));

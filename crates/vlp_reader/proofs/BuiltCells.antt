@@ -4,7 +4,7 @@ use Rattle.std.proofs.lemmas.Bool.{and_from, cond-true, cond-false, cond_both, c
 use Rattle.std.proofs.lemmas.Bool.Decides.{nat_tests}
 use Rattle.exact_field.specs.Rational.{ℚ, zero_ℚ}
 use Rattle.frac128.specs.Sparse.{is_zero}
-use Rattle.vlp_problem.specs.Cells.{place_before, is_within, cells_behind, are_cells, coefficient}
+use Rattle.vlp_problem.specs.Cells.{place_before, is_within, cells_after, are_cells, coefficient}
 use Rattle.vlp_problem.specs.declared.problem.Cell.{Cell}
 use Rattle.vlp_problem.proofs.Zero.{zero_is}
 
@@ -42,27 +42,27 @@ at_most : (i j row col : ℕ) → Before i j row col → i ≤ row
 at_most i j row col (above h) = omega arith
 at_most i j row col (left h k) = omega arith
 
-row_behind : (f : ℕ → ℕ → ℚ) (rows cols row k n i j : ℕ) (rest : List Cell) → 1 ≤ row → row ≤ rows → 1 ≤ k → k + n ≤ cols + 1 → Before i j row k
-    → ((x y : ℕ) → x ≤ row → cells_behind rows cols x y rest ≡ true) → cells_behind rows cols i j (row_cells f row k n rest) ≡ true
-row_behind f rows cols row k zero i j rest a b c d before more = more i j (at_most i j row k before)
-row_behind f rows cols row k (suc n) i j rest a b c d before more =
+row_after : (f : ℕ → ℕ → ℚ) (rows cols row k n i j : ℕ) (rest : List Cell) → 1 ≤ row → row ≤ rows → 1 ≤ k → k + n ≤ cols + 1 → Before i j row k
+    → ((x y : ℕ) → x ≤ row → cells_after rows cols x y rest ≡ true) → cells_after rows cols i j (row_cells f row k n rest) ≡ true
+row_after f rows cols row k zero i j rest a b c d before more = more i j (at_most i j row k before)
+row_after f rows cols row k (suc n) i j rest a b c d before more =
     let next = row_cells f row (suc k) n rest in
-    cond_both (is_zero (f row k)) next (cell_at f row k ∷ next) (λ l. cells_behind rows cols i j l ≡ true)
-    (λ zero_value. row_behind f rows cols row (suc k) n i j rest a b (omega arith) (omega arith) (before_next i j row k before) more)
+    cond_both (is_zero (f row k)) next (cell_at f row k ∷ next) (λ l. cells_after rows cols i j l ≡ true)
+    (λ zero_value. row_after f rows cols row (suc k) n i j rest a b (omega arith) (omega arith) (before_next i j row k before) more)
     (λ some_value.
     and_from (place_before i j row k) _ (before_test i j row k before)
     (and_from (is_within rows cols row k) _ (within_test rows cols row k a b c (omega arith))
     (and_from (not (is_zero (f row k))) _ (not_from_false (is_zero (f row k)) some_value)
-    (row_behind f rows cols row (suc k) n row k rest a b (omega arith) (omega arith) (left refl (omega arith)) more))))
+    (row_after f rows cols row (suc k) n row k rest a b (omega arith) (omega arith) (left refl (omega arith)) more))))
 
-built_behind : (f : ℕ → ℕ → ℚ) (rows cols k n i j : ℕ) → 1 ≤ k → k + n ≤ rows + 1 → i < k → cells_behind rows cols i j (built_cells f cols k n) ≡ true
-built_behind f rows cols k zero i j a b c = refl
-built_behind f rows cols k (suc n) i j a b c =
-    row_behind f rows cols k 1 cols i j (built_cells f cols (suc k) n) a (omega arith) (omega arith) (omega arith) (above c)
-    (λ x y h. built_behind f rows cols (suc k) n x y (omega arith) (omega arith) (omega arith))
+built_after : (f : ℕ → ℕ → ℚ) (rows cols k n i j : ℕ) → 1 ≤ k → k + n ≤ rows + 1 → i < k → cells_after rows cols i j (built_cells f cols k n) ≡ true
+built_after f rows cols k zero i j a b c = refl
+built_after f rows cols k (suc n) i j a b c =
+    row_after f rows cols k 1 cols i j (built_cells f cols (suc k) n) a (omega arith) (omega arith) (omega arith) (above c)
+    (λ x y h. built_after f rows cols (suc k) n x y (omega arith) (omega arith) (omega arith))
 
 pub built_are_cells : (f : ℕ → ℕ → ℚ) (rows cols : ℕ) → are_cells rows cols (built_cells f cols 1 rows) ≡ true
-built_are_cells f rows cols = built_behind f rows cols 1 rows 0 0 (omega arith) (omega arith) (omega arith)
+built_are_cells f rows cols = built_after f rows cols 1 rows 0 0 (omega arith) (omega arith) (omega arith)
 
 -- ---- their entries
 other_place : (row k i j : ℕ) → (row ≡ i → k ≡ j → ⊥) → (row == i && k == j) ≡ false

@@ -1,7 +1,7 @@
 -- Each file has a first fault or none, and one alone.
 use Rattle.std.proofs.Common.{◌≡◌, refl, ℕ, zero, suc, ◌<◌, ◌≤◌, ◌⊎◌, inl, inr, List, length, Option, None, Some, unwrap_or, arith, ap, sym, ◌∙◌, subst}
 use Rattle.std.proofs.lemmas.Option.{none-some}
-use Rattle.vlp_reader.specs.FirstFault.{file_lines, fault_at, Passes, fault_behind, closing_line, FailsOnLine, FirstFault, HasNoFault, Reads}
+use Rattle.vlp_reader.specs.FirstFault.{file_lines, fault_at, Passes, fault_after, closing_line, FailsOnLine, FirstFault, HasNoFault, Reads}
 use Rattle.vlp_reader.specs.declared.fault.FileKind.{FileKind}
 use Rattle.vlp_problem.specs.declared.problem.Problem.{Problem}
 use Rattle.vlp_reader.proofs.Readings.{le_cases}
@@ -19,7 +19,7 @@ first_of lines (suc n) h = elim (first_of lines n (omega arith)) [
   | inl pass ↦ next_line lines n (omega arith) pass (fault_at lines n) refl
 ]
 
-closing_of : (bytes : List ℕ) → Passes (file_lines bytes) (length (file_lines bytes)) → (o : Option FileKind) → fault_behind (file_lines bytes) ≡ o
+closing_of : (bytes : List ℕ) → Passes (file_lines bytes) (length (file_lines bytes)) → (o : Option FileKind) → fault_after (file_lines bytes) ≡ o
     → HasNoFault (file_lines bytes) ⊎ ((line : ℕ) × (kind : FileKind) × FirstFault bytes line kind)
 closing_of bytes pass None e = inl (record { pass = pass; closed = e })
 closing_of bytes pass (Some kind) e = inr (closing_line (file_lines bytes), kind, inr (record { pass = pass; fails = e; number = refl }))
@@ -27,7 +27,7 @@ closing_of bytes pass (Some kind) e = inr (closing_line (file_lines bytes), kind
 pub fault_or_none : (bytes : List ℕ) → HasNoFault (file_lines bytes) ⊎ ((line : ℕ) × (kind : FileKind) × FirstFault bytes line kind)
 fault_or_none bytes = elim (first_of (file_lines bytes) (length (file_lines bytes)) (omega arith)) [
   | inr found ↦ inr (found.0, found.1, inl found.2)
-  | inl pass ↦ closing_of bytes pass (fault_behind (file_lines bytes)) refl
+  | inl pass ↦ closing_of bytes pass (fault_after (file_lines bytes)) refl
 ]
 
 none_or_fault : (bytes : List ℕ) (line : ℕ) (kind : FileKind) → HasNoFault (file_lines bytes) → FirstFault bytes line kind → ⊥

@@ -9,7 +9,7 @@ use Rattle.std.proofs.Math.Nat.{ℕ_set}
 use mathlib.Core.HLevel.{is_prop→PathP}
 use Rattle.exact_field.specs.Rational.{ℚ, whole, zero_ℚ}
 use Rattle.frac128.specs.Sparse.{is_zero}
-use Rattle.vlp_problem.specs.Cells.{place_before, is_within, cells_behind, are_cells, coefficient}
+use Rattle.vlp_problem.specs.Cells.{place_before, is_within, cells_after, are_cells, coefficient}
 use Rattle.vlp_problem.specs.Cones.{cone_fits, duality_fits}
 use Rattle.vlp_reader.specs.FirstFault.{file_lines, Reads}
 use Rattle.vlp_reader.specs.Grammar.{Gives}
@@ -18,7 +18,7 @@ use Rattle.vlp_reader.specs.declared.sizes.Sizes.{Sizes}
 use Rattle.vlp_reader.specs.declared.statement.Statement.{Statement}
 use Rattle.vlp_problem.specs.declared.problem.Problem.{Problem}
 use Rattle.vlp_problem.specs.declared.problem.Cell.{Cell}
-use Rattle.vlp_problem.proofs.CellPlaces.{coefficient_behind, not_before_itself, rises_from_cells}
+use Rattle.vlp_problem.proofs.CellPlaces.{coefficient_after, not_before_itself, rises_from_cells}
 
 same_cell : (c d : Cell) → c.row ≡ d.row → c.col ≡ d.col → c.value ≡ d.value → c ≡ d
 same_cell c d r k v = λ i. record { row = r i; col = k i; value = v i }
@@ -53,44 +53,44 @@ same_at_itself row col = grind (arith, nat_tests)
 at_head : (c : Cell) (cells : List Cell) → coefficient (c ∷ cells) c.row c.col ≡ c.value
 at_head c cells = cond-true (c.row == c.row && c.col == c.col) c.value (coefficient cells c.row c.col) (same_at_itself c.row c.col)
 
-pub same_cells : (rows cols i j : ℕ) (cs ds : List Cell) → IsTrue (cells_behind rows cols i j cs) → IsTrue (cells_behind rows cols i j ds)
+pub same_cells : (rows cols i j : ℕ) (cs ds : List Cell) → IsTrue (cells_after rows cols i j cs) → IsTrue (cells_after rows cols i j ds)
     → ((row col : ℕ) → coefficient cs row col ≡ coefficient ds row col) → cs ≡ ds
 same_cells rows cols i j [] [] h k e = refl
 same_cells rows cols i j [] (d ∷ ds) h k e =
-    let one = and_parts (place_before i j d.row d.col) (is_within rows cols d.row d.col && (not (is_zero d.value) && cells_behind rows cols d.row d.col ds)) k in
-    let two = and_parts (is_within rows cols d.row d.col) (not (is_zero d.value) && cells_behind rows cols d.row d.col ds) one.1 in
-    let three = and_parts (not (is_zero d.value)) (cells_behind rows cols d.row d.col ds) two.1 in
+    let one = and_parts (place_before i j d.row d.col) (is_within rows cols d.row d.col && (not (is_zero d.value) && cells_after rows cols d.row d.col ds)) k in
+    let two = and_parts (is_within rows cols d.row d.col) (not (is_zero d.value) && cells_after rows cols d.row d.col ds) one.1 in
+    let three = and_parts (not (is_zero d.value)) (cells_after rows cols d.row d.col ds) two.1 in
     absurd (not_zero d.value three.0 (sym (at_head d ds) ∙ sym (e d.row d.col)))
 same_cells rows cols i j (c ∷ cs) [] h k e =
-    let one = and_parts (place_before i j c.row c.col) (is_within rows cols c.row c.col && (not (is_zero c.value) && cells_behind rows cols c.row c.col cs)) h in
-    let two = and_parts (is_within rows cols c.row c.col) (not (is_zero c.value) && cells_behind rows cols c.row c.col cs) one.1 in
-    let three = and_parts (not (is_zero c.value)) (cells_behind rows cols c.row c.col cs) two.1 in
+    let one = and_parts (place_before i j c.row c.col) (is_within rows cols c.row c.col && (not (is_zero c.value) && cells_after rows cols c.row c.col cs)) h in
+    let two = and_parts (is_within rows cols c.row c.col) (not (is_zero c.value) && cells_after rows cols c.row c.col cs) one.1 in
+    let three = and_parts (not (is_zero c.value)) (cells_after rows cols c.row c.col cs) two.1 in
     absurd (not_zero c.value three.0 (sym (at_head c cs) ∙ e c.row c.col))
 same_cells rows cols i j (c ∷ cs) (d ∷ ds) h k e =
-    let one = and_parts (place_before i j c.row c.col) (is_within rows cols c.row c.col && (not (is_zero c.value) && cells_behind rows cols c.row c.col cs)) h in
-    let two = and_parts (is_within rows cols c.row c.col) (not (is_zero c.value) && cells_behind rows cols c.row c.col cs) one.1 in
-    let three = and_parts (not (is_zero c.value)) (cells_behind rows cols c.row c.col cs) two.1 in
-    let uno = and_parts (place_before i j d.row d.col) (is_within rows cols d.row d.col && (not (is_zero d.value) && cells_behind rows cols d.row d.col ds)) k in
-    let due = and_parts (is_within rows cols d.row d.col) (not (is_zero d.value) && cells_behind rows cols d.row d.col ds) uno.1 in
-    let tre = and_parts (not (is_zero d.value)) (cells_behind rows cols d.row d.col ds) due.1 in
+    let one = and_parts (place_before i j c.row c.col) (is_within rows cols c.row c.col && (not (is_zero c.value) && cells_after rows cols c.row c.col cs)) h in
+    let two = and_parts (is_within rows cols c.row c.col) (not (is_zero c.value) && cells_after rows cols c.row c.col cs) one.1 in
+    let three = and_parts (not (is_zero c.value)) (cells_after rows cols c.row c.col cs) two.1 in
+    let uno = and_parts (place_before i j d.row d.col) (is_within rows cols d.row d.col && (not (is_zero d.value) && cells_after rows cols d.row d.col ds)) k in
+    let due = and_parts (is_within rows cols d.row d.col) (not (is_zero d.value) && cells_after rows cols d.row d.col ds) uno.1 in
+    let tre = and_parts (not (is_zero d.value)) (cells_after rows cols d.row d.col ds) due.1 in
     elim (order_by c.row c.col d.row d.col (place_before c.row c.col d.row d.col) (place_before d.row d.col c.row c.col) refl refl) [
       | first before ↦ absurd (not_zero c.value three.0 (sym (at_head c cs) ∙ e c.row c.col ∙ past c d ds before tre.1))
       | last before ↦ absurd (not_zero d.value tre.0 (sym (at_head d ds) ∙ sym (e d.row d.col) ∙ past d c cs before three.1))
       | here r l ↦
           let heads : c ≡ d = same_cell c d r l (sym (at_head c cs) ∙ e c.row c.col ∙ ap (λ m. coefficient (d ∷ ds) m c.col) r ∙ ap (λ n. coefficient (d ∷ ds) d.row n) l ∙ at_head d ds) in
-          let rest : IsTrue (cells_behind rows cols c.row c.col ds) = subst (λ (x : Cell). IsTrue (cells_behind rows cols x.row x.col ds)) (sym heads) tre.1 in
+          let rest : IsTrue (cells_after rows cols c.row c.col ds) = subst (λ (x : Cell). IsTrue (cells_after rows cols x.row x.col ds)) (sym heads) tre.1 in
           let tails : cs ≡ ds = same_cells rows cols c.row c.col cs ds three.1 rest (λ row col.
           elim (cases_Bool (c.row == row && c.col == col)) [
-            | inl at ↦ coefficient_behind c.row c.col row col cs (rises_from_cells rows cols c.row c.col cs three.1) (not_before_itself c.row c.col row col at)
-                ∙ sym (coefficient_behind c.row c.col row col ds (rises_from_cells rows cols c.row c.col ds rest) (not_before_itself c.row c.col row col at))
+            | inl at ↦ coefficient_after c.row c.col row col cs (rises_from_cells rows cols c.row c.col cs three.1) (not_before_itself c.row c.col row col at)
+                ∙ sym (coefficient_after c.row c.col row col ds (rises_from_cells rows cols c.row c.col ds rest) (not_before_itself c.row c.col row col at))
             | inr off ↦ sym (cond-false (c.row == row && c.col == col) c.value (coefficient cs row col) off) ∙ e row col
                 ∙ ap (λ (x : Cell). coefficient (x ∷ ds) row col) (sym heads) ∙ cond-false (c.row == row && c.col == col) c.value (coefficient ds row col) off
           ]) in
           λ t. heads t ∷ tails t
     ]
   where
-    past : (c d : Cell) (ds : List Cell) → place_before c.row c.col d.row d.col ≡ true → IsTrue (cells_behind rows cols d.row d.col ds) → coefficient (d ∷ ds) c.row c.col ≡ zero_ℚ
-    past c d ds before behind = coefficient_behind c.row c.col c.row c.col (d ∷ ds) (and_from _ _ before (rises_from_cells rows cols d.row d.col ds behind)) (not_before_itself c.row c.col c.row c.col (same_at_itself c.row c.col))
+    past : (c d : Cell) (ds : List Cell) → place_before c.row c.col d.row d.col ≡ true → IsTrue (cells_after rows cols d.row d.col ds) → coefficient (d ∷ ds) c.row c.col ≡ zero_ℚ
+    past c d ds before after = coefficient_after c.row c.col c.row c.col (d ∷ ds) (and_from _ _ before (rises_from_cells rows cols d.row d.col ds after)) (not_before_itself c.row c.col c.row c.col (same_at_itself c.row c.col))
 
 -- problems with the same parts are one: what a problem says of its parts is said in one way only
 same_parts : (f g : Problem) → f.dir ≡ g.dir → f.rows ≡ g.rows → f.cols ≡ g.cols → f.objs ≡ g.objs → f.a ≡ g.a → f.o ≡ g.o → f.row_bounds ≡ g.row_bounds
@@ -124,10 +124,10 @@ same_problem : (statements : List Statement) (s : Sizes) (f g : Problem) → Giv
 same_problem statements s f g h k =
     same_parts f g (h.dir ∙ sym k.dir) (h.rows ∙ sym k.rows) (h.cols ∙ sym k.cols) (h.objs ∙ sym k.objs)
     (same_cells f.rows f.cols 0 0 f.a g.a f.a_cells
-    (subst (λ (n : ℕ). IsTrue (cells_behind n f.cols 0 0 g.a)) (k.rows ∙ sym h.rows) (subst (λ (n : ℕ). IsTrue (cells_behind g.rows n 0 0 g.a)) (k.cols ∙ sym h.cols) g.a_cells))
+    (subst (λ (n : ℕ). IsTrue (cells_after n f.cols 0 0 g.a)) (k.rows ∙ sym h.rows) (subst (λ (n : ℕ). IsTrue (cells_after g.rows n 0 0 g.a)) (k.cols ∙ sym h.cols) g.a_cells))
     (λ row col. h.a row col ∙ sym (k.a row col)))
     (same_cells f.objs f.cols 0 0 f.o g.o f.o_cells
-    (subst (λ (n : ℕ). IsTrue (cells_behind n f.cols 0 0 g.o)) (k.objs ∙ sym h.objs) (subst (λ (n : ℕ). IsTrue (cells_behind g.objs n 0 0 g.o)) (k.cols ∙ sym h.cols) g.o_cells))
+    (subst (λ (n : ℕ). IsTrue (cells_after n f.cols 0 0 g.o)) (k.objs ∙ sym h.objs) (subst (λ (n : ℕ). IsTrue (cells_after g.objs n 0 0 g.o)) (k.cols ∙ sym h.cols) g.o_cells))
     (λ row col. h.o row col ∙ sym (k.o row col)))
     (h.row_bounds ∙ sym k.row_bounds) (h.col_bounds ∙ sym k.col_bounds) (h.cone ∙ sym k.cone) (h.duality ∙ sym k.duality)
 

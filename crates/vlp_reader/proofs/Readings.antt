@@ -6,7 +6,7 @@ use Rattle.std.proofs.lemmas.List.{append-nil, append_assoc, length-append, map-
 use Rattle.std.proofs.Math.Seq.{take-append_seam}
 use Rattle.vlp_reader.specs.Drafts.{HasRead}
 use Rattle.vlp_reader.specs.Ends.{ComesFrom, end_at}
-use Rattle.vlp_reader.specs.FirstFault.{ends, looked_at, file_lines, fault_at, Passes, closing_line, FailsOnLine, FailsBehind, HasNoFault, Reads}
+use Rattle.vlp_reader.specs.FirstFault.{ends, looked_at, file_lines, fault_at, Passes, closing_line, FailsOnLine, FailsAfter, HasNoFault, Reads}
 use Rattle.vlp_reader.specs.Grammar.{first_given, given_sizes, line_fault, Gives}
 use Rattle.vlp_reader.specs.Lines.{lines_of}
 use Rattle.vlp_reader.specs.Reading.{TakesLine, ClosesOr, HasCome, EndsReading}
@@ -129,7 +129,7 @@ closes bytes all number (Ok problem) is pass line c =
       gives = subst (λ (l : List (List ℕ)). Gives (map statement_on l) c.sizes problem) (sym is) c.gives;
     }
 closes bytes all number (Err (Kind kind)) is pass line c =
-    inr (subst (λ (l : List (List ℕ)). FailsBehind l number kind) (sym is) (record { pass = pass; fails = c; number = line }))
+    inr (subst (λ (l : List (List ℕ)). FailsAfter l number kind) (sym is) (record { pass = pass; fails = c; number = line }))
 closes bytes all number (Err NoMemory) is pass line c = tt
 
 -- at an `e` line

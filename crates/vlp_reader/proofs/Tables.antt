@@ -16,7 +16,7 @@ use Rattle.std.proofs.lemmas.Nat.Gcd.{dvd-zero}
 use Rattle.exact_field.specs.Rational.{ℚ, whole, zero_ℚ, same_parts}
 use Rattle.frac128.specs.Sparse.{is_zero}
 use Rattle.vlp_problem.proofs.Zero.{zero_is}
-use Rattle.vlp_problem.specs.Cells.{place_before, is_within, cells_behind, are_cells, coefficient}
+use Rattle.vlp_problem.specs.Cells.{place_before, is_within, cells_after, are_cells, coefficient}
 use Rattle.vlp_reader.specs.Grammar.{must, wrong}
 use Rattle.vlp_reader.specs.Places.{place_cmp, given}
 use Rattle.vlp_reader.specs.declared.fault.FileKind.{FileKind}
@@ -52,30 +52,30 @@ abbrev pub AllWithinSizes : ℕ → ℕ → Values → Type 0
 AllWithinSizes rows cols es = AllByRecursion (λ e. is_within rows cols e.0.0 e.0.1 ≡ true) es
 
 -- and stands after a place
-abbrev pub AllBehind : ℕ → ℕ → Values → Type 0
-AllBehind i j es = AllByRecursion (λ e. place_cmp (i, j) e.0 ≡ Less) es
+abbrev pub AllAfter : ℕ → ℕ → Values → Type 0
+AllAfter i j es = AllByRecursion (λ e. place_cmp (i, j) e.0 ≡ Less) es
 
-behind_keys : (i j : ℕ) (es : Values) → AllByRecursion (λ y. place_cmp (i, j) y ≡ Less) (keys_of es) → AllBehind i j es
-behind_keys i j [] h = tt
-behind_keys i j (e ∷ es) h = (h.0, behind_keys i j es h.1)
+after_keys : (i j : ℕ) (es : Values) → AllByRecursion (λ y. place_cmp (i, j) y ≡ Less) (keys_of es) → AllAfter i j es
+after_keys i j [] h = tt
+after_keys i j (e ∷ es) h = (h.0, after_keys i j es h.1)
 
-sorted_first : (e : (ℕ × ℕ) × ℚ) (es : Values) → IsStrictlySortedBy place_cmp (keys_of (e ∷ es)) → AllBehind e.0.0 e.0.1 es × IsStrictlySortedBy place_cmp (keys_of es)
+sorted_first : (e : (ℕ × ℕ) × ℚ) (es : Values) → IsStrictlySortedBy place_cmp (keys_of (e ∷ es)) → AllAfter e.0.0 e.0.1 es × IsStrictlySortedBy place_cmp (keys_of es)
 unfolding IsStrictlySortedBy
-sorted_first e es h = (behind_keys e.0.0 e.0.1 es h.0, h.1)
+sorted_first e es h = (after_keys e.0.0 e.0.1 es h.0, h.1)
 
-pub all_cells : (rows cols i j : ℕ) (es : Values) → IsStrictlySortedBy place_cmp (keys_of es) → AllBehind i j es → AllWithinSizes rows cols es → cells_behind rows cols i j (cells_of es) ≡ true
+pub all_cells : (rows cols i j : ℕ) (es : Values) → IsStrictlySortedBy place_cmp (keys_of es) → AllAfter i j es → AllWithinSizes rows cols es → cells_after rows cols i j (cells_of es) ≡ true
 all_cells rows cols i j [] s b w = refl
 all_cells rows cols i j (e ∷ es) s b w =
     let first = sorted_first e es s in
     let cell : Cell = record { row = e.0.0; col = e.0.1; value = e.1 } in
-    cond_both (is_zero e.1) (cells_of es) (cell ∷ cells_of es) (λ l. cells_behind rows cols i j l ≡ true)
+    cond_both (is_zero e.1) (cells_of es) (cell ∷ cells_of es) (λ l. cells_after rows cols i j l ≡ true)
     (λ zero_value. all_cells rows cols i j es first.1 b.1 w.1)
     (λ some_value.
     and_from (place_before i j e.0.0 e.0.1) _ (less_before i j e.0.0 e.0.1 b.0)
     (and_from (is_within rows cols e.0.0 e.0.1) _ w.0
     (and_from (not (is_zero e.1)) _ (not_from_false (is_zero e.1) some_value) (all_cells rows cols e.0.0 e.0.1 es first.1 first.0 w.1))))
 
-from_within : (rows cols : ℕ) (es : Values) → AllWithinSizes rows cols es → AllBehind 0 0 es
+from_within : (rows cols : ℕ) (es : Values) → AllWithinSizes rows cols es → AllAfter 0 0 es
 from_within rows cols [] w = tt
 from_within rows cols (e ∷ es) w = (from_start rows cols e.0.0 e.0.1 w.0, from_within rows cols es w.1)
 
@@ -94,7 +94,7 @@ are_cells_of rows cols es s h =
     all_cells rows cols 0 0 es s (from_within rows cols es within) within
 
 -- nothing is at a place that all stand after
-none_at : (i j : ℕ) (es : Values) → AllBehind i j es → lookup (is_at (place_cmp (i, j))) es ≡ None
+none_at : (i j : ℕ) (es : Values) → AllAfter i j es → lookup (is_at (place_cmp (i, j))) es ≡ None
 none_at i j [] b = refl
 none_at i j (e ∷ es) b = cond-false (is_eq (place_cmp (i, j) e.0)) (Some e.1) (lookup (is_at (place_cmp (i, j))) es) (ap is_eq b.0) ∙ none_at i j es b.1
 

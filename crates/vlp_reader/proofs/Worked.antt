@@ -22,7 +22,7 @@ faults = record { long = refl; unknown_first = refl; too_early = refl; too_early
 
 closing : ClosingExamples
 unfolding whole
-closing = record { first_end = refl; nothing = refl; no_line = refl; behind = refl; at_end = refl; zeros_count = refl; too_many = refl; with_duality = refl; without_duality = refl; other_count = refl }
+closing = record { first_end = refl; nothing = refl; no_line = refl; after = refl; at_end = refl; zeros_count = refl; too_many = refl; with_duality = refl; without_duality = refl; other_count = refl }
 
 pub examples : Examples
 examples = record { numbers = numbers; lines = lines; faults = faults; closing = closing }

@@ -1,7 +1,7 @@
 -- Worked examples of the grammar, each of which would fail if a definition were wrong.
 use Rattle.std.specs.Prelude.{◌≡◌, ℕ, ◌^◌, pos, negsuc, codes, true, false, Ok, Err, List, [], ◌∷◌, ◌++◌, replicate, None, Some}
 use Rattle.exact_field.specs.Rational.{whole, fraction, zero_ℚ}
-use Rattle.vlp_reader.specs.FirstFault.{looked_at, closing_line, fault_behind}
+use Rattle.vlp_reader.specs.FirstFault.{looked_at, closing_line, fault_after}
 use Rattle.vlp_reader.specs.Grammar.{line_fault}
 use Rattle.vlp_reader.specs.Lines.{lines_of, words_of}
 use Rattle.vlp_reader.specs.Number.{natural, number_of}
@@ -113,15 +113,15 @@ with_cone number = (codes "p vlp min 1 1 0 1 0 cone 1 " ++ number) ∷ codes "k 
 -- the lines that are looked at, and the tests after the last one
 pub record ClosingExamples : Type 0 where
   pub first_end : looked_at (codes "a" ∷ codes "e x" ∷ codes "e" ∷ []) ≡ codes "a" ∷ codes "e x" ∷ []
-  pub nothing : fault_behind [] ≡ Some NoProblem
+  pub nothing : fault_after [] ≡ Some NoProblem
   pub no_line : closing_line [] ≡ 1
-  pub behind : closing_line counted ≡ 3
+  pub after : closing_line counted ≡ 3
   pub at_end : closing_line (counted ++ codes "e" ∷ []) ≡ 3
-  pub zeros_count : fault_behind counted ≡ None
-  pub too_many : fault_behind (counted ++ codes "a 1 1 0" ∷ []) ≡ Some CountWrong
-  pub with_duality : fault_behind (with_cone (codes "2")) ≡ None
-  pub without_duality : fault_behind (with_cone (codes "1")) ≡ None
-  pub other_count : fault_behind (with_cone (codes "0")) ≡ Some CountWrong
+  pub zeros_count : fault_after counted ≡ None
+  pub too_many : fault_after (counted ++ codes "a 1 1 0" ∷ []) ≡ Some CountWrong
+  pub with_duality : fault_after (with_cone (codes "2")) ≡ None
+  pub without_duality : fault_after (with_cone (codes "1")) ≡ None
+  pub other_count : fault_after (with_cone (codes "0")) ≡ Some CountWrong
 
 -- all of these
 pub record Examples : Type 0 where

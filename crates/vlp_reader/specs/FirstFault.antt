@@ -37,8 +37,8 @@ abbrev pub Passes : List (List ℕ) → ℕ → Type 0
 Passes lines n = (k : ℕ) → k < n → fault_at lines k ≡ None
 
 -- the first of the tests after the last line that lines fail
-abbrev pub fault_behind : List (List ℕ) → Option FileKind
-fault_behind lines = closing_fault (first_given given_sizes (map statement_on lines)) (map statement_on lines)
+abbrev pub fault_after : List (List ℕ) → Option FileKind
+fault_after lines = closing_fault (first_given given_sizes (map statement_on lines)) (map statement_on lines)
 
 -- the number of the line that the tests after the last line name: that of the `e` line, or one more than the last
 abbrev pub closing_line : List (List ℕ) → ℕ
@@ -53,19 +53,19 @@ pub record FailsOnLine (lines : List (List ℕ)) (line : ℕ) (kind : FileKind) 
   pub fails : fault_at lines place ≡ Some kind
 
 -- no line has a fault, and this is the first test after the last line that fails
-pub record FailsBehind (lines : List (List ℕ)) (line : ℕ) (kind : FileKind) : Type 0 where
+pub record FailsAfter (lines : List (List ℕ)) (line : ℕ) (kind : FileKind) : Type 0 where
   pub pass : Passes lines (length lines)
-  pub fails : fault_behind lines ≡ Some kind
+  pub fails : fault_after lines ≡ Some kind
   pub number : line ≡ closing_line lines
 
 -- bytes have this first fault
 abbrev pub FirstFault : List ℕ → ℕ → FileKind → Type 0
-FirstFault bytes line kind = FailsOnLine (file_lines bytes) line kind ⊎ FailsBehind (file_lines bytes) line kind
+FirstFault bytes line kind = FailsOnLine (file_lines bytes) line kind ⊎ FailsAfter (file_lines bytes) line kind
 
 -- no line of these fails a test, and neither do they after the last
 pub record HasNoFault (lines : List (List ℕ)) : Type 0 where
   pub pass : Passes lines (length lines)
-  pub closed : fault_behind lines ≡ None
+  pub closed : fault_after lines ≡ None
 
 -- bytes read as this problem
 pub record Reads (bytes : List ℕ) (problem : Problem) : Type 0 where

@@ -166,9 +166,9 @@ fn exponent(text: &[u8]) -> Option<i128>
     if at == text.len() {
         return Some(0);
     }
-    let behind = &text[at + 1..];
-    let size = i128::from(natural(without_sign(behind))?);
-    Some(with_sign(is_negative(behind), size))
+    let after = &text[at + 1..];
+    let size = i128::from(natural(without_sign(after))?);
+    Some(with_sign(is_negative(after), size))
 }
 
 /// A number with a sign.

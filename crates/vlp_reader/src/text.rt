@@ -37,9 +37,9 @@ pub(crate) fn next_line(text: &[u8]) -> Option<(&[u8], &[u8])>
     if text.is_empty() {
         return None;
     }
-    let (piece, behind) = first_piece(text, b'\n');
+    let (piece, after) = first_piece(text, b'\n');
     let line = without_return(piece);
-    match behind {
+    match after {
         Some(rest) => Some((line, rest)),
         None => Some((line, &[])),
     }

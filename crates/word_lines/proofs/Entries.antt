@@ -4,7 +4,7 @@ use Rattle.std.specs.List.{slice_split, flat_map}
 use Rattle.std.proofs.lemmas.Bool.{ltb-true}
 use Rattle.std.proofs.lemmas.List.{append-nil}
 use Rattle.word_lines.specs.Grammar.{Grammar, is_formed, entry_words, entry_text}
-use Rattle.word_lines.specs.LineFault.{form_of, behind_all, behind_name, left_over, words_fault, line_fault}
+use Rattle.word_lines.specs.LineFault.{form_of, left_after_all, left_after_name, left_over, words_fault, line_fault}
 use Rattle.word_lines.specs.Parts.{part_words, is_formed_part}
 use Rattle.word_lines.specs.declared.fault.LogKind.TheVariants.{BadLine}
 use Rattle.word_lines.proofs.Cutting.{Lacks, slice_split-join, Lacks-join}
@@ -27,9 +27,9 @@ module _ {E : Type 0} (g : Grammar E) where
   -- the words of an entry pass the tests of a line
   pub words_pass : (e : E) → is_formed g e ≡ true → words_fault g.forms_of (entry_words g e) ≡ None
   words_pass e h =
-      ap (λ b. cond b (Some BadLine) (left_over (behind_name (g.forms_of (g.name_of e)) (flat_map part_words (g.parts_of e))))) (none_empty (entry_words g e) (printed_entry e h))
-      ∙ ap (λ o. left_over (behind_name o (flat_map part_words (g.parts_of e)))) (g.known e)
-      ∙ ap (λ ws. left_over (behind_all (map form_of (g.parts_of e)) ws)) (sym (append-nil (flat_map part_words (g.parts_of e))))
+      ap (λ b. cond b (Some BadLine) (left_over (left_after_name (g.forms_of (g.name_of e)) (flat_map part_words (g.parts_of e))))) (none_empty (entry_words g e) (printed_entry e h))
+      ∙ ap (λ o. left_over (left_after_name o (flat_map part_words (g.parts_of e)))) (g.known e)
+      ∙ ap (λ ws. left_over (left_after_all (map form_of (g.parts_of e)) ws)) (sym (append-nil (flat_map part_words (g.parts_of e))))
       ∙ ap left_over (parts_pass (g.parts_of e) [] h)
 
   pub line_passes : (e : E) → is_formed g e ≡ true → line_fault g.forms_of false true (entry_text g e) ≡ None

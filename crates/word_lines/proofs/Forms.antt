@@ -11,7 +11,7 @@ use Rattle.frac128.specs.Sparse.{is_zero, rises_above}
 use Rattle.frac128.specs.Text.{frac_text}
 use Rattle.frac128.specs.declared.vectors.Spot.{Spot}
 use Rattle.word_lines.specs.Parts.{is_short, is_formed_part, is_formed_pair, is_formed_spot}
-use Rattle.word_lines.specs.LineFault.{Form, form_of, Left, unless, and_then, word, times, counted, value_fault, place_fault, spots, kind_fault, pair, behind, behind_all}
+use Rattle.word_lines.specs.LineFault.{Form, form_of, Left, unless, and_then, word, times, counted, value_fault, place_fault, spots, kind_fault, pair, left_after, left_after_all}
 use Rattle.word_lines.specs.LineFault as form
 use Rattle.word_lines.specs.Parts.{Part, natural, number, vector, naturals, sparse, pairs, kind, part_words, spot_words, pair_words, end_word}
 use Rattle.word_lines.specs.Numerals.{same_word, natural_fault, number_fault}
@@ -246,7 +246,7 @@ kind_read w h = first (same_word w (codes "infeasible")) refl h
     first false e k = second (same_word w (codes "whole")) refl k
 
 -- the words of a part pass the tests of its form, and leave what stands after them
-pub part_passes : (p : Part) (rest : Words) → is_formed_part p ≡ true → behind (form_of p) (part_words p ++ rest) ≡ Ok rest
+pub part_passes : (p : Part) (rest : Words) → is_formed_part p ≡ true → left_after (form_of p) (part_words p ++ rest) ≡ Ok rest
 unfolding reads_numbers reads_naturals reads_pairs
 part_passes (natural n) rest h = word_passes natural_fault (decimal n) rest (natural_passes n (ltb-true n (2 ^ 32) h))
 part_passes (number q) rest h = word_passes number_fault (frac_text q) rest (number_passes q h)
@@ -270,7 +270,7 @@ abbrev pub Found : Form → Words → Words → Type 0
 Found f words rest = (p : Part) × (form_of p ≡ f) × (is_formed_part p ≡ true) × (words ≡ part_words p ++ rest)
 
 -- words that pass the tests of a form begin with those of a part of this form
-pub part_found : (f : Form) (words rest : Words) → behind f words ≡ Ok rest → Found f words rest
+pub part_found : (f : Form) (words rest : Words) → left_after f words ≡ Ok rest → Found f words rest
 unfolding reads_numbers reads_naturals reads_pairs
 part_found form.natural words rest h = let k = natural_found words rest h in (natural k.0, refl, k.1, k.2)
 part_found form.number words rest h = let k = number_found words rest h in (number k.0, refl, k.1, k.2)
@@ -297,18 +297,18 @@ part_found form.kind words rest h =
     (kind e.0, refl, refl, k.2 ∙ ap (λ w. w ∷ rest) e.1)
 
 -- and so for parts one after the other
-pub parts_pass : (ps : List Part) (rest : Words) → list_all is_formed_part ps ≡ true → behind_all (map form_of ps) (flat_map part_words ps ++ rest) ≡ Ok rest
+pub parts_pass : (ps : List Part) (rest : Words) → list_all is_formed_part ps ≡ true → left_after_all (map form_of ps) (flat_map part_words ps ++ rest) ≡ Ok rest
 parts_pass [] rest h = refl
 parts_pass (p ∷ ps) rest h =
     let k = and_parts (is_formed_part p) (list_all is_formed_part ps) h in
-    ap (λ ws. and_then (behind (form_of p) ws) (behind_all (map form_of ps))) (append_assoc (part_words p) (flat_map part_words ps) rest)
-    ∙ ap (λ l. and_then l (behind_all (map form_of ps))) (part_passes p (flat_map part_words ps ++ rest) k.0)
+    ap (λ ws. and_then (left_after (form_of p) ws) (left_after_all (map form_of ps))) (append_assoc (part_words p) (flat_map part_words ps) rest)
+    ∙ ap (λ l. and_then l (left_after_all (map form_of ps))) (part_passes p (flat_map part_words ps ++ rest) k.0)
     ∙ parts_pass ps rest k.1
 
-pub parts_found : (fs : List Form) (words rest : Words) → behind_all fs words ≡ Ok rest → (ps : List Part) × (map form_of ps ≡ fs) × (list_all is_formed_part ps ≡ true) × (words ≡ flat_map part_words ps ++ rest)
+pub parts_found : (fs : List Form) (words rest : Words) → left_after_all fs words ≡ Ok rest → (ps : List Part) × (map form_of ps ≡ fs) × (list_all is_formed_part ps ≡ true) × (words ≡ flat_map part_words ps ++ rest)
 parts_found [] words rest h = ([], refl, refl, cc)
 parts_found (f ∷ fs) words rest h =
-    let k = and_then_ok (behind f words) (behind_all fs) rest h in
+    let k = and_then_ok (left_after f words) (left_after_all fs) rest h in
     let p = part_found f words k.0 k.1 in
     let ps = parts_found fs k.0 rest k.2 in (
       p.0 ∷ ps.0,

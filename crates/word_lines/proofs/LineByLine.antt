@@ -6,18 +6,18 @@ use Rattle.std.specs.Result.{IsErr, IsErrAnd, IfErr}
 use Rattle.std.proofs.lemmas.Bool.{eqb-true, eqb-false}
 use Rattle.std.proofs.lemmas.List.Folds.{list_any-append}
 use Rattle.src_sink.proofs.TextLines.{first_line, last_line}
-use Rattle.src_sink.specs.Texts.{TextLine, lines_of, pieces_behind}
+use Rattle.src_sink.specs.Texts.{TextLine, lines_of, pieces_after}
 use Rattle.word_lines.specs.FirstFault.{FirstFault, line_test}
 use Rattle.word_lines.specs.Grammar.{Grammar, entry_text}
 use Rattle.word_lines.specs.LineFault.{line_fault}
-use Rattle.word_lines.specs.Taking.{ReadsLine, RefusesLine, RefusesText, text_behind}
+use Rattle.word_lines.specs.Taking.{ReadsLine, RefusesLine, RefusesText, text_after}
 use Rattle.word_lines.specs.declared.fault.LogEnd.{LogEnd}
 use Rattle.word_lines.specs.declared.fault.LogEnd.TheVariants.{Fault, NoMemory}
 use Rattle.word_lines.specs.declared.fault.LogFault.{LogFault}
 use Rattle.word_lines.proofs.Lines.{whole_line, IsReadTo, read_next, read_fault}
 
 -- the next line, and those after it
-pub next_lines : (rest line : List ℕ) (behind : Option (Bor (List ℕ))) → 0 < length rest → slice_split (λ b. b == 10) rest ≡ line ∷ pieces_behind 10 behind → lines_of rest ≡ record { text = line; whole = is_some behind } ∷ lines_of (text_behind behind)
+pub next_lines : (rest line : List ℕ) (after : Option (Bor (List ℕ))) → 0 < length rest → slice_split (λ b. b == 10) rest ≡ line ∷ pieces_after 10 after → lines_of rest ≡ record { text = line; whole = is_some after } ∷ lines_of (text_after after)
 next_lines rest line None some cut = last_line rest line cut some
 next_lines rest line (Some more) some cut = first_line rest line more.now cut
 
@@ -36,28 +36,28 @@ pub none_left : (rest : List ℕ) → true ≡ (length rest == 0) → rest ≡ [
 none_left [] h = refl
 none_left (b ∷ rest) h = absurd (omega (arith, eqb-true (length (b ∷ rest)) 0 (sym h)))
 
-pub behind_shorter : (rest : List ℕ) (behind : Option (Bor (List ℕ))) → 0 < length rest → IfSome behind (λ r. length r.now < length rest) → length (text_behind behind) < length rest
-behind_shorter rest None some h = some
-behind_shorter rest (Some more) some h = h
+pub after_shorter : (rest : List ℕ) (after : Option (Bor (List ℕ))) → 0 < length rest → IfSome after (λ r. length r.now < length rest) → length (text_after after) < length rest
+after_shorter rest None some h = some
+after_shorter rest (Some more) some h = h
 
 module _ {E : Type 0} (g : Grammar E) where
   line_is : (l : TextLine) (e : E) → l.whole ≡ true → l.text ≡ entry_text g e → l ≡ whole_line g e
   line_is l e h k = λ i. record { text = k i; whole = h i }
 
   -- one line more is read
-  pub reads_on : (bytes rest line : List ℕ) (behind : Option (Bor (List ℕ))) (entries : List E) (e : E) (ended : Bool) → 0 < length rest → slice_split (λ b. b == 10) rest ≡ line ∷ pieces_behind 10 behind → IsReadTo g bytes (lines_of rest) entries → ended ≡ list_any g.is_end entries → ReadsLine g ended (is_some behind) line e → IsReadTo g bytes (lines_of (text_behind behind)) (entries ++ e ∷ [])
-  reads_on bytes rest line behind entries e ended some cut read is h =
-      let l : TextLine = record { text = line; whole = is_some behind } in
-      read_next g bytes l (lines_of (text_behind behind)) entries e (subst (λ ls. IsReadTo g bytes ls entries) (next_lines rest line behind some cut) read) (sym is ∙ h.0) h.2 (line_is l e h.1 h.3)
+  pub reads_on : (bytes rest line : List ℕ) (after : Option (Bor (List ℕ))) (entries : List E) (e : E) (ended : Bool) → 0 < length rest → slice_split (λ b. b == 10) rest ≡ line ∷ pieces_after 10 after → IsReadTo g bytes (lines_of rest) entries → ended ≡ list_any g.is_end entries → ReadsLine g ended (is_some after) line e → IsReadTo g bytes (lines_of (text_after after)) (entries ++ e ∷ [])
+  reads_on bytes rest line after entries e ended some cut read is h =
+      let l : TextLine = record { text = line; whole = is_some after } in
+      read_next g bytes l (lines_of (text_after after)) entries e (subst (λ ls. IsReadTo g bytes ls entries) (next_lines rest line after some cut) read) (sym is ∙ h.0) h.2 (line_is l e h.1 h.3)
 
   -- the next line is refused
-  pub refuses_on : (bytes rest line : List ℕ) (behind : Option (Bor (List ℕ))) (entries : List E) (number : ℕ) (ended : Bool) (end : LogEnd) → 0 < length rest → slice_split (λ b. b == 10) rest ≡ line ∷ pieces_behind 10 behind → IsReadTo g bytes (lines_of rest) entries → number ≡ length entries → ended ≡ list_any g.is_end entries → RefusesLine g (number + 1) ended (is_some behind) line end → RefusesText g bytes end
-  refuses_on bytes rest line behind entries number ended (Fault f) some cut read count is h =
-      let l : TextLine = record { text = line; whole = is_some behind } in
-      let first = read_fault g bytes l (lines_of (text_behind behind)) entries f.kind (subst (λ ls. IsReadTo g bytes ls entries) (next_lines rest line behind some cut) read) (ap (λ b. line_fault g.forms_of b (is_some behind) line) (sym is) ∙ h.1) in
+  pub refuses_on : (bytes rest line : List ℕ) (after : Option (Bor (List ℕ))) (entries : List E) (number : ℕ) (ended : Bool) (end : LogEnd) → 0 < length rest → slice_split (λ b. b == 10) rest ≡ line ∷ pieces_after 10 after → IsReadTo g bytes (lines_of rest) entries → number ≡ length entries → ended ≡ list_any g.is_end entries → RefusesLine g (number + 1) ended (is_some after) line end → RefusesText g bytes end
+  refuses_on bytes rest line after entries number ended (Fault f) some cut read count is h =
+      let l : TextLine = record { text = line; whole = is_some after } in
+      let first = read_fault g bytes l (lines_of (text_after after)) entries f.kind (subst (λ ls. IsReadTo g bytes ls entries) (next_lines rest line after some cut) read) (ap (λ b. line_fault g.forms_of b (is_some after) line) (sym is) ∙ h.1) in
       let line_is_next : length entries + 1 ≡ f.line = ap (λ n. n + 1) (sym count) ∙ sym h.0 in
       subst (λ (at : LogFault). FirstFault (line_test g.forms_of) bytes at) (λ i. record { line = line_is_next i; kind = f.kind }) first
-  refuses_on bytes rest line behind entries number ended NoMemory some cut read count is h = tt
+  refuses_on bytes rest line after entries number ended NoMemory some cut read count is h = tt
 
   -- what `?` hands on is the refusal itself
   pub refusal_handed : (bytes : List ℕ) (r : Result (List E) LogEnd) (end : LogEnd) → IsErr r × IsErrAnd r (λ t. t ≡ end) → RefusesText g bytes end → IfErr r (RefusesText g bytes)

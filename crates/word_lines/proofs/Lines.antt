@@ -17,16 +17,16 @@ use Rattle.word_lines.specs.declared.fault.LogKind.TheVariants.{NoEnd}
 use Rattle.word_lines.proofs.Entries.{cut_entry, entry_lacks, line_passes}
 
 -- the item after those that are done
-pub item_behind : {X : Type 0} (xs : List X) (x : X) (ys : List X) → slice_get (xs ++ x ∷ ys) (length xs) ≡ Some x
-item_behind [] x ys = refl
-item_behind (z ∷ xs) x ys = item_behind xs x ys
+pub item_after : {X : Type 0} (xs : List X) (x : X) (ys : List X) → slice_get (xs ++ x ∷ ys) (length xs) ≡ Some x
+item_after [] x ys = refl
+item_after (z ∷ xs) x ys = item_after xs x ys
 
 -- the first test that the next line fails, after those that are done
 pub next_fault : (test : LineTest) (done : List TextLine) (l : TextLine) (rest : List TextLine) → fault_at test (done ++ l ∷ rest) (length done + 1) ≡ test done l
 next_fault test done l rest =
     let back : length done + 1 - 1 ≡ length done = omega arith in
     ap (λ n. fault_of_line test (take n (done ++ l ∷ rest)) (slice_get (done ++ l ∷ rest) n)) back
-    ∙ ap (λ o. fault_of_line test (take (length done) (done ++ l ∷ rest)) o) (item_behind done l rest)
+    ∙ ap (λ o. fault_of_line test (take (length done) (done ++ l ∷ rest)) o) (item_after done l rest)
     ∙ ap (λ ls. test ls l) (take-append_seam done (l ∷ rest))
 
 -- one line more passes

@@ -15,7 +15,7 @@ use Rattle.word_lines.specs.declared.part.LogPair.{LogPair}
 use Rattle.word_lines.specs.Parts.{is_short, is_formed_part, is_formed_pair, is_formed_spot}
 use Rattle.word_lines.specs.Parts.{Part, part_words, pair_words, spot_words, natural, number, vector, naturals, sparse, pairs}
 use Rattle.word_lines.specs.LineFault as form
-use Rattle.word_lines.specs.LineFault.{Form, Left, and_then, unless, word, times, counted, spots, place_fault, value_fault, behind, pair}
+use Rattle.word_lines.specs.LineFault.{Form, Left, and_then, unless, word, times, counted, spots, place_fault, value_fault, left_after, pair}
 use Rattle.word_lines.specs.Numerals.{same_word, natural_fault, number_fault}
 use Rattle.word_lines.specs.Taking.{TakesItem, TakesItems, TakesList, TakesSpot, TakesSpots, Takes}
 use Rattle.word_lines.specs.declared.fault.Stop.{Stop}
@@ -103,12 +103,12 @@ module _ {X : Type 0} (words_of : X → Words) (good : X → Bool) (step : Words
 
 -- parts by their items
 
-pub item_part : {X : Type 0} (words_of : X → Words) (good : X → Bool) (step : Words → Left) (part : X → Part) (form : Form) → ((x : X) → is_formed_part (part x) ≡ good x) → ((x : X) → part_words (part x) ≡ words_of x) → ((ws : Words) → behind form ws ≡ step ws) → (old new : Words) (r : Result X Stop) → TakesItem words_of good step old new r → Takes part form old new r
+pub item_part : {X : Type 0} (words_of : X → Words) (good : X → Bool) (step : Words → Left) (part : X → Part) (form : Form) → ((x : X) → is_formed_part (part x) ≡ good x) → ((x : X) → part_words (part x) ≡ words_of x) → ((ws : Words) → left_after form ws ≡ step ws) → (old new : Words) (r : Result X Stop) → TakesItem words_of good step old new r → Takes part form old new r
 item_part words_of good step part form a b d old new (Ok x) h = (a x ∙ h.0, h.2 ∙ ap (λ ws. ws ++ new) (sym (b x)))
 item_part words_of good step part form a b d old new (Err (Fault k)) h = d old ∙ h
 item_part words_of good step part form a b d old new (Err NoMemory) h = tt
 
-pub list_part : {X : Type 0} (words_of : X → Words) (good : X → Bool) (step : Words → Left) (part : List X → Part) (form : Form) → ((xs : List X) → is_formed_part (part xs) ≡ (is_short (length xs) && list_all good xs)) → ((xs : List X) → part_words (part xs) ≡ decimal (length xs) ∷ flat_map words_of xs) → ((ws : Words) → behind form ws ≡ counted (times step) ws) → (old new : Words) (r : Result (List X) Stop) → TakesList words_of good step old new r → Takes part form old new r
+pub list_part : {X : Type 0} (words_of : X → Words) (good : X → Bool) (step : Words → Left) (part : List X → Part) (form : Form) → ((xs : List X) → is_formed_part (part xs) ≡ (is_short (length xs) && list_all good xs)) → ((xs : List X) → part_words (part xs) ≡ decimal (length xs) ∷ flat_map words_of xs) → ((ws : Words) → left_after form ws ≡ counted (times step) ws) → (old new : Words) (r : Result (List X) Stop) → TakesList words_of good step old new r → Takes part form old new r
 list_part words_of good step part form a b d old new (Ok xs) h = (a xs ∙ and_from (is_short (length xs)) (list_all good xs) h.0 h.1, h.2 ∙ ap (λ ws. ws ++ new) (sym (b xs)))
 list_part words_of good step part form a b d old new (Err (Fault k)) h = d old ∙ h
 list_part words_of good step part form a b d old new (Err NoMemory) h = tt

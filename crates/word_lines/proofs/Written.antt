@@ -7,7 +7,7 @@ use Rattle.src_sink.specs.Texts.{words_text}
 use Rattle.exact_field.specs.Rational.{ℚ}
 use Rattle.frac128.specs.declared.vectors.Spot.{Spot}
 use Rattle.word_lines.specs.Grammar.{Grammar, is_formed, entry_words, entry_text}
-use Rattle.word_lines.specs.LineFault.{Form, form_of, behind_all, behind_name, left_over, Left, words_fault, line_fault}
+use Rattle.word_lines.specs.LineFault.{Form, form_of, left_after_all, left_after_name, left_over, Left, words_fault, line_fault}
 use Rattle.word_lines.specs.LineFault as form
 use Rattle.word_lines.specs.Parts.{Part, natural, number, vector, naturals, sparse, pairs, kind, part_words, is_formed_part}
 use Rattle.word_lines.specs.declared.part.LogPair.{LogPair}
@@ -114,17 +114,17 @@ module _ {E : Type 0} (g : Grammar E) (complete : IsComplete g) where
   abbrev pub Writes : Words → Type 0
   Writes words = (e : E) × (is_formed g e ≡ true) × (words ≡ entry_words g e)
 
-  parts_written : (name : List ℕ) (words : Words) (o : Option (List Form)) → g.forms_of name ≡ o → left_over (behind_name o words) ≡ None → Writes (name ∷ words)
+  parts_written : (name : List ℕ) (words : Words) (o : Option (List Form)) → g.forms_of name ≡ o → left_over (left_after_name o words) ≡ None → Writes (name ∷ words)
   parts_written name words None e h = cc
   parts_written name words (Some fs) e h =
-      let ps = parts_found fs words [] (nothing_left (behind_all fs words) h) in
+      let ps = parts_found fs words [] (nothing_left (left_after_all fs words) h) in
       let entry = complete.found name ps.0 (e ∙ ap (λ gs. Some gs) (sym ps.1)) in
       (entry.0, ap (list_all is_formed_part) entry.2 ∙ ps.2, (λ i. sym entry.1 i ∷ (ps.3 ∙ append-nil (flat_map part_words ps.0) ∙ ap (flat_map part_words) (sym entry.2)) i))
 
   -- words that pass the tests of a line are those of an entry
   pub words_written : (words : Words) → words_fault g.forms_of words ≡ None → Writes words
   words_written [] h = cc
-  words_written (name ∷ words) h = parts_written name words (g.forms_of name) refl (checked_words (list_any (λ w. length w == 0) (name ∷ words)) (left_over (behind_name (g.forms_of name) words)) h)
+  words_written (name ∷ words) h = parts_written name words (g.forms_of name) refl (checked_words (list_any (λ w. length w == 0) (name ∷ words)) (left_over (left_after_name (g.forms_of name) words)) h)
 
   -- and so for a line
   pub line_written : (has_ended whole : Bool) (line : List ℕ) → line_fault g.forms_of has_ended whole line ≡ None → (has_ended ≡ false) × (whole ≡ true) × ((e : E) × (is_formed g e ≡ true) × (line ≡ entry_text g e))

@@ -51,8 +51,8 @@ word test (w ∷ words) = unless (test w) (Ok words)
 
 -- so many parts of one form
 abbrev pub times : (List (List ℕ) → Left) → ℕ → List (List ℕ) → Left
-times behind zero words = Ok words
-times behind (suc n) words = and_then (behind words) (times behind n)
+times step zero words = Ok words
+times step (suc n) words = and_then (step words) (times step n)
 
 -- parts of one form, after their count
 abbrev pub counted : (ℕ → List (List ℕ) → Left) → List (List ℕ) → Left
@@ -84,24 +84,24 @@ abbrev pub pair : List (List ℕ) → Left
 pair words = and_then (word natural_fault words) (word natural_fault)
 
 -- the words after a part of a form
-abbrev pub behind : Form → List (List ℕ) → Left
-behind natural words = word natural_fault words
-behind number words = word number_fault words
-behind vector words = counted (times (word number_fault)) words
-behind naturals words = counted (times (word natural_fault)) words
-behind sparse words = counted (spots 0) words
-behind pairs words = counted (times pair) words
-behind kind words = word kind_fault words
+abbrev pub left_after : Form → List (List ℕ) → Left
+left_after natural words = word natural_fault words
+left_after number words = word number_fault words
+left_after vector words = counted (times (word number_fault)) words
+left_after naturals words = counted (times (word natural_fault)) words
+left_after sparse words = counted (spots 0) words
+left_after pairs words = counted (times pair) words
+left_after kind words = word kind_fault words
 
 -- the words that are left after parts of these forms, in their order
-abbrev pub behind_all : List Form → List (List ℕ) → Left
-behind_all [] words = Ok words
-behind_all (form ∷ forms) words = and_then (behind form words) (behind_all forms)
+abbrev pub left_after_all : List Form → List (List ℕ) → Left
+left_after_all [] words = Ok words
+left_after_all (form ∷ forms) words = and_then (left_after form words) (left_after_all forms)
 
 -- the parts after a first word, if it has a line
-abbrev pub behind_name : Option (List Form) → List (List ℕ) → Left
-behind_name None words = Err BadLine
-behind_name (Some forms) words = behind_all forms words
+abbrev pub left_after_name : Option (List Form) → List (List ℕ) → Left
+left_after_name None words = Err BadLine
+left_after_name (Some forms) words = left_after_all forms words
 
 -- no word may be left over
 abbrev pub left_over : Left → Option LogKind
@@ -116,7 +116,7 @@ Forms = List ℕ → Option (List Form)
 -- the words of a line, of which none is empty
 abbrev pub words_fault : Forms → List (List ℕ) → Option LogKind
 words_fault forms [] = Some BadLine
-words_fault forms (name ∷ words) = if list_any (λ w. length w == 0) (name ∷ words) then Some BadLine else left_over (behind_name (forms name) words)
+words_fault forms (name ∷ words) = if list_any (λ w. length w == 0) (name ∷ words) then Some BadLine else left_over (left_after_name (forms name) words)
 
 -- the first test that a line fails: whether an `end` line stands before it, whether its line feed stood,
 -- and its words

@@ -7,7 +7,7 @@ use Rattle.frac128.specs.Sparse.{is_zero, rises_above}
 use Rattle.frac128.specs.declared.vectors.Spot.{Spot}
 use Rattle.word_lines.specs.FirstFault.{FirstFault, line_test}
 use Rattle.word_lines.specs.Grammar.{Grammar, is_formed, entry_text}
-use Rattle.word_lines.specs.LineFault.{Form, Left, behind, behind_name, counted, line_fault, words_fault, spots, times}
+use Rattle.word_lines.specs.LineFault.{Form, Left, left_after, left_after_name, counted, line_fault, words_fault, spots, times}
 use Rattle.word_lines.specs.Parts.{Part, is_formed_part, is_formed_spot, is_short, part_words, spot_words}
 use Rattle.word_lines.specs.declared.fault.Stop.{Stop}
 use Rattle.word_lines.specs.declared.fault.Stop.TheVariants as stop
@@ -48,13 +48,13 @@ TakesSpots count old new (Err stop.NoMemory) = Unit {0}
 -- a part of this form stood first, and is taken; or these words fail its tests
 abbrev pub Takes : {A : Type 0} → (A → Part) → Form → List (List ℕ) → List (List ℕ) → Result A Stop → Type 0
 Takes part form old new (Ok v) = (is_formed_part (part v) ≡ true) × (old ≡ part_words (part v) ++ new)
-Takes part form old new (Err (stop.Fault k)) = behind form old ≡ Err k
+Takes part form old new (Err (stop.Fault k)) = left_after form old ≡ Err k
 Takes part form old new (Err stop.NoMemory) = Unit {0}
 
 -- the parts of an entry of this name stood first, and are taken; or these words fail its tests
 abbrev pub TakesEntry : {E : Type 0} → Grammar E → List ℕ → List (List ℕ) → List (List ℕ) → Result E Stop → Type 0
 TakesEntry g name old new (Ok e) = (is_formed g e ≡ true) × (g.name_of e ≡ name) × (old ≡ flat_map part_words (g.parts_of e) ++ new)
-TakesEntry g name old new (Err (stop.Fault k)) = behind_name (g.forms_of name) old ≡ Err k
+TakesEntry g name old new (Err (stop.Fault k)) = left_after_name (g.forms_of name) old ≡ Err k
 TakesEntry g name old new (Err stop.NoMemory) = Unit {0}
 
 -- these words are those of this entry, or fail the tests of a line
@@ -83,6 +83,6 @@ RefusesText g bytes (Fault f) = FirstFault (line_test g.forms_of) bytes f
 RefusesText g bytes NoMemory = Unit {0}
 
 -- what stands after a line feed, where there may be one
-abbrev pub text_behind : Option (Bor (List ℕ)) → List ℕ
-text_behind None = []
-text_behind (Some rest) = rest.now
+abbrev pub text_after : Option (Bor (List ℕ)) → List ℕ
+text_after None = []
+text_after (Some rest) = rest.now

@@ -20,7 +20,7 @@ pub use part::{EndKind, LogPair};
 pub use parts::{
     take_kind, take_natural, take_naturals, take_number, take_pairs, take_sparse, take_vector,
 };
-pub use text::{print_entries, read_entries, text_behind};
+pub use text::{print_entries, read_entries, text_after};
 pub use words::{Words, has_empty_word, is_word};
 pub use writing::{
     put_kind, put_natural, put_naturals, put_number, put_pairs, put_sparse, put_vector,

@@ -101,8 +101,8 @@ fn parts_of(word: &[u8]) -> Option<Quotient>
         × (q.num ≡ min (numerator pieces) (2 ^ 120))
         × (q.den ≡ min (denominator pieces) (2 ^ 120))) }
 {
-    let (num, behind) = first_piece(word, b'/');
-    match behind {
+    let (num, after) = first_piece(word, b'/');
+    match after {
         Some(den) => quotient_of(num, den),
         None => whole_number(num),
     }

@@ -1,7 +1,7 @@
 //! Texts of entries.
 ghost use Rattle.std.specs.Prelude.{◌≡◌, ◌≤◌, length, IfOk, IfErr};
 ghost use Rattle.word_lines.specs.Grammar.{IsTextOf, entries_text};
-ghost use Rattle.word_lines.specs.Taking.{RefusesText, text_behind};
+ghost use Rattle.word_lines.specs.Taking.{RefusesText, text_after};
 
 use crate::fault::{LogEnd, LogFault, LogKind};
 use crate::line::{LineEntry, print_line, read_line};
@@ -9,10 +9,10 @@ use src_sink::{Bytes, Items, MOST_ITEMS, NoMemory, first_piece};
 use std::alloc::Global;
 
 /// What stands after a line, where its line feed stood; else nothing.
-pub fn text_behind(behind: Option<&[u8]>) -> &[u8]
-    ensures { result.now ≡ text_behind behind.entry }
+pub fn text_after(after: Option<&[u8]>) -> &[u8]
+    ensures { result.now ≡ text_after after.entry }
 {
-    match behind {
+    match after {
         Some(rest) => rest,
         None => &[],
     }
@@ -30,12 +30,12 @@ pub fn read_entries<E: LineEntry>(alloc: Global, bytes: &[u8]) -> Result<Items<E
     let mut ended = false;
     let mut rest = bytes;
     while !rest.is_empty() {
-        let (line, behind) = first_piece(rest, b'\n');
+        let (line, after) = first_piece(rest, b'\n');
         number += 1;
-        let entry: E = read_line(alloc, number, line, behind.is_some(), ended)?;
+        let entry: E = read_line(alloc, number, line, after.is_some(), ended)?;
         ended = entry.is_end();
         entries.push(entry)?;
-        rest = text_behind(behind);
+        rest = text_after(after);
     }
     if ended {
         Ok(entries)

@@ -14,11 +14,11 @@ pub struct Words<'a> {
 
 impl<'a> Model for Words<'a> {
     ghost use Rattle.std.specs.Prelude.{ℕ, List};
-    ghost use Rattle.src_sink.specs.Texts.{pieces_behind};
+    ghost use Rattle.src_sink.specs.Texts.{pieces_after};
 
     ghost Value = { List (List ℕ) };
 
-    ghost view = { λ words. pieces_behind 32 words.rest };
+    ghost view = { λ words. pieces_after 32 words.rest };
 }
 
 impl<'a> Words<'a> {

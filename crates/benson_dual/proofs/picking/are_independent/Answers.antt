@@ -1,6 +1,6 @@
 use Rattle.std.proofs.Common.{sym}
-use Rattle.outer_approx.specs.Task.{behind}
-use Rattle.recession.proofs.Behind.{wide_cuts}
+use Rattle.outer_approx.specs.Task.{setting}
+use Rattle.recession.proofs.Across.{wide_cuts}
 use Rattle.recession.proofs.Trails.{licensed, trail_base, trail_has, trail_of}
 use Rattle.benson_dual.proofs.picking.are_independent.Goals as goal
 
@@ -18,5 +18,5 @@ returns-in_ok-entries-in-Err-clause-left g c =
     let says = c.in_ok-entries-in-Err.ensures in
     let base = trail_base holds g.task fitting value cuts entries each says in
     let has = trail_has holds g.task fitting value cuts entries each says in
-    let s = behind g.task (trail_of holds g.task fitting entries) in
-    licensed holds g.task fitting entries base c.behind.result (c.behind.ensures.licensed holds s (c.in-Err.ensures.left s (sym c.requires.1.0) has))
+    let s = setting g.task (trail_of holds g.task fitting entries) in
+    licensed holds g.task fitting entries base c.with_trail.result (c.with_trail.ensures.licensed holds s (c.in-Err.ensures.left s (sym c.requires.1.0) has))

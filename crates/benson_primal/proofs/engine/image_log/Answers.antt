@@ -10,7 +10,7 @@ use Rattle.overflows.specs.Faults.{OnLicence}
 use Rattle.outer_approx.specs.Cuts.{said_by}
 use Rattle.outer_approx.specs.Lines.{told_by}
 use Rattle.outer_approx.specs.Standing.{IsBegun, IsOpenTrail}
-use Rattle.outer_approx.specs.Task.{behind}
+use Rattle.outer_approx.specs.Task.{setting}
 use Rattle.recession.specs.Further.{normals_of}
 use Rattle.recession.proofs.OwnLogs.{carried, licensed}
 use Rattle.benson_primal.proofs.Marked.{no_marks}
@@ -75,7 +75,7 @@ pub returns-in-Err-clause-left : goal.returns-in-Err-clause-left
 returns-in-Err-clause-left g c =
     let holds = g.F.Field.holds in
     let trail = c.start_outer.new.trail in
-    licensed holds g.task c.requires.1.0.fitting trail c.behind.result
-    (subst (λ f. OnLicence f (λ licence. IsOpenTrail g.task trail)) (sym c.behind.ensures.told)
+    licensed holds g.task c.requires.1.0.fitting trail c.with_trail.result
+    (subst (λ f. OnLicence f (λ licence. IsOpenTrail g.task trail)) (sym c.with_trail.ensures.told)
     (carried (IsOpenTrail g.task trail) c.in-Err.fault trail (on_any (IsOpenTrail g.task trail) c.in-Err.fault c.in-Err.ensures.trail)))
-    (c.behind.ensures.licensed holds (behind g.task trail) c.in-Err.ensures.left)
+    (c.with_trail.ensures.licensed holds (setting g.task trail) c.in-Err.ensures.left)

@@ -87,10 +87,10 @@ returns-in-Ok-false-clause-ok g c =
     let r = entry_is value rows n col columns h b b_in c.deref-in-Some.result.now c.index-rows-b.result c.deref-in-Some.ensures.value c.index-rows-b.is (value c.entry_at-r.result) c.entry_at-r.ensures in
     let us = own value rows n col columns h i c.requires.inside c.deref-in-Some-2.result.now c.index-rows-i-in-Some.result c.deref-in-Some-2.ensures.value c.index-rows-i-in-Some.is in
     let vs = own value rows n col columns h b b_in c.deref-in-Some-3.result.now c.index-rows-b-in-Some.result c.deref-in-Some-3.ensures.value c.index-rows-b-in-Some.is in
-    let behind : lex_less (ratios_in ls col columns i) (ratios_in ls col columns b) ≡ false =
+    let not_before : lex_less (ratios_in ls col columns i) (ratios_in ls col columns b) ≡ false =
     sym (ap₂ (λ x y. lex_less x y) (ap₂ (λ q es. ratios q es columns) p us) (ap₂ (λ q es. ratios q es columns) r vs))
     ∙ sym (c.in-Ok-false.ensures.ok n
     (rises value rows n col columns h i c.requires.inside c.deref-in-Some-2.result.now c.index-rows-i-in-Some.result c.deref-in-Some-2.ensures.value c.index-rows-i-in-Some.is)
     (rises value rows n col columns h b b_in c.deref-in-Some-3.result.now c.index-rows-b-in-Some.result c.deref-in-Some-3.ensures.value c.index-rows-b-in-Some.is))
     ∙ c.in-Ok-false.field-0-test in
-    found_more (entry_in ls col) (ratios_in ls col columns) i b (subst (IsLeaving ls col columns i) c.in-Some.is least) behind
+    found_more (entry_in ls col) (ratios_in ls col columns) i b (subst (IsLeaving ls col columns i) c.in-Some.is least) not_before

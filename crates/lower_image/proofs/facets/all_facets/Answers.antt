@@ -1,5 +1,5 @@
 use Rattle.lin_rows.proofs.Errors.{err_holds}
-use Rattle.lower_image.proofs.Licensed.{err_then, licensed_behind, licensed_without, opening_of}
+use Rattle.lower_image.proofs.Licensed.{err_then, licensed_after, licensed_without, opening_of}
 use Rattle.lower_image.proofs.facets.all_facets.Goals as goal
 
 pub returns-in_err-directions-clause-left : goal.returns-in_err-directions-clause-left
@@ -12,4 +12,4 @@ pub returns-clause-left : goal.returns-clause-left
 returns-clause-left g c =
     let holds = g.F.Field.holds in
     let fit = c.requires.1.1.1.0 in
-    err_then c.facets_over.result (c.facets_over.ensures.left (opening_of holds g.task fit)) (λ fault over. licensed_behind holds g.task fit fault over)
+    err_then c.facets_over.result (c.facets_over.ensures.left (opening_of holds g.task fit)) (λ fault over. licensed_after holds g.task fit fault over)

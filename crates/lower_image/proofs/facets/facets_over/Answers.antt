@@ -1,7 +1,7 @@
 use Rattle.std.proofs.Common.{[], rules, ◌≡◌, List, All, Contains, map, sym, subst}
 use Rattle.lin_rows.proofs.Errors.{err_holds}
 use Rattle.lp_form.specs.declared.shown.Cut.{Cut}
-use Rattle.outer_approx.specs.Task.{behind}
+use Rattle.outer_approx.specs.Task.{setting}
 use Rattle.overflows.specs.Faults.{Overflows}
 use Rattle.overflows.specs.declared.fault.SolveFault.TheVariants.{NoMemory}
 use Rattle.polyhedra.specs.LiveList.{numbers}
@@ -23,13 +23,13 @@ approximate-requires g c κs within =
 pub returns-in_err-approximate-clause-left : goal.returns-in_err-approximate-clause-left
 returns-in_err-approximate-clause-left g c = λ trail.
     err_holds c.from_residual-in_err-approximate.result c.in_err-approximate.field-0.0
-    (Overflows g.F.Field.holds (behind g.task trail) [])
+    (Overflows g.F.Field.holds (setting g.task trail) [])
     c.from_residual-in_err-approximate.ensures.1 (c.in_err-approximate.ensures.left trail)
 
 pub returns-in_err-touching-clause-left : goal.returns-in_err-touching-clause-left
 returns-in_err-touching-clause-left g c = λ trail.
     err_holds c.from_residual-in_err-touching.result NoMemory
-    (Overflows g.F.Field.holds (behind g.task trail) [])
+    (Overflows g.F.Field.holds (setting g.task trail) [])
     c.from_residual-in_err-touching.ensures.1 tt
 
 pub touching_facets-requires-clause-listed : goal.touching_facets-requires-clause-listed

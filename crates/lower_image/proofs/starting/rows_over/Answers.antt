@@ -10,7 +10,7 @@ use Rattle.lin_rows.specs.Read.{numbers}
 use Rattle.lin_rows.proofs.Building.{numbers_long}
 use Rattle.lp_form.proofs.Steps.{taken_more}
 use Rattle.cone_dual.proofs.Reading.{read_row}
-use Rattle.outer_approx.specs.Task.{behind}
+use Rattle.outer_approx.specs.Task.{setting}
 use Rattle.lower_image.proofs.LowerRows.{image_wide}
 use Rattle.lower_image.proofs.Started.{choice_base, direction_base, exchanged_long}
 use Rattle.lower_image.proofs.Weights.{c_wide}
@@ -29,7 +29,7 @@ returns-in_err-first-clause-left g c = λ trail.
     let y = map value c.as_slice.result.now in
     let y_is = ap (map value) c.as_slice.ensures.items ∙ c.in_ok-y.ensures.ok g.task.file c.requires.1.0 in
     let base = choice_base g.F.Field.holds g.task c.requires.1.1.1.0 (map value c.args.c.now) c.requires.1.1.0 (map value c.args.x.now) y c.requires.1.1.1.1.0 y_is in
-    let h = c.in_err-first.ensures.left (behind g.task trail) (ap Some (sym c.requires.1.1.0)) base in
+    let h = c.in_err-first.ensures.left (setting g.task trail) (ap Some (sym c.requires.1.1.0)) base in
     search (rules, h)
 
 pub push_row-requires : goal.push_row-requires
@@ -77,7 +77,7 @@ returns-in_err-row-clause-left g c = λ trail.
     subst (Contains t) (sym (read_row value list k c.row.result.now c.row.ensures.row inside)) (Contains-get_or t k [] within) in
     let base = direction_base g.F.Field.holds g.task c.requires.1.1.1.0 (map value c.args.c.now) c.requires.1.1.0 e
     (member_of (IsConeDirection g.task.file) t e c.requires.1.1.1.1.1.1.each listed) in
-    let h = c.in_err-row.ensures.left (behind g.task trail) (ap Some (sym c.requires.1.1.0)) base in
+    let h = c.in_err-row.ensures.left (setting g.task trail) (ap Some (sym c.requires.1.1.0)) base in
     search (rules, h)
 
 pub push_row-requires-in-loop-k : goal.push_row-requires-in-loop-k

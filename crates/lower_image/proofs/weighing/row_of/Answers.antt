@@ -5,7 +5,7 @@ use Rattle.exact_field.specs.Rational.{ℚ}
 use Rattle.overflow_rules.specs.Base.{IsBaseRow}
 use Rattle.overflow_rules.specs.Operands.{IsBaseX}
 use Rattle.geo_duality.specs.Rows.{exchange_row}
-use Rattle.outer_approx.specs.Task.{behind}
+use Rattle.outer_approx.specs.Task.{setting}
 use Rattle.lower_image.proofs.LowerRows.{image_wide}
 use Rattle.lower_image.proofs.Weights.{c_wide, choice_is, row_said}
 use Rattle.lower_image.proofs.weighing.row_of.Goals as goal
@@ -13,8 +13,8 @@ use Rattle.lower_image.proofs.weighing.row_of.Goals as goal
 pub returns-in_err-y-clause-left : goal.returns-in_err-y-clause-left
 returns-in_err-y-clause-left g c = λ trail.
     let value = g.F.Field.value in
-    let h = c.in_err-y.ensures.left (behind g.task trail) c.requires.1.0
-    (subst (IsBaseX (behind g.task trail)) (choice_is value g.task.file c.args.form.now c.requires.1.0 c.args.dual.now) (c.requires.1.1.1.1.1.0 trail)) in
+    let h = c.in_err-y.ensures.left (setting g.task trail) c.requires.1.0
+    (subst (IsBaseX (setting g.task trail)) (choice_is value g.task.file c.args.form.now c.requires.1.0 c.args.dual.now) (c.requires.1.1.1.1.1.0 trail)) in
     search (rules, h)
 
 pub exchanged_row-requires-clause-same : goal.exchanged_row-requires-clause-same
@@ -41,6 +41,6 @@ returns-clause-left g c = λ trail.
     let y = map value c.as_slice.result.now in
     let said = row_said value g.task c.args.form.now c.requires.1.0 c.args.dual.now c.args.t y
     (ap (map value) c.as_slice.ensures.items ∙ c.in_ok-y.ensures.ok g.task.file c.requires.1.0) in
-    c.exchanged_row.ensures.left (behind g.task trail) (ap Some (sym c.requires.1.1.0))
+    c.exchanged_row.ensures.left (setting g.task trail) (ap Some (sym c.requires.1.1.0))
     (subst (λ (k : List ℚ). IsBaseRow g.task.file k (exchange_row k y c.args.t)) (sym c.requires.1.1.0)
     (subst (IsBaseRow g.task.file g.task.c) (sym said) c.requires.1.1.1.1.1.1))

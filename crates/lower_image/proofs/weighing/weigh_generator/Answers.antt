@@ -11,7 +11,7 @@ use Rattle.upper_image.specs.OrderingCone.{IsInDualCone}
 use Rattle.overflow_rules.specs.Base.{IsBaseRow, IsBaseWeight, weight_of}
 use Rattle.overflow_rules.specs.Operands.{IsBaseX}
 use Rattle.overflow_rules.specs.Turns.{IsRowTurn}
-use Rattle.outer_approx.specs.Task.{behind}
+use Rattle.outer_approx.specs.Task.{setting}
 use Rattle.lower_image.proofs.WeightEnds.{weight_cut}
 use Rattle.lower_image.proofs.Weights.{bound_entry, c_wide, certifies, choice, choice_turns, empty_said, long_enough, optimum_said, ray, ray_turns, told, wide}
 use Rattle.lower_image.proofs.weighing.weigh_generator.Goals as goal
@@ -37,7 +37,7 @@ returns-in_err-dual-clause-left g c = λ trail.
     let G = map value c.args.generator.now in
     let w_is = ap (map value) c.as_slice.ensures.items ∙ c.in_ok-w.ensures.ok in
     let base = (told task g.F.Field.holds c.requires.1.1.1.0 c.requires.1.1.1.1.1.0 G c.requires.1.1.1.1.1.1).base in
-    let h = c.in_err-dual.ensures.left (behind task trail) c.requires.1.0 (ap Some (sym c.requires.1.1.0))
+    let h = c.in_err-dual.ensures.left (setting task trail) c.requires.1.0 (ap Some (sym c.requires.1.1.0))
     (subst (λ (k : List ℚ). IsBaseWeight task.file k (map value c.as_slice.result.now)) (sym c.requires.1.1.0)
     (subst (IsBaseWeight task.file task.c) (sym w_is) base)) in
     search (rules, h)
@@ -97,7 +97,7 @@ returns-in_err-cut-in-Optimal-clause-left g c = λ trail.
     let G = map value c.args.generator.now in
     let w_is = ap (map value) c.as_slice-in-Optimal.ensures.items ∙ c.in_ok-w.ensures.ok in
     let base = (told task g.F.Field.holds c.requires.1.1.1.0 c.requires.1.1.1.1.1.0 G c.requires.1.1.1.1.1.1).base in
-    let h = c.in_err-cut-in-Optimal.ensures.left (behind task trail) task.c c.requires.1.0 refl
+    let h = c.in_err-cut-in-Optimal.ensures.left (setting task trail) task.c c.requires.1.0 refl
     (subst (IsBaseWeight task.file task.c) (sym w_is) base) in
     search (rules, h)
 

@@ -4,7 +4,7 @@ use Rattle.exact_field.specs.Rational.{ℚ, zero_ℚ, one_ℚ}
 use Rattle.exact_field.specs.Vector.{dot, entry, front}
 use Rattle.deriv_log.specs.declared.entry.Entry.{Entry}
 use Rattle.polyhedra.specs.Negatives.{negated}
-use Rattle.outer_approx.specs.Task.{behind}
+use Rattle.outer_approx.specs.Task.{setting}
 use Rattle.overflows.specs.Faults.{IsTermAt, Overflows}
 use Rattle.lower_image.proofs.Weights.{c_wide, multiplied, told, weight_entry, weight_made, wide}
 use Rattle.lower_image.proofs.weighing.weight_at.Goals as goal
@@ -72,6 +72,6 @@ returns-clause-left g c = λ trail.
     ∙ ap₂ (λ (a : ℚ) (v : List ℚ). a ∷ v) last_is (sym (take-map value k gen) ∙ ap (λ (n : ℕ). take n G) short) in
     let at = subst (λ (ys : List ℚ). IsTermAt value holds (one_ℚ ∷ negated (front task.c)) ys c.in-Err.fault) ys_is
     (subst (λ (xs : List ℚ). IsTermAt value holds xs (map value c.as_slice-2.result.now) c.in-Err.fault) xs_is c.in-Err.ensures.left.term) in
-    subst (λ (t : List Entry). Overflows holds (behind task trail) t c.term_fault.result) c.new.ensures
-    (c.term_fault.ensures.licensed (behind task trail) (one_ℚ ∷ negated (front task.c)) (entry G (suc q) ∷ take (length task.c - 1) G)
+    subst (λ (t : List Entry). Overflows holds (setting task trail) t c.term_fault.result) c.new.ensures
+    (c.term_fault.ensures.licensed (setting task trail) (one_ℚ ∷ negated (front task.c)) (entry G (suc q) ∷ take (length task.c - 1) G)
     (inl (multiplied task holds c.requires.1.1.0 rows G live trail)) at)

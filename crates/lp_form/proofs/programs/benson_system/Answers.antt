@@ -34,7 +34,7 @@ returns g c = λ file stands.
     let h2 : a2 ≡ a1 ++ joined members =
     c.in_ok-push_members.ensures ∙ ap (λ n. a1 ++ joined (dual_members n c.len-q.result (cone_of value form.cone))) m_is ∙ ap₂ (λ n k. a1 ++ joined (dual_members (side_total file) n k)) q_is stands.cone in
     let h3 : map value c.push_on_w.new.list ≡ a2 ++ last =
-    c.in_ok-push_on_w.ensures ∙ ap₂ (λ n b. a2 ++ on_parts (zeros n) cv b) m_is (ap (map value) c.as_slice.ensures.items ∙ c.in_ok-behind.ensures ∙ ap zeros more_is) in
+    c.in_ok-push_on_w.ensures ∙ ap₂ (λ n b. a2 ++ on_parts (zeros n) cv b) m_is (ap (map value) c.as_slice.ensures.items ∙ c.in_ok-after.ensures ∙ ap zeros more_is) in
     let b0 = map value c.new-b.result in
     let b1 = map value c.push_zeros.new.list in
     let k1 : b1 ≡ b0 ++ zeros file.cols = c.in_ok-push_zeros.ensures ∙ ap (λ n. b0 ++ zeros n) stands.cols in

@@ -33,7 +33,7 @@ returns g c = λ file stands.
     let h1 : a1 ≡ a0 ++ joined (balances file more) = c.in_ok-push_balances.ensures file stands ∙ ap (λ n. a0 ++ joined (balances file n)) more_is in
     let h2 : a2 ≡ a1 ++ joined (listed file.objs fixed) =
     c.in_ok-push_entries_of_w.ensures
-    ∙ ap₂ (λ n b. a1 ++ joined (listed c.len-q.result (λ i. on_parts (zeros n) (unit c.len-q.result i) b))) m_is (ap (map value) c.as_slice.ensures.items ∙ c.in_ok-behind.ensures ∙ ap zeros more_is)
+    ∙ ap₂ (λ n b. a1 ++ joined (listed c.len-q.result (λ i. on_parts (zeros n) (unit c.len-q.result i) b))) m_is (ap (map value) c.as_slice.ensures.items ∙ c.in_ok-after.ensures ∙ ap zeros more_is)
     ∙ ap (λ n. a1 ++ joined (listed n (λ i. on_parts (zeros (side_total file)) (unit n i) (zeros more)))) q_is in
     let h3 : map value c.push_weight_members.new.list ≡ a2 ++ joined members =
     c.in_ok-push_weight_members.ensures ∙ ap (λ n. a2 ++ joined (weight_members n c.len-q.result (cone_of value form.cone))) m_is ∙ ap₂ (λ n k. a2 ++ joined (weight_members (side_total file) n k)) q_is stands.cone in

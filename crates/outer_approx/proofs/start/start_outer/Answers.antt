@@ -4,7 +4,7 @@ use Rattle.lin_rows.specs.Read.{numbers}
 use Rattle.lineality.specs.Without.{open_count}
 use Rattle.polyhedra.specs.LiveList.{vectors}
 use Rattle.double_descr.specs.Starting.{IsStart}
-use Rattle.outer_approx.specs.Task.{behind}
+use Rattle.outer_approx.specs.Task.{setting}
 use Rattle.outer_approx.proofs.AfterStart.{full_rank, is_outer, licensed, same_lines, square, started_cuts, unreached, wide_here}
 use Rattle.outer_approx.proofs.Beginning.{are_first}
 use Rattle.outer_approx.proofs.start.start_outer.Goals as goal
@@ -41,7 +41,7 @@ pub returns-in-Err-clause-left : goal.returns-in-Err-clause-left
 returns-in-Err-clause-left g c =
     let h = c.requires in
     let rows = c.in_ok-rows.rows in
-    c.start_fault.ensures.licensed (behind g.task c.args.trail.now)
+    c.start_fault.ensures.licensed (setting g.task c.args.trail.now)
     (licensed g.F.Field.value g.task c.args.places.now c.args.trail.now c.args.cuts.now h.1.1.0 h.1.1.1.0 h.1.1.1.1.0 h.1.1.1.1.1.0 h.1.1.1.1.1.1.0 h.1.1.1.1.1.1.1
     rows.width (numbers g.F.Field.value rows.list) c.in_ok-rows.ensures.width c.in_ok-rows.ensures.rows)
 

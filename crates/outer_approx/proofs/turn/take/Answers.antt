@@ -11,7 +11,7 @@ use Rattle.overflow_rules.specs.Operands.{IsAddition}
 use Rattle.outer_approx.specs.Cuts.{said_by}
 use Rattle.outer_approx.specs.Lines.{line_places}
 use Rattle.outer_approx.specs.Standing.{IsOuter, StandForSame, cuts_of, rows_of_trail}
-use Rattle.outer_approx.specs.Task.{behind}
+use Rattle.outer_approx.specs.Task.{setting}
 use Rattle.outer_approx.specs.Pairs.{named}
 use Rattle.outer_approx.proofs.Added.{named_required}
 use Rattle.outer_approx.proofs.Outer.{added_cuts, is_addition, on_any, row_wide, stand_still, turned, turned_lines, turned_preimages, turned_rows}
@@ -119,7 +119,7 @@ returns-clause-left g c =
     let row = map value c.as_slice-in-Err.result.now in
     let row_is : row ≡ without (line_places g.task c.args.trail.now) (row_of e) =
     ap (map value) c.as_slice-in-Err.ensures.items ∙ c.in_ok-row.ensures ∙ ap (λ (marks : List Bool). without marks (row_of e)) c.requires.1.1.0 in
-    let s = behind g.task c.push_cut.new.trail in
+    let s = setting g.task c.push_cut.new.trail in
     c.add_fault.ensures.licensed s
     (subst (λ (d : Description). IsAddition s d.rows row d.list Image) (sym c.in-Err.ensures.err)
     (is_addition g.task c.args.trail.now c.push_cut.new.trail e c.args.dd.now c.requires.1.0 c.in_ok-push_cut.ensures.trail c.in_ok-push_cut.ensures.more

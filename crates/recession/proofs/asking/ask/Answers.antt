@@ -1,7 +1,7 @@
 use Rattle.std.proofs.Common.{map, refl, sym, ap, ◌∙◌, subst, ◌≡◌, List, []}
 use Rattle.std.proofs.lemmas.List.{length-map}
 use Rattle.lin_rows.proofs.Errors.{err_holds}
-use Rattle.outer_approx.specs.Task.{behind}
+use Rattle.outer_approx.specs.Task.{setting}
 use Rattle.overflows.specs.Faults.{Overflows}
 use Rattle.recession.proofs.Asking_ends.{c_wide_in, can_start, empty_seen, never_empty, optimum_seen, wide_in}
 use Rattle.recession.proofs.asking.ask.Goals as goal
@@ -23,8 +23,8 @@ benson_end-requires-clause-start g c =
 pub returns-in_err-end-clause-left : goal.returns-in_err-end-clause-left
 returns-in_err-end-clause-left g c = λ trail start.
     let holds = g.F.Field.holds in
-    err_holds c.from_residual.result c.in_err-end.field-0.0 (Overflows holds (behind g.task trail) []) c.from_residual.ensures.1
-    (c.in_err-end.ensures.left (behind g.task trail) c.requires.1.0 (ap Rattle.std.proofs.Common.Some (sym c.requires.1.1.0)) start)
+    err_holds c.from_residual.result c.in_err-end.field-0.0 (Overflows holds (setting g.task trail) []) c.from_residual.ensures.1
+    (c.in_err-end.ensures.left (setting g.task trail) c.requires.1.0 (ap Rattle.std.proofs.Common.Some (sym c.requires.1.1.0)) start)
 
 pub read_off-requires : goal.read_off-requires
 read_off-requires g c κs within =

@@ -4,7 +4,7 @@ use Rattle.exact_field.specs.Rational.{ℚ, zero_ℚ, ◌<ℚ◌, ◌≤ℚ◌}
 use Rattle.exact_field.proofs.Inequalities.{le_or_lt}
 use Rattle.lin_rows.proofs.Errors.{err_holds}
 use Rattle.upper_image.specs.Shows.{ShowsFitting}
-use Rattle.outer_approx.specs.Task.{behind}
+use Rattle.outer_approx.specs.Task.{setting}
 use Rattle.overflows.specs.Faults.{Overflows}
 use Rattle.benson_program.specs.Cuts.{IsCutOf}
 use Rattle.overflow_rules.specs.Preimages.{IsPreimageOf}
@@ -71,8 +71,8 @@ returns-in_err-parts-clause-left g c = λ trail start.
     c.index-dual-dual.result c.index-dual-dual.is refl in
     let low = low_in value holds g.task c.requires.1.1.1.1.0 c.args.form.now c.requires.1.0 v c.args.t o.0 (map value c.args.z.now) dual v_long o.1
     (not_positive _ _ c.is_positive.result last c.is_positive.ensures.fact c.if-is_positive.false) in
-    err_holds c.from_residual-in_err-parts.result c.in_err-parts.field-0.0 (Overflows holds (behind g.task trail) []) c.from_residual-in_err-parts.ensures.1
-    (c.in_err-parts.ensures.left (behind g.task trail) g.task.c v c.args.t c.requires.1.0 refl c.requires.1.1.1.0 start low)
+    err_holds c.from_residual-in_err-parts.result c.in_err-parts.field-0.0 (Overflows holds (setting g.task trail) []) c.from_residual-in_err-parts.ensures.1
+    (c.in_err-parts.ensures.left (setting g.task trail) g.task.c v c.args.t c.requires.1.0 refl c.requires.1.1.1.0 start low)
 
 pub returns-in_ok-cut-clause-ok : goal.returns-in_ok-cut-clause-ok
 returns-in_ok-cut-clause-ok g c =

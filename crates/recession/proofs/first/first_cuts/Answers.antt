@@ -1,7 +1,7 @@
 use Rattle.lin_rows.proofs.Errors.{err_holds}
 use Rattle.overflow_rules.specs.Licence.{Licensed}
 use Rattle.overflows.specs.Faults.{OnLicence}
-use Rattle.outer_approx.specs.Task.{behind}
+use Rattle.outer_approx.specs.Task.{setting}
 use Rattle.benson_program.specs.Ends.{IsFeasibleEnd}
 use Rattle.std.proofs.Common.{subst, []}
 use Rattle.recession.proofs.Trails.{licensed, opens, trail_of}
@@ -16,7 +16,7 @@ returns-in_err-end-clause-left g c =
     let fitting = c.requires.1.1.1.1 in
     err_holds c.from_residual.result c.in_err-end.field-0.0 (λ f. OnLicence f (Licensed holds g.task.file g.task.c)) c.from_residual.ensures.1
     (licensed holds g.task fitting [] (opens holds g.task fitting) c.in_err-end.field-0.0
-    (c.in_err-end.ensures.left (behind g.task (trail_of holds g.task fitting [])) c.requires.1.0))
+    (c.in_err-end.ensures.left (setting g.task (trail_of holds g.task fitting [])) c.requires.1.0))
 
 pub returns-in-Contradiction-clause-ok : goal.returns-in-Contradiction-clause-ok
 returns-in-Contradiction-clause-ok g c =

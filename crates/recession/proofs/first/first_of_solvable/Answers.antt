@@ -11,7 +11,7 @@ use Rattle.lp_form.specs.Programs.{benson_system}
 use Rattle.benson_program.specs.Cuts.{IsCutOf}
 use Rattle.benson_program.specs.Ends.{IsOptimumAt}
 use Rattle.overflows.specs.Faults.{OnLicence}
-use Rattle.outer_approx.specs.Task.{behind}
+use Rattle.outer_approx.specs.Task.{setting}
 use Rattle.recession.proofs.Asking_ends.{c_wide_in, can_start, cut_for, empty_at_origin, optimum_in, optimum_seen}
 use Rattle.recession.proofs.Trails.{licensed, opens, trail_of}
 use Rattle.recession.proofs.first.first_of_solvable.Goals as goal
@@ -39,7 +39,7 @@ returns-in_err-end-clause-left g c =
     let origin = ap (map value) c.as_slice.ensures.items ∙ c.in_ok-origin.ensures ∙ ap zeros q_is in
     err_holds c.from_residual-in_err-end.result c.in_err-end.field-0.0 (λ f. OnLicence f (Licensed holds g.task.file g.task.c)) c.from_residual-in_err-end.ensures.1
     (licensed holds g.task fitting [] (opens holds g.task fitting) c.in_err-end.field-0.0
-    (c.in_err-end.ensures.left (behind g.task (trail_of holds g.task fitting [])) c.requires.1.0 (ap Some (sym c.requires.1.1.0)) (IsBaseStart.origin origin refl)))
+    (c.in_err-end.ensures.left (setting g.task (trail_of holds g.task fitting [])) c.requires.1.0 (ap Some (sym c.requires.1.1.0)) (IsBaseStart.origin origin refl)))
 
 pub cut_of-requires-clause-stands : goal.cut_of-requires-clause-stands
 cut_of-requires-clause-stands g c = (g.task.file, c.requires.1.0)
@@ -80,7 +80,7 @@ returns-in_err-first-in-Optimal-clause-left g c =
     err_holds c.from_residual-in_err-first-in-Optimal.result c.in_err-first-in-Optimal.field-0.0 (λ f. OnLicence f (Licensed holds g.task.file g.task.c))
     c.from_residual-in_err-first-in-Optimal.ensures.1
     (licensed holds g.task fitting [] (opens holds g.task fitting) c.in_err-first-in-Optimal.field-0.0
-    (c.in_err-first-in-Optimal.ensures.left (behind g.task (trail_of holds g.task fitting [])) c.requires.1.0 (ap Some (sym c.requires.1.1.0))))
+    (c.in_err-first-in-Optimal.ensures.left (setting g.task (trail_of holds g.task fitting [])) c.requires.1.0 (ap Some (sym c.requires.1.1.0))))
 
 pub lines_and_cuts-requires : goal.lines_and_cuts-requires
 lines_and_cuts-requires g c κs within =
@@ -140,7 +140,7 @@ returns-in_err-parts-in-Empty-clause-left g c =
     err_holds c.from_residual-in_err-parts-in-Empty.result c.in_err-parts-in-Empty.field-0.0 (λ f. OnLicence f (Licensed holds g.task.file g.task.c))
     c.from_residual-in_err-parts-in-Empty.ensures.1
     (licensed holds g.task fitting [] (opens holds g.task fitting) c.in_err-parts-in-Empty.field-0.0
-    (c.in_err-parts-in-Empty.ensures.left (behind g.task (trail_of holds g.task fitting [])) g.task.c c.requires.1.0 refl empty))
+    (c.in_err-parts-in-Empty.ensures.left (setting g.task (trail_of holds g.task fitting [])) g.task.c c.requires.1.0 refl empty))
 
 pub returns-clause-ok : goal.returns-clause-ok
 returns-clause-ok g c =

@@ -5,10 +5,10 @@ use Rattle.lin_rows.proofs.Errors.{err_holds}
 use Rattle.overflow_rules.specs.Base.{IsSide}
 use Rattle.lp_form.proofs.Figures.{objective_number}
 use Rattle.outer_approx.specs.Lines.{told_by}
-use Rattle.outer_approx.specs.Task.{behind}
+use Rattle.outer_approx.specs.Task.{setting}
 use Rattle.overflows.specs.Faults.{Overflows}
 use Rattle.recession.specs.Further.{AreTail, IsNextSide, normals_of}
-use Rattle.recession.proofs.Behind.{asked_is, cut_at, reached_is, side_start, wide_cuts}
+use Rattle.recession.proofs.Across.{asked_is, cut_at, reached_is, side_start, wide_cuts}
 use Rattle.recession.proofs.further.cut_or_line.Goals as goal
 
 pub across-requires-clause-tail : goal.across-requires-clause-tail
@@ -32,8 +32,8 @@ pub returns-in_err-d-clause-left : goal.returns-in_err-d-clause-left
 returns-in_err-d-clause-left g c = λ trail has.
     let holds = g.F.Field.holds in
     let q_is = c.len.ensures.value ∙ objective_number g.F.Field.value g.task.file c.args.form.now c.requires.1.0 in
-    err_holds c.from_residual.result c.in_err-d.field-0.0 (Overflows holds (behind g.task trail) []) c.from_residual.ensures.1
-    (c.in_err-d.ensures.left (behind g.task trail) (sym q_is) has)
+    err_holds c.from_residual.result c.in_err-d.field-0.0 (Overflows holds (setting g.task trail) []) c.from_residual.ensures.1
+    (c.in_err-d.ensures.left (setting g.task trail) (sym q_is) has)
 
 pub ask-requires : goal.ask-requires
 ask-requires g c κs within =
@@ -69,7 +69,7 @@ returns-in_err-asked-clause-left g c = λ trail has.
     let q_is = c.len.ensures.value ∙ objective_number value g.task.file c.args.form.now c.requires.1.0 in
     let next = subst (λ (n : ℕ). IsNextSide n (normals_of value c.args.cuts.now) (map (told_by value) (reverse c.args.lines.now)) (map value c.in_ok-d.d)) q_is c.in_ok-d.ensures.ok in
     let side = next.side in
-    err_holds c.from_residual-in_err-asked.result c.in_err-asked.field-0.0 (Overflows holds (behind g.task trail) []) c.from_residual-in_err-asked.ensures.1
+    err_holds c.from_residual-in_err-asked.result c.in_err-asked.field-0.0 (Overflows holds (setting g.task trail) []) c.from_residual-in_err-asked.ensures.1
     (c.in_err-asked.ensures.left trail (side_start q trail (map value c.as_slice.result.now) d (ap (map value) c.as_slice.ensures.items)
     (subst (λ (ns : List (List ℚ)). IsSide q ns d) (sym has) side)))
 

@@ -1,4 +1,4 @@
-use Rattle.outer_approx.specs.Task.{behind}
+use Rattle.outer_approx.specs.Task.{setting}
 use Rattle.recession.proofs.Trails.{licensed, trail_base, trail_has, trail_of}
 use Rattle.recession.proofs.further.next_of.Goals as goal
 
@@ -12,6 +12,6 @@ returns-in_ok-entries-in-Err-clause-left g c =
     let says = c.in_ok-entries-in-Err.ensures in
     let base = trail_base holds g.task fitting value cuts entries c.requires.1.1.1.1.1.1.0 says in
     let has = trail_has holds g.task fitting value cuts entries c.requires.1.1.1.1.1.1.0 says in
-    let s = behind g.task (trail_of holds g.task fitting entries) in
-    licensed holds g.task fitting entries base c.behind.result
-    (c.behind.ensures.licensed holds s (c.in-Err.ensures.left (trail_of holds g.task fitting entries) has))
+    let s = setting g.task (trail_of holds g.task fitting entries) in
+    licensed holds g.task fitting entries base c.with_trail.result
+    (c.with_trail.ensures.licensed holds s (c.in-Err.ensures.left (trail_of holds g.task fitting entries) has))

@@ -3,9 +3,9 @@ use Rattle.std.proofs.lemmas.List.{length-map}
 use Rattle.exact_field.specs.Rational.{neg_ℚ}
 use Rattle.lin_rows.proofs.Errors.{err_holds}
 use Rattle.polyhedra.specs.Negatives.{negated}
-use Rattle.outer_approx.specs.Task.{behind}
+use Rattle.outer_approx.specs.Task.{setting}
 use Rattle.overflows.specs.Faults.{Overflows}
-use Rattle.recession.proofs.Behind.{asked_is, cut_opposite, line_at, opposite_start, reached_is}
+use Rattle.recession.proofs.Across.{asked_is, cut_opposite, line_at, opposite_start, reached_is}
 use Rattle.recession.proofs.further.opposite.Goals as goal
 
 pub ask-requires : goal.ask-requires
@@ -36,7 +36,7 @@ returns-in_err-asked-clause-left g c = λ trail side.
     let value = g.F.Field.value in
     let holds = g.F.Field.holds in
     let same = ap (map value) c.as_slice-2.ensures.items ∙ c.in_ok-negated.ensures ∙ ap (λ l. negated (map value l)) c.as_slice.ensures.items in
-    err_holds c.from_residual-in_err-asked.result c.in_err-asked.field-0.0 (Overflows holds (behind g.task trail) []) c.from_residual-in_err-asked.ensures.1
+    err_holds c.from_residual-in_err-asked.result c.in_err-asked.field-0.0 (Overflows holds (setting g.task trail) []) c.from_residual-in_err-asked.ensures.1
     (c.in_err-asked.ensures.left trail (opposite_start g.task.file.objs trail (map value c.as_slice-2.result.now) (map value c.args.d) same side))
 
 pub returns-in-Cut-clause-ok : goal.returns-in-Cut-clause-ok

@@ -20,7 +20,7 @@ loop-rest-init c =
     let line = c.first_piece.result.0.now in
     let s = c.in_ok-reading.reading in
     let read = subst (λ b. ReadsFirst b line s) c.is_some.ensures c.in_ok-reading.ensures.ok in
-    subst (λ r. IsReadTo c.args.bytes.now (lines_of r) s) (sym c.text_behind-rest.ensures) (first_reads c.args.bytes.now line c.first_piece.result.1 s some c.first_piece.ensures.pieces read)
+    subst (λ r. IsReadTo c.args.bytes.now (lines_of r) s) (sym c.text_after-rest.ensures) (first_reads c.args.bytes.now line c.first_piece.result.1 s some c.first_piece.ensures.pieces read)
 
 pub returns-in_err-row-clause-refused : goal.returns-in_err-row-clause-refused
 returns-in_err-row-clause-refused c =
@@ -42,8 +42,8 @@ loop-rest-preserved c =
     let row = c.in_ok-row.row in
     let read = subst (λ b. ReadsLine s.head s.before s.ended b line row) c.is_some-in-loop-rest.ensures c.in_ok-row.ensures.ok in
     let more = row_reads c.args.bytes.now rest line c.first_piece-in-loop-rest.result.1 s row some c.first_piece-in-loop-rest.ensures.pieces c.loop-rest.invariant read in
-    subst (λ t. IsReadTo c.args.bytes.now (lines_of c.text_behind-rest-in-loop-rest.result.now) t) (sym c.in_ok-add.ensures)
-    (subst (λ r. IsReadTo c.args.bytes.now (lines_of r) (with_line s row)) (sym c.text_behind-rest-in-loop-rest.ensures) more)
+    subst (λ t. IsReadTo c.args.bytes.now (lines_of c.text_after-rest-in-loop-rest.result.now) t) (sym c.in_ok-add.ensures)
+    (subst (λ r. IsReadTo c.args.bytes.now (lines_of r) (with_line s row)) (sym c.text_after-rest-in-loop-rest.ensures) more)
 
 pub returns-then-not-reading-clause-refused : goal.returns-then-not-reading-clause-refused
 returns-then-not-reading-clause-refused c =

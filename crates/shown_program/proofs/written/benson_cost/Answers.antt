@@ -14,7 +14,7 @@ pub returns-clause-long : goal.returns-clause-long
 returns-clause-long g c =
     let value = g.F.Field.value in
     let minus = c.in_ok-minus.minus in
-    let behind = c.in_ok-behind.behind in
+    let after = c.in_ok-after.after in
     let v = c.args.v.now in
     omega (
       arith,
@@ -30,8 +30,8 @@ returns-clause-long g c =
       length-map minus value,
       length-map (map value v) neg_ℚ,
       length-map v value,
-      ap length c.in_ok-behind.ensures,
-      length-map behind value,
+      ap length c.in_ok-after.ensures,
+      length-map after value,
       length-zeros c.cone_unknowns.result,
       c.cone_unknowns.ensures.count,
       c.in_ok-cost.ensures.long,
@@ -55,4 +55,4 @@ returns-clause-costs g c = λ file stands.
     ∙ map-append value c.append-2.new.self c.as_slice-2.result.now)
     (c.in_ok-cost.ensures.costs file stands)
     (ap (map value) c.as_slice.ensures.items ∙ c.in_ok-minus.ensures) refl
-    (ap (map value) c.as_slice-2.ensures.items ∙ c.in_ok-behind.ensures ∙ ap zeros more)
+    (ap (map value) c.as_slice-2.ensures.items ∙ c.in_ok-after.ensures ∙ ap zeros more)

@@ -7,7 +7,7 @@ use Rattle.word_lines.specs.Grammar.{is_last}
 use Rattle.word_lines.specs.Taking.{RefusesLine}
 use Rattle.word_lines.specs.declared.fault.LogKind.TheVariants.{NoEnd}
 use Rattle.word_lines.proofs.Lines.{IsReadTo, read_open, read_all_lines}
-use Rattle.word_lines.proofs.LineByLine.{reads_on, refuses_on, any_end_push, some_left, none_left, behind_shorter, refusal_handed}
+use Rattle.word_lines.proofs.LineByLine.{reads_on, refuses_on, any_end_push, some_left, none_left, after_shorter, refusal_handed}
 use Rattle.word_lines.proofs.text.read_entries.Goals as goal
 
 pub returns-in_err-entry-clause-refused : goal.returns-in_err-entry-clause-refused
@@ -28,13 +28,13 @@ loop-rest-preserved g c =
     let more = reads_on m c.args.bytes.now c.loop-rest.rest.now c.first_piece.result.0.now c.first_piece.result.1 c.loop-rest.entries c.in_ok-entry.entry c.loop-rest.ended some c.first_piece.ensures.pieces i.read i.ended (h.0, sym c.is_some.ensures ∙ h.1, h.2, h.3) in
     let pushed = c.in_ok-push.ensures.ok in
     let count = length-append c.loop-rest.entries (c.in_ok-entry.entry ∷ []) in
-    let shorter = behind_shorter c.loop-rest.rest.now c.first_piece.result.1 some c.first_piece.ensures.shorter in
+    let shorter = after_shorter c.loop-rest.rest.now c.first_piece.result.1 some c.first_piece.ensures.shorter in
     let number = i.number in
     let room = i.room in
     record {
-      read = subst (λ xs. IsReadTo m c.args.bytes.now (lines_of c.text_behind-rest.result.now) xs) (sym pushed) (subst (λ r. IsReadTo m c.args.bytes.now (lines_of r) (c.loop-rest.entries ++ c.in_ok-entry.entry ∷ [])) (sym c.text_behind-rest.ensures) more);
+      read = subst (λ xs. IsReadTo m c.args.bytes.now (lines_of c.text_after-rest.result.now) xs) (sym pushed) (subst (λ r. IsReadTo m c.args.bytes.now (lines_of r) (c.loop-rest.entries ++ c.in_ok-entry.entry ∷ [])) (sym c.text_after-rest.ensures) more);
       number = omega (arith, ap length pushed);
-      room = omega (arith, ap length c.text_behind-rest.ensures);
+      room = omega (arith, ap length c.text_after-rest.ensures);
       ended = c.is_end-ended.ensures ∙ any_end_push (is_last m) c.loop-rest.entries c.in_ok-entry.entry c.loop-rest.ended i.ended h.0 ∙ ap (list_any (is_last m)) (sym pushed);
     }
 

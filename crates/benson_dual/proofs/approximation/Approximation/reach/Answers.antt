@@ -5,7 +5,7 @@ use Rattle.exact_field.specs.Vector.{dot}
 use Rattle.lin_rows.proofs.Errors.{err_holds}
 use Rattle.overflows.specs.Faults.{Overflows}
 use Rattle.outer_approx.specs.Standing.{rows_of_trail}
-use Rattle.outer_approx.specs.Task.{behind}
+use Rattle.outer_approx.specs.Task.{setting}
 use Rattle.recession.specs.Asking.{IsAsked}
 use Rattle.benson_dual.proofs.LiveVectors.{base_start, is_reached, long, start_long, vector_is}
 use Rattle.benson_dual.proofs.AllInUse.{none_asked}
@@ -107,6 +107,6 @@ returns-in_err-parts-clause-left g c =
     let live = live_full value g.task image a c.requires.1.1.0 c.args.g (map value c.generator.result.now) c.generator.ensures.listed c.as_slice.result.now
     c.as_slice.ensures.items c.in_ok-full.full full c.as_slice-full.ensures.items c.in_ok-full.ensures in
     let n = length image.c.now in
-    err_holds c.from_residual-in_err-parts.result c.in_err-parts.field-0.0 (Overflows holds (behind g.task a.trail) []) c.from_residual-in_err-parts.ensures.1
+    err_holds c.from_residual-in_err-parts.result c.in_err-parts.field-0.0 (Overflows holds (setting g.task a.trail) []) c.from_residual-in_err-parts.ensures.1
     (c.in_err-parts.ensures.left a.trail
     (base_start value g.task a.trail c.args.g full live c.is_point-t.result c.is_point-t.ensures n (c_long value holds g.task image c.requires.1.0) (take n full) refl))

@@ -4,7 +4,7 @@ use Rattle.overflows.specs.Faults.{OnLicence}
 use Rattle.lower_image.specs.Lower.{AreAllFacets}
 use Rattle.outer_approx.specs.Cuts.{IsCutFor}
 use Rattle.outer_approx.specs.Standing.{IsOpening, IsOpenTrail}
-use Rattle.outer_approx.specs.Task.{behind}
+use Rattle.outer_approx.specs.Task.{setting}
 use Rattle.outer_approx.proofs.Outer.{on_any}
 use Rattle.recession.proofs.Free.{all_back}
 use Rattle.recession.proofs.OwnLogs.{carried, licensed}
@@ -48,7 +48,7 @@ pub returns-in-Err-clause-left : goal.returns-in-Err-clause-left
 returns-in-Err-clause-left g c =
     let holds = g.F.Field.holds in
     let trail = c.bring.new.trail in
-    licensed holds g.task c.requires.1.0.known.fitting trail c.behind.result
-    (subst (λ f. OnLicence f (λ licence. IsOpenTrail g.task trail)) (sym c.behind.ensures.told)
+    licensed holds g.task c.requires.1.0.known.fitting trail c.with_trail.result
+    (subst (λ f. OnLicence f (λ licence. IsOpenTrail g.task trail)) (sym c.with_trail.ensures.told)
     (carried (IsOpenTrail g.task trail) c.in-Err.fault trail (on_any (IsOpenTrail g.task trail) c.in-Err.fault c.in-Err.ensures.trail)))
-    (c.behind.ensures.licensed holds (behind g.task trail) c.in-Err.ensures.left)
+    (c.with_trail.ensures.licensed holds (setting g.task trail) c.in-Err.ensures.left)

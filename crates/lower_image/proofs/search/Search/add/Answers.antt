@@ -1,6 +1,6 @@
 use Rattle.std.proofs.Common.{◌≡◌, map}
 use Rattle.std.proofs.lemmas.Result.{on_ok_weaker}
-use Rattle.outer_approx.specs.Task.{behind}
+use Rattle.outer_approx.specs.Task.{setting}
 use Rattle.lower_image.proofs.Searched.{more_rows, row_long, row_may, with_row}
 use Rattle.lower_image.proofs.search.Search.add.Goals as goal
 
@@ -18,5 +18,5 @@ returns-clause-searching g c =
 
 pub returns-clause-left : goal.returns-clause-left
 returns-clause-left g c = λ trail.
-    c.add_row.ensures.left (behind g.task trail)
+    c.add_row.ensures.left (setting g.task trail)
     (row_may g.F.Field.value g.F.Field.holds g.task c.args.self.now c.requires.1.0 c.args.row.now trail c.requires.1.1)

@@ -11,8 +11,8 @@ use Rattle.lin_rows.specs.declared.cells.Cell.{Cell}
 use Rattle.lp_form.specs.Data.{cone_of}
 use Rattle.lp_form.specs.Programs.{dual_equations, dual_unknowns}
 use Rattle.lp_form.proofs.Shaped.{dual_wide}
-use Rattle.shown_program.specs.Entries.{IsLineWith, behind, placed, single}
-use Rattle.shown_program.proofs.written.behind_column.Goals as goal
+use Rattle.shown_program.specs.Entries.{IsLineWith, after_w, placed, single}
+use Rattle.shown_program.proofs.written.column_after_w.Goals as goal
 
 pub returns-in-Orthant : goal.returns-in-Orthant
 returns-in-Orthant g c =
@@ -26,11 +26,11 @@ returns-in-Orthant g c =
     (λ list. (n : ℕ) → cols + d ≤ n →
     IsLineWith n (single (cols + d) (value c.neg.result)) (entries value list))
     (λ list. IsLineWith (suc (cols + dual_equations q (cone_of value form.cone)))
-    (behind cols (cone_of value form.cone) d) (entries value list))
+    (after_w cols (cone_of value form.cone) d) (entries value list))
     (λ list h.
     let P : Cone → Type 0 = λ cone.
     d ≤ dual_unknowns q cone →
-    IsLineWith (suc (cols + dual_equations q cone)) (behind cols cone d) (entries value list) in
+    IsLineWith (suc (cols + dual_equations q cone)) (after_w cols cone d) (entries value list) in
     elim c.in-Orthant.is [
       | inl e ↦ subst P (sym (ap (cone_of value) e))
           (λ high. subst (λ (y : ℚ). IsLineWith (suc (cols + q)) (single (cols + d) y) (entries value list)) x
@@ -106,10 +106,10 @@ returns-in_ok-numbers-in-Dual g c =
     (λ list. (n : ℕ) → cols + length given ≤ n →
     IsLineWith n (placed cols (map value given)) (entries value list))
     (λ list. IsLineWith (suc (cols + dual_equations q (cone_of value form.cone)))
-    (behind cols (cone_of value form.cone) d) (entries value list))
+    (after_w cols (cone_of value form.cone) d) (entries value list))
     (λ list h.
     let P : Cone → Type 0 = λ cone.
-    IsLineWith (suc (cols + dual_equations q cone)) (behind cols cone d) (entries value list) in
+    IsLineWith (suc (cols + dual_equations q cone)) (after_w cols cone d) (entries value list) in
     subst P (sym (ap (cone_of value) c.in-Dual.is))
     (subst (λ (v : List ℚ). IsLineWith (suc (cols + q)) (placed cols v) (entries value list)) row
     (h (suc (cols + q)) (omega (arith, long)))))

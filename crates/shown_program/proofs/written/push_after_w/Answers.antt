@@ -3,16 +3,16 @@ use Rattle.exact_field.specs.Rational.{ℚ}
 use Rattle.tableaux.specs.Table.{listed}
 use Rattle.lin_rows.proofs.Lists.{listed-push}
 use Rattle.lp_form.specs.Data.{cone_of}
-use Rattle.shown_program.specs.Entries.{behind, benson_equations}
+use Rattle.shown_program.specs.Entries.{after_w, benson_equations}
 use Rattle.shown_program.proofs.Entered.{appended_more}
-use Rattle.shown_program.proofs.written.push_behind.Goals as goal
+use Rattle.shown_program.proofs.written.push_after_w.Goals as goal
 
 pub loop-d-preserved : goal.loop-d-preserved
 loop-d-preserved g c =
     let value = g.F.Field.value in
     let form = c.args.form.now in
     let d = c.loop-d.d in
-    let f : ℕ → ℕ → ℚ = λ j k. behind form.cols (cone_of value form.cone) j k in
+    let f : ℕ → ℕ → ℚ = λ j k. after_w form.cols (cone_of value form.cone) j k in
     appended_more value (benson_equations value form) (λ k. listed d (λ j. f j k))
     (λ k. listed (d + 1) (λ j. f j k)) (f (d + 1)) c.args.list.now c.loop-d.list c.push.new.self
     c.in_ok-cells.cells c.in_ok-push.ensures.ok c.in_ok-cells.ensures.sums
