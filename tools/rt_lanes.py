@@ -8,10 +8,10 @@ below it are built, while others that could be proved wait for a worker. Here a 
 several that one first on which the longest chain of others stands, by their lines. Each is proved by two jobs at least, since a
 job often waits for another of its crate, and by up to four where fewer crates are ready than there are processors. A library
 holds the statements that were proved of it, as in the gate, and not the checked proofs, which no crate above reads: it is built
-and read sooner, and takes little of the disk. The sources of a crate are summed up once: some kits sum them up once for each path
-through the lists of libraries, and nothing writes to the launcher's copy of the sources while it builds. The quick pass over all
-sources that comes before the proofs, and proves nothing, is left out. What is proved, and how, is the kit's. Where `rt` is no
-such program, it runs itself.
+and read sooner, and takes little of the disk. A program is checked as `rt run` builds it. The sources of a crate are summed up
+once: some kits sum them up once for each path through the lists of libraries, and nothing writes to the launcher's copy of the
+sources while it builds. The quick pass over all sources that comes before the proofs, and proves nothing, is left out. What is
+proved, and how, is the kit's. Where `rt` is no such program, it runs itself.
 """
 import functools
 import importlib.machinery
@@ -130,6 +130,11 @@ def in_statements(rtlib, method):
     return build_rlib
 
 
+def but_programs(method):
+    """The method that checks a crate, without those of programs: a program is checked as it is built, once its libraries are."""
+    return lambda crate, flags: 0 if crate.is_program else method(crate, flags)
+
+
 def in_jobs(method):
     """The method of a crate that takes rattle's flags, with as many jobs as the crate may use in place of one."""
 
@@ -155,7 +160,7 @@ def loaded(path):
         crate.build_rlib = in_statements(module.rtlib, crate.build_rlib)
         # Other copies of a repository are not to take these libraries for their own checks.
         module.offer = lambda *_: None
-    crate.build_rlib, crate.check = in_jobs(crate.build_rlib), in_jobs(crate.check)
+    crate.build_rlib, crate.check = in_jobs(crate.build_rlib), in_jobs(but_programs(crate.check))
     module.rtlib.ThreadPoolExecutor = Lanes
     return module
 
