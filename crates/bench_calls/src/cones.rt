@@ -10,7 +10,7 @@ use crate::lines::line_of;
 use double_descr::Dd;
 use exact_field::Field;
 use frac128::Frac;
-use lin_rows::{Indep, Rows, independent};
+use lin_rows::{Indep, Rows, find_independent};
 use src_sink::Items;
 use std::alloc::Global;
 
@@ -42,7 +42,7 @@ fn rows_from(alloc: Global, width: u32, count: u32, entries: &[i64]) -> Option<R
 fn have_full_rank(alloc: Global, rows: &Rows<Frac>) -> bool
     ensures { OnTrue result (HasFullRank rows.now.width (numbers (λ q. q) rows.now.list)) }
 {
-    match independent(alloc, rows, rows.width()) {
+    match find_independent(alloc, rows, rows.width()) {
         Ok(Indep::Basis(_)) => true,
         _ => false,
     }
@@ -50,7 +50,7 @@ fn have_full_rank(alloc: Global, rows: &Rows<Frac>) -> bool
 
 /// The double description of rows, if they are independent and as many as they have entries.
 #[tactic(auto, using(crate::proofs::RowsOf::numbers_same))]
-fn started(alloc: Global, rows: &Rows<Frac>) -> Option<Dd<Frac>>
+fn start_cone(alloc: Global, rows: &Rows<Frac>) -> Option<Dd<Frac>>
     ensures width { IfSome result (λ dd. dd.width ≡ rows.now.width) }
     ensures rows { IfSome result (λ dd. dd.rows ≡ rows.now.list) }
 {
@@ -83,7 +83,7 @@ fn cone_of(alloc: Global, width: u32, first: &[i64], count: u32, more: &[i64]) -
 {
     let rows = rows_from(alloc, width, width, first)?;
     let further = rows_from(alloc, width, count, more)?;
-    let mut dd = started(alloc, &rows)?;
+    let mut dd = start_cone(alloc, &rows)?;
     if !add_all(&mut dd, &further) {
         return None;
     }

@@ -36,7 +36,7 @@ pub struct Operands {
     pub second: Number,
 }
 
-fn whole(wide: Wide) -> i128
+fn wide_value(wide: Wide) -> i128
     ensures { result ≡ wide_value wide }
 {
     i128::from(wide.high) * (1 << 64) + i128::from(wide.low)
@@ -47,7 +47,7 @@ pub fn fraction<F: Field>(number: Number) -> Option<F>
     ensures { AnswersFraction F.value F.holds (wide_value number.num) (wide_value number.den)
         result }
 {
-    F::of(whole(number.num), whole(number.den))
+    F::of(wide_value(number.num), wide_value(number.den))
 }
 
 fn sums<F: Field>(first: F, second: F, rounds: u32) -> u32

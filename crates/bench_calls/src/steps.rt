@@ -32,7 +32,7 @@ fn answer(operation: u32, a: Frac, b: Frac) -> Option<Frac>
 }
 
 /// Takes the step, or answers false and leaves the numbers.
-fn taken(step: Step, numbers: &mut [Frac]) -> bool
+fn take_step(step: Step, numbers: &mut [Frac]) -> bool
     ensures { MatchBool result (step_of numbers.old step ≡ Some numbers.new)
         (step_of numbers.old step ≡ None) }
 {
@@ -56,7 +56,7 @@ fn run(steps: &[Step], numbers: &mut [Frac]) -> bool
         (run_of steps.now numbers.old ≡ None) }
 {
     for step in steps {
-        if !taken(*step, numbers) {
+        if !take_step(*step, numbers) {
             return false;
         }
     }

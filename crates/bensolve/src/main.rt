@@ -20,7 +20,7 @@ fn words(rt: &(impl Env + AllocGlobal)) -> io::Result<Vec<String>> {
 }
 
 /// Why there are no words: memory was wanting, or one of them is no text and so has no shape.
-fn unread(error: &io::Error) -> Status {
+fn status_of(error: &io::Error) -> Status {
     if error.kind() == io::ErrorKind::OutOfMemory {
         Status::NoMemory
     } else {
@@ -47,7 +47,7 @@ fn sink<R: Files>(rt: &R, path: Option<&str>) -> StdSink<R::File> {
 fn main(rt: HostRuntime) -> ExitCode {
     let words = match words(&rt) {
         Ok(words) => words,
-        Err(error) => return ExitCode::from(unread(&error).code()),
+        Err(error) => return ExitCode::from(status_of(&error).code()),
     };
     let paths = paths(words.as_slice());
     let mut problem = source(&rt, paths.problem);

@@ -20,7 +20,7 @@ pub(crate) fn number(alloc: Global, word: &str) -> Result<u64, Fault> {
 /// The text that a value stands for.
 pub(crate) fn text_of<R: Files + AllocGlobal>(rt: &R, value: &str) -> Result<String, Fault> {
     let Some(named) = value.strip_prefix('@') else {
-        return plain(rt.alloc(), value);
+        return read_plain(rt.alloc(), value);
     };
     match named.split_once(':') {
         None => Ok(fs::read_to_string(rt, named)?),
@@ -35,7 +35,7 @@ pub(crate) fn text_of<R: Files + AllocGlobal>(rt: &R, value: &str) -> Result<Str
 fn change_line(alloc: Global, text: &str, change: &str) -> Result<String, Fault> {
     let (at, lines) = match change.split_once(' ') {
         None => (change, String::new(alloc)),
-        Some((at, lines)) => (at, plain(alloc, lines)?),
+        Some((at, lines)) => (at, read_plain(alloc, lines)?),
     };
     let at = number(alloc, at)?;
     let mut out = String::new(alloc);
@@ -46,7 +46,7 @@ fn change_line(alloc: Global, text: &str, change: &str) -> Result<String, Fault>
 }
 
 /// A text that stands in the list itself.
-fn plain(alloc: Global, value: &str) -> Result<String, Fault> {
+fn read_plain(alloc: Global, value: &str) -> Result<String, Fault> {
     let (lines, end) = match value.strip_suffix('\\') {
         None => (value, "\n"),
         Some(front) => (front, ""),

@@ -17,7 +17,7 @@ ghost use Rattle.vlp_problem.specs.declared.problem.Problem.{Problem as File};
 use crate::lists::{picked_rows, rows_of};
 use exact_field::Field;
 use exact_simplex::{LpEnd, solve_lp};
-use lin_rows::{Indep, Rows, corners, independent};
+use lin_rows::{Indep, Rows, corners, find_independent};
 use lp_form::{Data, LpName, interior_system, pointed_system};
 use overflows::{SolveFault, elimination_fault, program_fault};
 use src_sink::{Items, NoMemory};
@@ -74,7 +74,7 @@ pub fn independent_vectors<F: Field>(
 {
     let q = form.p.len() as u32;
     let rows = rows_of(alloc, q, vectors)?;
-    match independent(alloc, &rows, q) {
+    match find_independent(alloc, &rows, q) {
         Ok(found) => Ok(found),
         Err(fault) => Err(elimination_fault(alloc, &rows, fault, Items::new(alloc))),
     }

@@ -24,7 +24,7 @@ ghost use Rattle.vlp_problem.specs.declared.problem.Problem.{Problem as File};
 use crate::asking::{independent_vectors, interior_end};
 use crate::combining::{spread_over, zero_combination};
 use crate::duality::{ConeEnd, Duality};
-use crate::given::{duality_with, not_interior, scaled_given};
+use crate::given::{duality_with, not_interior_fault, scale_given};
 use cone_rules::ConeFault;
 use exact_field::{Field, is_positive};
 use exact_simplex::LpEnd;
@@ -142,7 +142,7 @@ fn outside_fault<F: Field>(alloc: Global, vector: &[F], number: u32) -> Result<C
         at: number,
         value: Frac::one(),
     })?;
-    not_interior(alloc, vector, v)
+    not_interior_fault(alloc, vector, v)
 }
 
 /// The multipliers that combine the vectors to minus the last unit vector.
@@ -218,7 +218,7 @@ fn given_duality<F: Field>(
         → IfErr result (IsEnd F.holds file) }
 {
     require_inside(alloc, form, vectors, f)?;
-    let c = scaled_given(alloc, form, f)?;
+    let c = scale_given(alloc, form, f)?;
     Ok(duality_with(alloc, c, Items::new(alloc), Items::new(alloc), &[])?)
 }
 

@@ -20,7 +20,7 @@ ghost use Rattle.vlp_problem.specs.declared.problem.Problem.{Problem as File};
 use crate::asking::{independent_vectors, interior_end, inverse_columns};
 use crate::combining::zero_combination;
 use crate::duality::{ConeEnd, Duality};
-use crate::given::{duality_with, not_interior, scaled_given};
+use crate::given::{duality_with, not_interior_fault, scale_given};
 use cone_rules::ConeFault;
 use exact_field::{Field, is_positive};
 use exact_simplex::LpEnd;
@@ -99,7 +99,7 @@ fn outside_fault<F: Field>(
     ensures { (file : File) → IsDataOf F.value file form.now → IfOk result (HasFault file) }
 {
     let w = entries_after(y, vectors.len());
-    not_interior(alloc, w, Items::new(alloc))
+    not_interior_fault(alloc, w, Items::new(alloc))
 }
 
 /// The solution that combines the generators to the vector that is given, by positive multipliers.
@@ -215,7 +215,7 @@ fn given_duality<F: Field>(
         → IfErr result (IsEnd F.holds file) }
 {
     let z = positive_solution(alloc, form, vectors, f)?;
-    let c = scaled_given(alloc, form, f)?;
+    let c = scale_given(alloc, form, f)?;
     let weights = quotients_of(alloc, z.as_slice(), vectors.len(), f[f.len() - 1])?;
     let inverse = inverse_columns(alloc, form, vectors, picks.as_slice())?;
     Ok(duality_with(alloc, c, weights, picks, inverse.as_slice())?)

@@ -40,7 +40,11 @@ pub fn duality_with<F: Field>(
 }
 
 /// The fault of a vector that is given and not interior.
-pub fn not_interior<F: Field>(alloc: Global, w: &[F], v: Sparse) -> Result<ConeFault, NoMemory>
+pub fn not_interior_fault<F: Field>(
+    alloc: Global,
+    w: &[F],
+    v: Sparse,
+) -> Result<ConeFault, NoMemory>
     ensures { IfOk result (λ fault. fault ≡ fault_of.NotInterior (map F.value w.now) v) }
 {
     let w = fractions(alloc, w)?;
@@ -48,7 +52,7 @@ pub fn not_interior<F: Field>(alloc: Global, w: &[F], v: Sparse) -> Result<ConeF
 }
 
 /// The vector that is given, divided by its last entry, where this is positive.
-pub fn scaled_given<F: Field>(alloc: Global, form: &Data<F>, f: &[F]) -> Result<Items<F>, ConeEnd>
+pub fn scale_given<F: Field>(alloc: Global, form: &Data<F>, f: &[F]) -> Result<Items<F>, ConeEnd>
     requires duality { form.now.duality ≡ Some f.now }
     requires solid { HasInterior (length form.now.p) (cone_of F.value form.now.cone) }
     requires pointed { HasNoLine (length form.now.p) (cone_of F.value form.now.cone) }

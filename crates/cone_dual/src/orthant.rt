@@ -8,7 +8,7 @@ ghost use Rattle.lp_form.specs.declared.data.ConeOf.TheVariants as cone;
 ghost use Rattle.vlp_problem.specs.declared.problem.Problem.{Problem as File};
 
 use crate::duality::{ConeEnd, Duality};
-use crate::given::{duality_with, not_interior, scaled_given};
+use crate::given::{duality_with, not_interior_fault, scale_given};
 use crate::lists::first_not_positive;
 use exact_field::Field;
 use lp_form::{Data, push_ones, unit};
@@ -27,7 +27,7 @@ fn require_positive<F: Field>(alloc: Global, form: &Data<F>, f: &[F]) -> Result<
         None => Ok(()),
         Some(k) => {
             let w: Items<F> = unit(alloc, f.len() as u32, k as u32 + 1)?;
-            let fault = not_interior(alloc, w.as_slice(), Items::new(alloc))?;
+            let fault = not_interior_fault(alloc, w.as_slice(), Items::new(alloc))?;
             Err(ConeEnd::Fault(fault))
         }
     }
@@ -43,7 +43,7 @@ fn given_duality<F: Field>(alloc: Global, form: &Data<F>, f: &[F]) -> Result<Dua
         → IfErr result (IsEnd F.holds file) }
 {
     require_positive(alloc, form, f)?;
-    let c = scaled_given(alloc, form, f)?;
+    let c = scale_given(alloc, form, f)?;
     Ok(duality_with(alloc, c, Items::new(alloc), Items::new(alloc), &[])?)
 }
 

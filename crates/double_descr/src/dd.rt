@@ -14,7 +14,7 @@ use crate::generator::{Generator, place_of};
 use crate::moves::advance;
 use crate::next::{Next, next_list};
 use crate::parts::push_numbers;
-use crate::starting::{copy_rows, normed_all};
+use crate::starting::{copy_rows, norm_all};
 use exact_field::Field;
 use incid_sets::Marks;
 use lin_rows::{Rows, corners};
@@ -69,7 +69,7 @@ impl<F: Field> Dd<F> {
             (table F.value rows.now.list) fault) }
     {
         let vectors = corners(alloc, rows)?;
-        let generators = normed_all(alloc, &vectors)?;
+        let generators = norm_all(alloc, &vectors)?;
         let mut numbers = Items::new(alloc);
         push_numbers(&mut numbers, generators.as_slice())?;
         let lines = copy_rows(alloc, rows)?;

@@ -60,7 +60,7 @@ pub fn next_set<F: Field>(alloc: Global, generator: &Generator<F>, at: F) -> Res
 }
 
 /// The new generator between two, from the values of the row there.
-pub fn between_two<F: Field>(
+pub fn make_between<F: Field>(
     alloc: Global,
     plus: &Generator<F>,
     minus: &Generator<F>,

@@ -9,7 +9,7 @@ ghost use Rattle.double_descr.specs.State.{AreTwoLive, live_of, numbered_of, pai
 ghost use Rattle.double_descr.specs.Steps.{between, values};
 
 use crate::fault::{DdFault, Pair};
-use crate::generator::{Generator, between_two};
+use crate::generator::{Generator, make_between};
 use crate::pairs::{are_adjacent, share_enough};
 use exact_field::{Field, is_positive};
 use incid_sets::Marks;
@@ -71,7 +71,7 @@ fn try_pair<F: Field>(
         return Err(DdFault::NoMemory);
     }
     let number = so_far.first_new + so_far.pairs.len() as u32;
-    let generator = between_two(alloc, plus, minus, at_plus, at_minus, number)?;
+    let generator = make_between(alloc, plus, minus, at_plus, at_minus, number)?;
     so_far.generators.push(generator)?;
     so_far.pairs.push(Pair {
         plus: plus.number,

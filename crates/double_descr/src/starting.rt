@@ -21,7 +21,7 @@ use src_sink::{Items, NoMemory};
 use std::alloc::Global;
 
 /// The set of all numbers below the bound but one.
-fn all_but(alloc: Global, bound: u32, out: u32) -> Result<Marks, NoMemory>
+fn mark_all_but(alloc: Global, bound: u32, out: u32) -> Result<Marks, NoMemory>
     ensures { IfOk result (λ marks. IsAllBut bound out marks) }
 {
     let mut marks = Marks::new(alloc, bound)?;
@@ -62,7 +62,7 @@ fn normed_generator<F: Field>(
             left,
         })),
         Ok(vector) => {
-            let tight = all_but(alloc, count, place)?;
+            let tight = mark_all_but(alloc, count, place)?;
             Ok(Generator {
                 number: place + 1,
                 vector,
@@ -74,7 +74,7 @@ fn normed_generator<F: Field>(
 
 /// Vectors, normed, as generators under the numbers from 1 on: each of the rows is 0 at all of them
 /// but its own.
-pub fn normed_all<F: Field>(
+pub fn norm_all<F: Field>(
     alloc: Global,
     vectors: &Rows<F>,
 ) -> Result<Items<Generator<F>>, DdFault<F>>

@@ -60,7 +60,7 @@ pub fn values_positive(spots: &[Spot]) -> Result<(), Stop>
 }
 
 /// There are no multipliers.
-fn none_given(m: &[Spot]) -> Result<(), Stop>
+fn has_no_multipliers(m: &[Spot]) -> Result<(), Stop>
     ensures { (taken : ℕ) → Runs is_held (none_given m.now ∷ []) taken taken (λ _. ⊤) result }
 {
     pass(Rule::Length, m.is_empty())
@@ -182,7 +182,7 @@ fn meets_rows(counter: &mut Steps, rows: &[Vector], e: &[Frac], m: &[Spot]) -> R
     ensures { Runs is_held (in_cone (cone.Dual rows.now) e.now m.now) counter.old.taken
         counter.new.taken (λ _. ⊤) result }
 {
-    none_given(m)?;
+    has_no_multipliers(m)?;
     has_products(counter, rows, e)
 }
 
@@ -191,7 +191,7 @@ fn in_orthant(e: &[Frac], m: &[Spot]) -> Result<(), Stop>
     ensures { (taken : ℕ)
         → Runs is_held (in_cone cone.Orthant e.now m.now) taken taken (λ _. ⊤) result }
 {
-    none_given(m)?;
+    has_no_multipliers(m)?;
     no_entry_is_negative(e)
 }
 

@@ -176,7 +176,7 @@ fn differences(
 /// `y` minus the objectives' value at `x` is in the ordering cone, by multipliers where the cone is
 /// given by generators. It costs the entries of the objectives, the number of columns, and the test
 /// in the cone.
-pub fn above(
+pub fn is_above(
     alloc: Global,
     counter: &mut Steps,
     problem: &Problem,

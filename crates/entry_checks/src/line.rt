@@ -11,7 +11,7 @@ ghost use Rattle.log_rules.specs.Runs.{Runs, RunsAll, steps};
 ghost use Rattle.vlp_matrices.specs.Matrices.{AreMatricesOf};
 ghost use Rattle.polyhedra.specs.DoubleDescription.{leading};
 
-use crate::image::{above, in_feasible, in_recession};
+use crate::image::{in_feasible, in_recession, is_above};
 use crate::steps::{Steps, append, pass};
 use exact_field::Field;
 use frac128::{Frac, Spot, Vector, is_zero};
@@ -125,7 +125,7 @@ pub fn check_whole(
     in_feasible(alloc, &mut counter, problem, matrices, x)?;
     in_recession(alloc, &mut counter, problem, matrices, ray)?;
     let target = negate(alloc, c)?;
-    above(
+    is_above(
         alloc,
         &mut counter,
         problem,
@@ -166,10 +166,10 @@ pub fn check_line(
     pass(Rule::Scaled, goes_on(lines, d))?;
     in_feasible(alloc, &mut counter, problem, matrices, x)?;
     in_recession(alloc, &mut counter, problem, matrices, ray)?;
-    above(alloc, &mut counter, problem, matrices, d, ray, m)?;
+    is_above(alloc, &mut counter, problem, matrices, d, ray, m)?;
     in_recession(alloc, &mut counter, problem, matrices, back)?;
     let opposite = negate(alloc, d)?;
-    above(
+    is_above(
         alloc,
         &mut counter,
         problem,

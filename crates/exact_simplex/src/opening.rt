@@ -94,7 +94,7 @@ pub fn second_cost_line<F: Field>(
 
 /// The table of the program, with one artificial column for each equation and a cost row for each
 /// phase.
-pub fn unopened<F: Field>(alloc: Global, system: &System<F>) -> Result<Tableau<F>, NoMemory>
+pub fn build_table<F: Field>(alloc: Global, system: &System<F>) -> Result<Tableau<F>, NoMemory>
     requires { HasLengths system.now }
     ensures { IfOk result (IsUnopened (system_of F.value system.now)) }
 {

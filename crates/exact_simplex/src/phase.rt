@@ -8,7 +8,7 @@ ghost use Rattle.exact_simplex.specs.Program.{IsIdle, IsPrimal};
 ghost use Rattle.lin_rows.specs.System.{HasLengths, system_of};
 
 use crate::measure::magnitudes;
-use crate::ratio::{entering, leaving};
+use crate::ratio::{find_entering, find_leaving};
 use exact_field::Field;
 use lin_rows::tableau::Tableau;
 use lin_rows::{RowFault, System};
@@ -38,14 +38,14 @@ pub fn run_phase<F: Field>(
     ensures left { IfErr result (IsPhaseFault F.value F.holds equations unknowns tableau) }
 {
     let mut greatest = magnitudes(tableau.alloc(), unknowns)?;
-    while let Some(col) = entering(
+    while let Some(col) = find_entering(
         &tableau.rows()[cost],
         unknowns,
         tableau.rows(),
         equations,
         &mut greatest,
     ) {
-        match leaving(tableau.rows(), equations, col, columns) {
+        match find_leaving(tableau.rows(), equations, col, columns) {
             Err(test) => return Err(tableau.give_up(test.row, col, 1, test.left)),
             Ok(None) => return Ok((tableau, Some(col))),
             Ok(Some(row)) => tableau = tableau.pivot(row, col)?,
@@ -56,7 +56,7 @@ pub fn run_phase<F: Field>(
 
 /// The columns by which a phase compares rows: that of the right sides, and those with which it
 /// begins.
-fn compared<F: Field>(tableau: &Tableau<F>, equations: u32) -> Result<Vec<u32>, NoMemory>
+fn list_compared<F: Field>(tableau: &Tableau<F>, equations: u32) -> Result<Vec<u32>, NoMemory>
     requires { equations ≤ length tableau.now.basis }
     ensures { IfOk result
         (λ columns. columns.items ≡ tableau.now.width ∷ take equations tableau.now.basis) }
@@ -88,6 +88,6 @@ pub fn optimize<F: Field>(
         cost (unknown_count (system_of F.value system.now)) done.0.table done.1) }
     ensures left { IfErr result (IsSystemFault F.value F.holds (system_of F.value system.now)) }
 {
-    let columns = compared(&tableau, system.rows)?;
+    let columns = list_compared(&tableau, system.rows)?;
     run_phase(tableau, system.rows as usize, cost, system.cols, &columns)
 }

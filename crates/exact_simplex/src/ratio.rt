@@ -100,7 +100,7 @@ fn test_left<F: Field>(first: usize, second: usize, either: Either<F>) -> TestLe
 }
 
 /// The least row of the first `i + 1`, where `best` is that of the first `i`.
-fn better<F: Field>(
+fn take_better<F: Field>(
     rows: &[Vec<Cell<F>>],
     i: usize,
     best: Option<usize>,
@@ -139,7 +139,7 @@ fn better<F: Field>(
 
 /// The ratio test over the first `count` rows: the row with the lexicographically least quotients,
 /// if any has a positive entry.
-pub fn leaving<F: Field>(
+pub fn find_leaving<F: Field>(
     rows: &[Vec<Cell<F>>],
     count: usize,
     col: u32,
@@ -154,7 +154,7 @@ pub fn leaving<F: Field>(
 {
     let mut best = None;
     for i in 0..count {
-        best = better(rows, i, best, col, columns)?;
+        best = take_better(rows, i, best, col, columns)?;
     }
     Ok(best)
 }
@@ -201,7 +201,7 @@ fn best_column<F: Field>(row: &[Cell<F>], count: u32, greatest: &[u32]) -> Optio
 
 /// A column among the first `count` at which the cost row is negative. `greatest` has the memory
 /// for the magnitudes of the columns in the first `equations` rows.
-pub fn entering<F: Field>(
+pub fn find_entering<F: Field>(
     row: &[Cell<F>],
     count: u32,
     rows: &[Vec<Cell<F>>],

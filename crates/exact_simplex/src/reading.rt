@@ -19,7 +19,7 @@ use lin_rows::{RowFault, System};
 use src_sink::{Items, NoMemory};
 
 /// A number with the sign that the artificial column has at an equation with this right side.
-fn signed<F: Field>(right: F, x: F) -> F
+fn give_sign<F: Field>(right: F, x: F) -> F
     ensures { F.value result ≡ artificial_sign (F.value right) *ℚ F.value x }
 {
     if is_negative(right) { x.neg() } else { x }
@@ -36,7 +36,7 @@ fn dual<F: Field>(tableau: &Tableau<F>, system: &System<F>) -> Result<Items<F>, 
     for i in 0..system.rows {
         let col = artificial_column(tableau, system, i);
         let entry = tableau.entry(system.rows as usize + 1, col);
-        out.push(signed(system.b.as_slice()[i as usize], entry))?;
+        out.push(give_sign(system.b.as_slice()[i as usize], entry))?;
     }
     Ok(out)
 }
@@ -55,7 +55,7 @@ fn farkas<F: Field>(tableau: Tableau<F>, system: &System<F>) -> Result<Items<F>,
         let entry = tableau.entry(system.rows as usize, col);
         match entry.sub(F::one()) {
             Err(left) => return Err(tableau.give_up(system.rows as usize, col, 3, left)),
-            Ok(value) => out.push(signed(system.b.as_slice()[i as usize], value))?,
+            Ok(value) => out.push(give_sign(system.b.as_slice()[i as usize], value))?,
         }
     }
     Ok(out)
@@ -84,7 +84,7 @@ fn solution_at<F: Field>(tableau: &Tableau<F>, system: &System<F>) -> Result<Ite
 }
 
 /// The infeasible end, where no unknown betters the first cost, which stays below 0.
-pub fn infeasible<F: Field>(
+pub fn read_infeasible<F: Field>(
     tableau: Tableau<F>,
     system: &System<F>,
 ) -> Result<LpEnd<F>, RowFault<F>>
@@ -105,7 +105,10 @@ pub fn infeasible<F: Field>(
 }
 
 /// The optimal end, where no unknown betters the second cost.
-pub fn optimal<F: Field>(tableau: &Tableau<F>, system: &System<F>) -> Result<LpEnd<F>, NoMemory>
+pub fn read_optimal<F: Field>(
+    tableau: &Tableau<F>,
+    system: &System<F>,
+) -> Result<LpEnd<F>, NoMemory>
     requires lengths { HasLengths system.now }
     requires feasible { IsFeasible (system_of F.value system.now) tableau.now }
     requires best { IsBest (system_of F.value system.now)
@@ -122,7 +125,7 @@ pub fn optimal<F: Field>(tableau: &Tableau<F>, system: &System<F>) -> Result<LpE
 }
 
 /// The unbounded end, where this unknown betters the second cost without limit.
-pub fn unbounded<F: Field>(
+pub fn read_unbounded<F: Field>(
     tableau: &Tableau<F>,
     system: &System<F>,
     col: u32,

@@ -15,11 +15,11 @@ ghost use Rattle.lin_rows.specs.System.{HasLengths, system_of};
 
 use crate::answer::{LpEnd, LpFault, lp_fault};
 use crate::driving::drive_out;
-use crate::hint::hinted;
+use crate::hint::start_at_hint;
 use crate::kept::{Kept, Last, exchange_cost, has_same_equations};
-use crate::opening::{open, unopened};
+use crate::opening::{build_table, open};
 use crate::phase::optimize;
-use crate::reading::{infeasible, optimal, unbounded};
+use crate::reading::{read_infeasible, read_optimal, read_unbounded};
 use exact_field::{Field, is_negative};
 use lin_rows::tableau::Tableau;
 use lin_rows::{RowFault, System};
@@ -70,8 +70,8 @@ fn read_end<F: Field>(
         (IsOptimalEnd (λ basis. basis ≡ take system.now.rows tableau.now.basis)) }
 {
     match end {
-        None => optimal(tableau, system),
-        Some(col) => unbounded(tableau, system, col),
+        None => read_optimal(tableau, system),
+        Some(col) => read_unbounded(tableau, system, col),
     }
 }
 
@@ -107,22 +107,22 @@ enum Begun<F: Field> {
 }
 
 /// A program begins with phase one.
-fn begun_anew<F: Field>(alloc: Global, system: &System<F>) -> Result<Begun<F>, RowFault<F>>
+fn begin_anew<F: Field>(alloc: Global, system: &System<F>) -> Result<Begun<F>, RowFault<F>>
     requires { HasLengths system.now }
     ensures begun { IfOk result (IsBegun F.value system.now) }
     ensures left { IfErr result (IsSystemFault F.value F.holds (system_of F.value system.now)) }
 {
-    let tableau = unopened(alloc, system)?;
+    let tableau = build_table(alloc, system)?;
     let tableau = open(tableau, system)?;
     let (tableau, below) = first_phase(tableau, system)?;
     if below {
-        return Ok(Begun::Ended(infeasible(tableau, system)?));
+        return Ok(Begun::Ended(read_infeasible(tableau, system)?));
     }
     Ok(Begun::At(drive_out(tableau, system)?))
 }
 
 /// A program begins at the columns of a hint, or anew where these give no first basis.
-fn begun_at<F: Field>(
+fn begin_at<F: Field>(
     alloc: Global,
     system: &System<F>,
     columns: &[u32],
@@ -133,14 +133,14 @@ fn begun_at<F: Field>(
     ensures hint { IsBestBasis (system_of F.value system.now) columns.now
         → IfOk result (IsBegunBest (system_of F.value system.now) columns.now) }
 {
-    match hinted(alloc, system, columns)? {
+    match start_at_hint(alloc, system, columns)? {
         Some(tableau) => Ok(Begun::At(tableau)),
-        None => begun_anew(alloc, system),
+        None => begin_anew(alloc, system),
     }
 }
 
 /// A program begins in the dictionary of another cost over its equations.
-fn begun_from<F: Field>(
+fn begin_from<F: Field>(
     alloc: Global,
     system: &System<F>,
     mut tableau: Tableau<F>,
@@ -153,7 +153,7 @@ fn begun_from<F: Field>(
     if exchange_cost(&mut tableau, system)? {
         return Ok(Begun::At(tableau));
     }
-    begun_at(alloc, system, tableau.basis())
+    begin_at(alloc, system, tableau.basis())
 }
 
 /// The end of a program, and its last table where it has a solution.
@@ -188,13 +188,13 @@ fn finish<F: Field>(begun: Begun<F>, system: &System<F>) -> Result<Finished<F>, 
 }
 
 /// The end of a program that begins anew.
-fn solved<F: Field>(alloc: Global, system: &System<F>) -> Result<LpEnd<F>, RowFault<F>>
+fn solve_anew<F: Field>(alloc: Global, system: &System<F>) -> Result<LpEnd<F>, RowFault<F>>
     requires { HasLengths system.now }
     ensures certified { IfOk result (IsCertified F.value (system_of F.value system.now)) }
     ensures read_off { IfOk result (IsReadOff F.value (system_of F.value system.now)) }
     ensures left { IfErr result (IsSystemFault F.value F.holds (system_of F.value system.now)) }
 {
-    let begun = begun_anew(alloc, system)?;
+    let begun = begin_anew(alloc, system)?;
     let done = finish(begun, system)?;
     Ok(done.end)
 }
@@ -212,14 +212,14 @@ pub fn solve_lp<F: Field>(alloc: Global, system: &System<F>) -> Result<LpEnd<F>,
     ensures read_off { IfOk result (IsReadOff F.value (system_of F.value system.now)) }
     ensures left { IfErr result (IsLpFault F.value F.holds (system_of F.value system.now)) }
 {
-    match solved(alloc, system) {
+    match solve_anew(alloc, system) {
         Ok(end) => Ok(end),
         Err(fault) => Err(lp_fault(fault)),
     }
 }
 
 /// The end of a program that begins at a hint.
-fn solved_from<F: Field>(
+fn solve_from_hint<F: Field>(
     alloc: Global,
     system: &System<F>,
     columns: &[u32],
@@ -231,7 +231,7 @@ fn solved_from<F: Field>(
     ensures hint { IsBestBasis (system_of F.value system.now) columns.now
         → IfOk result (IsOptimalEnd (NameSame columns.now)) }
 {
-    let begun = begun_at(alloc, system, columns)?;
+    let begun = begin_at(alloc, system, columns)?;
     let done = finish(begun, system)?;
     Ok(done.end)
 }
@@ -254,7 +254,7 @@ pub fn solve_lp_from<F: Field>(
     ensures hint { IsBestBasis (system_of F.value system.now) columns.now
         → IfOk result (IsOptimalEnd (NameSame columns.now)) }
 {
-    match solved_from(alloc, system, columns) {
+    match solve_from_hint(alloc, system, columns) {
         Ok(end) => Ok(end),
         Err(fault) => Err(lp_fault(fault)),
     }
@@ -262,7 +262,7 @@ pub fn solve_lp_from<F: Field>(
 
 /// The end of a program, from the dictionary of another cost over its equations on, where there is
 /// one.
-fn solved_on<F: Field>(
+fn solve_on<F: Field>(
     alloc: Global,
     system: &System<F>,
     tableau: Option<Tableau<F>>,
@@ -276,15 +276,15 @@ fn solved_on<F: Field>(
     ensures left { IfErr result (IsSystemFault F.value F.holds (system_of F.value system.now)) }
 {
     let begun = match tableau {
-        None => begun_anew(alloc, system)?,
-        Some(tableau) => begun_from(alloc, system, tableau)?,
+        None => begin_anew(alloc, system)?,
+        Some(tableau) => begin_from(alloc, system, tableau)?,
     };
     finish(begun, system)
 }
 
 /// The end of a program, which is kept with its last dictionary. After a fault it is kept without
 /// one.
-fn solved_kept<F: Field>(
+fn solve_and_keep<F: Field>(
     alloc: Global,
     system: System<F>,
     tableau: Option<Tableau<F>>,
@@ -297,7 +297,7 @@ fn solved_kept<F: Field>(
     ensures left { IfErr result (IsLpFault F.value F.holds (system_of F.value system)) }
     ensures kept { IsKeptFor (system_of F.value system) kept.new }
 {
-    match solved_on(alloc, &system, tableau) {
+    match solve_on(alloc, &system, tableau) {
         Ok(Finished { end, last: tableau }) => {
             kept.last = Some(Last { system, tableau });
             Ok(end)
@@ -345,7 +345,7 @@ pub fn solve_lp_next<F: Field>(
     ensures kept { IsKeptFor (system_of F.value system) kept.new }
 {
     let tableau = table_for(kept, &system);
-    solved_kept(alloc, system, tableau, kept)
+    solve_and_keep(alloc, system, tableau, kept)
 }
 
 /// How the program that is kept ends with this cost in the place of its own, as `solve_lp_next`
@@ -374,7 +374,7 @@ pub fn solve_lp_with_cost<F: Field>(
             },
         ) => {
             system.cost = cost;
-            solved_kept(alloc, system, tableau, kept)
+            solve_and_keep(alloc, system, tableau, kept)
         }
     }
 }

@@ -5,7 +5,7 @@ ghost use Rattle.std.specs.Int.{◌∣◌};
 use crate::size::WORD;
 
 /// A step of Newton's: of an inverse modulo a power of 2 it makes one modulo the square.
-fn closer(odd: u64, inverse: u64) -> u64
+fn refine_inverse(odd: u64, inverse: u64) -> u64
     ensures { (k : ℕ) → 0 < k → 2 * k ≤ 64 → odd * inverse % 2 ^ k ≡ 1
         → odd * result % 2 ^ (2 * k) ≡ 1 }
 {
@@ -18,11 +18,11 @@ fn word_inverse(odd: u64) -> u64
     requires { odd % 2 ≡ 1 }
     ensures { odd * result % 2 ^ 64 ≡ 1 }
 {
-    let of_6 = closer(odd, odd);
-    let of_12 = closer(odd, of_6);
-    let of_24 = closer(odd, of_12);
-    let of_48 = closer(odd, of_24);
-    closer(odd, of_48)
+    let of_6 = refine_inverse(odd, odd);
+    let of_12 = refine_inverse(odd, of_6);
+    let of_24 = refine_inverse(odd, of_12);
+    let of_48 = refine_inverse(odd, of_24);
+    refine_inverse(odd, of_48)
 }
 
 /// The inverse of an odd number modulo 2^128.

@@ -18,9 +18,9 @@ use crate::exact::exact_quotient;
 use crate::fault::FracFault;
 use crate::gcd::gcd;
 use crate::order::compare;
-use crate::sign::{opposite, signed_number};
+use crate::sign::{differ_in_sign, signed_number};
 use crate::size::LIMIT;
-pub use arith::wide;
+pub use arith::wide_product;
 pub use dot::Sum;
 use exact_field::Field;
 use std::cmp::Ordering;
@@ -60,13 +60,16 @@ impl Frac {
         if den == 0 {
             return Err(FracFault::ZeroDen);
         }
-        Frac::reduced(opposite(num, den), num.unsigned_abs(), den.unsigned_abs()).ok_or(
-            FracFault::Wide,
+        Frac::reduce(
+            differ_in_sign(num, den),
+            num.unsigned_abs(),
+            den.unsigned_abs(),
         )
+        .ok_or(FracFault::Wide)
     }
 
     /// The number of this sign, magnitude and denominator, where it is held.
-    pub(crate) fn reduced(negative: bool, num: u128, den: u128) -> Option<Frac>
+    pub(crate) fn reduce(negative: bool, num: u128, den: u128) -> Option<Frac>
         requires { 0 < den }
         ensures { AnswersHeld (λ q. q) is_held (fraction (signed negative num) den) result }
     {
@@ -74,14 +77,14 @@ impl Frac {
         let num = exact_quotient(num, common);
         let den = exact_quotient(den, common);
         if num < LIMIT && den < LIMIT {
-            Some(Frac::signed(negative, num, den))
+            Some(Frac::with_sign(negative, num, den))
         } else {
             None
         }
     }
 
     /// The number of this sign, magnitude and denominator in lowest terms.
-    pub fn signed(negative: bool, num: u128, den: u128) -> Frac
+    pub fn with_sign(negative: bool, num: u128, den: u128) -> Frac
         requires num_small { num < 2 ^ 120 }
         requires den_small { den < 2 ^ 120 }
         requires positive { 0 < den }
@@ -100,7 +103,7 @@ pub fn frac_of<F: Field>(x: F) -> Frac
 {
     let num = x.num();
     let den = x.den();
-    Frac::signed(num < 0, num.unsigned_abs(), den as u128)
+    Frac::with_sign(num < 0, num.unsigned_abs(), den as u128)
 }
 
 impl From<i64> for Frac {

@@ -153,7 +153,7 @@ pub fn quotient(x: u128, y: u128) -> u128
 
 /// The quotient and the remainder, without a division where the quotient is small, and without a
 /// wide one where words hold both numbers.
-pub(crate) fn divided(x: u128, y: u128) -> (u128, u128)
+pub(crate) fn divide(x: u128, y: u128) -> (u128, u128)
     requires { 0 < y }
     ensures quotient { result.0 ≡ x / y }
     ensures rest { result.1 ≡ x % y }
@@ -180,7 +180,7 @@ pub(crate) fn remainder(x: u128, y: u128) -> u128
     requires { 0 < y }
     ensures { result ≡ x % y }
 {
-    let (_, rest) = divided(x, y);
+    let (_, rest) = divide(x, y);
     rest
 }
 

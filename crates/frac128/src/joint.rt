@@ -3,7 +3,7 @@ ghost use Rattle.std.specs.Prelude.{◌≡◌, ◌+◌, ◌*◌, ◌^◌, ◌<�
 ghost use Rattle.std.specs.Bool.{OnTrue};
 ghost use Rattle.frac128.specs.Mixed.{mixed_value, IsMixed, IsTotal};
 
-use crate::gcd::divided;
+use crate::gcd::divide;
 use crate::size::bits;
 
 /// A quotient of this magnitude is too far from 0 for what is still to come.
@@ -34,7 +34,7 @@ impl Mixed {
         ensures rest { result.rest < divisor }
         ensures size { unsigned_abs result.whole ≤ unsigned_abs number }
     {
-        let (size, rest) = divided(number.unsigned_abs(), divisor);
+        let (size, rest) = divide(number.unsigned_abs(), divisor);
         let whole = size as i128;
         if number >= 0 {
             Mixed { whole, rest }
@@ -111,7 +111,7 @@ fn digit(number: u128, place: u32) -> (u128, u128)
 
 impl Carry {
     /// Multiplies the sum by 16, and takes a digit of four bits of each multiplier.
-    fn advanced(self, first: Mixed, second: Mixed, place: u32, divisor: u128) -> Carry
+    fn advance(self, first: Mixed, second: Mixed, place: u32, divisor: u128) -> Carry
         requires place_small { place ≤ 116 }
         requires divisor_small { divisor < 2 ^ 120 }
         requires sum_rest { self.sum.rest < divisor }
@@ -133,7 +133,7 @@ impl Carry {
         let (x, left) = digit(self.left, place);
         let (y, right) = digit(self.right, place);
         let rests = self.sum.rest * 16 + first.rest * x + second.rest * y;
-        let (carried, rest) = divided(rests, divisor);
+        let (carried, rest) = divide(rests, divisor);
         let with_first = plus_scaled(carried as i128, first.whole, x);
         let with_both = plus_scaled(with_first, second.whole, y);
         let whole = plus_scaled(with_both, self.sum.whole, 16);
@@ -148,7 +148,7 @@ impl Carry {
 /// `a x + c y` by quotient and remainder, or `None` where its magnitude is at least 2^120 times the
 /// divisor. Both products are carried together, four bits of `x` and `y` a turn from the top, and
 /// the carrying ends where the sum so far is too far from 0 for the bits that are still to come.
-fn joint(a: i128, x: u128, c: i128, y: u128, divisor: u128) -> Option<Mixed>
+fn divide_products(a: i128, x: u128, c: i128, y: u128, divisor: u128) -> Option<Mixed>
     requires positive { 0 < divisor }
     requires divisor_small { divisor < 2 ^ 120 }
     requires a_small { unsigned_abs a < 2 ^ 120 }
@@ -168,7 +168,7 @@ fn joint(a: i128, x: u128, c: i128, y: u128, divisor: u128) -> Option<Mixed>
     let mut turns = bits(x.max(y)).div_ceil(4);
     while turns > 0 {
         turns -= 1;
-        carry = carry.advanced(first, second, 4 * turns, divisor);
+        carry = carry.advance(first, second, 4 * turns, divisor);
         if carry.sum.whole.unsigned_abs() >= FAR {
             return None;
         }
@@ -181,7 +181,7 @@ impl Total {
         requires { 0 < divisor }
         ensures { IsTotal divisor number result }
     {
-        let (whole, rest) = divided(number.unsigned_abs(), divisor);
+        let (whole, rest) = divide(number.unsigned_abs(), divisor);
         Total {
             negative: number < 0,
             whole,
@@ -214,6 +214,6 @@ pub(crate) fn numerator(a: i128, x: u128, c: i128, y: u128, divisor: u128) -> Op
     if is_short(a.unsigned_abs(), x) && is_short(c.unsigned_abs(), y) {
         Some(Total::of(a * x as i128 + c * y as i128, divisor))
     } else {
-        Some(joint(a, x, c, y, divisor)?.total(divisor))
+        Some(divide_products(a, x, c, y, divisor)?.total(divisor))
     }
 }

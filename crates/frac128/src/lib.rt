@@ -16,7 +16,7 @@ mod tiny;
 mod vectors;
 
 pub use fault::FracFault;
-pub use frac::{Frac, Sum, frac_of, wide};
+pub use frac::{Frac, Sum, frac_of, wide_product};
 pub use size::LIMIT;
 pub use text::put_frac;
 pub use tiny::Tiny;

@@ -3,7 +3,7 @@ ghost use Rattle.std.specs.Prelude.{◌≡◌, ◌+◌, ◌*◌, ◌^◌, ◌<�
 ghost use Rattle.std.specs.Ordering.{nat_cmp};
 ghost use Rattle.frac128.specs.Floors.{FloorsSay};
 
-use crate::gcd::divided;
+use crate::gcd::divide;
 use crate::size::WORD;
 use std::cmp::Ordering;
 
@@ -20,12 +20,12 @@ enum Floors {
 
 /// The floor quotients of `a / b` and `c / d`, neither of which is less than 1: one division, and
 /// the other quotient is only compared.
-fn divided_alike(a: u128, b: u128, c: u128, d: u128) -> Floors
+fn divide_alike(a: u128, b: u128, c: u128, d: u128) -> Floors
     requires b_positive { 0 < b }
     requires d_positive { 0 < d }
     ensures { FloorsSay a b c d result }
 {
-    let (whole, rest) = divided(a, b);
+    let (whole, rest) = divide(a, b);
     let Some(taken) = whole.checked_mul(d) else {
         return Floors::Differ(Ordering::Greater);
     };
@@ -41,7 +41,7 @@ fn divided_alike(a: u128, b: u128, c: u128, d: u128) -> Floors
 }
 
 /// What is left of a and c after b and d are taken from them equally often.
-fn lowered(a: u128, b: u128, c: u128, d: u128) -> (u128, u128)
+fn lower_both(a: u128, b: u128, c: u128, d: u128) -> (u128, u128)
     ensures { (k : ℕ) × (k * b + result.0 ≡ a) × (k * d + result.1 ≡ c) }
 {
     let mut left = a;
@@ -62,12 +62,12 @@ fn floor_quotients(a: u128, b: u128, c: u128, d: u128) -> Floors
     requires d_positive { 0 < d }
     ensures { FloorsSay a b c d result }
 {
-    let (left, right) = lowered(a, b, c, d);
+    let (left, right) = lower_both(a, b, c, d);
     match (left < b, right < d) {
         (true, true) => Floors::Same(left, right),
         (true, false) => Floors::Differ(Ordering::Less),
         (false, true) => Floors::Differ(Ordering::Greater),
-        (false, false) => divided_alike(left, b, right, d),
+        (false, false) => divide_alike(left, b, right, d),
     }
 }
 

@@ -3,7 +3,7 @@ ghost use Rattle.std.specs.Prelude.{◌≡◌, ◌<◌, ◌^◌};
 ghost use Rattle.frac128.specs.Signed.{differ, is_below_zero, signed};
 
 /// Whether one of the two numbers is negative and the other is not.
-pub fn opposite(a: i128, b: i128) -> bool
+pub fn differ_in_sign(a: i128, b: i128) -> bool
     ensures { result ≡ differ (is_below_zero a) (is_below_zero b) }
 {
     (a < 0) != (b < 0)

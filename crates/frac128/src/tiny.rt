@@ -48,7 +48,7 @@ impl Tiny {
         ensures tiny { IsTrue (is_tiny self) }
     {
         let negative = self.num < 0;
-        Frac::signed(
+        Frac::with_sign(
             negative,
             u128::from(self.num.unsigned_abs()),
             u128::from(self.den),
@@ -65,7 +65,7 @@ impl Tiny {
     }
 
     /// The number, where its parts are below 2^7.
-    fn held(exact: Option<Frac>) -> Option<Tiny>
+    fn fit(exact: Option<Frac>) -> Option<Tiny>
         ensures { (q : ℚ) → AnswersHeld (λ x. x) is_held q exact
             → AnswersHeld (λ x. x) is_tiny q result }
     {
@@ -130,14 +130,14 @@ impl Field for Tiny {
     }
 
     fn whole(v: i64) -> Option<Tiny> {
-        Tiny::held(Frac::whole(v))
+        Tiny::fit(Frac::whole(v))
     }
 
     fn of(num: i128, den: i128) -> Option<Tiny> {
         if den <= 0 {
             return None;
         }
-        Tiny::held(Frac::reduced(num < 0, num.unsigned_abs(), den as u128))
+        Tiny::fit(Frac::reduce(num < 0, num.unsigned_abs(), den as u128))
     }
 
     fn num(self) -> i128 {
@@ -158,7 +158,7 @@ impl Field for Tiny {
 
     fn add(self, other: Tiny) -> Result<Tiny, Left<Tiny>> {
         let exact = self.frac().plus(other.frac());
-        Tiny::held(exact).ok_or(Left {
+        Tiny::fit(exact).ok_or(Left {
             op: Op::Add,
             a: self,
             b: other,
@@ -167,7 +167,7 @@ impl Field for Tiny {
 
     fn sub(self, other: Tiny) -> Result<Tiny, Left<Tiny>> {
         let exact = self.frac().plus(other.frac().neg());
-        Tiny::held(exact).ok_or(Left {
+        Tiny::fit(exact).ok_or(Left {
             op: Op::Sub,
             a: self,
             b: other,
@@ -176,7 +176,7 @@ impl Field for Tiny {
 
     fn mul(self, other: Tiny) -> Result<Tiny, Left<Tiny>> {
         let exact = self.frac().times(other.frac());
-        Tiny::held(exact).ok_or(Left {
+        Tiny::fit(exact).ok_or(Left {
             op: Op::Mul,
             a: self,
             b: other,
@@ -185,7 +185,7 @@ impl Field for Tiny {
 
     fn div(self, other: Tiny) -> Result<Tiny, Left<Tiny>> {
         let exact = self.frac().times(other.frac().reciprocal());
-        Tiny::held(exact).ok_or(Left {
+        Tiny::fit(exact).ok_or(Left {
             op: Op::Div,
             a: self,
             b: other,

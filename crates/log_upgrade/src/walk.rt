@@ -138,7 +138,7 @@ fn with_hints(alloc: Global, checker: &Checker, entry: &Entry) -> Result<Upgrade
 }
 
 /// What stands in the place of the next entry.
-fn in_upgrade<'a>(
+fn upgrade_entry<'a>(
     alloc: Global,
     checker: &Checker,
     repeats: &mut Repeats<'a>,
@@ -208,7 +208,7 @@ impl<'a> Upgrader<'a> {
             → OnOk result (StandsAt problem.now all (before ++ entry.now ∷ [])
             (more_shared all vectors entry.now) self.new) }
     {
-        let upgraded = in_upgrade(alloc, &self.checker, &mut self.repeats, entry)?;
+        let upgraded = upgrade_entry(alloc, &self.checker, &mut self.repeats, entry)?;
         self.checker.take(alloc, problem, entry)?;
         Ok(upgraded)
     }

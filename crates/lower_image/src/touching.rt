@@ -23,7 +23,7 @@ fn bits(n: u128) -> u32 {
 }
 
 /// How many bits the longest numerator or denominator has.
-fn longest<F: Field>(row: &[F]) -> u32 {
+fn most_bits<F: Field>(row: &[F]) -> u32 {
     let mut most = 0;
     for x in row {
         let num = bits(x.num().unsigned_abs());
@@ -73,7 +73,7 @@ fn touched_points<F: Field>(
         if is_of_point(row) {
             let facets = tight_at(alloc, dd, generators, k)?;
             if facets.len() >= least {
-                let length = longest(row);
+                let length = most_bits(row);
                 points.push(TouchedPoint { length, facets })?;
             }
         }

@@ -37,7 +37,12 @@ pub enum Weighed<F: Drop> {
 }
 
 /// The first `count` numbers of a list after another number.
-fn led<F: Field>(alloc: Global, first: F, list: &[F], count: usize) -> Result<Items<F>, NoMemory>
+fn put_first<F: Field>(
+    alloc: Global,
+    first: F,
+    list: &[F],
+    count: usize,
+) -> Result<Items<F>, NoMemory>
     requires { count ≤ length list.now }
     ensures { IfOk result (λ out. out ≡ first ∷ take count list.now) }
 {
@@ -74,7 +79,7 @@ fn weight_at<F: Field>(alloc: Global, c: &[F], generator: &[F]) -> Result<Items<
 {
     let last = c.len() - 1;
     let one = completion(alloc, c)?;
-    let parts = led(alloc, generator[generator.len() - 1], generator, last)?;
+    let parts = put_first(alloc, generator[generator.len() - 1], generator, last)?;
     match sum_of_products(one.as_slice(), parts.as_slice()) {
         Ok(entry) => {
             let mut w = Items::new(alloc);

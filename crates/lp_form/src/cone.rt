@@ -61,7 +61,7 @@ fn push_nonzero<F: Field>(
 }
 
 /// Copies of the vectors that are not 0.
-fn nonzero<F: Field>(alloc: Global, vectors: &[Items<F>]) -> Result<Items<Items<F>>, NoMemory>
+fn copy_nonzero<F: Field>(alloc: Global, vectors: &[Items<F>]) -> Result<Items<Items<F>>, NoMemory>
     ensures { IfOk result (λ kept. numbers F.value kept
         ≡ filter (λ v. not (list_all is_nought v)) (numbers F.value vectors.now)) }
 {
@@ -268,7 +268,7 @@ pub fn interior_system<F: Field>(
             None => interior_found(alloc, q, vectors.as_slice()),
         },
         ConeOf::Dual(vectors) => {
-            let kept = nonzero(alloc, vectors.as_slice())?;
+            let kept = copy_nonzero(alloc, vectors.as_slice())?;
             interior_in_dual(alloc, q, kept.as_slice())
         }
     }
@@ -286,7 +286,7 @@ pub fn pointed_system<F: Field>(
     match cone {
         ConeOf::Orthant => Ok(empty_system(alloc)),
         ConeOf::Gens(vectors) | ConeOf::Dual(vectors) => {
-            let kept = nonzero(alloc, vectors.as_slice())?;
+            let kept = copy_nonzero(alloc, vectors.as_slice())?;
             combination(alloc, q, kept.as_slice())
         }
     }

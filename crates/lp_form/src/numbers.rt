@@ -84,7 +84,7 @@ fn all_numbers(alloc: Global, problem: &Problem) -> Result<Vector, NoMemory>
 }
 
 /// A number in the field, if the field holds it.
-fn in_field<F: Field>(number: Frac) -> Option<F>
+fn try_to_field<F: Field>(number: Frac) -> Option<F>
     ensures { AnswersHeld F.value F.holds number result }
 {
     F::of(number.num(), number.den())
@@ -95,7 +95,7 @@ pub fn to_field<F: Field>(number: Frac) -> F
     requires { IsTrue (F.holds number) }
     ensures { F.value result ≡ number }
 {
-    match in_field::<F>(number) {
+    match try_to_field::<F>(number) {
         Some(value) => value,
         None => unreachable!(),
     }
@@ -105,14 +105,14 @@ pub fn to_field<F: Field>(number: Frac) -> F
 fn is_held<F: Field>(number: Frac) -> bool
     ensures { result ≡ F.holds number }
 {
-    match in_field::<F>(number) {
+    match try_to_field::<F>(number) {
         Some(_) => true,
         None => false,
     }
 }
 
 /// The first of these numbers that the field does not hold.
-fn first_unheld<F: Field>(numbers: &[Frac]) -> Option<Frac>
+fn find_unheld<F: Field>(numbers: &[Frac]) -> Option<Frac>
     ensures { result ≡ find (λ q. not (F.holds q)) numbers.now }
 {
     for number in numbers {
@@ -130,7 +130,7 @@ pub fn test_numbers<F: Field>(alloc: Global, problem: &Problem) -> Result<(), Da
     ensures refused { IfErr result (RefusesNumber F.holds problem.now) }
 {
     let numbers = all_numbers(alloc, problem)?;
-    match first_unheld::<F>(numbers.as_slice()) {
+    match find_unheld::<F>(numbers.as_slice()) {
         Some(number) => Err(DataFault::NotHeld(number)),
         None => Ok(()),
     }

@@ -44,7 +44,7 @@ fn program_name<F: Field>(alloc: Global, name: &LpName<F>) -> Result<Program, No
 }
 
 /// The overflow of an operation at a place.
-fn left_at<F: Field>(place: Place, left: Left<F>, trail: Entries) -> SolveFault
+fn fault_at<F: Field>(place: Place, left: Left<F>, trail: Entries) -> SolveFault
     ensures told { result
         ≡ fault_of.Left (record { place = place; left = in_numbers F.value left; trail = trail }) }
     ensures held { IsTrue (F.holds (F.value left.a)) }
@@ -86,7 +86,7 @@ pub fn program_fault<F: Field>(
                     col,
                     step,
                 };
-                left_at(place, left, trail)
+                fault_at(place, left, trail)
             }
         },
     }
@@ -123,7 +123,7 @@ pub fn elimination_fault<F: Field>(
                     col,
                     step,
                 };
-                left_at(place, left, trail)
+                fault_at(place, left, trail)
             }
         },
     }
@@ -146,7 +146,7 @@ pub fn scale_fault<F: Field>(
 {
     match fractions(alloc, vector) {
         Err(_) => SolveFault::NoMemory,
-        Ok(vector) => left_at(Place::Scale { vector, entry }, left, trail),
+        Ok(vector) => fault_at(Place::Scale { vector, entry }, left, trail),
     }
 }
 
@@ -178,5 +178,5 @@ pub fn term_fault<F: Field>(alloc: Global, fault: SumFault<F>, trail: Entries) -
         col: fault.place,
         step: step_number(fault.left.op),
     };
-    left_at(place, fault.left, trail)
+    fault_at(place, fault.left, trail)
 }

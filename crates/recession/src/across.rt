@@ -53,7 +53,7 @@ pub fn level_vectors<F: Field>(
 /// Of the vectors at which the normal of each cut is 0, in reduced echelon form, the one before the
 /// last ones, which are those of the lines from the last to the first. There is one, since cuts and
 /// lines are fewer than there are entries.
-pub(crate) fn across<F: Field>(
+pub(crate) fn find_across<F: Field>(
     alloc: Global,
     q: u32,
     cuts: &[Cut<F>],

@@ -14,7 +14,7 @@ ghost use Rattle.overflows.specs.Faults.{OnLicence, Overflows};
 ghost use Rattle.recession.specs.Asking.{IsProper};
 ghost use Rattle.recession.specs.Further.{AreFound, IsNext, IsNextSide, SayCuts, normals_of};
 
-use crate::across::across;
+use crate::across::find_across;
 use crate::asking::{Asked, ask};
 use benson_program::Kept;
 use deriv_log::Entries;
@@ -35,7 +35,7 @@ pub enum Next<F: Drop> {
 }
 
 /// What is found after cuts and lines at the negative of a direction `d` that has a pre-image.
-fn opposite<F: Field>(
+fn ask_opposite<F: Field>(
     alloc: Global,
     form: &Data<F>,
     c: &[F],
@@ -94,11 +94,11 @@ fn cut_or_line<F: Field>(
         → trail_normals task.file.objs trail ≡ normals_of F.value cuts.now
         → IfErr result (Overflows F.holds (setting task trail) []) }
 {
-    let d = across(alloc, form.p.len() as u32, cuts, lines)?;
+    let d = find_across(alloc, form.p.len() as u32, cuts, lines)?;
     let asked = ask(alloc, form, c, weights, d.as_slice(), false, kept)?;
     match asked {
         Asked::Cut(cut) => Ok(Next::Cut(cut)),
-        Asked::Reached(forth) => opposite(alloc, form, c, weights, d, forth, kept),
+        Asked::Reached(forth) => ask_opposite(alloc, form, c, weights, d, forth, kept),
     }
 }
 

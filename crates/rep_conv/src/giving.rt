@@ -53,7 +53,7 @@ fn push_at(alloc: Global, t: Frac, v: &[Frac], list: &mut Vectors) -> Result<(),
 }
 
 /// The vectors with this last entry, without it.
-fn found_at(alloc: Global, t: Frac, generators: &[Vector]) -> Result<Vectors, NoMemory>
+fn take_level(alloc: Global, t: Frac, generators: &[Vector]) -> Result<Vectors, NoMemory>
     requires { All (λ v. 0 < length v) generators.now }
     ensures { IfOk result (λ list. list ≡ flat_map (front_at t) generators.now) }
 {
@@ -140,7 +140,7 @@ fn heights(alloc: Global, t: Frac, generators: &[Vector]) -> Result<Vectors, NoM
         → IsGiven width s lines generators.now
         → IfOk result (IsSorting (λ v. v) (at_height width t s)) }
 {
-    let found = found_at(alloc, t, generators)?;
+    let found = take_level(alloc, t, generators)?;
     Ok(sort_vectors(found))
 }
 

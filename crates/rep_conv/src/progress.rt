@@ -225,7 +225,7 @@ impl Standing {
     }
 
     /// Whether all rows are in use.
-    fn all_used(&self) -> bool
+    fn are_all_used(&self) -> bool
         ensures { (rep : Rep) (s : State) → Keeps rep s self.now
             → result ≡ are_all_used rep s }
     {
@@ -249,7 +249,7 @@ impl Standing {
                 self.take_start(alloc, rep, rows.as_slice(), gens.as_slice())
             }
             ConvEntry::Add { row, pairs } => self.take_add(alloc, rep, *row, pairs.as_slice()),
-            ConvEntry::End => pass(Rule::Missing, self.all_used()),
+            ConvEntry::End => pass(Rule::Missing, self.are_all_used()),
         }
     }
 

@@ -16,7 +16,7 @@ use log_rules::{Rule, Stop};
 use rep_text::Rep;
 
 /// Whether each number is less than `bound`.
-fn all_below(bound: usize, numbers: &[u32]) -> bool
+fn are_all_below(bound: usize, numbers: &[u32]) -> bool
     ensures { result ≡ numbers_below bound numbers.now }
 {
     numbers.iter().all(|k| (*k as usize) < bound)
@@ -133,7 +133,7 @@ fn lists_fit(places: usize, lines: &[Vector], named: &[u32], gens: &[Frac]) -> b
 fn are_picks(bound: usize, named: &[u32]) -> bool
     ensures { result ≡ (numbers_rise named.now && numbers_below bound named.now) }
 {
-    rises(named) && all_below(bound, named)
+    rises(named) && are_all_below(bound, named)
 }
 
 /// The tests of a `start` entry after these lines. They cost the square of the number of its rows

@@ -26,7 +26,7 @@ fn empty_log(alloc: Global) -> Result<ConvLog, NoMemory>
 }
 
 /// The conversion of a representation without rows.
-fn without_rows(alloc: Global, rep: &Rep) -> Result<Converted, NoMemory>
+fn convert_without_rows(alloc: Global, rep: &Rep) -> Result<Converted, NoMemory>
     requires { rows_of rep.now ≡ [] }
     ensures { IfOk result (IsConversion rep.now) }
 {
@@ -46,7 +46,7 @@ pub fn convert(alloc: Global, rep: &Rep) -> Result<Converted, ConvFault>
 {
     let rows = text_rows(alloc, rep)?;
     if rows.len() == 0 {
-        return Ok(without_rows(alloc, rep)?);
+        return Ok(convert_without_rows(alloc, rep)?);
     }
     let mut begun = begin(alloc, rep, rows.as_slice())?;
     let found = finish(alloc, rep, &rows, &mut begun)?;

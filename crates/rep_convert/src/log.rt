@@ -37,7 +37,7 @@ pub(crate) fn lines_log(alloc: Global, lines: &[Vector]) -> Result<ConvLog, NoMe
 }
 
 /// Vectors, one after the other.
-fn joined(alloc: Global, vectors: &[Vector]) -> Result<Vector, NoMemory>
+fn join(alloc: Global, vectors: &[Vector]) -> Result<Vector, NoMemory>
     ensures { IfOk result (λ list. list ≡ flat_map (λ v. v) vectors.now) }
 {
     let mut list = Items::new(alloc);
@@ -59,7 +59,7 @@ pub(crate) fn push_start(
     ensures written { OnOk result
         (IsTrue (is_formed conv_grammar (entry.Start picks.now (flat_map (λ v. v) gens.now)))) }
 {
-    let gens = joined(alloc, gens)?;
+    let gens = join(alloc, gens)?;
     fractions_are_written(gens.as_slice());
     naturals_are_written(picks);
     let mut rows = Items::new(alloc);

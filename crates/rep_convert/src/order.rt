@@ -19,7 +19,7 @@ fn push_unused(order: &mut Items<u32>, used: &[u32], k: u32) -> Result<(), NoMem
 }
 
 /// The numbers that are not in use, rising.
-fn rising(alloc: Global, count: u32, used: &[u32]) -> Result<Items<u32>, NoMemory>
+fn list_unused(alloc: Global, count: u32, used: &[u32]) -> Result<Items<u32>, NoMemory>
     ensures { IfOk result (IsOrder count used.now) }
 {
     let mut order = Items::new(alloc);
@@ -60,7 +60,7 @@ pub(crate) fn order_of(
 ) -> Result<Items<u32>, NoMemory>
     ensures { IfOk result (IsOrder count used.now) }
 {
-    let order = rising(alloc, count, used)?;
+    let order = list_unused(alloc, count, used)?;
     let mut order = order.into_vec();
     order.sort_by_cached_key(|k| {
         rows.get(*k as usize)

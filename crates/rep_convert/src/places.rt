@@ -84,7 +84,7 @@ pub(crate) fn row_without(alloc: Global, places: &[bool], row: &[Frac]) -> Resul
 }
 
 /// A generator with zeros at the places of lines.
-pub(crate) fn filled(alloc: Global, places: &[bool], short: &[Frac]) -> Result<Vector, NoMemory>
+pub(crate) fn fill(alloc: Global, places: &[bool], short: &[Frac]) -> Result<Vector, NoMemory>
     ensures { IfOk result (λ full. full ≡ with_zeros places.now short.now) }
 {
     let mut full = Items::new(alloc);

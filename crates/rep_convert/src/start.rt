@@ -12,11 +12,11 @@ ghost use Rattle.double_descr.specs.Starting.{IsStart};
 use crate::fault::ConvFault;
 use crate::licences::row_left;
 use crate::order::order_of;
-use crate::places::{filled, open_places, row_without};
+use crate::places::{fill, open_places, row_without};
 use crate::products::try_products;
 use double_descr::{Dd, DdFault};
 use frac128::{Frac, Vector, Vectors};
-use lin_rows::{Indep, RowFault, Rows, independent};
+use lin_rows::{Indep, RowFault, Rows, find_independent};
 use rep_text::Rep;
 use src_sink::{Items, NoMemory};
 use std::alloc::Global;
@@ -117,7 +117,7 @@ fn early_numbers(
         None => return Ok(None),
     };
     let rows = picked_rows(alloc, short, first.as_slice())?;
-    match independent(alloc, &rows, rows.width()) {
+    match find_independent(alloc, &rows, rows.width()) {
         Ok(Indep::Basis(places)) => {
             Ok(Some(at_places(alloc, first.as_slice(), places.as_slice())?))
         }
@@ -141,7 +141,7 @@ fn all_numbers(
     ensures starts { IfOk result (AreStarts rep.now lines.now) }
     ensures left { IfErr result (IsConvLeft is_held rep.now) }
 {
-    match independent(alloc, short, short.width()) {
+    match find_independent(alloc, short, short.width()) {
         Ok(Indep::Basis(numbers)) => Ok(from_zero(alloc, numbers.as_slice())?),
         Ok(Indep::Orthogonal(_)) => unreachable!(),
         Err(fault) => Err(row_left(alloc, short, fault)),
@@ -190,7 +190,7 @@ fn picked_rows(alloc: Global, rows: &Rows<Frac>, picks: &[u32]) -> Result<Rows<F
 }
 
 /// The double description of the rows of the start.
-fn described(
+fn describe(
     alloc: Global,
     rep: &Rep,
     lines: &[Vector],
@@ -226,7 +226,7 @@ pub(crate) fn filled_generators(
     let numbers = dd.live();
     let mut gens = Items::new(alloc);
     for i in 0..numbers.len() {
-        gens.push(filled(alloc, places, dd.generator(numbers[i]))?)?;
+        gens.push(fill(alloc, places, dd.generator(numbers[i]))?)?;
     }
     Ok(gens)
 }
@@ -290,7 +290,7 @@ pub(crate) fn start(
     let short = short_rows(alloc, places, rows)?;
     let order = order_of(alloc, short.count(), rows, &[])?;
     let picks = start_numbers(alloc, rep, lines, &short, order.as_slice())?;
-    let dd = described(alloc, rep, lines, &short, picks.as_slice())?;
+    let dd = describe(alloc, rep, lines, &short, picks.as_slice())?;
     let gens = tried_generators(alloc, rep, lines, places, rows, picks.as_slice(), &dd)?;
     Ok(Started { picks, gens, dd })
 }

@@ -71,7 +71,7 @@ impl<'a, F: Field> Columns<'a, F> {
     }
 
     /// The column that stands at place `k` of a list, from 1: none where no column stands there.
-    pub(crate) fn listed(&self, columns: &[u32], k: u32) -> Option<&[Cell<F>]>
+    pub(crate) fn find_listed(&self, columns: &[u32], k: u32) -> Option<&[Cell<F>]>
         requires { AreInRange self.now columns.now }
         ensures place { IfSome result (λ cells. (1 ≤ k) × (k ≤ length columns.now)) }
         ensures places { IfSome result

@@ -85,7 +85,7 @@ fn passes<F: Field>(
     is_shown(alloc, program, columns, &guess.order)
 }
 
-fn copied<T: Copy>(alloc: Global, list: &[T]) -> Result<Items<T>, NoMemory>
+fn copy_items<T: Copy>(alloc: Global, list: &[T]) -> Result<Items<T>, NoMemory>
     ensures { IfOk result (λ copy. copy ≡ list.now) }
 {
     let mut copy = Items::new(alloc);
@@ -116,8 +116,8 @@ fn optimum_at<F: Field>(
         guess.x.as_slice(),
         program.cost.len() as u32,
     )?;
-    let dual = copied(alloc, guess.y.as_slice())?;
-    let basis = copied(alloc, columns)?;
+    let dual = copy_items(alloc, guess.y.as_slice())?;
+    let basis = copy_items(alloc, columns)?;
     Ok(Some(Optimum { x, dual, basis }))
 }
 

@@ -226,7 +226,7 @@ fn push_after_w<F: Field>(
 }
 
 /// The columns of Benson's program that are not those of the sides.
-fn others<F: Field>(
+fn list_others<F: Field>(
     alloc: Global,
     form: &Data<F>,
     c: &[F],
@@ -268,7 +268,7 @@ fn units<F: Field>(alloc: Global, right: &[F]) -> Result<Items<Cell<F>>, NoMemor
 }
 
 /// The program of these columns after those of the sides.
-fn assembled<'a, F: Field>(
+fn assemble<'a, F: Field>(
     alloc: Global,
     form: &'a Data<F>,
     others: Items<Items<Cell<F>>>,
@@ -353,7 +353,7 @@ fn feasible_columns<'a, F: Field>(
 {
     let cost = side_costs(alloc, form, true)?;
     let right = zeros(alloc, form.cols)?;
-    assembled(alloc, form, Items::new(alloc), right, cost)
+    assemble(alloc, form, Items::new(alloc), right, cost)
 }
 
 /// Benson's program at `v`.
@@ -372,8 +372,8 @@ fn benson_columns<'a, F: Field>(
 {
     let cost = benson_cost(alloc, form, v, t)?;
     let right = benson_right(alloc, form)?;
-    let others = others(alloc, form, c)?;
-    assembled(alloc, form, others, right, cost)
+    let others = list_others(alloc, form, c)?;
+    assemble(alloc, form, others, right, cost)
 }
 
 /// The column of unknown `i` of w in the program of a weight: the negative of its objective, and 1
@@ -406,7 +406,7 @@ fn push_given<F: Field>(
 }
 
 /// The columns of the program of a weight that are not those of the sides.
-fn given<F: Field>(alloc: Global, form: &Data<F>) -> Result<Items<Items<Cell<F>>>, NoMemory>
+fn list_given<F: Field>(alloc: Global, form: &Data<F>) -> Result<Items<Items<Cell<F>>>, NoMemory>
     ensures { IfOk result (AreGiven F.value form.now) }
 {
     let mut list = Items::new(alloc);
@@ -453,8 +453,8 @@ fn given_columns<'a, F: Field>(
 {
     let cost = weight_cost(alloc, form)?;
     let right = weight_right(alloc, form, w)?;
-    let others = given(alloc, form)?;
-    assembled(alloc, form, others, right, cost)
+    let others = list_given(alloc, form)?;
+    assemble(alloc, form, others, right, cost)
 }
 
 /// The program of the weight `w`: none where the cone is in dual form.

@@ -17,5 +17,5 @@ pub(crate) fn dot(row: &[Tier], vector: &[Tier]) -> Option<Tier>
     for i in 0..row.len() {
         sum = sum.plus_product(row[i].frac(), vector[i].frac())?;
     }
-    Some(Tier::from_frac(sum.reduced()?))
+    Some(Tier::from_frac(sum.reduce()?))
 }

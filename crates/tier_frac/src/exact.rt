@@ -12,7 +12,7 @@ ghost use Rattle.tier_frac.specs.Size.{fit, is_small};
 use crate::words::Words;
 use exact_field::Field;
 use frac128::gcd::{gcd, gcd_words, quotient, quotient_words};
-use frac128::{Frac, LIMIT, wide};
+use frac128::{Frac, LIMIT, wide_product};
 use std::marker::Model;
 
 /// Numerators and denominators that fit into an `i64` are below this, but for the least numerator.
@@ -64,7 +64,7 @@ impl Exact {
     }
 
     /// The number of these parts, reduced.
-    pub(crate) fn reduced(negative: bool, num: u128, den: u128) -> Exact
+    pub(crate) fn reduce(negative: bool, num: u128, den: u128) -> Exact
         requires { 0 < den }
         ensures { result ≡ fraction (signed negative num) den }
     {
@@ -83,8 +83,8 @@ impl Exact {
     {
         let first = gcd_words(x, d);
         let second = gcd_words(y, b);
-        let num = wide(quotient_words(x, first), quotient_words(y, second));
-        let den = wide(quotient_words(b, second), quotient_words(d, first));
+        let num = wide_product(quotient_words(x, first), quotient_words(y, second));
+        let den = wide_product(quotient_words(b, second), quotient_words(d, first));
         Exact::of(negative, num, den)
     }
 
@@ -101,7 +101,7 @@ impl Exact {
         ensures { AnswersHeld (λ q. q) is_small self.now result }
     {
         if fits(self.negative, self.num, self.den) {
-            Some(Words::signed(self.negative, self.num, self.den))
+            Some(Words::with_sign(self.negative, self.num, self.den))
         } else {
             None
         }
@@ -112,7 +112,7 @@ impl Exact {
         ensures { AnswersHeld (λ q. q) is_held self.now result }
     {
         if self.num < LIMIT && self.den < LIMIT {
-            Some(Frac::signed(self.negative, self.num, self.den))
+            Some(Frac::with_sign(self.negative, self.num, self.den))
         } else {
             None
         }

@@ -58,8 +58,8 @@ impl Tier {
         ensures { result ≡ value }
     {
         match Exact::of_frac(value).words() {
-            Some(words) => Tier::small(words),
-            None => Tier::wide(value),
+            Some(words) => Tier::of_words(words),
+            None => Tier::of_wide(value),
         }
     }
 
@@ -88,7 +88,7 @@ impl Tier {
         self.form
     }
 
-    fn small(words: Words) -> Tier
+    fn of_words(words: Words) -> Tier
         requires { IsTrue (is_small words) }
         ensures { result ≡ words }
     {
@@ -97,7 +97,7 @@ impl Tier {
         }
     }
 
-    fn wide(frac: Frac) -> Tier
+    fn of_wide(frac: Frac) -> Tier
         requires { IsFalse (is_small frac) }
         ensures { result ≡ frac }
     {
@@ -107,12 +107,12 @@ impl Tier {
     }
 
     /// An exact value, where it is held.
-    fn held(exact: Exact) -> Option<Tier>
+    fn of_exact(exact: Exact) -> Option<Tier>
         ensures { AnswersHeld (λ q. q) is_held exact result }
     {
         match exact.words() {
-            Some(words) => Some(Tier::small(words)),
-            None => Some(Tier::wide(exact.frac()?)),
+            Some(words) => Some(Tier::of_words(words)),
+            None => Some(Tier::of_wide(exact.frac()?)),
         }
     }
 
@@ -120,8 +120,8 @@ impl Tier {
     fn plus(self, other: Tier) -> Option<Tier>
         ensures { AnswersHeld (λ q. q) is_held (self +ℚ other) result }
     {
-        match both_small(self, other) {
-            Some((left, right)) => Tier::held(left.plus(right)),
+        match take_words(self, other) {
+            Some((left, right)) => Tier::of_exact(left.plus(right)),
             None => Some(Tier::from_frac(self.frac().plus(other.frac())?)),
         }
     }
@@ -130,8 +130,8 @@ impl Tier {
     fn times(self, other: Tier) -> Option<Tier>
         ensures { AnswersHeld (λ q. q) is_held (self *ℚ other) result }
     {
-        match both_small(self, other) {
-            Some((left, right)) => Tier::held(left.times(right)),
+        match take_words(self, other) {
+            Some((left, right)) => Tier::of_exact(left.times(right)),
             None => Some(Tier::from_frac(self.frac().times(other.frac())?)),
         }
     }
@@ -141,15 +141,15 @@ impl Tier {
         requires { other ≢ zero_ℚ }
         ensures { AnswersHeld (λ q. q) is_held (self /ℚ other) result }
     {
-        match both_small(self, other) {
-            Some((left, right)) => Tier::held(left.over(right)),
+        match take_words(self, other) {
+            Some((left, right)) => Tier::of_exact(left.over(right)),
             None => Some(Tier::from_frac(self.frac().times(other.frac().reciprocal())?)),
         }
     }
 }
 
 /// Two numbers in words, where both are kept so.
-fn both_small(left: Tier, right: Tier) -> Option<(Words, Words)>
+fn take_words(left: Tier, right: Tier) -> Option<(Words, Words)>
     ensures { IfSome result (λ pair. (pair.0 ≡ left) × (pair.1 ≡ right)) }
 {
     match left.form() {
@@ -167,7 +167,7 @@ impl PartialEq for Tier {
     ghost laws = { same_ℚ-partial_equivalence };
 
     fn eq(&self, other: &Tier) -> bool {
-        match both_small(*self, *other) {
+        match take_words(*self, *other) {
             Some((left, right)) => left.same(right),
             None => self.frac() == other.frac(),
         }
@@ -198,7 +198,7 @@ impl Ord for Tier {
     ghost matches_eq = { same_ℚ-matches_cmp };
 
     fn cmp(&self, other: &Tier) -> Ordering {
-        match both_small(*self, *other) {
+        match take_words(*self, *other) {
             Some((left, right)) => left.compare(right),
             None => self.frac().cmp(&other.frac()),
         }
@@ -211,22 +211,22 @@ impl Field for Tier {
     ghost holds = { is_held };
 
     fn zero() -> Tier {
-        Tier::small(Words::whole(0))
+        Tier::of_words(Words::whole(0))
     }
 
     fn one() -> Tier {
-        Tier::small(Words::whole(1))
+        Tier::of_words(Words::whole(1))
     }
 
     fn whole(v: i64) -> Option<Tier> {
-        Some(Tier::small(Words::whole(v)))
+        Some(Tier::of_words(Words::whole(v)))
     }
 
     fn of(num: i128, den: i128) -> Option<Tier> {
         if den <= 0 {
             return None;
         }
-        Tier::held(Exact::reduced(num < 0, num.unsigned_abs(), den as u128))
+        Tier::of_exact(Exact::reduce(num < 0, num.unsigned_abs(), den as u128))
     }
 
     fn num(self) -> i128 {
@@ -246,7 +246,7 @@ impl Field for Tier {
     fn neg(self) -> Tier {
         match self.form() {
             Form::Small(words) => match words.neg() {
-                Some(negative) => Tier::small(negative),
+                Some(negative) => Tier::of_words(negative),
                 None => Tier::from_frac(words.frac().neg()),
             },
             Form::Wide(frac) => Tier::from_frac(frac.neg()),

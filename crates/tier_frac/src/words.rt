@@ -10,8 +10,8 @@ ghost use Rattle.tier_frac.specs.Size.{fit, is_small};
 
 use crate::exact::Exact;
 use frac128::gcd::{gcd, gcd_words, quotient, quotient_words};
-use frac128::sign::{opposite, signed_number};
-use frac128::{Frac, wide};
+use frac128::sign::{differ_in_sign, signed_number};
+use frac128::{Frac, wide_product};
 use std::cmp::Ordering;
 use std::marker::Model;
 
@@ -70,7 +70,7 @@ impl Words {
     }
 
     /// The number of this sign, magnitude and denominator in lowest terms.
-    pub(crate) fn signed(negative: bool, num: u128, den: u128) -> Words
+    pub(crate) fn with_sign(negative: bool, num: u128, den: u128) -> Words
         requires fits { IsTrue (fit (signed negative num) den) }
         requires positive { 0 < den }
         requires lowest { IsGcd num den 1 }
@@ -102,7 +102,7 @@ impl Words {
         ensures { result ≡ self }
     {
         let size = u128::from(self.num.unsigned_abs());
-        Frac::signed(self.num < 0, size, u128::from(self.den))
+        Frac::with_sign(self.num < 0, size, u128::from(self.den))
     }
 
     /// The negative, where its numerator fits.
@@ -133,7 +133,7 @@ impl Words {
         ensures { result ≡ self +ℚ other }
     {
         let sum = i128::from(self.num) + i128::from(other.num);
-        Exact::reduced(sum < 0, sum.unsigned_abs(), u128::from(self.den))
+        Exact::reduce(sum < 0, sum.unsigned_abs(), u128::from(self.den))
     }
 
     /// The sum: with g the greatest common divisor of the denominators, t = a (d / g) + c (b / g)
@@ -148,7 +148,7 @@ impl Words {
         let size = sum.unsigned_abs();
         let shared = gcd(size, u128::from(common));
         let num = quotient(size, shared);
-        let den = wide(left, quotient_words(other.den, shared as u64));
+        let den = wide_product(left, quotient_words(other.den, shared as u64));
         Exact::of(sum < 0, num, den)
     }
 
@@ -165,7 +165,7 @@ impl Words {
     pub(crate) fn times(self, other: Words) -> Exact
         ensures { result ≡ self *ℚ other }
     {
-        let negative = opposite(i128::from(self.num), i128::from(other.num));
+        let negative = differ_in_sign(i128::from(self.num), i128::from(other.num));
         let size = self.num.unsigned_abs();
         let other_size = other.num.unsigned_abs();
         Exact::product(negative, size, self.den, other_size, other.den)
@@ -176,7 +176,7 @@ impl Words {
         requires { other ≢ zero_ℚ }
         ensures { result ≡ self /ℚ other }
     {
-        let negative = opposite(i128::from(self.num), i128::from(other.num));
+        let negative = differ_in_sign(i128::from(self.num), i128::from(other.num));
         let size = self.num.unsigned_abs();
         let other_size = other.num.unsigned_abs();
         Exact::product(negative, size, self.den, other.den, other_size)

@@ -113,7 +113,7 @@ impl Bound {
     }
 
     /// How many of these the file does not give.
-    fn unsaid_among(bounds: &[Bound]) -> u32
+    fn count_unsaid(bounds: &[Bound]) -> u32
         requires { length bounds.now ≤ 100000 }
         ensures { result ≡ count_by is_unsaid bounds.now }
     {
@@ -175,14 +175,14 @@ impl Problem {
     pub fn unsaid_rows(&self) -> u32
         ensures { result ≡ count_by is_unsaid self.now.row_bounds }
     {
-        Bound::unsaid_among(self.row_bounds.as_slice())
+        Bound::count_unsaid(self.row_bounds.as_slice())
     }
 
     /// The number of columns without a line of bounds.
     pub fn unsaid_cols(&self) -> u32
         ensures { result ≡ count_by is_unsaid self.now.col_bounds }
     {
-        Bound::unsaid_among(self.col_bounds.as_slice())
+        Bound::count_unsaid(self.col_bounds.as_slice())
     }
 
     /// The entry of B at a place, in the time of a binary search. Outside B it is 0.

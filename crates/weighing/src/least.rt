@@ -42,7 +42,7 @@ fn point_products(
 }
 
 /// The least of some values, or the greatest where the file maximises.
-fn best(direction: Dir, values: &[Frac]) -> Frac
+fn find_best(direction: Dir, values: &[Frac]) -> Frac
     requires { 0 < length values.now }
     ensures least { All (λ value. IsNoLess direction value result) values.now }
     ensures one { Contains values.now result }
@@ -90,7 +90,7 @@ fn weigh_points(
     ensures left { IfErr result (StopsWalk direction w.now (point_items points.now) earlier) }
 {
     let values = point_products(alloc, points, earlier, w)?;
-    let value = best(direction, values.as_slice());
+    let value = find_best(direction, values.as_slice());
     Ok(Weighed::Least {
         value,
         points: places_of(alloc, &values, value)?,

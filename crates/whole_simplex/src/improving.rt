@@ -27,7 +27,7 @@ impl Solver {
     /// given up.
     pub fn improve(&mut self) -> Result<bool, Stop> {
         for _turn in 0..self.most_turns() {
-            let Some(variable) = self.gaining() else {
+            let Some(variable) = self.find_gaining() else {
                 return Ok(true);
             };
             if !self.advance(variable)? {
@@ -38,7 +38,7 @@ impl Solver {
     }
 
     /// The variable with the greatest cost of those that lessen what is minimised where they move.
-    fn gaining(&self) -> Option<usize> {
+    fn find_gaining(&self) -> Option<usize> {
         let mut best = None;
         let mut most = 0;
         for (j, (variable, cost)) in self.variables.iter().zip(&self.costs).enumerate() {

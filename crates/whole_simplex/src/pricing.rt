@@ -103,7 +103,7 @@ pub(crate) fn write_sum(
 impl Solver {
     /// The row whose variable is farthest beyond a bound, if there is one, and of equal ones the
     /// first.
-    pub(crate) fn leaving(&self) -> Result<Option<Leaving>, Stop> {
+    pub(crate) fn find_leaving(&self) -> Result<Option<Leaving>, Stop> {
         let mut best: Option<Leaving> = None;
         for (row, variable) in self.basis.iter().enumerate() {
             if let Some(next) = self.violation(row, *variable)?
@@ -162,7 +162,7 @@ impl Solver {
     /// The variable with the shortest step that brings the row's variable to its bound; those
     /// before it change to their other bounds. There is none where no variable moves it the right
     /// way.
-    pub(crate) fn entering(&self, leaving: Leaving) -> Result<Entering, Stop> {
+    pub(crate) fn find_entering(&self, leaving: Leaving) -> Result<Entering, Stop> {
         let mut list = self.candidates(leaving.below)?;
         let mut far = leaving.far;
         let mut flipped = Vec::new(self.alloc);

@@ -90,7 +90,7 @@ fn each_place_has_its_line(rt: HostRuntime) -> Result<(), Fail> {
 }
 
 /// A problem of one column between 1 and this number.
-fn below(alloc: Global, number: Frac) -> Result<Problem, Fail> {
+fn problem_below(alloc: Global, number: Frac) -> Result<Problem, Fail> {
     Ok(Problem {
         dir: Dir::Min,
         rows: 0,
@@ -108,7 +108,7 @@ fn below(alloc: Global, number: Frac) -> Result<Problem, Fail> {
 #[test]
 fn a_third_is_not_printed(rt: HostRuntime) -> Result<(), Fail> {
     let third = Frac::new(1, 3)?;
-    let fault = print_vlp(rt.alloc(), &below(rt.alloc(), third)?).err();
+    let fault = print_vlp(rt.alloc(), &problem_below(rt.alloc(), third)?).err();
     assert_eq!(rt; fault, Some(PrintFault::NotDecimal(third)));
     Ok(())
 }

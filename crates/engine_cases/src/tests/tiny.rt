@@ -127,14 +127,14 @@ fn overflows<F: Field>(left: &Left<Frac>) -> bool {
 }
 
 /// The report of the answer that `solve` has.
-fn solved(alloc: Global, problem: &Problem) -> Result<Bytes, Fail> {
+fn report_of(alloc: Global, problem: &Problem) -> Result<Bytes, Fail> {
     let solution = solve(alloc, problem)?;
     Ok(report(alloc, problem, &solution.answer)?)
 }
 
 /// Where the log of a file over `Tiny`, that of `solve` or the one over the facets, is given up, at
 /// operands that overflow there; none where the log proves the answer that `solve` has.
-fn met(
+fn find_overflow(
     rt: &impl Abort,
     alloc: Global,
     text: &str,
@@ -151,7 +151,7 @@ fn met(
         Ok(log) => {
             let answer = check(alloc, &problem, &log)?;
             let told = report(alloc, &problem, &answer)?;
-            assert!(rt; told.as_slice() == solved(alloc, &problem)?.as_slice());
+            assert!(rt; told.as_slice() == report_of(alloc, &problem)?.as_slice());
             Ok(None)
         }
         Err(SolveEnd::Left(licence)) => {
@@ -172,7 +172,7 @@ fn bounds_that_are_too_wide_are_told(rt: HostRuntime) -> Result<(), Fail> {
             let text = format!(in rt.alloc();
                 "p vlp min 2 2 4 2 4\na 1 1 2\na 1 2 1\na 2 1 1\na 2 2 2\no 1 1 1\no 1 2 -1\no 2 1 1\no 2 2 1\ni 1 l {b}\ni 2 l {b}\nj 1 l 0\nj 2 l 0\ne\n"
             )?;
-            match met(&rt, rt.alloc(), text.as_str(), by_facets)? {
+            match find_overflow(&rt, rt.alloc(), text.as_str(), by_facets)? {
                 None => proved = true,
                 Some(_) => given_up = true,
             }
@@ -186,10 +186,18 @@ fn bounds_that_are_too_wide_are_told(rt: HostRuntime) -> Result<(), Fail> {
 fn each_kind_of_overflow_is_met(rt: HostRuntime) -> Result<(), Fail> {
     let alloc = rt.alloc();
     for (text, kind) in GIVEN_UP {
-        assert_eq!(rt; met(&rt, alloc, text, false)?, Some(kind), "of {text:?}");
+        assert_eq!(rt;
+            find_overflow(&rt, alloc, text, false)?,
+            Some(kind),
+            "of {text:?}"
+        );
     }
     for (text, kind) in GIVEN_UP_OVER_FACETS {
-        assert_eq!(rt; met(&rt, alloc, text, true)?, Some(kind), "of {text:?}");
+        assert_eq!(rt;
+            find_overflow(&rt, alloc, text, true)?,
+            Some(kind),
+            "of {text:?}"
+        );
     }
     Ok(())
 }

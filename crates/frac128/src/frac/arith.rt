@@ -11,14 +11,14 @@ use super::dot::dot;
 use crate::exact::exact_quotient;
 use crate::gcd::{gcd, gcd_words, product, product_plus, quotient, quotient_words};
 use crate::joint::numerator;
-use crate::sign::opposite;
+use crate::sign::differ_in_sign;
 use exact_field::{Field, Left, Op};
 
 /// Parts below this have sums and products that are held.
 pub(super) const SHORT: u128 = 1 << 59;
 
 /// The product, of all its bits.
-pub fn wide(x: u64, y: u64) -> u128
+pub fn wide_product(x: u64, y: u64) -> u128
     ensures { result ≡ x * y }
 {
     u128::from(x) * u128::from(y)
@@ -82,8 +82,8 @@ impl Frac {
         let size = sum.unsigned_abs();
         let shared = gcd(size, u128::from(common));
         let num = quotient(size, shared);
-        let den = wide(left, quotient_words(other_den, shared as u64));
-        Frac::signed(sum < 0, num, den)
+        let den = wide_product(left, quotient_words(other_den, shared as u64));
+        Frac::with_sign(sum < 0, num, den)
     }
 
     /// The product: each numerator is divided by what it has in common with the other denominator.
@@ -98,15 +98,15 @@ impl Frac {
         let other_den = other.den as u64;
         let first = gcd_words(size, other_den);
         let second = gcd_words(other_size, den);
-        let num = wide(
+        let num = wide_product(
             quotient_words(size, first),
             quotient_words(other_size, second),
         );
-        let den = wide(
+        let den = wide_product(
             quotient_words(den, second),
             quotient_words(other_den, first),
         );
-        Frac::signed(opposite(self.num, other.num), num, den)
+        Frac::with_sign(differ_in_sign(self.num, other.num), num, den)
     }
 
     /// The sum, as the short one, with t carried as quotient and remainder by g.
@@ -124,7 +124,7 @@ impl Frac {
             exact_quotient(sum.rest, shared),
         )?;
         let den = product(left, exact_quotient(other.den, shared))?;
-        Some(Frac::signed(sum.negative, num, den))
+        Some(Frac::with_sign(sum.negative, num, den))
     }
 
     /// The product, as the short one.
@@ -143,7 +143,7 @@ impl Frac {
             exact_quotient(self.den, second),
             exact_quotient(other.den, first),
         )?;
-        Some(Frac::signed(opposite(self.num, other.num), num, den))
+        Some(Frac::with_sign(differ_in_sign(self.num, other.num), num, den))
     }
 
     /// The reciprocal, with the sign in the numerator.
@@ -151,7 +151,7 @@ impl Frac {
         requires { self ≢ zero_ℚ }
         ensures { result ≡ inverse_ℚ self }
     {
-        Frac::signed(self.num < 0, self.den, self.num.unsigned_abs())
+        Frac::with_sign(self.num < 0, self.den, self.num.unsigned_abs())
     }
 }
 
@@ -176,7 +176,7 @@ impl Field for Frac {
         if den <= 0 {
             return None;
         }
-        Frac::reduced(num < 0, num.unsigned_abs(), den as u128)
+        Frac::reduce(num < 0, num.unsigned_abs(), den as u128)
     }
 
     fn num(self) -> i128 {
@@ -188,7 +188,7 @@ impl Field for Frac {
     }
 
     fn neg(self) -> Frac {
-        Frac::signed(self.num >= 0, self.num.unsigned_abs(), self.den)
+        Frac::with_sign(self.num >= 0, self.num.unsigned_abs(), self.den)
     }
 
     fn sign(self) -> i8 {

@@ -7,7 +7,7 @@ ghost use Rattle.exact_field.specs.Rational.{zero_ℚ, fraction, ◌+ℚ◌, ◌
 ghost use Rattle.frac128.specs.Held.{is_held, IsNarrow};
 
 use super::Frac;
-use super::arith::{SHORT, sum_of_products, wide};
+use super::arith::{SHORT, sum_of_products, wide_product};
 use crate::gcd::{gcd_words, quotient_words};
 
 /// Parts below this have products below 2^60.
@@ -80,7 +80,7 @@ impl Sum {
         let common = gcd_words(self.den, den);
         let left = quotient_words(self.den, common);
         let right = quotient_words(den, common);
-        let multiple = wide(self.den, right);
+        let multiple = wide_product(self.den, right);
         if multiple >= DEN_LIMIT || self.num.unsigned_abs() >= SHORT {
             return None;
         }
@@ -132,10 +132,10 @@ impl Sum {
     }
 
     /// The number in lowest terms.
-    pub fn reduced(self) -> Option<Frac>
+    pub fn reduce(self) -> Option<Frac>
         ensures { IfSome result (λ q. q ≡ fraction self.num self.den) }
     {
-        Frac::reduced(self.num < 0, self.num.unsigned_abs(), u128::from(self.den))
+        Frac::reduce(self.num < 0, self.num.unsigned_abs(), u128::from(self.den))
     }
 }
 
@@ -149,5 +149,5 @@ pub(super) fn dot(row: &[Frac], vector: &[Frac]) -> Option<Frac>
     for i in 0..row.len() {
         sum = sum.plus_product(row[i], vector[i])?;
     }
-    sum.reduced()
+    sum.reduce()
 }

@@ -19,7 +19,7 @@ fn numbers(line: &str) -> Option<[i128; 7]> {
 
 /// The numerator and the denominator of what two numbers make, or what a line has where they make
 /// none.
-fn made(num: i128, den: i128) -> (i128, i128) {
+fn make_parts(num: i128, den: i128) -> (i128, i128) {
     match Frac::new(num, den) {
         Ok(x) => (x.num(), x.den()),
         Err(FracFault::ZeroDen) => (0, 0),
@@ -59,7 +59,7 @@ fn op(operation: i128) -> Op {
 
 /// The numerator and the denominator of an answer, and 0 over 0 where it is not held and the
 /// operands are told.
-fn told<F: Field>(operation: i128, a: F, b: F) -> Option<(i128, i128)> {
+fn tell_parts<F: Field>(operation: i128, a: F, b: F) -> Option<(i128, i128)> {
     match answer(operation, a, b)? {
         Ok(x) => Some((x.num(), x.den())),
         Err(left) => {
@@ -72,9 +72,9 @@ fn told<F: Field>(operation: i128, a: F, b: F) -> Option<(i128, i128)> {
 /// What a line is to have, by its operation and its operands.
 fn outcome<F: Field>(operation: i128, a: i128, b: i128, c: i128, d: i128) -> Option<(i128, i128)> {
     match operation {
-        5 => Some(made(a, b)),
+        5 => Some(make_parts(a, b)),
         4 => Some(order(F::of(a, b)?, F::of(c, d)?)),
-        _ => told(operation, F::of(a, b)?, F::of(c, d)?),
+        _ => tell_parts(operation, F::of(a, b)?, F::of(c, d)?),
     }
 }
 

@@ -43,7 +43,7 @@ fn is_exact(answer: Result<Tiny, Left<Tiny>>, n: i64, d: i64) -> bool {
 
 /// A sum, a difference, a product or a quotient of a / b and c / d, with a denominator that is 0
 /// for a quotient by 0 alone.
-fn exact(operation: i128, a: i64, b: i64, c: i64, d: i64) -> (i64, i64) {
+fn exact_parts(operation: i128, a: i64, b: i64, c: i64, d: i64) -> (i64, i64) {
     let (left, right) = (a.wrapping_mul(d), c.wrapping_mul(b));
     let den = b.wrapping_mul(d);
     match operation {
@@ -56,7 +56,7 @@ fn exact(operation: i128, a: i64, b: i64, c: i64, d: i64) -> (i64, i64) {
 
 /// Whether an operation on a / b and c / d is exact.
 fn is_right(operation: i128, x: Tiny, y: Tiny, a: i64, b: i64, c: i64, d: i64) -> bool {
-    let (n, m) = exact(operation, a, b, c, d);
+    let (n, m) = exact_parts(operation, a, b, c, d);
     match answer(operation, x, y) {
         Some(answer) => is_exact(answer, n, m),
         None => m == 0,
@@ -70,7 +70,7 @@ fn are_ordered(x: Tiny, y: Tiny, a: i64, b: i64, c: i64, d: i64) -> bool {
 }
 
 /// A tiny number, which is the same as a fraction.
-fn tiny(num: i64, den: i64) -> Option<Tiny> {
+fn make_tiny(num: i64, den: i64) -> Option<Tiny> {
     let (num, den) = (i128::from(num), i128::from(den));
     let x = Tiny::of(num, den)?;
     let is_same = Some(frac_of(x)) == Frac::of(num, den);
@@ -79,7 +79,7 @@ fn tiny(num: i64, den: i64) -> Option<Tiny> {
 
 /// Whether all operations on a / b and c / d, and their order, are as they should be.
 fn agrees(a: i64, b: i64, c: i64, d: i64) -> bool {
-    let (Some(x), Some(y)) = (tiny(a, b), tiny(c, d)) else {
+    let (Some(x), Some(y)) = (make_tiny(a, b), make_tiny(c, d)) else {
         return false;
     };
     for operation in &[0, 1, 2, 3] {

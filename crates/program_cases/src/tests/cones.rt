@@ -12,7 +12,7 @@ use exact_field::Field;
 use frac128::{Frac, Tiny, Vectors};
 use geo_duality::facets_of;
 use incid_sets::Marks;
-use lin_rows::{Indep, RowFault, Rows, independent};
+use lin_rows::{Indep, RowFault, Rows, find_independent};
 use overflows::SolveFault;
 use src_sink::{Bytes, NoMemory};
 use std::alloc::Global;
@@ -57,7 +57,7 @@ fn has_full_rank<F: Field>(alloc: Global, rows: &Rows<F>) -> Result<bool, RowFau
     ensures { IfOk result
         (λ full. IsTrue full → HasFullRank rows.now.width (numbers F.value rows.now.list)) }
 {
-    match independent(alloc, rows, rows.width())? {
+    match find_independent(alloc, rows, rows.width())? {
         Indep::Basis(_) => Ok(true),
         Indep::Orthogonal(_) => Ok(false),
     }
@@ -72,7 +72,7 @@ struct Cone<F: Field> {
 }
 
 /// The double description of as many independent rows as they have entries.
-fn started<F: Field>(alloc: Global, rows: &Rows<F>) -> Option<Result<Cone<F>, DdFault<F>>> {
+fn start_cone<F: Field>(alloc: Global, rows: &Rows<F>) -> Option<Result<Cone<F>, DdFault<F>>> {
     if rows.count() != rows.width() {
         return None;
     }
@@ -148,7 +148,7 @@ fn start_text<F: Field>(
     cone: &mut Option<Cone<F>>,
     rows: &Rows<F>,
 ) -> Option<Bytes> {
-    match started(alloc, rows)? {
+    match start_cone(alloc, rows)? {
         Ok(begun) => {
             let text = live_text(alloc, &begun.dd).ok()?;
             *cone = Some(begun);

@@ -37,7 +37,7 @@ fn fault<F: Field>(alloc: Global, text: &str) -> Option<Option<DataFault>> {
 }
 
 /// The fault that names a number.
-fn named(number: i64) -> Option<DataFault> {
+fn fault_of(number: i64) -> Option<DataFault> {
     if number == 0 {
         return None;
     }
@@ -47,7 +47,7 @@ fn named(number: i64) -> Option<DataFault> {
 #[test]
 fn the_first_number_that_is_not_held_is_told(rt: HostRuntime) {
     for (text, number) in &FILES {
-        assert_eq!(rt; fault::<Tiny>(rt.alloc(), text), Some(named(*number)));
+        assert_eq!(rt; fault::<Tiny>(rt.alloc(), text), Some(fault_of(*number)));
         assert_eq!(rt; fault::<Frac>(rt.alloc(), text), Some(None));
     }
 }

@@ -22,7 +22,7 @@ coupling; 1 100; 3 1; 1 1; left mul 100 -2
 point; 1 -100 100; left 4 sub -100 100";
 
 /// The row of a point or a direction of two or three entries.
-fn exchanged<F: Field>(
+fn exchange_row<F: Field>(
     alloc: Global,
     y: &[F],
     t: bool,
@@ -69,7 +69,7 @@ fn answer<F: Field>(alloc: Global, call: &[&str]) -> Option<Bytes> {
     match call {
         [name, y] => {
             let y = numbers::<F>(alloc, y)?;
-            row_text(alloc, exchanged(alloc, y.as_slice(), *name == "point")?).ok()
+            row_text(alloc, exchange_row(alloc, y.as_slice(), *name == "point")?).ok()
         }
         [_, y, star, c] => {
             let (y, star) = (numbers::<F>(alloc, y)?, numbers(alloc, star)?);

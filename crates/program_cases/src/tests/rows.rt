@@ -7,7 +7,7 @@ use super::texts::{
 use exact_field::Field;
 use frac128::{Frac, Tiny};
 use lin_rows::{
-    Indep, Inverse, RowFault, Rows, combine, complement, dot, independent, invert, scale,
+    Indep, Inverse, RowFault, Rows, combine, complement, dot, find_independent, invert, scale,
 };
 use src_sink::{Bytes, Items, NoMemory};
 use std::alloc::Global;
@@ -40,7 +40,7 @@ dot; 12 0 12; 6 100 6; left add 72 72";
 /// What `independent` answers.
 fn independent_text<F: Field>(alloc: Global, rows: &Rows<F>) -> Result<Bytes, NoMemory> {
     let mut text = Bytes::new(alloc);
-    match independent(alloc, rows, rows.width()) {
+    match find_independent(alloc, rows, rows.width()) {
         Ok(Indep::Basis(basis)) => {
             text.append(b"basis")?;
             put_places(&mut text, basis.as_slice())?;

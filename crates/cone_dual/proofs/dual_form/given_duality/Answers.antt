@@ -17,7 +17,7 @@ use Rattle.cone_dual.proofs.Fits.{bare_fits, base_as}
 use Rattle.cone_dual.proofs.Standing.{as_cone, at_file, given_inside, given_long, given_to}
 use Rattle.cone_dual.proofs.dual_form.given_duality.Goals as goal
 
-pub scaled_given-requires-clause-inside : goal.scaled_given-requires-clause-inside
+pub scale_given-requires-clause-inside : goal.scale_given-requires-clause-inside
 scaled_given-requires-clause-inside g c =
     let value = g.F.Field.value in
     let form = c.args.form.now in

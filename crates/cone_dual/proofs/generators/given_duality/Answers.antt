@@ -25,10 +25,10 @@ use Rattle.cone_dual.proofs.generators.given_duality.Goals as goal
 pub positive_solution-requires-clause-solid : goal.positive_solution-requires-clause-solid
 positive_solution-requires-clause-solid g c = solid g.F.Field.value c.args.form.now c.args.vectors.now c.requires.generators c.args.picks c.requires.picks
 
-pub scaled_given-requires-clause-solid : goal.scaled_given-requires-clause-solid
+pub scale_given-requires-clause-solid : goal.scale_given-requires-clause-solid
 scaled_given-requires-clause-solid g c = solid g.F.Field.value c.args.form.now c.args.vectors.now c.requires.generators c.args.picks c.requires.picks
 
-pub scaled_given-requires-clause-inside : goal.scaled_given-requires-clause-inside
+pub scale_given-requires-clause-inside : goal.scale_given-requires-clause-inside
 scaled_given-requires-clause-inside g c =
     let value = g.F.Field.value in
     let form = c.args.form.now in

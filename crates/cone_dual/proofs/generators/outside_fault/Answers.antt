@@ -17,7 +17,7 @@ returns g c = λ file stands.
     let P : List ℚ → List Spot → Type 0 = λ u v. HasFault file (NotInterior u v) in
     let shown : P w [] = at_file value form file stands (λ (n : ℕ) (k : Cone) (d : Option (List ℚ)). HasInterior n k × HasNoLine n k × IsGivenOutside n k d w [])
     (c.requires.solid, c.requires.pointed, c.requires.shown) in
-    IfOk-weaker c.not_interior.result (λ fault. fault ≡ NotInterior (map value c.entries_after-w.result.now) c.new.result) (HasFault file)
+    IfOk-weaker c.not_interior_fault.result (λ fault. fault ≡ NotInterior (map value c.entries_after-w.result.now) c.new.result) (HasFault file)
     (λ fault is. subst (λ (e : ConeFault). HasFault file e) (sym is)
     (subst (λ (u : List ℚ). P u c.new.result) (sym c.entries_after-w.ensures) (subst (λ (v : List Spot). P w v) (sym c.new.ensures) shown)))
-    c.not_interior.ensures
+    c.not_interior_fault.ensures

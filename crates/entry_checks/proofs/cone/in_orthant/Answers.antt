@@ -10,14 +10,14 @@ use Rattle.log_rules.proofs.Failures.{stops-then}
 use Rattle.entry_checks.proofs.Going.{Passed, Ran, ran-after}
 use Rattle.entry_checks.proofs.cone.in_orthant.Goals as goal
 
-pub returns-in_err-none_given : goal.returns-in_err-none_given
+pub returns-in_err-has_no_multipliers : goal.returns-in_err-has_no_multipliers
 returns-in_err-none_given c = λ taken.
-    let stopped = stops-then is_held (none_given c.args.m.now ∷ []) (test rule.Cone (list_all (le_ℚ zero_ℚ) c.args.e.now) ∷ []) taken c.in_err-none_given.field-0.0 (c.in_err-none_given.ensures taken) in
+    let stopped = stops-then is_held (none_given c.args.m.now ∷ []) (test rule.Cone (list_all (le_ℚ zero_ℚ) c.args.e.now) ∷ []) taken c.in_err-has_no_multipliers.field-0.0 (c.in_err-has_no_multipliers.ensures taken) in
     search (stopped, rules)
 
 pub returns : goal.returns
 returns c = λ taken.
-    let given = c.in_ok-none_given.ensures taken in
+    let given = c.in_ok-has_no_multipliers.ensures taken in
     let came : Passed (none_given c.args.m.now ∷ []) taken taken = record { none = given.0; count = given.1 } in
     let last : Ran {X = Unit {0}} (test rule.Cone (list_all (le_ℚ zero_ℚ) c.args.e.now) ∷ []) taken taken (λ _. ⊤) c.no_entry_is_negative.result = record { runs = c.no_entry_is_negative.ensures taken } in
     (ran-after came last).runs

@@ -42,13 +42,13 @@ returns-in_err-target c =
     let stopped = subst (λ (es : List Event). Stops is_held es 0 c.in_err-target.field-0.0) (sym (append_assoc (in_feasible c.args.problem.now c.args.x.now) (in_recession c.args.problem.now c.args.ray.now) (above c.args.problem.now (map neg_ℚ c.args.c.now) c.args.ray.now c.args.m.now))) ((stopped-later came0 (stopped-later came1 (stopped-in (above c.args.problem.now (map neg_ℚ c.args.c.now) c.args.ray.now c.args.m.now) here))).at) in
     search (stopped, rules)
 
-pub above-requires-clause-entries : goal.above-requires-clause-entries
+pub is_above-requires-clause-entries : goal.is_above-requires-clause-entries
 above-requires-clause-entries c = ap (λ (v : List ℚ). length v) (c.as_slice.ensures.items ∙ (c.in_ok-target.ensures 0).2) ∙ length-map c.args.c.now neg_ℚ ∙ c.requires.scale
 
-pub above-requires-clause-vector : goal.above-requires-clause-vector
+pub is_above-requires-clause-vector : goal.is_above-requires-clause-vector
 above-requires-clause-vector c = record { sparse = c.requires.direction; places = recession-places c.in_feasible.new.counter.taken c.args.problem.now c.args.ray.now c.in_ok-in_recession.ensures.0 }
 
-pub above-requires-clause-room : goal.above-requires-clause-room
+pub is_above-requires-clause-room : goal.is_above-requires-clause-room
 above-requires-clause-room c =
     let room : 0 + steps (whole_events c.args.problem.now c.args.c.now c.args.x.now c.args.ray.now c.args.m.now) < 9223372036854775808 = let few = steps-whole c.args.problem.now c.args.c.now c.args.x.now c.args.ray.now c.args.m.now c.requires.scale in omega (arith, few) in
     let came0 : Passed (in_feasible c.args.problem.now c.args.x.now) 0 c.in_feasible.new.counter.taken = record { none = c.in_ok-in_feasible.ensures.0; count = c.in_ok-in_feasible.ensures.1 } in
@@ -61,5 +61,5 @@ returns c =
     let came0 : Passed (in_feasible c.args.problem.now c.args.x.now) 0 c.in_feasible.new.counter.taken = record { none = c.in_ok-in_feasible.ensures.0; count = c.in_ok-in_feasible.ensures.1 } in
     let came1 : Passed (in_recession c.args.problem.now c.args.ray.now) c.in_feasible.new.counter.taken c.in_recession.new.counter.taken = record { none = c.in_ok-in_recession.ensures.0; count = c.in_ok-in_recession.ensures.1 } in
     let came2 : Passed ([]) c.in_recession.new.counter.taken c.in_recession.new.counter.taken = record { none = (c.in_ok-target.ensures c.in_recession.new.counter.taken).0; count = (c.in_ok-target.ensures c.in_recession.new.counter.taken).1 } in
-    let last : Ran {X = Unit {0}} (above c.args.problem.now (map neg_ℚ c.args.c.now) c.args.ray.now c.args.m.now) c.in_recession.new.counter.taken c.above.new.counter.taken (λ _. ⊤) c.above.result = record { runs = subst (λ (v : List ℚ). Runs {X = Unit {0}} is_held (above c.args.problem.now v c.args.ray.now c.args.m.now) c.in_recession.new.counter.taken c.above.new.counter.taken (λ _. ⊤) c.above.result) (c.as_slice.ensures.items ∙ (c.in_ok-target.ensures 0).2) c.above.ensures } in
-    whole-run (whole_events c.args.problem.now c.args.c.now c.args.x.now c.args.ray.now c.args.m.now) c.above.new.counter.taken (λ _. ⊤) c.above.result (subst (λ (es : List Event). Runs {X = Unit {0}} is_held es 0 c.above.new.counter.taken (λ _. ⊤) c.above.result) (sym (append_assoc (in_feasible c.args.problem.now c.args.x.now) (in_recession c.args.problem.now c.args.ray.now) (above c.args.problem.now (map neg_ℚ c.args.c.now) c.args.ray.now c.args.m.now))) ((ran-after came0 (ran-after came1 (ran-after came2 last))).runs))
+    let last : Ran {X = Unit {0}} (above c.args.problem.now (map neg_ℚ c.args.c.now) c.args.ray.now c.args.m.now) c.in_recession.new.counter.taken c.is_above.new.counter.taken (λ _. ⊤) c.is_above.result = record { runs = subst (λ (v : List ℚ). Runs {X = Unit {0}} is_held (above c.args.problem.now v c.args.ray.now c.args.m.now) c.in_recession.new.counter.taken c.is_above.new.counter.taken (λ _. ⊤) c.is_above.result) (c.as_slice.ensures.items ∙ (c.in_ok-target.ensures 0).2) c.is_above.ensures } in
+    whole-run (whole_events c.args.problem.now c.args.c.now c.args.x.now c.args.ray.now c.args.m.now) c.is_above.new.counter.taken (λ _. ⊤) c.is_above.result (subst (λ (es : List Event). Runs {X = Unit {0}} is_held es 0 c.is_above.new.counter.taken (λ _. ⊤) c.is_above.result) (sym (append_assoc (in_feasible c.args.problem.now c.args.x.now) (in_recession c.args.problem.now c.args.ray.now) (above c.args.problem.now (map neg_ℚ c.args.c.now) c.args.ray.now c.args.m.now))) ((ran-after came0 (ran-after came1 (ran-after came2 last))).runs))

@@ -11,7 +11,7 @@ use Rattle.exact_simplex.proofs.Programs.{system_ok, equation_count_is, unknown_
 use Rattle.exact_simplex.proofs.Phased.{start_at, turn_at, phase_primal, phase_idle, phase_fault}
 use Rattle.exact_simplex.proofs.phase.optimize.Goals as goal
 
-pub compared-requires : goal.compared-requires
+pub list_compared-requires : goal.list_compared-requires
 compared-requires g c =
     let value = g.F.Field.value in
     let p = c.args.system.now in

@@ -26,9 +26,9 @@ loop-i-preserved g c =
     let i : ℕ = c.loop-i.i in
     let b = c.index-as_slice-i.result in
     let row_is : p.rows + 1 + 1 ≡ second_cost s = omega (arith, equation_count_is value p c.requires.lengths) in
-    mapped_more value c.loop-i.out c.push.new.self c.signed.result i
+    mapped_more value c.loop-i.out c.push.new.self c.give_sign.result i
     (λ k. at (table_of s) k (artificial_column s k) *ℚ at t.table (second_cost s) (artificial_column s k)) c.in_ok-push.ensures.ok c.loop-i.invariant
-    (c.signed.ensures
+    (c.give_sign.ensures
     ∙ ap₂ (λ x y. x *ℚ y) (sign_is value p c.requires.lengths i b (omega arith) (c.index-as_slice-i.is ∙ ap (λ v. slice_index_or v i b) c.as_slice.ensures.items))
     (c.entry-entry.ensures ∙ ap₂ (λ r k. at t.table r k) row_is
     (artificial_is value p c.requires.lengths t c.requires.held i (omega arith) c.artificial_column-col.result c.artificial_column-col.ensures)))

@@ -54,9 +54,9 @@ loop-i-preserved g c =
     (artificial_is value p c.requires.lengths t (subst (IsTableauOf (system_of g.F.Field.value c.args.system.now)) (sym c.loop-i.invariant.same) c.requires.held) i (omega arith) c.artificial_column-col.result c.artificial_column-col.ensures) in
     record {
       same = c.loop-i.invariant.same;
-      read = mapped_more value c.loop-i.out c.push.new.self c.signed.result i
+      read = mapped_more value c.loop-i.out c.push.new.self c.give_sign.result i
           (λ k. at (table_of s) k (artificial_column s k) *ℚ (at t.table (first_cost s) (artificial_column s k) -ℚ one_ℚ)) c.in_ok-push-in-Ok.ensures.ok c.loop-i.invariant.read
-          (c.signed.ensures
+          (c.give_sign.ensures
           ∙ ap₂ (λ x y. x *ℚ y) (sign_is value p c.requires.lengths i b (omega arith) (c.index-as_slice-i.is ∙ ap (λ v. slice_index_or v i b) c.as_slice.ensures.items))
           (c.in-Ok.ensures.0 ∙ ap₂ (λ x y. x -ℚ y) entry c.one.ensures));
     }

@@ -8,7 +8,7 @@ use Rattle.exact_simplex.proofs.Programs.{system_ok, equation_count_is}
 use Rattle.exact_simplex.proofs.SolvingEnds.{phase_best, without_limit}
 use Rattle.exact_simplex.proofs.solve.read_end.Goals as goal
 
-pub optimal-requires-clause-best : goal.optimal-requires-clause-best
+pub read_optimal-requires-clause-best : goal.read_optimal-requires-clause-best
 optimal-requires-clause-best g c =
     let value = g.F.Field.value in
     let p = c.args.system.now in
@@ -18,21 +18,21 @@ optimal-requires-clause-best g c =
     phase_best value s (system_ok value p c.requires.lengths) t (p.rows + 1) (second_cost s) row
     (subst (λ (o : Option ℕ). IsPhaseEnd (equation_count s) (p.rows + 1) (unknown_count s) t.table o) c.in-None.is c.requires.end)
 
-pub unbounded-requires-clause-low : goal.unbounded-requires-clause-low
+pub read_unbounded-requires-clause-low : goal.read_unbounded-requires-clause-low
 unbounded-requires-clause-low g c =
     let s = system_of g.F.Field.value c.args.system.now in
     let end : IsPhaseEnd (equation_count s) (c.args.system.now.rows + 1) (unknown_count s) c.args.tableau.now.table (Some c.in-Some.col) =
     subst (λ (o : Option ℕ). IsPhaseEnd (equation_count s) (c.args.system.now.rows + 1) (unknown_count s) c.args.tableau.now.table o) c.in-Some.is c.requires.end in
     end.0
 
-pub unbounded-requires-clause-high : goal.unbounded-requires-clause-high
+pub read_unbounded-requires-clause-high : goal.read_unbounded-requires-clause-high
 unbounded-requires-clause-high g c =
     let s = system_of g.F.Field.value c.args.system.now in
     let end : IsPhaseEnd (equation_count s) (c.args.system.now.rows + 1) (unknown_count s) c.args.tableau.now.table (Some c.in-Some.col) =
     subst (λ (o : Option ℕ). IsPhaseEnd (equation_count s) (c.args.system.now.rows + 1) (unknown_count s) c.args.tableau.now.table o) c.in-Some.is c.requires.end in
     end.1
 
-pub unbounded-requires-clause-betters : goal.unbounded-requires-clause-betters
+pub read_unbounded-requires-clause-betters : goal.read_unbounded-requires-clause-betters
 unbounded-requires-clause-betters g c =
     let value = g.F.Field.value in
     let p = c.args.system.now in
@@ -43,7 +43,7 @@ unbounded-requires-clause-betters g c =
     subst (λ (o : Option ℕ). IsPhaseEnd (equation_count s) (p.rows + 1) (unknown_count s) t.table o) c.in-Some.is c.requires.end in
     subst (λ (r : ℕ). at t.table r c.in-Some.col <ℚ zero_ℚ) row end.2
 
-pub unbounded-requires-clause-unlimited : goal.unbounded-requires-clause-unlimited
+pub read_unbounded-requires-clause-unlimited : goal.read_unbounded-requires-clause-unlimited
 unbounded-requires-clause-unlimited g c =
     let value = g.F.Field.value in
     let p = c.args.system.now in
@@ -53,7 +53,7 @@ unbounded-requires-clause-unlimited g c =
     (subst (λ (o : Option ℕ). IsPhaseEnd (equation_count s) (p.rows + 1) (unknown_count s) t.table o) c.in-Some.is c.requires.end)
 
 pub returns-in-None-clause-basis : goal.returns-in-None-clause-basis
-returns-in-None-clause-basis g c = λ none. c.optimal.ensures.basis
+returns-in-None-clause-basis g c = λ none. c.read_optimal.ensures.basis
 
 pub returns-in-Some-clause-basis : goal.returns-in-Some-clause-basis
 returns-in-Some-clause-basis g c = λ none. absurd (none_some c.in-Some.col (sym none ∙ c.in-Some.is))

@@ -7,7 +7,7 @@ use Rattle.frac128.proofs.Lowest.{stored_lowest, lowest_coprime, lowest_same}
 use Rattle.frac128.proofs.Signs.{below_zero}
 use Rattle.frac128.proofs.frac.frac_of.Goals as goal
 
-pub signed-requires-clause-lowest : goal.signed-requires-clause-lowest
+pub with_sign-requires-clause-lowest : goal.with_sign-requires-clause-lowest
 signed-requires-clause-lowest g c =
     let size : c.unsigned_abs.result ≡ unsigned_abs c.num-num.result = omega (arith, ints, c.unsigned_abs.ensures.value) in
     let den : unsigned_abs (to_z w128 (of_z w128 c.den-den.result)) ≡ (g.F.Field.value c.args.x).den = omega (arith, ints, c.den-den.ensures.part) in
@@ -19,4 +19,4 @@ returns g c =
     let size : c.unsigned_abs.result ≡ unsigned_abs c.num-num.result = omega (arith, ints, c.unsigned_abs.ensures.value) in
     let den : unsigned_abs (to_z w128 (of_z w128 c.den-den.result)) ≡ (g.F.Field.value c.args.x).den = omega (arith, ints, c.den-den.ensures.part) in
     lowest_same _ _ _ _ _ (stored_lowest (g.F.Field.value c.args.x) c.num-num.result _ _ _ _ (record { num = c.num-num.ensures.part; den = den }) (below_zero _ ∙ ap is_below_zero number) size refl)
-    c.signed.ensures.num c.signed.ensures.den
+    c.with_sign.ensures.num c.with_sign.ensures.den

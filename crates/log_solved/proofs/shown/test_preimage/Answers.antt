@@ -15,7 +15,7 @@ returns-in_err-test_member c =
     let stopped = (stopped-in (above c.args.problem.now c.args.y.now c.args.x.now c.args.m.now) here).at in
     search (stopped, rules)
 
-pub above-requires-clause-room : goal.above-requires-clause-room
+pub is_above-requires-clause-room : goal.is_above-requires-clause-room
 above-requires-clause-room c =
     let first = steps-member c.args.kind c.args.problem.now c.args.x.now in
     let last = steps-above c.args.problem.now c.args.y.now c.args.x.now c.args.m.now c.requires.entries in
@@ -25,4 +25,4 @@ above-requires-clause-room c =
 pub returns : goal.returns
 returns c =
     let came : Passed (member_events c.args.kind c.args.problem.now c.args.x.now) 0 c.test_member.new.counter.taken = record { none = c.in_ok-test_member.ensures.0; count = c.in_ok-test_member.ensures.1 } in
-    whole-run (shown_events c.args.kind c.args.problem.now c.args.y.now c.args.x.now c.args.m.now) c.above.new.counter.taken _ c.above.result (ran-after came (record { runs = c.above.ensures })).runs
+    whole-run (shown_events c.args.kind c.args.problem.now c.args.y.now c.args.x.now c.args.m.now) c.is_above.new.counter.taken _ c.is_above.result (ran-after came (record { runs = c.is_above.ensures })).runs

@@ -7,9 +7,9 @@ use Rattle.lp_form.proofs.numbers.test_numbers.Goals as goal
 pub returns-in-Some-clause-refused : goal.returns-in-Some-clause-refused
 returns-in-Some-clause-refused g c =
     let holds = g.F.Field.holds in
-    first_unheld holds (printed_numbers c.args.problem.now) c.in-Some.number (sym (ap (find (λ q. not (holds q))) (c.as_slice.ensures.items ∙ c.in_ok-numbers.ensures)) ∙ sym c.first_unheld.ensures ∙ c.in-Some.is)
+    first_unheld holds (printed_numbers c.args.problem.now) c.in-Some.number (sym (ap (find (λ q. not (holds q))) (c.as_slice.ensures.items ∙ c.in_ok-numbers.ensures)) ∙ sym c.find_unheld.ensures ∙ c.in-Some.is)
 
 pub returns-clause-held : goal.returns-clause-held
 returns-clause-held g c =
     let holds = g.F.Field.holds in
-    all_held holds (printed_numbers c.args.problem.now) (sym (ap (find (λ q. not (holds q))) (c.as_slice.ensures.items ∙ c.in_ok-numbers.ensures)) ∙ sym c.first_unheld.ensures ∙ c.in-None.is)
+    all_held holds (printed_numbers c.args.problem.now) (sym (ap (find (λ q. not (holds q))) (c.as_slice.ensures.items ∙ c.in_ok-numbers.ensures)) ∙ sym c.find_unheld.ensures ∙ c.in-None.is)

@@ -13,8 +13,8 @@ returns-in-Ok-clause-licensed g c = λ s width columns t allowed table fault.
     let value = g.F.Field.value in
     let holds = g.F.Field.holds in
     let p = c.in-Left in
-    elimination_overflows value holds g.met.F.Field.holds_zero s c.args.trail c.left_at.result (numbers value c.args.rows.now.list) width columns t p.basis p.row p.col p.step p.left
-    c.left_at.ensures.held
-    (c.left_at.ensures.told
+    elimination_overflows value holds g.met.F.Field.holds_zero s c.args.trail c.fault_at.result (numbers value c.args.rows.now.list) width columns t p.basis p.row p.col p.step p.left
+    c.fault_at.ensures.held
+    (c.fault_at.ensures.told
     ∙ ap (λ (r : List (List ℚ)). Left (record { place = Elim r p.basis p.row p.col p.step; left = in_numbers value p.left; trail = c.args.trail })) c.in-Ok.ensures)
     allowed table (subst (λ f. IsElimFault value holds columns t f) c.in-Left.is fault)

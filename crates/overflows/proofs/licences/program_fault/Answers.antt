@@ -15,7 +15,7 @@ returns-in-Ok-clause-licensed g c = λ s allowed fault.
     let holds = g.F.Field.holds in
     let name = named value c.args.name.now in
     let p = c.in-Left in
-    program_overflows value holds g.met.F.Field.holds_zero s c.args.trail c.left_at.result name p.basis p.row p.col p.step p.left c.left_at.ensures.held
-    (c.left_at.ensures.told
+    program_overflows value holds g.met.F.Field.holds_zero s c.args.trail c.fault_at.result name p.basis p.row p.col p.step p.left c.fault_at.ensures.held
+    (c.fault_at.ensures.told
     ∙ ap (λ (n : Program). Left (record { place = Pivot n p.basis p.row p.col p.step; left = in_numbers value p.left; trail = c.args.trail })) c.in-Ok.ensures)
     allowed (subst (λ f. IsLpFault value holds (system_in s name) f) c.in-Left.is fault)

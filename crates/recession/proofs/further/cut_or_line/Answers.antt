@@ -11,19 +11,19 @@ use Rattle.recession.specs.Further.{AreTail, IsNextSide, normals_of}
 use Rattle.recession.proofs.Across.{asked_is, cut_at, reached_is, side_start, wide_cuts}
 use Rattle.recession.proofs.further.cut_or_line.Goals as goal
 
-pub across-requires-clause-tail : goal.across-requires-clause-tail
+pub find_across-requires-clause-tail : goal.find_across-requires-clause-tail
 across-requires-clause-tail g c =
     let value = g.F.Field.value in
     let q_is = c.len.ensures.value ∙ objective_number value g.task.file c.args.form.now c.requires.1.0 in
     subst (λ (n : ℕ). AreTail n (normals_of value c.args.cuts.now) (map (told_by value) (reverse c.args.lines.now))) (sym q_is) c.requires.1.1.1.1.1.1.1.0.tail
 
-pub across-requires-clause-few : goal.across-requires-clause-few
+pub find_across-requires-clause-few : goal.find_across-requires-clause-few
 across-requires-clause-few g c =
     let q_is = c.len.ensures.value ∙ objective_number g.F.Field.value g.task.file c.args.form.now c.requires.1.0 in
     let few = c.requires.1.1.1.1.1.1.1.1 in
     omega (arith, few, q_is)
 
-pub across-requires-clause-wide : goal.across-requires-clause-wide
+pub find_across-requires-clause-wide : goal.find_across-requires-clause-wide
 across-requires-clause-wide g c =
     let q_is = c.len.ensures.value ∙ objective_number g.F.Field.value g.task.file c.args.form.now c.requires.1.0 in
     wide_cuts g.F.Field.value g.task c.len.result c.args.cuts.now q_is c.requires.1.1.1.1.1.1.0
@@ -85,7 +85,7 @@ returns-in-Cut-clause-ok g c =
     (asked_is value holds g.task c.requires.1.1.1.1.0 c.in_ok-asked.asked (map value c.as_slice.result.now) d (ap (map value) c.as_slice.ensures.items)
     c.in_ok-asked.ensures.ok c.in-Cut.cut c.in-Cut.is)
 
-pub opposite-requires : goal.opposite-requires
+pub ask_opposite-requires : goal.ask_opposite-requires
 opposite-requires g c κs within =
     let value = g.F.Field.value in
     let holds = g.F.Field.holds in
@@ -123,7 +123,7 @@ returns-in-Reached-clause-ok g c =
     let q_is = c.len.ensures.value ∙ objective_number value g.task.file c.args.form.now c.requires.1.0 in
     let next = subst (λ (n : ℕ). IsNextSide n (normals_of value c.args.cuts.now) (map (told_by value) (reverse c.args.lines.now)) (map value c.in_ok-d.d)) q_is c.in_ok-d.ensures.ok in
     let side = next.side in
-    c.opposite.ensures.ok c.args.cuts.now (reverse c.args.lines.now) c.requires.1.1.1.1.1.1.1.0.both_ways next
+    c.ask_opposite.ensures.ok c.args.cuts.now (reverse c.args.lines.now) c.requires.1.1.1.1.1.1.1.0.both_ways next
 
 pub returns-in-Reached-clause-left : goal.returns-in-Reached-clause-left
 returns-in-Reached-clause-left g c = λ trail has.
@@ -133,4 +133,4 @@ returns-in-Reached-clause-left g c = λ trail has.
     let q_is = c.len.ensures.value ∙ objective_number value g.task.file c.args.form.now c.requires.1.0 in
     let next = subst (λ (n : ℕ). IsNextSide n (normals_of value c.args.cuts.now) (map (told_by value) (reverse c.args.lines.now)) (map value c.in_ok-d.d)) q_is c.in_ok-d.ensures.ok in
     let side = next.side in
-    c.opposite.ensures.left trail (subst (λ (ns : List (List ℚ)). IsSide q ns d) (sym has) side)
+    c.ask_opposite.ensures.left trail (subst (λ (ns : List (List ℚ)). IsSide q ns d) (sym has) side)

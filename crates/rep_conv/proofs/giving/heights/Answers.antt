@@ -1,7 +1,7 @@
 use Rattle.rep_conv.proofs.GivenRows.{height_sorted, some_entries}
 use Rattle.rep_conv.proofs.giving.heights.Goals as goal
 
-pub found_at-requires : goal.found_at-requires
+pub take_level-requires : goal.take_level-requires
 found_at-requires c = some_entries c.requires.0 c.requires.1 c.requires.2 c.args.generators.now c.requires.3
 
 pub returns : goal.returns

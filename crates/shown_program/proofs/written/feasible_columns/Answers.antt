@@ -11,7 +11,7 @@ use Rattle.shown_program.specs.Written.{IsAssembled}
 use Rattle.shown_program.proofs.Assembled.{feasible_row, program_of}
 use Rattle.shown_program.proofs.written.feasible_columns.Goals as goal
 
-pub assembled-requires-clause-unknowns : goal.assembled-requires-clause-unknowns
+pub assemble-requires-clause-unknowns : goal.assemble-requires-clause-unknowns
 assembled-requires-clause-unknowns g c =
     omega (arith, ap length c.new.ensures, c.in_ok-cost.ensures.long)
 
@@ -21,7 +21,7 @@ returns g c = λ file stands.
     let form = c.args.form.now in
     let right = c.in_ok-right.right in
     let cost = c.in_ok-cost.cost in
-    IfOk-weaker c.assembled.result (IsAssembled value form c.new.result right cost)
+    IfOk-weaker c.assemble.result (IsAssembled value form c.new.result right cost)
     (IsProgramOf value (feasible_system file))
     (λ p h.
     program_of value form c.new.result right cost p h (feasible_system file) (feasible_ok file)
@@ -30,4 +30,4 @@ returns g c = λ file stands.
     ap (λ o. across value k (map (λ s. s.g) form.sides ++ o)) c.new.ensures
     ∙ feasible_row value file form k stands low high
     (omega (arith, high, length-list_from 1 file.cols (side_column file), stands.cols))))
-    c.assembled.ensures
+    c.assemble.ensures

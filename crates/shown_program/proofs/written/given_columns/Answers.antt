@@ -13,7 +13,7 @@ use Rattle.shown_program.proofs.Assembled.{program_of}
 use Rattle.shown_program.proofs.GivenRows.{given_long, given_row_is, no_equations}
 use Rattle.shown_program.proofs.written.given_columns.Goals as goal
 
-pub assembled-requires-clause-unknowns : goal.assembled-requires-clause-unknowns
+pub assemble-requires-clause-unknowns : goal.assemble-requires-clause-unknowns
 assembled-requires-clause-unknowns g c =
     omega (
       arith,
@@ -42,11 +42,11 @@ returns g c = λ file stands.
     sym ok.right_each ∙ ap length (sym right_is ∙ c.in_ok-right.ensures)
     ∙ length-append (zeros form.cols) ws
     ∙ ap₂ (λ a b. a + b) (length-zeros form.cols) (length-map c.args.w.now value ∙ c.requires.w) in
-    IfOk-weaker c.assembled.result (IsAssembled value form others right cost) (IsProgramOf value s)
+    IfOk-weaker c.assemble.result (IsAssembled value form others right cost) (IsProgramOf value s)
     (λ p h.
     program_of value form others right cost p h s ok right_is
     (c.in_ok-cost.ensures.costs file ws stands)
     (λ k low high.
     given_row_is value file form c.args.w.now stands c.requires.w direct others ws k
     c.in_ok-others.ensures.numbers low (omega (arith, high, count))))
-    c.assembled.ensures
+    c.assemble.ensures

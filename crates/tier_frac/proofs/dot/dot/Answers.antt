@@ -19,4 +19,4 @@ loop-i-preserved c =
     (fraction_held _ _ next.positive (let few = next.num_small in omega arith) (let few = next.den_small in omega arith))
 
 pub returns : goal.returns
-returns c = dot_end c.args.row.now c.args.vector.now c.loop-i.i _ (Some c.from_frac.result) (omega arith) c.loop-i.invariant (c.from_frac.ensures ∙ c.in_ok-reduced.ensures)
+returns c = dot_end c.args.row.now c.args.vector.now c.loop-i.i _ (Some c.from_frac.result) (omega arith) c.loop-i.invariant (c.from_frac.ensures ∙ c.in_ok-reduce.ensures)

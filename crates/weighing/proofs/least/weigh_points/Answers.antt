@@ -13,8 +13,8 @@ returns-in_err-values-clause-left c =
 
 pub returns-clause-ok : goal.returns-clause-ok
 returns-clause-ok c =
-    let value = c.best-value.result in
+    let value = c.find_best-value.result in
     ends_least c.args.direction c.args.w.now c.args.points.now c.in_ok-values.values value c.in_ok-places_of.field-0 c.in_ok-values.ensures.values
     (c.in_ok-values.ensures.passed c.args.direction)
-    (subst (λ (vs : List ℚ). All (λ (v : ℚ). IsNoLess c.args.direction v value) vs) c.as_slice.ensures.items c.best-value.ensures.least)
-    (subst (λ (vs : List ℚ). Contains vs value) c.as_slice.ensures.items c.best-value.ensures.one) c.in_ok-places_of.ensures
+    (subst (λ (vs : List ℚ). All (λ (v : ℚ). IsNoLess c.args.direction v value) vs) c.as_slice.ensures.items c.find_best-value.ensures.least)
+    (subst (λ (vs : List ℚ). Contains vs value) c.as_slice.ensures.items c.find_best-value.ensures.one) c.in_ok-places_of.ensures

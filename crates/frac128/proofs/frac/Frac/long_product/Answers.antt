@@ -21,7 +21,7 @@ returns-in_err-den c =
     (stored _ _ c.self.view_is) (stored _ _ c.other.view_is) ex ey c.gcd-first.ensures.gcd c.gcd-second.ensures.gcd c.exact_quotient.ensures c.exact_quotient-2.ensures c.exact_quotient-3.ensures c.exact_quotient-4.ensures in
     rw c.from_residual-in_err-den.ensures (let wide = c.in_err-den.ensures in lowest_wide_den _ _ _ _ exact (omega arith))
 
-pub signed-requires-clause-positive : goal.signed-requires-clause-positive
+pub with_sign-requires-clause-positive : goal.with_sign-requires-clause-positive
 signed-requires-clause-positive c =
     let ex : c.unsigned_abs-size.result ≡ unsigned_abs c.self.inside.num = omega (arith, ints, c.unsigned_abs-size.ensures.value) in
     let ey : c.unsigned_abs-other_size.result ≡ unsigned_abs c.other.inside.num = omega (arith, ints, c.unsigned_abs-other_size.ensures.value) in
@@ -30,7 +30,7 @@ signed-requires-clause-positive c =
     let here = lowest_at _ _ _ _ c.in_ok-num.num _ c.in_ok-den.den exact refl c.in_ok-num.ensures.1 c.in_ok-den.ensures.1 in
     lowest_positive _ _ _ _ here
 
-pub signed-requires-clause-lowest : goal.signed-requires-clause-lowest
+pub with_sign-requires-clause-lowest : goal.with_sign-requires-clause-lowest
 signed-requires-clause-lowest c =
     let ex : c.unsigned_abs-size.result ≡ unsigned_abs c.self.inside.num = omega (arith, ints, c.unsigned_abs-size.ensures.value) in
     let ey : c.unsigned_abs-other_size.result ≡ unsigned_abs c.other.inside.num = omega (arith, ints, c.unsigned_abs-other_size.ensures.value) in
@@ -45,6 +45,6 @@ returns c =
     let ey : c.unsigned_abs-other_size.result ≡ unsigned_abs c.other.inside.num = omega (arith, ints, c.unsigned_abs-other_size.ensures.value) in
     let exact = product_lowest c.args.self c.args.other c.self.inside.num c.other.inside.num c.self.inside.den c.other.inside.den _ _ _ _ _ _ _ _
     (stored _ _ c.self.view_is) (stored _ _ c.other.view_is) ex ey c.gcd-first.ensures.gcd c.gcd-second.ensures.gcd c.exact_quotient.ensures c.exact_quotient-2.ensures c.exact_quotient-3.ensures c.exact_quotient-4.ensures in
-    let sign : c.opposite.result ≡ differ (is_below_zero c.self.inside.num) (is_below_zero c.other.inside.num) = c.opposite.ensures ∙ same_signs _ _ _ _ (kept c.self.inside.num c.self.invariant.0) (kept c.other.inside.num c.other.invariant.0) in
-    let here = lowest_at _ _ c.opposite.result _ c.in_ok-num.num _ c.in_ok-den.den exact sign c.in_ok-num.ensures.1 c.in_ok-den.ensures.1 in
-    (lowest_same _ _ _ _ _ here c.signed.ensures.num c.signed.ensures.den, lowest_held _ _ _ _ here (omega (arith, c.in_ok-num.ensures.0, c.in_ok-num.ensures.1)) (omega (arith, c.in_ok-den.ensures.0, c.in_ok-den.ensures.1)))
+    let sign : c.differ_in_sign.result ≡ differ (is_below_zero c.self.inside.num) (is_below_zero c.other.inside.num) = c.differ_in_sign.ensures ∙ same_signs _ _ _ _ (kept c.self.inside.num c.self.invariant.0) (kept c.other.inside.num c.other.invariant.0) in
+    let here = lowest_at _ _ c.differ_in_sign.result _ c.in_ok-num.num _ c.in_ok-den.den exact sign c.in_ok-num.ensures.1 c.in_ok-den.ensures.1 in
+    (lowest_same _ _ _ _ _ here c.with_sign.ensures.num c.with_sign.ensures.den, lowest_held _ _ _ _ here (omega (arith, c.in_ok-num.ensures.0, c.in_ok-num.ensures.1)) (omega (arith, c.in_ok-den.ensures.0, c.in_ok-den.ensures.1)))

@@ -27,7 +27,7 @@ returns-in_err-den c =
     (stored _ _ c.self.view_is) (stored _ _ c.other.view_is) c.gcd-common.ensures.gcd c.exact_quotient-left.ensures c.exact_quotient-right.ensures total c.in_ok-sum.ensures.rest c.gcd-shared.ensures.gcd c.exact_quotient.ensures c.exact_quotient-2.ensures c.exact_quotient-3.ensures in
     rw c.from_residual-in_err-den.ensures (let wide = c.in_err-den.ensures in lowest_wide_den _ _ _ _ exact (omega arith))
 
-pub signed-requires-clause-positive : goal.signed-requires-clause-positive
+pub with_sign-requires-clause-positive : goal.with_sign-requires-clause-positive
 signed-requires-clause-positive c =
     let total = c.in_ok-sum.ensures.value ∙ same_total c.self.inside.num c.other.inside.num _ _ c.exact_quotient-right.result c.exact_quotient-left.result (kept c.self.inside.num c.self.invariant.0) (kept c.other.inside.num c.other.invariant.0) in
     let exact = sum_lowest c.args.self c.args.other c.self.inside.num c.other.inside.num c.self.inside.den c.other.inside.den _ _ _ c.in_ok-sum.sum.negative c.in_ok-sum.sum.whole c.in_ok-sum.sum.rest _ _ _ _
@@ -35,7 +35,7 @@ signed-requires-clause-positive c =
     let here = lowest_at _ _ _ _ c.in_ok-num.num _ c.in_ok-den.den exact refl c.in_ok-num.ensures.1 c.in_ok-den.ensures.1 in
     lowest_positive _ _ _ _ here
 
-pub signed-requires-clause-lowest : goal.signed-requires-clause-lowest
+pub with_sign-requires-clause-lowest : goal.with_sign-requires-clause-lowest
 signed-requires-clause-lowest c =
     let total = c.in_ok-sum.ensures.value ∙ same_total c.self.inside.num c.other.inside.num _ _ c.exact_quotient-right.result c.exact_quotient-left.result (kept c.self.inside.num c.self.invariant.0) (kept c.other.inside.num c.other.invariant.0) in
     let exact = sum_lowest c.args.self c.args.other c.self.inside.num c.other.inside.num c.self.inside.den c.other.inside.den _ _ _ c.in_ok-sum.sum.negative c.in_ok-sum.sum.whole c.in_ok-sum.sum.rest _ _ _ _
@@ -49,7 +49,7 @@ returns c =
     let exact = sum_lowest c.args.self c.args.other c.self.inside.num c.other.inside.num c.self.inside.den c.other.inside.den _ _ _ c.in_ok-sum.sum.negative c.in_ok-sum.sum.whole c.in_ok-sum.sum.rest _ _ _ _
     (stored _ _ c.self.view_is) (stored _ _ c.other.view_is) c.gcd-common.ensures.gcd c.exact_quotient-left.ensures c.exact_quotient-right.ensures total c.in_ok-sum.ensures.rest c.gcd-shared.ensures.gcd c.exact_quotient.ensures c.exact_quotient-2.ensures c.exact_quotient-3.ensures in
     let here = lowest_at _ _ _ _ c.in_ok-num.num _ c.in_ok-den.den exact refl c.in_ok-num.ensures.1 c.in_ok-den.ensures.1 in
-    (lowest_same _ _ _ _ _ here c.signed.ensures.num c.signed.ensures.den, lowest_held _ _ _ _ here (omega (arith, c.in_ok-num.ensures.0, c.in_ok-num.ensures.1)) (omega (arith, c.in_ok-den.ensures.0, c.in_ok-den.ensures.1)))
+    (lowest_same _ _ _ _ _ here c.with_sign.ensures.num c.with_sign.ensures.den, lowest_held _ _ _ _ here (omega (arith, c.in_ok-num.ensures.0, c.in_ok-num.ensures.1)) (omega (arith, c.in_ok-den.ensures.0, c.in_ok-den.ensures.1)))
 
 pub numerator-requires-clause-divisor_small : goal.numerator-requires-clause-divisor_small
 numerator-requires-clause-divisor_small c = omega (arith, le_of_dvd c.other.inside.positive c.gcd-common.ensures.gcd.1, c.other.invariant.1)

@@ -19,7 +19,7 @@ quotient_words-requires-3 c = pos_of_dvd_of_pos c.gcd_words-second.ensures.1 c.s
 pub quotient_words-requires-4 : goal.quotient_words-requires-4
 quotient_words-requires-4 c = pos_of_dvd_of_pos c.gcd_words-first.ensures.1 c.other.inside.positive
 
-pub signed-requires : goal.signed-requires
+pub with_sign-requires : goal.with_sign-requires
 signed-requires c =
     let left = stored _ _ c.self.view_is in
     let right = stored _ _ c.other.view_is in
@@ -27,10 +27,10 @@ signed-requires c =
     let ey : c.unsigned_abs-other_size.result ≡ unsigned_abs c.other.inside.num = omega (arith, ints, c.unsigned_abs-other_size.ensures.value) in
     let exact = product_lowest c.args.self c.args.other c.self.inside.num c.other.inside.num c.self.inside.den c.other.inside.den _ _ _ _ _ _ _ _
     left right ex ey c.gcd_words-first.ensures c.gcd_words-second.ensures c.quotient_words.ensures c.quotient_words-2.ensures c.quotient_words-3.ensures c.quotient_words-4.ensures in
-    let here = lowest_at _ _ _ _ c.wide-num.result _ c.wide-den.result exact refl c.wide-num.ensures c.wide-den.ensures in
+    let here = lowest_at _ _ _ _ c.wide_product-num.result _ c.wide_product-den.result exact refl c.wide_product-num.ensures c.wide_product-den.ensures in
     record {
-      num_small = product_held c.unsigned_abs-size.result _ c.unsigned_abs-other_size.result _ _ _ _ (let small = short_num _ _ _ left c.requires.short in omega arith) (let small = short_num _ _ _ right c.requires.other_short in omega arith) c.quotient_words.ensures c.quotient_words-2.ensures c.wide-num.ensures;
-      den_small = product_held c.self.inside.den _ c.other.inside.den _ _ _ _ (short_den _ _ _ left c.requires.short) (short_den _ _ _ right c.requires.other_short) c.quotient_words-3.ensures c.quotient_words-4.ensures c.wide-den.ensures;
+      num_small = product_held c.unsigned_abs-size.result _ c.unsigned_abs-other_size.result _ _ _ _ (let small = short_num _ _ _ left c.requires.short in omega arith) (let small = short_num _ _ _ right c.requires.other_short in omega arith) c.quotient_words.ensures c.quotient_words-2.ensures c.wide_product-num.ensures;
+      den_small = product_held c.self.inside.den _ c.other.inside.den _ _ _ _ (short_den _ _ _ left c.requires.short) (short_den _ _ _ right c.requires.other_short) c.quotient_words-3.ensures c.quotient_words-4.ensures c.wide_product-den.ensures;
       positive = lowest_positive _ _ _ _ here;
       lowest = lowest_coprime _ _ _ _ here;
     }
@@ -43,8 +43,8 @@ returns c =
     let ey : c.unsigned_abs-other_size.result ≡ unsigned_abs c.other.inside.num = omega (arith, ints, c.unsigned_abs-other_size.ensures.value) in
     let exact = product_lowest c.args.self c.args.other c.self.inside.num c.other.inside.num c.self.inside.den c.other.inside.den _ _ _ _ _ _ _ _
     left right ex ey c.gcd_words-first.ensures c.gcd_words-second.ensures c.quotient_words.ensures c.quotient_words-2.ensures c.quotient_words-3.ensures c.quotient_words-4.ensures in
-    let here = lowest_at _ _ _ _ c.wide-num.result _ c.wide-den.result exact refl c.wide-num.ensures c.wide-den.ensures in
-    let sign : c.opposite.result ≡ differ (is_below_zero c.self.inside.num) (is_below_zero c.other.inside.num) = c.opposite.ensures ∙ same_signs _ _ _ _ (kept c.self.inside.num c.self.invariant.0) (kept c.other.inside.num c.other.invariant.0) in (
-      lowest_same _ _ _ _ _ (lowest_at _ _ _ _ _ _ _ here sign refl refl) c.signed.ensures.num c.signed.ensures.den,
-      lowest_held _ _ _ _ here (product_held c.unsigned_abs-size.result _ c.unsigned_abs-other_size.result _ _ _ _ (let small = short_num _ _ _ left c.requires.short in omega arith) (let small = short_num _ _ _ right c.requires.other_short in omega arith) c.quotient_words.ensures c.quotient_words-2.ensures c.wide-num.ensures) (product_held c.self.inside.den _ c.other.inside.den _ _ _ _ (short_den _ _ _ left c.requires.short) (short_den _ _ _ right c.requires.other_short) c.quotient_words-3.ensures c.quotient_words-4.ensures c.wide-den.ensures),
+    let here = lowest_at _ _ _ _ c.wide_product-num.result _ c.wide_product-den.result exact refl c.wide_product-num.ensures c.wide_product-den.ensures in
+    let sign : c.differ_in_sign.result ≡ differ (is_below_zero c.self.inside.num) (is_below_zero c.other.inside.num) = c.differ_in_sign.ensures ∙ same_signs _ _ _ _ (kept c.self.inside.num c.self.invariant.0) (kept c.other.inside.num c.other.invariant.0) in (
+      lowest_same _ _ _ _ _ (lowest_at _ _ _ _ _ _ _ here sign refl refl) c.with_sign.ensures.num c.with_sign.ensures.den,
+      lowest_held _ _ _ _ here (product_held c.unsigned_abs-size.result _ c.unsigned_abs-other_size.result _ _ _ _ (let small = short_num _ _ _ left c.requires.short in omega arith) (let small = short_num _ _ _ right c.requires.other_short in omega arith) c.quotient_words.ensures c.quotient_words-2.ensures c.wide_product-num.ensures) (product_held c.self.inside.den _ c.other.inside.den _ _ _ _ (short_den _ _ _ left c.requires.short) (short_den _ _ _ right c.requires.other_short) c.quotient_words-3.ensures c.quotient_words-4.ensures c.wide_product-den.ensures),
     )

@@ -48,18 +48,18 @@ overflow_cast-shared c =
     let short = short_den _ _ _ (stored _ _ c.self.view_is) c.requires.short in
     record { fits = omega (arith, le_of_dvd (omega arith) c.gcd-shared.ensures.gcd.1, le_of_dvd c.self.inside.positive c.gcd_words-common.ensures.0) }
 
-pub signed-requires : goal.signed-requires
+pub with_sign-requires : goal.with_sign-requires
 signed-requires c =
     let left = stored _ _ c.self.view_is in
     let right = stored _ _ c.other.view_is in
     let total = c.sum_of_products-sum.ensures.value ∙ same_total c.self.inside.num c.other.inside.num _ _ c.quotient_words-right.result c.quotient_words-left.result (kept c.self.inside.num c.self.invariant.0) (kept c.other.inside.num c.other.invariant.0) in
     let size : c.unsigned_abs-size.result ≡ unsigned_abs c.sum_of_products-sum.result = omega (arith, ints, c.unsigned_abs-size.ensures.value) in
-    let exact = short_sum_lowest c.args.self c.args.other c.self.inside.num c.other.inside.num c.self.inside.den c.other.inside.den _ _ _ c.sum_of_products-sum.result _ _ _ _ _ c.wide-den.result
-    left right c.gcd_words-common.ensures c.quotient_words-left.ensures c.quotient_words-right.ensures total size c.from.ensures c.gcd-shared.ensures.gcd c.quotient-num.ensures c.quotient_words.ensures c.wide-den.ensures in
+    let exact = short_sum_lowest c.args.self c.args.other c.self.inside.num c.other.inside.num c.self.inside.den c.other.inside.den _ _ _ c.sum_of_products-sum.result _ _ _ _ _ c.wide_product-den.result
+    left right c.gcd_words-common.ensures c.quotient_words-left.ensures c.quotient_words-right.ensures total size c.from.ensures c.gcd-shared.ensures.gcd c.quotient-num.ensures c.quotient_words.ensures c.wide_product-den.ensures in
     let few = short_sum_size _ _ _ _ _ _ _ _ _ c.sum_of_products-sum.result left right c.requires.short c.requires.other_short c.quotient_words-left.ensures c.quotient_words-right.ensures total in
     record {
       num_small = quotient_held c.sum_of_products-sum.result _ _ _ few size c.quotient-num.ensures;
-      den_small = product_held c.self.inside.den _ c.other.inside.den _ _ _ _ (short_den _ _ _ left c.requires.short) (short_den _ _ _ right c.requires.other_short) c.quotient_words-left.ensures c.quotient_words.ensures c.wide-den.ensures;
+      den_small = product_held c.self.inside.den _ c.other.inside.den _ _ _ _ (short_den _ _ _ left c.requires.short) (short_den _ _ _ right c.requires.other_short) c.quotient_words-left.ensures c.quotient_words.ensures c.wide_product-den.ensures;
       positive = lowest_positive _ _ _ _ exact;
       lowest = lowest_coprime _ _ _ _ exact;
     }
@@ -70,10 +70,10 @@ returns c =
     let right = stored _ _ c.other.view_is in
     let total = c.sum_of_products-sum.ensures.value ∙ same_total c.self.inside.num c.other.inside.num _ _ c.quotient_words-right.result c.quotient_words-left.result (kept c.self.inside.num c.self.invariant.0) (kept c.other.inside.num c.other.invariant.0) in
     let size : c.unsigned_abs-size.result ≡ unsigned_abs c.sum_of_products-sum.result = omega (arith, ints, c.unsigned_abs-size.ensures.value) in
-    let exact = short_sum_lowest c.args.self c.args.other c.self.inside.num c.other.inside.num c.self.inside.den c.other.inside.den _ _ _ c.sum_of_products-sum.result _ _ _ _ _ c.wide-den.result
-    left right c.gcd_words-common.ensures c.quotient_words-left.ensures c.quotient_words-right.ensures total size c.from.ensures c.gcd-shared.ensures.gcd c.quotient-num.ensures c.quotient_words.ensures c.wide-den.ensures in
+    let exact = short_sum_lowest c.args.self c.args.other c.self.inside.num c.other.inside.num c.self.inside.den c.other.inside.den _ _ _ c.sum_of_products-sum.result _ _ _ _ _ c.wide_product-den.result
+    left right c.gcd_words-common.ensures c.quotient_words-left.ensures c.quotient_words-right.ensures total size c.from.ensures c.gcd-shared.ensures.gcd c.quotient-num.ensures c.quotient_words.ensures c.wide_product-den.ensures in
     let few = short_sum_size _ _ _ _ _ _ _ _ _ c.sum_of_products-sum.result left right c.requires.short c.requires.other_short c.quotient_words-left.ensures c.quotient_words-right.ensures total in
     let sign = below_zero _ ∙ ap is_below_zero (kept c.sum_of_products-sum.result (omega arith)) in (
-      lowest_same _ _ _ _ _ (lowest_at _ _ _ _ _ _ _ exact sign refl refl) c.signed.ensures.num c.signed.ensures.den,
-      lowest_held _ _ _ _ exact (quotient_held c.sum_of_products-sum.result _ _ _ few size c.quotient-num.ensures) (product_held c.self.inside.den _ c.other.inside.den _ _ _ _ (short_den _ _ _ left c.requires.short) (short_den _ _ _ right c.requires.other_short) c.quotient_words-left.ensures c.quotient_words.ensures c.wide-den.ensures),
+      lowest_same _ _ _ _ _ (lowest_at _ _ _ _ _ _ _ exact sign refl refl) c.with_sign.ensures.num c.with_sign.ensures.den,
+      lowest_held _ _ _ _ exact (quotient_held c.sum_of_products-sum.result _ _ _ few size c.quotient-num.ensures) (product_held c.self.inside.den _ c.other.inside.den _ _ _ _ (short_den _ _ _ left c.requires.short) (short_den _ _ _ right c.requires.other_short) c.quotient_words-left.ensures c.quotient_words.ensures c.wide_product-den.ensures),
     )

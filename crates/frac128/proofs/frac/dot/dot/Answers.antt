@@ -13,4 +13,4 @@ loop-i-preserved c =
     (fraction_held _ _ next.positive (let few = next.num_small in omega arith) (let few = next.den_small in omega arith))
 
 pub returns : goal.returns
-returns c = dot_end c.args.row.now c.args.vector.now c.loop-i.i _ c.reduced.result (omega arith) c.loop-i.invariant c.reduced.ensures
+returns c = dot_end c.args.row.now c.args.vector.now c.loop-i.i _ c.reduce.result (omega arith) c.loop-i.invariant c.reduce.ensures

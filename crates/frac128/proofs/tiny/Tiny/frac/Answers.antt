@@ -7,7 +7,7 @@ use Rattle.frac128.proofs.Lowest.{stored, stored_lowest, lowest_coprime, lowest_
 use Rattle.frac128.proofs.Signs.{below_zero}
 use Rattle.frac128.proofs.tiny.Tiny.frac.Goals as goal
 
-pub signed-requires-clause-lowest : goal.signed-requires-clause-lowest
+pub with_sign-requires-clause-lowest : goal.with_sign-requires-clause-lowest
 signed-requires-clause-lowest c =
     let size : c.from.result ≡ unsigned_abs c.self.inside.num = omega (arith, ints, c.unsigned_abs.ensures.value, c.from.ensures) in
     let den : c.from-2.result ≡ c.self.inside.den = omega (arith, c.from-2.ensures) in
@@ -19,4 +19,4 @@ returns-clause-value c =
     let den : c.from-2.result ≡ c.self.inside.den = omega (arith, c.from-2.ensures) in
     let number : to_z w8 (of_z w8 c.self.inside.num) ≡ c.self.inside.num = omega (arith, ints, c.self.invariant.0) in
     lowest_same _ _ _ _ _ (stored_lowest c.args.self c.self.inside.num c.self.inside.den _ _ _ (stored _ _ c.self.view_is) (below_zero _ ∙ ap is_below_zero number) size den)
-    c.signed.ensures.num c.signed.ensures.den
+    c.with_sign.ensures.num c.with_sign.ensures.den

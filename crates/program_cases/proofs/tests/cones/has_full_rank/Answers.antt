@@ -12,4 +12,4 @@ returns-in-Basis g c =
     let table = numbers value c.args.rows.now.list in
     λ _. subst (λ (n : ℕ). HasFullRank n table) c.width.ensures
     (full_rank c.width.result table c.in-Basis.field-0
-    (subst (λ (a : Indep _). IsIndep value c.width.result table a) c.in-Basis.is c.in_ok-independent.ensures.ok))
+    (subst (λ (a : Indep _). IsIndep value c.width.result table a) c.in-Basis.is c.in_ok-find_independent.ensures.ok))

@@ -66,6 +66,6 @@ returns-in-Add c s h k =
 pub returns-in-End : goal.returns-in-End
 returns-in-End c s h k =
     let goes : Goes c.args.rep.now s c.args.self.now.started c.args.self.now c.pass-in-End.result End =
-    tested rule.Missing c.all_used.result (all_used c.args.rep.now s) (Keeps c.args.rep.now s c.args.self.now × (c.args.self.now.started ≡ (c.args.self.now.started || false))) c.pass-in-End.result
-    (c.all_used.ensures c.args.rep.now s h.keeps) (c.pass-in-End.ensures 0) (h.keeps, sym (or_false c.args.self.now.started)) in
+    tested rule.Missing c.are_all_used.result (all_used c.args.rep.now s) (Keeps c.args.rep.now s c.args.self.now × (c.args.self.now.started ≡ (c.args.self.now.started || false))) c.pass-in-End.result
+    (c.are_all_used.ensures c.args.rep.now s h.keeps) (c.pass-in-End.ensures 0) (h.keeps, sym (or_false c.args.self.now.started)) in
     subst (Goes c.args.rep.now s c.args.self.now.started c.args.self.now c.pass-in-End.result) (sym c.in-End.is) goes

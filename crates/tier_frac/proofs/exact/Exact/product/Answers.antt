@@ -20,12 +20,12 @@ pub of-requires : goal.of-requires
 of-requires c =
     let exact = product_of_lowest c.args.negative c.args.x c.args.b c.args.y c.args.d _ _ _ _ _ _ c.requires.b_positive c.requires.d_positive c.requires.lowest c.requires.other_lowest
     c.gcd_words-first.ensures c.gcd_words-second.ensures c.quotient_words.ensures c.quotient_words-2.ensures c.quotient_words-3.ensures c.quotient_words-4.ensures in
-    let here = lowest_at _ _ _ _ c.wide-num.result _ c.wide-den.result exact refl c.wide-num.ensures c.wide-den.ensures in
+    let here = lowest_at _ _ _ _ c.wide_product-num.result _ c.wide_product-den.result exact refl c.wide_product-num.ensures c.wide_product-den.ensures in
     record { positive = lowest_positive _ _ _ _ here; lowest = lowest_coprime _ _ _ _ here }
 
 pub returns : goal.returns
 returns c =
     let exact = product_of_lowest c.args.negative c.args.x c.args.b c.args.y c.args.d _ _ _ _ _ _ c.requires.b_positive c.requires.d_positive c.requires.lowest c.requires.other_lowest
     c.gcd_words-first.ensures c.gcd_words-second.ensures c.quotient_words.ensures c.quotient_words-2.ensures c.quotient_words-3.ensures c.quotient_words-4.ensures in
-    let here = lowest_at _ _ _ _ c.wide-num.result _ c.wide-den.result exact refl c.wide-num.ensures c.wide-den.ensures in
+    let here = lowest_at _ _ _ _ c.wide_product-num.result _ c.wide_product-den.result exact refl c.wide_product-num.ensures c.wide_product-den.ensures in
     lowest_same _ _ _ _ _ here c.of.ensures.num c.of.ensures.den

@@ -5,7 +5,7 @@ use Rattle.frac128.proofs.Signs.{below_zero}
 use Rattle.tier_frac.proofs.Fitting.{kept_word}
 use Rattle.tier_frac.proofs.words.Words.frac.Goals as goal
 
-pub signed-requires-clause-lowest : goal.signed-requires-clause-lowest
+pub with_sign-requires-clause-lowest : goal.with_sign-requires-clause-lowest
 signed-requires-clause-lowest c =
     let number = kept_word c.self.inside.num c.self.inside.den c.self.invariant in
     let size = c.from-size.ensures ∙ c.unsigned_abs.ensures.value ∙ ap unsigned_abs number in
@@ -16,4 +16,4 @@ returns c =
     let number = kept_word c.self.inside.num c.self.inside.den c.self.invariant in
     let size = c.from-size.ensures ∙ c.unsigned_abs.ensures.value ∙ ap unsigned_abs number in
     lowest_same _ _ _ _ _ (stored_lowest c.args.self c.self.inside.num c.self.inside.den _ _ _ (stored _ _ c.self.view_is) (below_zero _ ∙ ap is_below_zero number) size c.from.ensures)
-    c.signed.ensures.num c.signed.ensures.den
+    c.with_sign.ensures.num c.with_sign.ensures.den

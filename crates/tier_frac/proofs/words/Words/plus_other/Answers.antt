@@ -49,8 +49,8 @@ of-requires c =
     let total = c.sum_of_products-sum.ensures ∙ same_total c.self.inside.num c.other.inside.num _ _ c.quotient_words-right.result c.quotient_words-left.result
     (kept_word c.self.inside.num c.self.inside.den c.self.invariant) (kept_word c.other.inside.num c.other.inside.den c.other.invariant) in
     let size : c.unsigned_abs-size.result ≡ unsigned_abs c.sum_of_products-sum.result = omega (arith, ints, c.unsigned_abs-size.ensures.value) in
-    let exact = short_sum_lowest c.args.self c.args.other c.self.inside.num c.other.inside.num c.self.inside.den c.other.inside.den _ _ _ c.sum_of_products-sum.result _ _ _ _ _ c.wide-den.result
-    (stored _ _ c.self.view_is) (stored _ _ c.other.view_is) c.gcd_words-common.ensures c.quotient_words-left.ensures c.quotient_words-right.ensures total size c.from.ensures c.gcd-shared.ensures.gcd c.quotient-num.ensures c.quotient_words.ensures c.wide-den.ensures in
+    let exact = short_sum_lowest c.args.self c.args.other c.self.inside.num c.other.inside.num c.self.inside.den c.other.inside.den _ _ _ c.sum_of_products-sum.result _ _ _ _ _ c.wide_product-den.result
+    (stored _ _ c.self.view_is) (stored _ _ c.other.view_is) c.gcd_words-common.ensures c.quotient_words-left.ensures c.quotient_words-right.ensures total size c.from.ensures c.gcd-shared.ensures.gcd c.quotient-num.ensures c.quotient_words.ensures c.wide_product-den.ensures in
     record { positive = lowest_positive _ _ _ _ exact; lowest = lowest_coprime _ _ _ _ exact }
 
 pub returns : goal.returns
@@ -58,7 +58,7 @@ returns c =
     let total = c.sum_of_products-sum.ensures ∙ same_total c.self.inside.num c.other.inside.num _ _ c.quotient_words-right.result c.quotient_words-left.result
     (kept_word c.self.inside.num c.self.inside.den c.self.invariant) (kept_word c.other.inside.num c.other.inside.den c.other.invariant) in
     let size : c.unsigned_abs-size.result ≡ unsigned_abs c.sum_of_products-sum.result = omega (arith, ints, c.unsigned_abs-size.ensures.value) in
-    let exact = short_sum_lowest c.args.self c.args.other c.self.inside.num c.other.inside.num c.self.inside.den c.other.inside.den _ _ _ c.sum_of_products-sum.result _ _ _ _ _ c.wide-den.result
-    (stored _ _ c.self.view_is) (stored _ _ c.other.view_is) c.gcd_words-common.ensures c.quotient_words-left.ensures c.quotient_words-right.ensures total size c.from.ensures c.gcd-shared.ensures.gcd c.quotient-num.ensures c.quotient_words.ensures c.wide-den.ensures in
+    let exact = short_sum_lowest c.args.self c.args.other c.self.inside.num c.other.inside.num c.self.inside.den c.other.inside.den _ _ _ c.sum_of_products-sum.result _ _ _ _ _ c.wide_product-den.result
+    (stored _ _ c.self.view_is) (stored _ _ c.other.view_is) c.gcd_words-common.ensures c.quotient_words-left.ensures c.quotient_words-right.ensures total size c.from.ensures c.gcd-shared.ensures.gcd c.quotient-num.ensures c.quotient_words.ensures c.wide_product-den.ensures in
     let sign = below_zero _ ∙ ap is_below_zero (to_z-of_z w128 c.sum_of_products-sum.result (record { sfits = c.sum_of_products-sum.type_inv })) in
     lowest_same _ _ _ _ _ (lowest_at _ _ _ _ _ _ _ exact sign refl refl) c.of.ensures.num c.of.ensures.den

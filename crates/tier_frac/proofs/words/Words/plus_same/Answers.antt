@@ -14,6 +14,6 @@ returns c =
     let num = (fit_words c.self.inside.num c.self.inside.den c.self.invariant).num in
     let other_num = (fit_words c.other.inside.num c.other.inside.den c.other.invariant).num in
     let total : to_z w128 (of_z w128 (to_z w128 (of_z w128 c.from.result) +ℤ to_z w128 (of_z w128 c.from-2.result))) ≡ c.self.inside.num +ℤ c.other.inside.num = omega (arith, ints, c.from.ensures, c.from-2.ensures) in
-    c.reduced.ensures
+    c.reduce.ensures
     ∙ sum_over c.args.self c.args.other c.self.inside.num c.other.inside.num _ c.self.inside.den c.other.inside.den _ _ _ left right
     (left.den ∙ c.requires ∙ sym right.den) c.from-3.ensures total refl c.unsigned_abs.ensures.value

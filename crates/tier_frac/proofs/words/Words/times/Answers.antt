@@ -23,7 +23,7 @@ returns c =
     let other_size = c.unsigned_abs-other_size.ensures.value ∙ ap unsigned_abs (kept_word c.other.inside.num c.other.inside.den c.other.invariant) in
     let left = stored_lowest c.args.self c.self.inside.num c.self.inside.den (is_below_zero c.self.inside.num) _ _ (stored _ _ c.self.view_is) refl size refl in
     let right = stored_lowest c.args.other c.other.inside.num c.other.inside.den (is_below_zero c.other.inside.num) _ _ (stored _ _ c.other.view_is) refl other_size refl in
-    let sign = c.opposite-negative.ensures ∙ same_signs _ _ c.self.inside.num c.other.inside.num
+    let sign = c.differ_in_sign-negative.ensures ∙ same_signs _ _ c.self.inside.num c.other.inside.num
     (widened_word _ _ c.from.ensures (fit_words _ _ c.self.invariant).num) (widened_word _ _ c.from-2.ensures (fit_words _ _ c.other.invariant).num) in
     c.product.ensures
     ∙ ap (λ (s : Bool). fraction (signed s (c.unsigned_abs-size.result * c.unsigned_abs-other_size.result)) (c.self.inside.den * c.other.inside.den)) sign

@@ -10,7 +10,7 @@ use Rattle.frac128.proofs.frac.dot.Sum.plus_other.Goals as goal
 
 pub of-requires-clause-positive : goal.of-requires-clause-positive
 of-requires-clause-positive c =
-    multiple_positive c.args.self.den c.args.den c.gcd_words-common.result _ _ c.args.self.positive c.requires.positive c.gcd_words-common.ensures c.quotient_words-right.ensures c.wide-multiple.ensures
+    multiple_positive c.args.self.den c.args.den c.gcd_words-common.result _ _ c.args.self.positive c.requires.positive c.gcd_words-common.ensures c.quotient_words-right.ensures c.wide_product-multiple.ensures
 
 pub returns : goal.returns
 returns c =
@@ -20,5 +20,5 @@ returns c =
     ∙ c.sum_of_products-sum.ensures.value
     ∙ same_total c.args.self.num c.args.num _ _ c.quotient_words-right.result c.quotient_words-left.result (kept c.args.self.num (let few = c.args.self.num_small in omega arith)) (kept c.args.num (omega arith)) in
     subst (λ (z : ℚ). IfSome c.of.result (λ s. fraction s.num s.den ≡ z))
-    (common_total c.args.self.num c.args.num c.args.self.den c.args.den c.gcd_words-common.result _ _ _ _ c.args.self.positive c.requires.positive c.gcd_words-common.ensures c.quotient_words-left.ensures c.quotient_words-right.ensures total c.wide-multiple.ensures)
+    (common_total c.args.self.num c.args.num c.args.self.den c.args.den c.gcd_words-common.result _ _ _ _ c.args.self.positive c.requires.positive c.gcd_words-common.ensures c.quotient_words-left.ensures c.quotient_words-right.ensures total c.wide_product-multiple.ensures)
     c.of.ensures

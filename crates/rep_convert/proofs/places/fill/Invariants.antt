@@ -1,0 +1,9 @@
+use Rattle.std.proofs.Common.{◌≡◌, ◌++◌, ◌≤◌, drop, length}
+use Rattle.lineality.specs.Without.{with_zeros}
+use Rattle.rep_convert.proofs.places.fill.Given as goal
+
+abbrev pub invariant-loop-k : goal.invariant-loop-k
+invariant-loop-k l = record {
+  same : with_zeros l.places l.short ≡ l.full ++ with_zeros (drop l.k l.places) (drop l.next l.short);
+  low : l.next ≤ length l.short;
+}
