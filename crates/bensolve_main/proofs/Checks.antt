@@ -7,7 +7,7 @@ use Rattle.vlp_problem.specs.declared.problem.Problem.{Problem}
 use Rattle.deriv_log.specs.Laws.{IsTextOf}
 use Rattle.deriv_log.specs.declared.entry.Entry.{Entry}
 use Rattle.deriv_log.proofs.Laws.{one_reading}
-use Rattle.log_rules.specs.Events.{Failing}
+use Rattle.log_rules.specs.LogEvents.{Failing}
 use Rattle.log_versions.specs.WrittenEvents.{log_failure}
 use Rattle.statuses.specs.Codes.{code_of}
 use Rattle.statuses.specs.declared.reply.Reply.{Reply}

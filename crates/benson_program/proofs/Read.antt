@@ -17,7 +17,8 @@ use Rattle.lp_form.specs.Reading.{HasColumns, IsSplit}
 use Rattle.lp_form.proofs.Figures.{side_number, objective_number}
 use Rattle.lp_form.proofs.Systems.{benson_ok}
 use Rattle.overflow_rules.specs.Base.{AreCutParts, IsBaseCut}
-use Rattle.overflow_rules.specs.Operands.{Setting, Knows, IsBaseU}
+use Rattle.overflow_rules.specs.Products.{IsBaseU}
+use Rattle.overflow_rules.specs.Settings.{Setting, Knows}
 use Rattle.overflow_rules.proofs.Cuts.{benson_unknowns, length-benson_cost}
 use Rattle.overflow_rules.proofs.CutTurns.{cuts_are_base}
 use Rattle.cone_rules.proofs.Opposite.{opposite_columns}

@@ -14,7 +14,8 @@ use Rattle.upper_image.specs.Shows.{ShowsFitting}
 use Rattle.upper_image.specs.Spots.{dense, IsVector}
 use Rattle.lp_form.specs.Programs.{benson_system, choice_of, dual_equations, full_share_of, generators, share_of, value_of}
 use Rattle.overflow_rules.specs.Base.{AreMultipliersOff, IsBaseStart}
-use Rattle.overflow_rules.specs.Operands.{AreBensonMultipliers, Knows, Setting}
+use Rattle.overflow_rules.specs.Products.{AreBensonMultipliers}
+use Rattle.overflow_rules.specs.Settings.{Knows, Setting}
 use Rattle.benson_program.proofs.AsPreimage.{benson_preimage, multipliers_long}
 use Rattle.benson_program.proofs.Counted.{generators_few}
 use Rattle.benson_program.proofs.Divided.{length-share}

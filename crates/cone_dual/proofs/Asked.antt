@@ -13,8 +13,9 @@ use Rattle.lp_form.specs.declared.data.Data.{Data}
 use Rattle.lp_form.specs.Data.{IsDataOf, cone_of, duality_of}
 use Rattle.lp_form.specs.Programs.{interior_system, pointed_system}
 use Rattle.lp_form.proofs.Figures.{objective_number}
+use Rattle.overflow_rules.specs.Dictionaries.{AreElimRows, IsAllowed, IsElimTable, system_in}
 use Rattle.overflow_rules.specs.Licence.{LicensedWithout}
-use Rattle.overflow_rules.specs.Operands.{Setting, AreElimRows, IsAllowed, IsElimTable, system_in}
+use Rattle.overflow_rules.specs.Settings.{Setting}
 use Rattle.overflows.specs.Faults.{OnLicence, Overflows}
 use Rattle.overflows.specs.declared.fault.SolveFault.{SolveFault}
 use Rattle.cone_dual.proofs.Standing.{before, without}

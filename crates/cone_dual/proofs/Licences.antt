@@ -23,8 +23,10 @@ use Rattle.deriv_log.specs.declared.licence.Licence.{Licence}
 use Rattle.deriv_log.specs.declared.licence.Place.{Place}
 use Rattle.deriv_log.specs.declared.licence.Place.TheVariants.{Elim, Pair}
 use Rattle.lp_form.specs.Programs.{nonzero_vectors}
+use Rattle.overflow_rules.specs.Dictionaries.{AreElimRows, IsElimTable}
+use Rattle.overflow_rules.specs.Generators.{IsMadeOver, IsAddition}
 use Rattle.overflow_rules.specs.Licence.{LicensedWithout}
-use Rattle.overflow_rules.specs.Operands.{Setting, AreElimRows, IsElimTable, IsMadeOver, IsAddition}
+use Rattle.overflow_rules.specs.Settings.{Setting}
 use Rattle.overflows.specs.Faults.{IsEliminationLeft, OnLicence, Overflows}
 use Rattle.overflows.specs.declared.fault.SolveFault.{SolveFault}
 use Rattle.overflows.specs.declared.fault.SolveFault.TheVariants.{Left as Stuck, NoMemory}

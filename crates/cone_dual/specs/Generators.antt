@@ -13,7 +13,9 @@ use Rattle.deriv_log.specs.declared.licence.Place.TheVariants.{Elim, Pair}
 use Rattle.lp_form.specs.Programs.{nonzero_vectors}
 use Rattle.log_rules.specs.Live.{contains}
 use Rattle.overflow_rules.specs.Base.{IsGeneratorOf}
-use Rattle.overflow_rules.specs.Operands.{AreElimRows, IsAddition, IsMadeOver, Setting}
+use Rattle.overflow_rules.specs.Dictionaries.{AreElimRows}
+use Rattle.overflow_rules.specs.Generators.{IsAddition, IsMadeOver}
+use Rattle.overflow_rules.specs.Settings.{Setting}
 use Rattle.double_descr.specs.State.{State}
 
 -- the list has exactly the generators of the cone where all rows are at least 0, each once

@@ -11,8 +11,9 @@ use Rattle.polyhedra.proofs.Tests.{list_all-true}
 use Rattle.exact_field.specs.Rational.{ℚ, zero_ℚ}
 use Rattle.exact_field.specs.Vector.{entry}
 use Rattle.frac128.specs.Held.{is_held}
-use Rattle.log_rules.specs.Events.{Event, first_failure, places_within}
+use Rattle.log_rules.specs.Events.{Event, first_failure}
 use Rattle.log_rules.specs.Events.Event.{test}
+use Rattle.log_rules.specs.VectorEvents.{places_within}
 use Rattle.log_rules.specs.declared.rule.Rule.{Rule}
 use Rattle.vlp_problem.specs.Sides.{numbers_from}
 use Rattle.log_rules.specs.Runs.{Runs, Stops, steps}

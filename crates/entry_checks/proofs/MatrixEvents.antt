@@ -21,7 +21,9 @@ use Rattle.upper_image.specs.Spots.{IsVector, dense, product, entry_of}
 use Rattle.upper_image.specs.UpperImage.{objective, objectives, objective_column, rest}
 use Rattle.upper_image.proofs.Widths.{wide_sides, length-objective, length-numbers, entry-made}
 use Rattle.log_rules.proofs.ByEntries.{same_entries, entry-suc}
-use Rattle.log_rules.specs.Events.{Event, dot_steps, product_steps, places_within, in_feasible, in_recession, in_cone, above, balance, values_positive, farkas_events, cut_events, follows_given}
+use Rattle.log_rules.specs.CutEvents.{balance, farkas_events, cut_events, follows_given}
+use Rattle.log_rules.specs.Events.{Event, dot_steps, product_steps}
+use Rattle.log_rules.specs.VectorEvents.{places_within, in_feasible, in_recession, in_cone, above, values_positive}
 use Rattle.log_rules.specs.Live.{duality_vector}
 use Rattle.deriv_log.specs.declared.entry.Entry.{Entry}
 use Rattle.upper_image.specs.OrderingCone.{dual_of}

@@ -8,8 +8,10 @@ use Rattle.std.proofs.lemmas.List.{length-map}
 use Rattle.exact_field.specs.Rational.{ℚ}
 use Rattle.upper_image.specs.Spots.{pieces}
 use Rattle.vlp_problem.specs.declared.problem.Problem.{Problem}
-use Rattle.log_rules.specs.Events.{dot_steps, start_events, all_within}
+use Rattle.log_rules.specs.CutEvents.{all_within}
+use Rattle.log_rules.specs.Events.{dot_steps}
 use Rattle.log_rules.specs.Live.{State, Stated, cut_at}
+use Rattle.log_rules.specs.LiveEvents.{start_events}
 use Rattle.log_rules.specs.Runs.{steps}
 use Rattle.log_rules.proofs.Failures.{steps-append}
 use Rattle.entry_checks.specs.Cuts.{stated, named_from}

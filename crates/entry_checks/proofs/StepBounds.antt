@@ -28,9 +28,12 @@ use Rattle.vlp_problem.specs.declared.problem.Cone.TheVariants.{Orthant, Gens, D
 use Rattle.frac128.specs.Held.{is_held}
 use Rattle.entry_checks.proofs.Going.{places-passed}
 use Rattle.vlp_matrices.proofs.Cells.{few_sides}
-use Rattle.log_rules.specs.Events.{Event, first_failure, sum_from, dot_steps, product_steps, in_cone, in_feasible, in_recession, above, balance, farkas_events, cut_events, whole_events, line_events, duality_events, follows_given, interior, inverse_steps, has_lengths, rises, all_within}
+use Rattle.log_rules.specs.AnswerEvents.{whole_events, line_events}
+use Rattle.log_rules.specs.CutEvents.{balance, farkas_events, cut_events, duality_events, follows_given, interior, inverse_steps, has_lengths, rises, all_within}
+use Rattle.log_rules.specs.Events.{Event, first_failure, sum_from, dot_steps, product_steps}
 use Rattle.log_rules.specs.Events.Event.{test, step}
 use Rattle.log_rules.specs.Live.{duality_vector}
+use Rattle.log_rules.specs.VectorEvents.{in_cone, in_feasible, in_recession, above}
 use Rattle.deriv_log.specs.declared.entry.Entry.{Entry}
 use Rattle.log_rules.specs.Runs.{steps}
 use Rattle.log_rules.specs.declared.rule.Rule.{Rule}

@@ -6,7 +6,7 @@ ghost use Rattle.exact_field.specs.Vector.{entry};
 ghost use Rattle.frac128.specs.Held.{is_held};
 ghost use Rattle.frac128.specs.Sparse.{IsSparse, is_zero as is_number_zero};
 ghost use Rattle.lineality.specs.Lines.{leading_place};
-ghost use Rattle.log_rules.specs.Events.{whole_events, goes_on, line_events};
+ghost use Rattle.log_rules.specs.AnswerEvents.{whole_events, goes_on, line_events};
 ghost use Rattle.log_rules.specs.Runs.{Runs, RunsAll, steps};
 ghost use Rattle.vlp_matrices.specs.Matrices.{AreMatricesOf};
 ghost use Rattle.polyhedra.specs.DoubleDescription.{leading};

@@ -16,10 +16,11 @@ use Rattle.deriv_log.specs.declared.entry.Entry.{Entry}
 use Rattle.deriv_log.specs.declared.entry.Entry.TheVariants.{Add}
 use Rattle.frac128.specs.Held.{is_held}
 use Rattle.polyhedra.proofs.Tests.{both_true}
-use Rattle.log_rules.specs.Events.{Event, first_failure, same_pairs, value_steps}
-use Rattle.log_rules.specs.Events as events
+use Rattle.log_rules.specs.Events.{Event, first_failure}
 use Rattle.log_rules.specs.Events.Event.{test}
 use Rattle.log_rules.specs.Live.{State, after, cut_at, cut_row, in_use, inequality, required_pairs, rows_in_use}
+use Rattle.log_rules.specs.LiveEvents.{same_pairs, value_steps}
+use Rattle.log_rules.specs.LiveEvents as events
 use Rattle.log_rules.specs.declared.rule.Rule.TheVariants as rule
 use Rattle.log_rules.proofs.Failures.{all_passed, all_passed-append, passed}
 use Rattle.log_rules.proofs.TightTests.{pairs_are}

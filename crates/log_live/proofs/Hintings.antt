@@ -11,10 +11,11 @@ use Rattle.std.specs.Prelude.{AllPairs, Contains, Result, Ok, Err}
 use Rattle.std.specs.List.{list_all}
 use Rattle.frac128.specs.Held.{is_held}
 use Rattle.vlp_problem.specs.declared.problem.Problem.{Problem}
-use Rattle.log_rules.specs.Events.{Event, first_failure, same_pairs, value_steps}
-use Rattle.log_rules.specs.Events as events
+use Rattle.log_rules.specs.Events.{Event, first_failure}
 use Rattle.log_rules.specs.Events.Event.{test}
 use Rattle.log_rules.specs.Live.{State, value, cut_at, cut_row, rows_in_use, required_pairs}
+use Rattle.log_rules.specs.LiveEvents.{same_pairs, value_steps}
+use Rattle.log_rules.specs.LiveEvents as events
 use Rattle.log_rules.specs.Runs.{Runs}
 use Rattle.log_rules.specs.declared.rule.Rule.{Rule}
 use Rattle.log_rules.specs.declared.rule.Rule.TheVariants as rule

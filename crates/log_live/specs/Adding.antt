@@ -15,8 +15,9 @@ use Rattle.polyhedra.specs.Exactness.{homogenised}
 use Rattle.polyhedra.specs.LiveList.{Numbered, LivePair, IsRising, vectors, numbered, new_vectors, is_uncovered_live}
 use Rattle.log_live.specs.Live.{numbered_of, live_of, HasTightSet, StandsFor}
 use Rattle.vlp_problem.specs.declared.problem.Problem.{Problem}
-use Rattle.log_rules.specs.Events.{Event, dot_steps, divisor, meeting_point, meeting_steps, same_pairs, value_steps}
-use Rattle.log_rules.specs.Events as events
+use Rattle.log_rules.specs.Events.{Event, dot_steps}
+use Rattle.log_rules.specs.LiveEvents.{divisor, meeting_point, meeting_steps, same_pairs, value_steps}
+use Rattle.log_rules.specs.LiveEvents as events
 use Rattle.log_rules.specs.Live.{State, value, cut_at, cut_row, rows_in_use, required_pairs, log_pair}
 use Rattle.log_rules.specs.declared.rule.Rule.TheVariants as rule
 use Rattle.word_lines.specs.declared.part.LogPair.{LogPair}

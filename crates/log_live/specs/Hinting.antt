@@ -6,9 +6,10 @@ use Rattle.frac128.specs.Held.{is_held}
 use Rattle.polyhedra.specs.LiveList.{Numbered, LivePair}
 use Rattle.vlp_problem.specs.declared.problem.Problem.{Problem}
 use Rattle.word_lines.specs.declared.part.LogPair.{LogPair}
-use Rattle.log_rules.specs.Events.{Event, first_failure, pair_of, same_pairs, value_steps}
+use Rattle.log_rules.specs.Events.{Event, first_failure}
 use Rattle.log_rules.specs.Events.Event.{test}
 use Rattle.log_rules.specs.Live.{State, value, cut_at, cut_row, required_pairs, rows_in_use}
+use Rattle.log_rules.specs.LiveEvents.{pair_of, same_pairs, value_steps}
 use Rattle.log_rules.specs.declared.rule.Rule.TheVariants as rule
 use Rattle.log_versions.specs.Hints.{lists, named_pair, pairs_rise, unlisted, are_hints, first_cover}
 use Rattle.log_versions.specs.Walk.{walk, is_next}

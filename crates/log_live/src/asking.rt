@@ -2,9 +2,9 @@
 ghost use Rattle.std.specs.Prelude.{◌≡◌, ⊤, ℕ, List, All, true, [], ◌∷◌, IfOk, length, option_copied};
 ghost use Rattle.exact_field.specs.Rational.{ℚ};
 ghost use Rattle.frac128.specs.Held.{is_held};
-ghost use Rattle.log_rules.specs.Events.{same_pairs};
 ghost use Rattle.log_rules.specs.Events.Event.{test};
 ghost use Rattle.log_rules.specs.Live.{required_pairs};
+ghost use Rattle.log_rules.specs.LiveEvents.{same_pairs};
 ghost use Rattle.log_rules.specs.Runs.{Runs};
 ghost use Rattle.log_rules.specs.declared.rule.Rule.TheVariants as rule;
 ghost use Rattle.log_versions.specs.Hints.{least_hints};

@@ -8,7 +8,7 @@ ghost use Rattle.deriv_log.specs.declared.entry.Entry.{Entry};
 ghost use Rattle.deriv_log.specs.declared.entry.Entry.TheVariants.{Start, Add, Point, Ray};
 ghost use Rattle.frac128.specs.declared.vectors.Spot.{Spot};
 ghost use Rattle.vlp_problem.specs.declared.problem.Problem.{Problem};
-ghost use Rattle.log_rules.specs.Events.{is_open};
+ghost use Rattle.log_rules.specs.AnswerEvents.{is_open};
 ghost use Rattle.log_rules.specs.Live.{State, after, cut_row, nothing, preimages, rows_in_use};
 ghost use Rattle.log_rules.specs.Meets.{MeetsStart};
 ghost use Rattle.log_rules.specs.Runs.{RunsAll, steps};

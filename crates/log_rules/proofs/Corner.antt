@@ -25,7 +25,9 @@ use Rattle.polyhedra.proofs.Lists.{wide-nil, wide-cons, all_from_map}
 use Rattle.polyhedra.proofs.Tests.{both_true}
 use Rattle.upper_image.specs.Spots.{pieces}
 use Rattle.upper_image.proofs.Widths.{length-pieces}
-use Rattle.log_rules.specs.Events.{Event, dot_steps, rises, all_within, corner, start_events}
+use Rattle.log_rules.specs.CutEvents.{rises, all_within}
+use Rattle.log_rules.specs.Events.{Event, dot_steps}
+use Rattle.log_rules.specs.LiveEvents.{corner, start_events}
 use Rattle.log_rules.specs.Live.{Stated, State, inequality, cut_at, lines}
 use Rattle.log_rules.specs.Meets.{MeetsStart}
 use Rattle.log_rules.proofs.PassedTests.{Passed, both_pass, last_passes, each_test, each_both, one_place, other_place, same_number, zero_number, they_rise, all_are_within}

@@ -15,7 +15,7 @@ use Rattle.deriv_log.specs.declared.entry.Entry.{Entry}
 use Rattle.deriv_log.specs.declared.entry.Entry.TheVariants as entry
 use Rattle.polyhedra.proofs.Members.{pairs-nil, pairs-cons}
 use Rattle.polyhedra.proofs.Tests.{both_true}
-use Rattle.log_rules.specs.Events.{plain_failure}
+use Rattle.log_rules.specs.LogEvents.{plain_failure}
 use Rattle.log_rules.specs.Examples.{n, wide, Parts, Says, Fails, small, small_cuts, small_front, last_ray, solved_end, large, large_log, plain, line_file, the_line, line_end, line_log, line_first_log, line_cuts, line_above, line_add_log, line_below, LineBelow, half_space, first_line, second_line, mixed_line, half_space_log, wide_cone, cone_log, cone_alone, cone_alone_log, dual_cone, dual_log, one, whole_log, bounded_log, empty, farkas_log, largest, largest_front, largest_log, LargestLog, WorkedLogs, pair}
 use Rattle.log_rules.specs.Live.{duality_vector}
 use Rattle.log_rules.specs.ReportExamples.{line_answer}

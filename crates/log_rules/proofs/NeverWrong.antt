@@ -6,9 +6,10 @@ use Rattle.exact_field.specs.Field.{exact}
 use Rattle.exact_field.specs.Rational.{ℚ}
 use Rattle.vlp_problem.specs.declared.problem.Problem.{Problem}
 use Rattle.deriv_log.specs.declared.entry.Entry.{Entry}
-use Rattle.log_rules.specs.Events.{Event, Failure, Failing, first_failure, first_failing, events}
+use Rattle.log_rules.specs.Events.{Event, Failure, first_failure}
 use Rattle.log_rules.specs.Events.Event.{test, step}
 use Rattle.log_rules.specs.Events.Failure.{wrong, left as overflows}
+use Rattle.log_rules.specs.LogEvents.{Failing, first_failing, events}
 use Rattle.log_rules.proofs.LogHeld.{meets_give_events}
 use Rattle.log_rules.proofs.PassedTests.{Passed, passed_of}
 use Rattle.log_rules.specs.Never.{NeverWrong}

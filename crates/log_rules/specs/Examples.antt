@@ -15,7 +15,7 @@ use Rattle.word_lines.specs.declared.part.LogPair.{LogPair}
 use Rattle.word_lines.specs.declared.part.EndKind.TheVariants as kind
 use Rattle.deriv_log.specs.declared.entry.Entry.{Entry}
 use Rattle.deriv_log.specs.declared.entry.Entry.TheVariants as entry
-use Rattle.log_rules.specs.Events.{Failing, plain_failure}
+use Rattle.log_rules.specs.LogEvents.{Failing, plain_failure}
 use Rattle.log_rules.specs.Live.{duality_vector}
 use Rattle.log_rules.specs.Names.{rule_number}
 use Rattle.log_rules.specs.Proves.{PlainProves, live_at, named_facets, shown_lines}

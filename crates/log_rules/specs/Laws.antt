@@ -8,7 +8,7 @@ use Rattle.polyhedra.specs.Inequality.{Inequality}
 use Rattle.polyhedra.specs.LowerImage.{completed, IsRecession}
 use Rattle.polyhedra.specs.Vectors.{AreWide, zeros}
 use Rattle.upper_image.specs.UpperImage.{IsInWorkingImage, IsWorkingDirection, IsInImage, IsDirection, IsValidFor, IsInLowerImageOf, signed}
-use Rattle.log_rules.specs.Events.{plain_failure}
+use Rattle.log_rules.specs.LogEvents.{plain_failure}
 use Rattle.polyhedra.specs.LiveList.{Numbered}
 use Rattle.polyhedra.specs.LiveSteps.{IsLive}
 use Rattle.log_rules.specs.Live.{State, state, live_vectors, y_of, t_of, cut_at, inequality, in_use, rows_in_use, named, lines}

@@ -3,8 +3,8 @@ use Rattle.std.specs.Prelude.{◌≡◌, ℕ, Bool, List, Some}
 use Rattle.exact_field.specs.Rational.{ℚ}
 use Rattle.vlp_problem.specs.declared.problem.Problem.{Problem}
 use Rattle.deriv_log.specs.declared.entry.Entry.{Entry}
-use Rattle.log_rules.specs.Events.{plain_failure}
 use Rattle.log_rules.specs.Events.Failure.{wrong}
+use Rattle.log_rules.specs.LogEvents.{plain_failure}
 use Rattle.log_rules.specs.Proves.{AllMeet}
 use Rattle.log_rules.specs.declared.rule.Rule.{Rule}
 

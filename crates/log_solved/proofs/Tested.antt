@@ -10,9 +10,10 @@ use Rattle.polyhedra.proofs.Lists.{all_from_map}
 use Rattle.polyhedra.proofs.Members.{Contains-map}
 use Rattle.vlp_problem.specs.declared.problem.Problem.{Problem}
 use Rattle.deriv_log.specs.declared.entry.Entry.{Entry}
-use Rattle.log_rules.specs.Events.{Event, first_failure, kind_events}
+use Rattle.log_rules.specs.Events.{Event, first_failure}
 use Rattle.log_rules.specs.Events.Event.{test}
 use Rattle.log_rules.specs.Live.{Stated, State, state, cut_at, lines}
+use Rattle.log_rules.specs.LogEvents.{kind_events}
 use Rattle.log_rules.specs.Meets.{Meets}
 use Rattle.log_rules.specs.Order.{Kind, kind, in_order, has}
 use Rattle.log_rules.specs.Order as order

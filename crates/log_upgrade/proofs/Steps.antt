@@ -10,8 +10,9 @@ use Rattle.deriv_log.specs.Formed.{is_formed}
 use Rattle.deriv_log.specs.declared.entry.Entry.{Entry}
 use Rattle.deriv_log.specs.declared.entry.Entry.TheVariants.{Version, Duality, Cut, Start, Add, Point, Ray, Farkas, Whole, Line, Facet, End, Share, CutOf, PointOf, RayOf, AddHints}
 use Rattle.word_lines.specs.declared.part.LogPair.{LogPair}
-use Rattle.log_rules.specs.Events.{Failure, Failing, first_failure}
+use Rattle.log_rules.specs.Events.{Failure, first_failure}
 use Rattle.log_rules.specs.Live.{state, cut_row, rows_in_use}
+use Rattle.log_rules.specs.LogEvents.{Failing}
 use Rattle.log_rules.proofs.LogMeets.{events_give_meets}
 use Rattle.log_versions.specs.Hints.{least_hints}
 use Rattle.log_versions.specs.Plain.{plain, is_plain}

@@ -7,9 +7,10 @@ use Rattle.frac128.specs.declared.vectors.Spot.{Spot}
 use Rattle.vlp_problem.specs.declared.problem.Problem.{Problem}
 use Rattle.deriv_log.specs.declared.entry.Entry.{Entry}
 use Rattle.deriv_log.specs.declared.entry.Entry.TheVariants.{Version, Duality, Cut, Start, Add, Point, Ray, Farkas, Whole, Line, Facet, End, Share, CutOf, PointOf, RayOf, AddHints}
-use Rattle.log_rules.specs.Events.{Event, Failure, Failing, first_failure, first_failing, events}
+use Rattle.log_rules.specs.Events.{Event, Failure, first_failure}
 use Rattle.log_rules.specs.Events.Event.{test}
 use Rattle.log_rules.specs.Events.Failure.{wrong}
+use Rattle.log_rules.specs.LogEvents.{Failing, first_failing, events}
 use Rattle.log_rules.specs.Meets.{Meets}
 use Rattle.log_rules.specs.Order.{kind, in_order}
 use Rattle.log_rules.specs.Proves.{AllMeet, PlainProves}

@@ -14,9 +14,11 @@ use Rattle.deriv_log.specs.declared.entry.Entry.{Entry}
 use Rattle.deriv_log.specs.declared.entry.Entry.TheVariants.{Version, Duality, Cut, Start, Add, Point, Ray, Farkas, Whole, Line, Facet, End, Share, CutOf, PointOf, RayOf, AddHints}
 use Rattle.polyhedra.proofs.Tests.{both_true, both_hold, true-list_all}
 use Rattle.polyhedra.proofs.Members.{all_of_members, member_of}
-use Rattle.log_rules.specs.Events.{Event, first_failure, events, kind_events, value_steps, pair_of, same_pairs, add_events}
+use Rattle.log_rules.specs.Events.{Event, first_failure}
 use Rattle.log_rules.specs.Events.Event.{test}
 use Rattle.log_rules.specs.Live.{State, state, cut_at, cut_row, rows_in_use, required_pairs, contains}
+use Rattle.log_rules.specs.LiveEvents.{value_steps, pair_of, same_pairs, add_events}
+use Rattle.log_rules.specs.LogEvents.{events, kind_events}
 use Rattle.log_rules.specs.Meets.{Meets}
 use Rattle.log_rules.specs.Order.{Kind, kind, implies, in_order, begins_well}
 use Rattle.log_rules.specs.Order as order

@@ -8,7 +8,8 @@ use Rattle.vlp_problem.specs.declared.problem.Problem.{Problem}
 use Rattle.deriv_log.specs.Formed.{is_end, ends_once, IsLog}
 use Rattle.deriv_log.specs.declared.entry.Entry.{Entry}
 use Rattle.deriv_log.specs.declared.entry.Entry.TheVariants.{Version, Duality, Cut, Start, Add, Point, Ray, Farkas, Whole, Line, Facet, End, Share, CutOf, PointOf, RayOf, AddHints}
-use Rattle.log_rules.specs.Events.{first_failure, first_failing, events, plain_failure}
+use Rattle.log_rules.specs.Events.{first_failure}
+use Rattle.log_rules.specs.LogEvents.{first_failing, events, plain_failure}
 use Rattle.log_rules.specs.Meets.{Meets}
 use Rattle.log_rules.specs.Order as order
 use Rattle.log_rules.specs.Proves.{AllMeet, Gives}

@@ -10,9 +10,10 @@ use Rattle.deriv_log.specs.declared.entry.Entry.{Entry}
 use Rattle.deriv_log.specs.declared.entry.Entry.TheVariants.{Version, Duality, Cut, Start, Add, Point, Ray, Farkas, Whole, Line, Facet, End, Share, CutOf, PointOf, RayOf, AddHints}
 use Rattle.polyhedra.proofs.Members.{all_of_members, member_of, pairs-nil, pairs-cons, pairs-head, pairs-tail}
 use Rattle.polyhedra.proofs.Tests.{both_true, both_hold, either_true, or_left, or_right, list_all-true, true-list_all}
-use Rattle.log_rules.specs.Events.{Event, first_failure, value_steps, pair_of}
+use Rattle.log_rules.specs.Events.{Event, first_failure}
 use Rattle.log_rules.specs.Events.Event.{test}
 use Rattle.log_rules.specs.Live.{Stated, State, state, cut_at, cut_row, rows_in_use, required_pairs, contains}
+use Rattle.log_rules.specs.LiveEvents.{value_steps, pair_of}
 use Rattle.log_rules.specs.declared.rule.Rule.TheVariants as rule
 use Rattle.log_rules.proofs.HeldTests.{none_fails, pass_both, pass_steps, within_passes, not_contains_passes}
 use Rattle.log_rules.proofs.LogHeld.{kind-passes}

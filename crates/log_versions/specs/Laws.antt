@@ -7,7 +7,7 @@ use Rattle.vlp_problem.specs.declared.problem.Problem.{Problem}
 use Rattle.deriv_log.specs.Formed.{IsLog, is_formed}
 use Rattle.word_lines.specs.declared.part.LogPair.{LogPair}
 use Rattle.deriv_log.specs.declared.entry.Entry.{Entry}
-use Rattle.log_rules.specs.Events.{plain_failure}
+use Rattle.log_rules.specs.LogEvents.{plain_failure}
 use Rattle.log_rules.specs.Live.{State}
 use Rattle.log_rules.specs.Meets.{MeetsAdd}
 use Rattle.log_rules.specs.Proves.{AllMeet, PlainProves}

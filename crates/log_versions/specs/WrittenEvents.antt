@@ -6,8 +6,10 @@ use Rattle.vlp_problem.specs.declared.problem.Problem.{Problem}
 use Rattle.word_lines.specs.declared.part.LogPair.{LogPair}
 use Rattle.deriv_log.specs.declared.entry.Entry.{Entry}
 use Rattle.deriv_log.specs.declared.entry.Entry.TheVariants.{Version, Cut, Point, Ray, Share, CutOf, PointOf, RayOf, AddHints}
-use Rattle.log_rules.specs.Events.{Event, Failing, test, first_failure, kind_events, value_steps, pair_of}
+use Rattle.log_rules.specs.Events.{Event, test, first_failure}
 use Rattle.log_rules.specs.Live.{State, state, cut_at, cut_row, rows_in_use, required_pairs, contains}
+use Rattle.log_rules.specs.LiveEvents.{value_steps, pair_of}
+use Rattle.log_rules.specs.LogEvents.{Failing, kind_events}
 use Rattle.log_rules.specs.declared.rule.Rule.TheVariants as rule
 use Rattle.log_versions.specs.Hints.{lists, pairs_rise, unlisted, are_hints}
 use Rattle.log_versions.specs.Plain.{shares, shared, plain}

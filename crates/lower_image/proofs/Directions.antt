@@ -29,7 +29,7 @@ use Rattle.lp_form.specs.declared.data.ConeOf.TheVariants.{Orthant, Gens, Dual}
 use Rattle.lp_form.specs.declared.data.Data.{Data}
 use Rattle.lp_form.proofs.Figures.{objective_number}
 use Rattle.overflow_rules.specs.Base.{IsConeDirection, IsDirectionOf, IsGeneratorOf}
-use Rattle.overflow_rules.specs.Operands.{IsMadeOver}
+use Rattle.overflow_rules.specs.Generators.{IsMadeOver}
 use Rattle.overflow_rules.proofs.Making.{generator_laws}
 use Rattle.cone_rules.specs.Faults.{HasNoLine, IsPointed}
 use Rattle.cone_rules.proofs.Rows.{kept, kept_or_zero, kept_wide}

@@ -17,7 +17,7 @@ use Rattle.log_rules.specs.Events.{Event}
 use Rattle.log_rules.specs.Events.Event.{step}
 use Rattle.overflow_rules.specs.Base.{IsBaseRow}
 use Rattle.overflow_rules.specs.Licence.{IsOverflow}
-use Rattle.overflow_rules.specs.Operands.{Setting, Knows}
+use Rattle.overflow_rules.specs.Settings.{Setting, Knows}
 use Rattle.overflow_rules.specs.Steps.{in_numbers, operation}
 use Rattle.overflow_rules.proofs.Given.{overflow_laws}
 use Rattle.overflows.specs.Faults.{IsLeftAt, Overflows}

@@ -20,7 +20,8 @@ use Rattle.lp_form.specs.Reading.{HasColumns, IsSplit}
 use Rattle.lp_form.proofs.Figures.{side_number, objective_number}
 use Rattle.lp_form.proofs.Systems.{weight_ok, length-side_bounds}
 use Rattle.overflow_rules.specs.Base.{AreCutParts, IsBaseCut, IsBaseWeight}
-use Rattle.overflow_rules.specs.Operands.{Setting, Knows, IsBaseU}
+use Rattle.overflow_rules.specs.Products.{IsBaseU}
+use Rattle.overflow_rules.specs.Settings.{Setting, Knows}
 use Rattle.cone_rules.proofs.Opposite.{opposite_columns}
 use Rattle.benson_program.proofs.Spread.{spots, spots-dense}
 use Rattle.benson_program.specs.Cuts.{IsCutOf}

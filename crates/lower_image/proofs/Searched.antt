@@ -14,7 +14,7 @@ use Rattle.double_descr.specs.State.{State as Description}
 use Rattle.deriv_log.specs.declared.entry.Entry.{Entry}
 use Rattle.deriv_log.specs.declared.licence.Family.TheVariants.{Exchanged}
 use Rattle.overflow_rules.specs.Base.{IsBaseRow}
-use Rattle.overflow_rules.specs.Operands.{IsAddition}
+use Rattle.overflow_rules.specs.Generators.{IsAddition}
 use Rattle.overflow_rules.specs.Turns.{IsRowTurn}
 use Rattle.overflow_rules.proofs.RowTurns.{row_turns_end}
 use Rattle.lp_form.specs.declared.shown.Cut.{Cut}

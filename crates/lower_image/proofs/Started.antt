@@ -12,7 +12,8 @@ use Rattle.deriv_log.specs.declared.entry.Entry.{Entry}
 use Rattle.deriv_log.specs.declared.licence.Family.TheVariants.{Exchanged}
 use Rattle.overflow_rules.specs.Base.{IsBaseChoice, IsBaseRow, IsConeDirection, image_of}
 use Rattle.overflow_rules.specs.Base.IsBaseRow.{of_choice, of_cone}
-use Rattle.overflow_rules.specs.Operands.{AreElimRows, IsAddition}
+use Rattle.overflow_rules.specs.Dictionaries.{AreElimRows}
+use Rattle.overflow_rules.specs.Generators.{IsAddition}
 use Rattle.geo_duality.specs.Rows.{exchange_row}
 use Rattle.overflow_rules.proofs.Making.{generator_laws}
 use Rattle.cone_dual.specs.Generators.{IsDescriptionOf, MayDescribe, begun_with}

@@ -18,7 +18,7 @@ use Rattle.vlp_problem.specs.declared.problem.Problem.{Problem}
 use Rattle.lp_form.specs.Programs.{weight_system, u_of, choice_of}
 use Rattle.overflow_rules.specs.Base.{AreMultipliersOff, AreFirstMultipliersOff, IsBaseChoice, IsBaseRay, IsBaseRow, IsGeneratorOf, image_of, weight_of}
 use Rattle.geo_duality.specs.Rows.{exchange_row}
-use Rattle.overflow_rules.specs.Operands.{AreMultiplied}
+use Rattle.overflow_rules.specs.Products.{AreMultiplied}
 use Rattle.overflow_rules.specs.Turns.{IsRowTurn, said_exchange}
 use Rattle.benson_program.specs.Ends.{IsOptimumAt, IsEmptyAt}
 use Rattle.cone_rules.proofs.Parts.{dot-negated_left}

@@ -5,7 +5,7 @@ ghost use Rattle.exact_field.specs.Rational.{ℚ, one_ℚ};
 ghost use Rattle.exact_field.specs.Vector.{entry};
 ghost use Rattle.deriv_log.specs.declared.entry.Entry.{Entry};
 ghost use Rattle.overflow_rules.specs.Base.{IsBaseRow, weight_of};
-ghost use Rattle.overflow_rules.specs.Operands.{IsBaseX};
+ghost use Rattle.overflow_rules.specs.Products.{IsBaseX};
 ghost use Rattle.lp_form.specs.Data.{IsDataOf};
 ghost use Rattle.lp_form.specs.Programs.{choice_of};
 ghost use Rattle.outer_approx.specs.Task.{IsFitting, Task, setting};

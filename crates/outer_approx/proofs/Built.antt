@@ -12,7 +12,8 @@ use Rattle.word_lines.specs.Parts.{sparse}
 use Rattle.word_lines.specs.declared.part.EndKind.TheVariants as kind
 use Rattle.deriv_log.specs.declared.entry.Entry.{Entry}
 use Rattle.deriv_log.specs.declared.entry.Entry.TheVariants.{Version, Duality, Farkas, Whole, End}
-use Rattle.log_rules.specs.Events.{Failure, first_failing}
+use Rattle.log_rules.specs.Events.{Failure}
+use Rattle.log_rules.specs.LogEvents.{first_failing}
 use Rattle.log_rules.specs.Meets.{Meets, MeetsFarkas, MeetsWhole}
 use Rattle.log_rules.specs.Proves.{AllMeet}
 use Rattle.log_rules.proofs.LogHeld.{entry-passes}

@@ -24,12 +24,16 @@ use Rattle.vlp_problem.specs.declared.problem.Problem.{Problem}
 use Rattle.deriv_log.specs.declared.entry.Entry.{Entry}
 use Rattle.vlp_problem.specs.declared.program.Program.{Program}
 use Rattle.deriv_log.specs.declared.licence.Place.TheVariants.{Pivot, Elim, Step}
-use Rattle.log_rules.specs.Events.{Event, first_failure, first_failing, plain_failure, events, Failure, Failing}
+use Rattle.log_rules.specs.Events.{Event, first_failure, Failure}
 use Rattle.log_rules.specs.Events.Event.{test, step}
 use Rattle.log_rules.specs.Events.Failure.{wrong, left as overflows}
+use Rattle.log_rules.specs.LogEvents.{first_failing, plain_failure, events, Failing}
+use Rattle.overflow_rules.specs.Dictionaries.{IsAllowed, system_in, AreElimRows, IsElimTable}
+use Rattle.overflow_rules.specs.Generators.{IsPairStep}
 use Rattle.overflow_rules.specs.Laws.{term_number, OverflowLaws}
 use Rattle.overflow_rules.specs.Licence.{IsOverflow}
-use Rattle.overflow_rules.specs.Operands.{Setting, IsAllowed, system_in, AreElimRows, IsElimTable, IsPairStep, AreMultiplied, IsListStep}
+use Rattle.overflow_rules.specs.Products.{AreMultiplied, IsListStep}
+use Rattle.overflow_rules.specs.Settings.{Setting}
 use Rattle.overflow_rules.specs.Steps.{operation, IsNotHeld, IsNumbered, IsProductStep, value_steps, pair_steps, exchange_steps}
 
 -- ---- what is not held

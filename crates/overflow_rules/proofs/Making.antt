@@ -10,8 +10,8 @@ use Rattle.polyhedra.proofs.Lists.{wide-tail}
 use Rattle.polyhedra.proofs.LiveSteps.{are_live}
 use Rattle.polyhedra.proofs.Members.{Contains-map}
 use Rattle.overflow_rules.specs.Base.{IsGeneratorOf}
+use Rattle.overflow_rules.specs.Generators.{IsMadeOver}
 use Rattle.overflow_rules.specs.Laws.{GeneratorLaws}
-use Rattle.overflow_rules.specs.Operands.{IsMadeOver}
 
 -- one row more is one step more
 steps-push : (rows : List (List ℚ)) (list : LiveList) (more : List (List ℚ)) (row : List ℚ) →

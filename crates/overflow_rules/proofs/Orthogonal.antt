@@ -16,8 +16,8 @@ use Rattle.tableaux.proofs.Eliminated.{ray_orthogonal}
 use Rattle.tableaux.proofs.Inverse.{dot-append, dot-zero_right, list_from-append}
 use Rattle.tableaux.proofs.Places.{length-list_from, listed-place, row-wide, delta, same_or_other, if_false}
 use Rattle.tableaux.proofs.Products.{value-is}
+use Rattle.overflow_rules.specs.Dictionaries.{IsElimTable}
 use Rattle.overflow_rules.specs.Laws.{OrthogonalVectors}
-use Rattle.overflow_rules.specs.Operands.{IsElimTable}
 
 next : (k : ℕ) → 1 + k - 1 ≡ k
 next k = omega arith

@@ -20,9 +20,13 @@ use Rattle.deriv_log.specs.declared.licence.Place.{Place}
 use Rattle.deriv_log.specs.declared.licence.Place.TheVariants.{Pivot, Elim, Pair, Exchange, Scale, Step}
 use Rattle.log_rules.specs.Events.Failure.{left as overflows}
 use Rattle.overflow_rules.specs.Base.{IsSolutionOff, AreMultipliersOff, AreFirstMultipliersOff, IsRayOff, IsBaseStart}
+use Rattle.overflow_rules.specs.Dictionaries.{system_in, IsAllowed, IsProgramStep, AreElimRows, IsElimDictionary, IsElimStep}
+use Rattle.overflow_rules.specs.Generators.{IsAddition, filled, IsGenerator}
 use Rattle.overflow_rules.specs.Laws.{LicenceLaws}
 use Rattle.overflow_rules.specs.Licence.{IsAt, opening, Completes}
-use Rattle.overflow_rules.specs.Operands.{Setting, system_in, IsAllowed, IsProgramStep, AreElimRows, IsElimDictionary, IsElimStep, IsNormingStep, IsAddition, IsBaseU, IsTrailEntry, IsBaseX, AreBaseShares, filled, IsGenerator, IsBesideCone, IsRowOrWeight, IsStartOrGenerator, AreMultiplied, IsListStep, IsReadVector, IsOrthogonalOff, IsScaled, IsDivisor}
+use Rattle.overflow_rules.specs.Products.{IsBaseU, IsTrailEntry, IsBaseX, AreBaseShares, IsBesideCone, IsRowOrWeight, IsStartOrGenerator, AreMultiplied, IsListStep}
+use Rattle.overflow_rules.specs.Quotients.{IsNormingStep, IsReadVector, IsOrthogonalOff, IsScaled, IsDivisor}
+use Rattle.overflow_rules.specs.Settings.{Setting}
 
 is_known : {A : Type 0} → Option A → Bool
 is_known None = false

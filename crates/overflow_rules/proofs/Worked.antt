@@ -25,14 +25,16 @@ use Rattle.lin_rows.specs.Sums.{partial}
 use Rattle.exact_simplex.specs.Ends.{IsSystemStep}
 use Rattle.vlp_problem.specs.Values.{cone_vectors}
 use Rattle.upper_image.specs.Shows.{ShowsFitting}
-use Rattle.log_rules.specs.Events.{plain_failure}
+use Rattle.log_rules.specs.LogEvents.{plain_failure}
 use Rattle.log_rules.proofs.LogMeets.{events_give_meets}
 use Rattle.overflow_rules.specs.Examples.{plain, dual_form, n, is_few, ones, scaled_given, trail_of, setting, OverflowsPlain, OverflowsDual, DictionaryExamples}
 use Rattle.lp_form.specs.Examples.{numbers, rows}
 use Rattle.lp_form.specs.Programs.{benson_system, feasible_system, value_of, share_of}
 use Rattle.overflow_rules.specs.Base.{IsBaseStart}
 use Rattle.overflow_rules.specs.Licence.{StandsFor}
-use Rattle.overflow_rules.specs.Operands.{Setting, IsAllowed, IsProgramStep, IsElimStep, IsElimTable, AreElimRows, AreMultiplied, IsBesideCone, IsShareStep, IsListStep}
+use Rattle.overflow_rules.specs.Dictionaries.{IsAllowed, IsProgramStep, IsElimStep, IsElimTable, AreElimRows}
+use Rattle.overflow_rules.specs.Products.{AreMultiplied, IsBesideCone, IsShareStep, IsListStep}
+use Rattle.overflow_rules.specs.Settings.{Setting}
 use Rattle.overflow_rules.specs.Steps.{operation, IsProductStep}
 use Rattle.overflow_rules.specs.Trails.{IsBaseTrail, IsBaseDuality}
 use Rattle.overflow_rules.proofs.Given.{overflow_laws}

@@ -30,8 +30,12 @@ use Rattle.deriv_log.specs.declared.licence.Place.TheVariants.{Pivot, Elim, Pair
 use Rattle.vlp_problem.specs.declared.program.Program.TheVariants.{Weight}
 use Rattle.lp_form.specs.Programs.{feasible_system, weight_system}
 use Rattle.overflow_rules.specs.Base.{AreMultipliersOff, AreFirstMultipliersOff, IsBaseChoice, IsBaseRay, IsBaseRow, IsBaseWeight, IsBaseStart, IsFlat, IsSide, IsGeneratorOf, image_of, weight_of}
+use Rattle.overflow_rules.specs.Dictionaries.{IsAllowed, AreElimRows, IsElimTable, IsProgramStep}
 use Rattle.overflow_rules.specs.Examples.{steep, n, minus, half, is_few, ones, trail_of, setting, at_start, base_rows, ray_row, OverflowsSteep, BaseExamples}
-use Rattle.overflow_rules.specs.Operands.{vector_of, IsAllowed, IsTrailEntry, IsChoiceOf, IsBaseX, AreElimRows, IsElimTable, IsMadeOver, IsAddition, IsPairStep, IsProgramStep, IsScaled, IsDivisor}
+use Rattle.overflow_rules.specs.Generators.{IsMadeOver, IsAddition, IsPairStep}
+use Rattle.overflow_rules.specs.Products.{IsTrailEntry, IsChoiceOf, IsBaseX}
+use Rattle.overflow_rules.specs.Quotients.{IsScaled, IsDivisor}
+use Rattle.overflow_rules.specs.Settings.{vector_of}
 use Rattle.overflow_rules.specs.Steps.{operation, exchange_steps, value_steps}
 use Rattle.geo_duality.specs.Rows.{exchange_row}
 use Rattle.overflow_rules.specs.Trails.{IsBaseTrail}

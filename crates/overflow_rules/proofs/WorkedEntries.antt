@@ -22,7 +22,8 @@ use Rattle.upper_image.specs.Spots.{column, dense}
 use Rattle.deriv_log.specs.declared.entry.Entry.{Entry}
 use Rattle.deriv_log.specs.declared.entry.Entry.TheVariants.{Version, Duality, Cut, Start, Point, Ray}
 use Rattle.deriv_log.specs.declared.licence.Place.TheVariants.{Elim}
-use Rattle.log_rules.specs.Events.{Failure, events, first_failure, plain_failure}
+use Rattle.log_rules.specs.Events.{Failure, first_failure}
+use Rattle.log_rules.specs.LogEvents.{events, plain_failure}
 use Rattle.log_rules.specs.Meets.{Meets}
 use Rattle.log_rules.specs.Order.{kind, place}
 use Rattle.log_rules.proofs.LogHeld.{entry-passes}
@@ -33,8 +34,9 @@ use Rattle.overflow_rules.specs.Examples.{n, minus, half, minus_half, ones}
 use Rattle.lp_form.specs.Examples.{numbers}
 use Rattle.overflow_rules.specs.ImageExamples.{leaning, weights, is_some, after_duality, started, point, ray, at_point, at_begin, EntryExamples, WorkedImages}
 use Rattle.overflow_rules.specs.Licence.{IsOverflow, opening, IsPossible, Completes, Licensed}
-use Rattle.overflow_rules.specs.Operands.{Setting, IsTrailEntry, IsBaseX, AreBaseShares, AreMultiplied}
 use Rattle.overflow_rules.specs.PairExamples.{third}
+use Rattle.overflow_rules.specs.Products.{IsTrailEntry, IsBaseX, AreBaseShares, AreMultiplied}
+use Rattle.overflow_rules.specs.Settings.{Setting}
 use Rattle.overflow_rules.specs.Steps.{operation}
 use Rattle.overflow_rules.specs.Trails.{IsBaseDuality, IsBasePoint, IsBaseDirection, IsBaseEntry, IsBaseTrail, divided_by}
 use Rattle.overflow_rules.proofs.FirstCut.{at_least_zero}

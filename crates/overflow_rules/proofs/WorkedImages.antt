@@ -28,9 +28,11 @@ use Rattle.log_rules.specs.Live.{rows_in_use, cut_row}
 use Rattle.log_rules.specs.Proves.{AllMeet}
 use Rattle.log_rules.proofs.LogMeets.{events_give_meets}
 use Rattle.overflow_rules.specs.Base.{IsBaseRow, trail_normals}
+use Rattle.overflow_rules.specs.Dictionaries.{AreElimRows, IsElimTable}
 use Rattle.overflow_rules.specs.Examples.{plain, n, minus, half, is_few, ones}
+use Rattle.overflow_rules.specs.Generators.{IsAddition, IsPairStep, IsAdditionStep}
 use Rattle.overflow_rules.specs.ImageExamples.{quarter, three_quarters, chain, in_chain, image_rows, parallel_rows, added_rows, OverflowsChain, ImageExamples}
-use Rattle.overflow_rules.specs.Operands.{standing, line_marks, AreElimRows, IsElimTable, IsAddition, IsPairStep, IsAdditionStep}
+use Rattle.overflow_rules.specs.Settings.{standing, line_marks}
 use Rattle.overflow_rules.specs.Steps.{operation, value_steps, pair_steps}
 use Rattle.geo_duality.specs.Rows.{exchange_row}
 use Rattle.overflow_rules.proofs.Given.{not_held, overflow_laws}

@@ -44,8 +44,8 @@ use Rattle.deriv_log.specs.declared.entry.Entry.TheVariants.{Version, Duality, C
 use Rattle.deriv_log.specs.declared.licence.Family.{Family}
 use Rattle.deriv_log.specs.declared.licence.Family.TheVariants.{Image}
 use Rattle.deriv_log.specs.declared.licence.Place.TheVariants.{Elim, Pair}
-use Rattle.log_rules.specs.Events.{plain_failure}
 use Rattle.log_rules.specs.Live.{rows_in_use, cut_row}
+use Rattle.log_rules.specs.LogEvents.{plain_failure}
 use Rattle.log_rules.specs.Meets.{Meets}
 use Rattle.log_rules.proofs.LogMeets.{events_give_meets}
 use Rattle.lp_form.specs.Programs.{side_total, feasible_system, benson_system, choice_of, u_of, w_of}
@@ -53,7 +53,10 @@ use Rattle.overflow_rules.specs.Base.{IsSolutionOff, AreMultipliersOff, IsBaseCh
 use Rattle.overflow_rules.specs.Examples.{n, minus, is_few, ones, trail_of}
 use Rattle.overflow_rules.specs.LineExamples.{half_plane, cuts, line, beside, along, in_along, OverflowsAlong, short_rows, full_rows, short_added, full_added, LineExamples}
 use Rattle.overflow_rules.specs.Licence.{StandsFor, Completes, Licensed}
-use Rattle.overflow_rules.specs.Operands.{standing, line_marks, AreElimRows, IsElimTable, IsElimStep, IsListStep, IsAddition, IsPairStep, IsAdditionStep, filled, IsRowOrWeight, IsStartOrGenerator, AreMultiplied}
+use Rattle.overflow_rules.specs.Dictionaries.{AreElimRows, IsElimTable, IsElimStep}
+use Rattle.overflow_rules.specs.Generators.{IsAddition, IsPairStep, IsAdditionStep, filled}
+use Rattle.overflow_rules.specs.Products.{IsListStep, IsRowOrWeight, IsStartOrGenerator, AreMultiplied}
+use Rattle.overflow_rules.specs.Settings.{standing, line_marks}
 use Rattle.overflow_rules.specs.Steps.{operation, value_steps, pair_steps}
 use Rattle.geo_duality.specs.Rows.{exchange_row}
 use Rattle.overflow_rules.specs.Trails.{IsBaseDirection, IsBaseEntry, IsBaseLine, IsBaseTrail}

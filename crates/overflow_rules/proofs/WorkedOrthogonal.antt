@@ -16,9 +16,11 @@ use Rattle.tableaux.specs.Elimination.{ray_of}
 use Rattle.tableaux.proofs.Eliminated.{starts}
 use Rattle.tableaux.proofs.Places.{length-list_from}
 use Rattle.deriv_log.specs.declared.licence.Place.TheVariants.{Scale}
+use Rattle.overflow_rules.specs.Dictionaries.{AreElimRows, IsElimTable}
 use Rattle.overflow_rules.specs.Examples.{n, minus, half, is_few, cut_entry, second_cut, with_cuts, OrthogonalExamples}
 use Rattle.overflow_rules.specs.Licence.{IsOverflow}
-use Rattle.overflow_rules.specs.Operands.{Setting, AreElimRows, IsElimTable, IsOrthogonalOff, IsScaled, IsDivisor}
+use Rattle.overflow_rules.specs.Quotients.{IsOrthogonalOff, IsScaled, IsDivisor}
+use Rattle.overflow_rules.specs.Settings.{Setting}
 use Rattle.overflow_rules.specs.Steps.{operation}
 use Rattle.overflow_rules.proofs.Given.{overflow_laws}
 use Rattle.overflow_rules.proofs.Orthogonal.{orthogonal_vectors}

@@ -36,10 +36,13 @@ use Rattle.deriv_log.specs.declared.licence.Place.TheVariants.{Elim}
 use Rattle.lin_rows.specs.Sums.{partial}
 use Rattle.lp_form.specs.Programs.{side_total, feasible_system, benson_system, u_of, w_of, v_of}
 use Rattle.overflow_rules.specs.Base.{IsSolutionOff, AreMultipliersOff, IsBaseChoice, IsBaseCut, IsBaseNormal, IsBaseRow, IsBaseStart, IsBaseWeight, weight_of}
+use Rattle.overflow_rules.specs.Dictionaries.{IsElimStep}
 use Rattle.overflow_rules.specs.Examples.{n, minus, half, minus_half, is_few, ones, trail_of, setting}
+use Rattle.overflow_rules.specs.Generators.{IsMadeOver, IsAddition, filled}
 use Rattle.overflow_rules.specs.Licence.{IsOverflow}
-use Rattle.overflow_rules.specs.Operands.{Setting, vector_of, IsElimStep, IsListStep, IsMadeOver, IsAddition, IsBaseU, IsBaseW, IsTrailEntry, IsChoiceOf, AreSharesOf, IsBaseX, AreBaseShares, filled, IsRowOrWeight, IsStartOrGenerator, AreMultiplied}
 use Rattle.overflow_rules.specs.PairExamples.{narrow, in_dual_form, in_narrow, third, OverflowsNarrow, PairExamples}
+use Rattle.overflow_rules.specs.Products.{IsListStep, IsBaseU, IsBaseW, IsTrailEntry, IsChoiceOf, AreSharesOf, IsBaseX, AreBaseShares, IsRowOrWeight, IsStartOrGenerator, AreMultiplied}
+use Rattle.overflow_rules.specs.Settings.{Setting, vector_of}
 use Rattle.overflow_rules.specs.Steps.{operation, IsProductStep}
 use Rattle.geo_duality.specs.Rows.{exchange_row}
 use Rattle.overflow_rules.specs.Trails.{IsBaseTrail}

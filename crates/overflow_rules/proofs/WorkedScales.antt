@@ -24,9 +24,10 @@ use Rattle.lp_form.specs.Programs.{weight_system, choice_of, share_of}
 use Rattle.overflow_rules.specs.Base.{IsSolutionOff, AreMultipliersOff, AreFirstMultipliersOff, IsRayOff, IsBaseRay, IsConeDirection, IsGeneratorOf, image_of}
 use Rattle.overflow_rules.specs.Examples.{generated, n, minus, minus_half, is_few, ones, at_start}
 use Rattle.lp_form.specs.Examples.{numbers, rows}
+use Rattle.overflow_rules.specs.Dictionaries.{system_in, AreElimRows, IsElimTable}
 use Rattle.overflow_rules.specs.Licence.{IsOverflow}
-use Rattle.overflow_rules.specs.Operands.{system_in, AreElimRows, IsElimTable, IsReadVector, IsOrthogonalOff, IsScaled, IsDivisor}
 use Rattle.overflow_rules.specs.PairExamples.{narrow, wider, in_narrow, OverflowsNarrow, ScaleExamples, WorkedPairs}
+use Rattle.overflow_rules.specs.Quotients.{IsReadVector, IsOrthogonalOff, IsScaled, IsDivisor}
 use Rattle.overflow_rules.specs.Steps.{operation}
 use Rattle.overflow_rules.proofs.Cuts.{length-on_parts, length-bounds_if}
 use Rattle.overflow_rules.proofs.Given.{overflow_laws}

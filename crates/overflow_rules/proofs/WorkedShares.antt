@@ -18,8 +18,8 @@ use Rattle.overflow_rules.specs.Base.{AreMultipliersOff, IsBaseStart}
 use Rattle.overflow_rules.specs.Examples.{n, half, minus_half, ones}
 use Rattle.overflow_rules.specs.ImageExamples.{leaning, weights, is_some, at_begin, ShareExamples}
 use Rattle.overflow_rules.specs.Licence.{IsOverflow}
-use Rattle.overflow_rules.specs.Operands.{AreBensonMultipliers, IsListStep, IsShareStep}
 use Rattle.overflow_rules.specs.PairExamples.{third}
+use Rattle.overflow_rules.specs.Products.{AreBensonMultipliers, IsListStep, IsShareStep}
 use Rattle.overflow_rules.specs.Steps.{operation}
 use Rattle.overflow_rules.proofs.Given.{not_held}
 use Rattle.overflow_rules.proofs.Pivots.{Pivots, table_after}

@@ -15,14 +15,17 @@ use Rattle.polyhedra.proofs.Lists.{Contains-here, Contains-there, Contains-nil}
 use Rattle.polyhedra.proofs.Tests.{same_vector_is}
 use Rattle.deriv_log.specs.declared.licence.Family.TheVariants.{ConeRows}
 use Rattle.deriv_log.specs.declared.licence.Place.TheVariants.{Pair, Exchange, Scale, Step}
-use Rattle.log_rules.specs.Events.{Event, Failure, Failing, plain_failure}
+use Rattle.log_rules.specs.Events.{Event, Failure}
 use Rattle.log_rules.specs.Events.Event.{test, step}
 use Rattle.log_rules.specs.Events.Failure.{wrong, left as overflows}
+use Rattle.log_rules.specs.LogEvents.{Failing, plain_failure}
 use Rattle.overflow_rules.specs.Examples.{plain, dual_form, n, minus_half, four_fifths, cut_entry, is_few, ones, scaled_given, trail_of, setting, square_rows, square_list, OverflowsPlain, OverflowsDual, StepExamples, WorkedLicences}
 use Rattle.lp_form.specs.Examples.{numbers, rows}
 use Rattle.lp_form.specs.Programs.{nonzero_vectors}
 use Rattle.overflow_rules.specs.Base.{IsBaseRow, image_of}
-use Rattle.overflow_rules.specs.Operands.{vector_of, IsMadeOver, IsAddition, IsPairStep, IsExchangeStep, IsScaled, IsDivisor, IsScaleStep}
+use Rattle.overflow_rules.specs.Generators.{IsMadeOver, IsAddition, IsPairStep, IsExchangeStep}
+use Rattle.overflow_rules.specs.Quotients.{IsScaled, IsDivisor, IsScaleStep}
+use Rattle.overflow_rules.specs.Settings.{vector_of}
 use Rattle.overflow_rules.specs.Steps.{operation, exchange_steps, value_steps, pair_steps}
 use Rattle.geo_duality.specs.Rows.{exchange_row}
 use Rattle.overflow_rules.proofs.Given.{not_held, overflow_laws}

@@ -26,7 +26,8 @@ use Rattle.lp_form.specs.Programs.{side_total, interior_system, w_of}
 use Rattle.overflow_rules.specs.Base.{IsSolutionOff, IsBaseCut, IsBaseNormal, IsBaseWeight, weight_of}
 use Rattle.overflow_rules.specs.Examples.{plain, steep, generated, n, minus, half, is_few, ones, setting, at_start, bounds, large, OverflowsPlain, OverflowsSteep, SumExamples}
 use Rattle.overflow_rules.specs.Licence.{IsOverflow}
-use Rattle.overflow_rules.specs.Operands.{vector_of, IsBaseU, IsBaseX, IsTrailEntry, AreSharesOf, AreBaseShares, IsRowOrWeight, IsStartOrGenerator, AreMultiplied}
+use Rattle.overflow_rules.specs.Products.{IsBaseU, IsBaseX, IsTrailEntry, AreSharesOf, AreBaseShares, IsRowOrWeight, IsStartOrGenerator, AreMultiplied}
+use Rattle.overflow_rules.specs.Settings.{vector_of}
 use Rattle.overflow_rules.specs.Steps.{operation}
 use Rattle.overflow_rules.specs.Trails.{IsMuOff, IsBaseTrail}
 use Rattle.overflow_rules.proofs.FirstCut.{first_cut}

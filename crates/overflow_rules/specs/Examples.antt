@@ -23,8 +23,11 @@ use Rattle.deriv_log.specs.declared.licence.Family.TheVariants.{Exchanged, ConeR
 use Rattle.deriv_log.specs.declared.licence.Place.{Place}
 use Rattle.deriv_log.specs.declared.licence.Place.TheVariants.{Pivot, Elim, Pair, Exchange, Scale, Step}
 use Rattle.overflow_rules.specs.Base.{IsBaseChoice, IsBaseRay, IsBaseRow, IsBaseWeight, IsBaseCut, IsBaseStart}
+use Rattle.overflow_rules.specs.Generators.{IsPairStep}
 use Rattle.overflow_rules.specs.Licence.{IsOverflow, opening, StandsFor, Licensed}
-use Rattle.overflow_rules.specs.Operands.{Setting, IsPairStep, IsBaseX, AreBaseShares, AreMultiplied, IsOrthogonalOff, IsDivisor}
+use Rattle.overflow_rules.specs.Products.{IsBaseX, AreBaseShares, AreMultiplied}
+use Rattle.overflow_rules.specs.Quotients.{IsOrthogonalOff, IsDivisor}
+use Rattle.overflow_rules.specs.Settings.{Setting}
 use Rattle.overflow_rules.specs.Steps.{operation}
 use Rattle.overflow_rules.specs.Trails.{IsBaseTrail}
 

@@ -16,9 +16,11 @@ use Rattle.deriv_log.specs.declared.licence.Place.TheVariants.{Elim, Pair}
 use Rattle.log_rules.specs.Proves.{AllMeet}
 use Rattle.overflow_rules.specs.Examples.{n, minus, half, minus_half, is_few, plain, ones, trail_of, cut_entry}
 use Rattle.lp_form.specs.Examples.{numbers, rows}
+use Rattle.overflow_rules.specs.Dictionaries.{AreElimRows}
 use Rattle.overflow_rules.specs.Licence.{IsOverflow, opening, Licensed}
-use Rattle.overflow_rules.specs.Operands.{Setting, AreElimRows, IsTrailEntry, IsShareStep}
 use Rattle.overflow_rules.specs.PairExamples.{narrow_with, third}
+use Rattle.overflow_rules.specs.Products.{IsTrailEntry, IsShareStep}
+use Rattle.overflow_rules.specs.Settings.{Setting}
 use Rattle.overflow_rules.specs.Steps.{operation}
 use Rattle.overflow_rules.specs.Trails.{IsBaseTrail}
 

@@ -25,17 +25,22 @@ use Rattle.deriv_log.specs.declared.entry.Entry.TheVariants.{Cut}
 use Rattle.vlp_problem.specs.declared.program.Program.{Program}
 use Rattle.deriv_log.specs.declared.licence.Family.{Family}
 use Rattle.deriv_log.specs.declared.licence.Place.TheVariants.{Pivot, Elim, Pair, Exchange, Scale, Step}
-use Rattle.log_rules.specs.Events.{Event, plain_failure}
+use Rattle.log_rules.specs.Events.{Event}
 use Rattle.log_rules.specs.Events.Event.{step}
 use Rattle.log_rules.specs.Events.Failure.{left as overflows}
 use Rattle.log_rules.specs.Live.{duality_vector}
+use Rattle.log_rules.specs.LogEvents.{plain_failure}
 use Rattle.log_rules.specs.Meets.{Meets}
 use Rattle.log_rules.specs.Order.{has}
 use Rattle.log_rules.specs.Order as order
 use Rattle.overflow_rules.specs.Base.{IsBaseRow, IsBaseCut, IsGeneratorOf}
 use Rattle.overflow_rules.specs.Licence.{IsOverflow, opening, IsHeldDuality, IsPossible, StandsFor, Licensed, LicensedWithout}
 use Rattle.deriv_log.specs.declared.licence.Licence.{Licence}
-use Rattle.overflow_rules.specs.Operands.{Setting, Knows, IsAllowed, system_in, AreElimRows, IsElimTable, IsMadeOver, IsAddition, AreMultiplied, IsOrthogonalOff, IsScaled, IsDivisor}
+use Rattle.overflow_rules.specs.Dictionaries.{IsAllowed, system_in, AreElimRows, IsElimTable}
+use Rattle.overflow_rules.specs.Generators.{IsMadeOver, IsAddition}
+use Rattle.overflow_rules.specs.Products.{AreMultiplied}
+use Rattle.overflow_rules.specs.Quotients.{IsOrthogonalOff, IsScaled, IsDivisor}
+use Rattle.overflow_rules.specs.Settings.{Setting, Knows}
 use Rattle.overflow_rules.specs.Steps.{operation, value_steps, pair_steps, exchange_steps}
 use Rattle.geo_duality.specs.Rows.{exchange_row}
 use Rattle.overflow_rules.specs.Trails.{IsBaseDuality, IsBaseEntry, IsBaseTrail}

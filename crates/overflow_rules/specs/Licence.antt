@@ -9,11 +9,15 @@ use Rattle.deriv_log.specs.declared.entry.Entry.TheVariants.{Version, Duality}
 use Rattle.deriv_log.specs.declared.licence.Place.{Place}
 use Rattle.deriv_log.specs.declared.licence.Place.TheVariants.{Pivot, Elim, Pair, Exchange, Scale, Step}
 use Rattle.deriv_log.specs.declared.licence.Licence.{Licence}
-use Rattle.log_rules.specs.Events.{plain_failure}
 use Rattle.log_rules.specs.Events.Failure.{left as overflows}
+use Rattle.log_rules.specs.LogEvents.{plain_failure}
 use Rattle.overflow_rules.specs.Steps.{IsNotHeld}
 use Rattle.overflow_rules.specs.Trails.{IsBaseTrail}
-use Rattle.overflow_rules.specs.Operands.{Setting, IsProgramStep, IsElimStep, IsListStep, IsAdditionStep, IsExchangeStep, IsScaleStep}
+use Rattle.overflow_rules.specs.Dictionaries.{IsProgramStep, IsElimStep}
+use Rattle.overflow_rules.specs.Generators.{IsAdditionStep, IsExchangeStep}
+use Rattle.overflow_rules.specs.Products.{IsListStep}
+use Rattle.overflow_rules.specs.Quotients.{IsScaleStep}
+use Rattle.overflow_rules.specs.Settings.{Setting}
 
 -- ---- operands
 -- the first event of the trail that fails is this step of this entry

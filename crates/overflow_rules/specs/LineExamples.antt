@@ -17,7 +17,8 @@ use Rattle.deriv_log.specs.declared.licence.Place.{Place}
 use Rattle.deriv_log.specs.declared.licence.Place.TheVariants.{Elim, Pair}
 use Rattle.overflow_rules.specs.Examples.{n, minus, is_few, cell, ones, trail_of}
 use Rattle.overflow_rules.specs.Licence.{IsOverflow, Licensed}
-use Rattle.overflow_rules.specs.Operands.{Setting, AreMultiplied}
+use Rattle.overflow_rules.specs.Products.{AreMultiplied}
+use Rattle.overflow_rules.specs.Settings.{Setting}
 use Rattle.overflow_rules.specs.Steps.{operation}
 use Rattle.overflow_rules.specs.Trails.{IsBaseLine, IsBaseTrail}
 

@@ -18,7 +18,9 @@ use Rattle.overflow_rules.specs.Base.{IsConeDirection}
 use Rattle.overflow_rules.specs.Examples.{n, minus, half, minus_half, is_few, cell, generated, ones, setting, at_start}
 use Rattle.lp_form.specs.Examples.{rows}
 use Rattle.overflow_rules.specs.Licence.{IsOverflow}
-use Rattle.overflow_rules.specs.Operands.{Setting, AreBaseShares, AreMultiplied, IsScaled}
+use Rattle.overflow_rules.specs.Products.{AreBaseShares, AreMultiplied}
+use Rattle.overflow_rules.specs.Quotients.{IsScaled}
+use Rattle.overflow_rules.specs.Settings.{Setting}
 use Rattle.overflow_rules.specs.Steps.{operation, IsProductStep}
 
 -- ---- the file

@@ -17,8 +17,9 @@ use Rattle.deriv_log.specs.declared.licence.Family.{Family}
 use Rattle.deriv_log.specs.declared.licence.Place.TheVariants.{Pair}
 use Rattle.log_rules.specs.Events.{Event}
 use Rattle.log_rules.specs.Events.Event.{step}
+use Rattle.overflow_rules.specs.Generators.{IsAddition}
 use Rattle.overflow_rules.specs.Licence.{IsOverflow}
-use Rattle.overflow_rules.specs.Operands.{Setting, IsAddition}
+use Rattle.overflow_rules.specs.Settings.{Setting}
 use Rattle.overflow_rules.specs.Steps.{in_numbers, operation, value_steps, pair_steps}
 use Rattle.overflow_rules.proofs.Given.{overflow_laws}
 use Rattle.overflows.specs.Faults.{IsLeftAt, Overflows}

@@ -13,8 +13,8 @@ use Rattle.polyhedra.proofs.Tests.{either_true, same_tests, test_of_zero, zero_o
 use Rattle.frac128.specs.Sparse.{is_zero as is_nought}
 use Rattle.double_descr.specs.Steps.{Step, combination_steps, meeting_steps, multiple_steps, product_steps, quotient_steps}
 use Rattle.log_rules.specs.Events.{Event, sum_from}
-use Rattle.log_rules.specs.Events as events
 use Rattle.log_rules.specs.Events.Event.{step}
+use Rattle.log_rules.specs.LiveEvents as events
 use Rattle.log_rules.proofs.PassedTests.{zero_number, zero_passes}
 use Rattle.overflow_rules.specs.Steps.{value_steps, pair_steps}
 

@@ -14,8 +14,11 @@ use Rattle.vlp_problem.specs.declared.program.Program.{Program}
 use Rattle.deriv_log.specs.declared.licence.Place.TheVariants.{Pivot, Elim, Scale}
 use Rattle.overflow_rules.specs.Laws.{term_number}
 use Rattle.overflow_rules.proofs.Given.{overflow_laws}
+use Rattle.overflow_rules.specs.Dictionaries.{AreElimRows, IsAllowed, IsElimTable, system_in}
 use Rattle.overflow_rules.specs.Licence.{IsOverflow}
-use Rattle.overflow_rules.specs.Operands.{Setting, AreElimRows, AreMultiplied, IsAllowed, IsDivisor, IsElimTable, IsScaled, system_in}
+use Rattle.overflow_rules.specs.Products.{AreMultiplied}
+use Rattle.overflow_rules.specs.Quotients.{IsDivisor, IsScaled}
+use Rattle.overflow_rules.specs.Settings.{Setting}
 use Rattle.overflow_rules.specs.Steps.{in_numbers, operation}
 use Rattle.overflows.specs.Faults.{IsQuotientAt, IsTermAt, Overflows}
 use Rattle.overflows.specs.declared.fault.SolveFault.{SolveFault}

@@ -17,8 +17,10 @@ use Rattle.polyhedra.specs.LiveList.{LiveList}
 use Rattle.deriv_log.specs.declared.entry.Entry.{Entry}
 use Rattle.deriv_log.specs.declared.licence.Place.{Place}
 use Rattle.deriv_log.specs.declared.licence.Place.TheVariants.{Elim}
+use Rattle.overflow_rules.specs.Dictionaries.{AreElimRows, IsElimTable}
+use Rattle.overflow_rules.specs.Generators.{IsMadeOver}
 use Rattle.overflow_rules.specs.Licence.{IsOverflow}
-use Rattle.overflow_rules.specs.Operands.{Setting, AreElimRows, IsElimTable, IsMadeOver}
+use Rattle.overflow_rules.specs.Settings.{Setting}
 use Rattle.overflow_rules.specs.Steps.{in_numbers, operation}
 use Rattle.overflow_rules.proofs.Given.{overflow_laws}
 use Rattle.overflow_rules.proofs.Making.{generator_laws}

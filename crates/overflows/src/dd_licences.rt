@@ -6,7 +6,9 @@ ghost use Rattle.overflow_rules.specs.Steps.{in_numbers};
 ghost use Rattle.overflows.specs.Faults.{IsLeftAt, Overflows};
 ghost use Rattle.double_descr.specs.Adding.{IsAddFault, add_blocks};
 ghost use Rattle.double_descr.specs.Starting.{IsStartFault};
-ghost use Rattle.overflow_rules.specs.Operands.{AreElimRows, IsAddition, Setting};
+ghost use Rattle.overflow_rules.specs.Dictionaries.{AreElimRows};
+ghost use Rattle.overflow_rules.specs.Generators.{IsAddition};
+ghost use Rattle.overflow_rules.specs.Settings.{Setting};
 ghost use Rattle.lin_rows.specs.Read.{numbers};
 ghost use Rattle.overflows.specs.Told.{IsAdditionLeft, IsStartLeft};
 

@@ -3,8 +3,11 @@ ghost use Rattle.std.specs.Prelude.{◌≡◌, ◌⊎◌, ℕ, List, [], map, If
 ghost use Rattle.exact_field.specs.Rational.{ℚ};
 ghost use Rattle.exact_simplex.specs.Ends.{IsLpFault};
 ghost use Rattle.deriv_log.specs.declared.licence.Place.TheVariants as place_of;
+ghost use Rattle.overflow_rules.specs.Dictionaries.{AreElimRows, IsAllowed, IsElimTable, system_in};
 ghost use Rattle.overflow_rules.specs.Laws.{term_number};
-ghost use Rattle.overflow_rules.specs.Operands.{AreElimRows, AreMultiplied, IsAllowed, IsDivisor, IsElimTable, IsScaled, Setting, system_in};
+ghost use Rattle.overflow_rules.specs.Products.{AreMultiplied};
+ghost use Rattle.overflow_rules.specs.Quotients.{IsDivisor, IsScaled};
+ghost use Rattle.overflow_rules.specs.Settings.{Setting};
 ghost use Rattle.overflow_rules.specs.Steps.{in_numbers};
 ghost use Rattle.lin_rows.specs.Eliminate.{IsElimFault};
 ghost use Rattle.lin_rows.specs.Read.{numbers};

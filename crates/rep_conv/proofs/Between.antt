@@ -15,9 +15,10 @@ use Rattle.polyhedra.proofs.Laws.{mul_comm}
 use Rattle.polyhedra.proofs.Members.{all_of_members, member_of, Contains-map, pairs-map}
 use Rattle.polyhedra.proofs.Order.{neg_positive, not_zero_of_positive}
 use Rattle.word_lines.specs.declared.part.LogPair.{LogPair}
-use Rattle.log_rules.specs.Events.{Event, dot_steps, first_failure, meeting_point, meeting_steps, same_pairs}
+use Rattle.log_rules.specs.Events.{Event, dot_steps, first_failure}
 use Rattle.log_rules.specs.Events.Event.{step, test}
 use Rattle.log_rules.specs.Live.{find, required_pairs}
+use Rattle.log_rules.specs.LiveEvents.{meeting_point, meeting_steps, same_pairs}
 use Rattle.log_rules.specs.Runs.{Stops}
 use Rattle.log_rules.specs.declared.rule.Rule.TheVariants as rule
 use Rattle.log_rules.specs.declared.stop.Stop.{Stop}

@@ -21,10 +21,12 @@ use Rattle.polyhedra.proofs.Members.{all_of_members, member_of}
 use Rattle.polyhedra.proofs.Tests.{both_true, both_hold, true-list_all}
 use Rattle.upper_image.specs.Spots.{pieces}
 use Rattle.upper_image.proofs.Widths.{length-pieces}
-use Rattle.log_rules.specs.Events.{Event, Failure, first_failure, dot_steps, rises, same_pairs, meeting_steps, meeting_point}
+use Rattle.log_rules.specs.CutEvents.{rises}
+use Rattle.log_rules.specs.Events.{Event, Failure, first_failure, dot_steps}
 use Rattle.log_rules.specs.Events.Event.{test, step}
 use Rattle.log_rules.specs.Events.Failure.{left}
 use Rattle.log_rules.specs.Live.{value, find, contains, required_pairs}
+use Rattle.log_rules.specs.LiveEvents.{same_pairs, meeting_steps, meeting_point}
 use Rattle.log_rules.specs.declared.rule.Rule.TheVariants as rule
 use Rattle.log_rules.proofs.PassedTests.{Passed, passed_of, both_pass, last_passes, each_passes, each_test, each_numbered, one_place, other_place, same_number, zero_number, zero_passes, they_rise, contained, not_contained}
 use Rattle.log_rules.proofs.HeldTests.{pass_both, pass_last, pass_each, pass_steps, pass_tests, pass_sum, same_passes, all_pass, rising_passes, contains_passes, not_contains_passes, all_numbered, place_cases}

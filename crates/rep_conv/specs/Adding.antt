@@ -7,9 +7,10 @@ use Rattle.exact_field.specs.declared.op.Op.TheVariants as op
 use Rattle.polyhedra.specs.DoubleDescription.{magnitude, norming}
 use Rattle.polyhedra.specs.LiveList.{vectors}
 use Rattle.word_lines.specs.declared.part.LogPair.{LogPair}
-use Rattle.log_rules.specs.Events.{Event, meeting_point, meeting_steps}
+use Rattle.log_rules.specs.Events.{Event}
 use Rattle.log_rules.specs.Events.Event.{step}
 use Rattle.log_rules.specs.Live.{required_pairs}
+use Rattle.log_rules.specs.LiveEvents.{meeting_point, meeting_steps}
 use Rattle.log_live.specs.Adding.{AreDescribed, AreNew}
 use Rattle.log_live.specs.Live.{HasTightSet, live_of}
 use Rattle.log_live.specs.declared.generator.Generator.{Generator}

@@ -11,9 +11,13 @@ use Rattle.lineality.specs.Lines.{leading_place}
 use Rattle.polyhedra.specs.DoubleDescription.{magnitude, norming}
 use Rattle.polyhedra.specs.LiveList.{Numbered}
 use Rattle.upper_image.specs.Spots.{pieces}
-use Rattle.log_rules.specs.Events.{Event, Failing, first_failure, dot_steps, goes_on, rises, same_pairs, meeting_steps, meeting_point}
+use Rattle.log_rules.specs.AnswerEvents.{goes_on}
+use Rattle.log_rules.specs.CutEvents.{rises}
+use Rattle.log_rules.specs.Events.{Event, first_failure, dot_steps}
 use Rattle.log_rules.specs.Events.Event.{test, step}
 use Rattle.log_rules.specs.Live.{value, find, contains, required_pairs}
+use Rattle.log_rules.specs.LiveEvents.{same_pairs, meeting_steps, meeting_point}
+use Rattle.log_rules.specs.LogEvents.{Failing}
 use Rattle.word_lines.specs.declared.part.LogPair.{LogPair}
 use Rattle.log_rules.specs.declared.rule.Rule.TheVariants as rule
 use Rattle.entry_checks.specs.Parts.{corner_events}

@@ -3,9 +3,10 @@ ghost use Rattle.std.specs.Prelude.{◌≡◌, ◌≢◌, ⊤, ◌+◌, ◌*◌,
 ghost use Rattle.std.specs.List.{flat_map};
 ghost use Rattle.exact_field.specs.Rational.{ℚ, zero_ℚ, neg_ℚ, ◌/ℚ◌};
 ghost use Rattle.frac128.specs.Held.{is_held};
-ghost use Rattle.log_rules.specs.Events.{dot_steps, meeting_point, same_pairs};
+ghost use Rattle.log_rules.specs.Events.{dot_steps};
 ghost use Rattle.log_rules.specs.Events.Event.{test};
 ghost use Rattle.log_rules.specs.Live.{required_pairs};
+ghost use Rattle.log_rules.specs.LiveEvents.{meeting_point, same_pairs};
 ghost use Rattle.log_rules.specs.Runs.{Runs, RunsAll, steps};
 ghost use Rattle.log_rules.specs.declared.rule.Rule.TheVariants as rule;
 ghost use Rattle.log_live.specs.Adding.{AreNew, IsBetween, pair_named};

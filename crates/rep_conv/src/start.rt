@@ -2,7 +2,7 @@
 ghost use Rattle.std.specs.Prelude.{◌≡◌, ⊤, ◌+◌, ◌*◌, ◌^◌, ◌<◌, ◌≤◌, ◌==◌, ◌&&◌, suc, true, length};
 ghost use Rattle.std.specs.List.{flat_map, enumerate_from};
 ghost use Rattle.frac128.specs.Held.{is_held};
-ghost use Rattle.log_rules.specs.Events.{rises as numbers_rise};
+ghost use Rattle.log_rules.specs.CutEvents.{rises as numbers_rise};
 ghost use Rattle.log_rules.specs.Runs.{Runs, RunsAll, steps};
 ghost use Rattle.polyhedra.specs.DoubleDescription.{norming as norming_of};
 ghost use Rattle.rep_conv.specs.Events.{all_below as numbers_below, corners_events, generator_events, is_first as is_first_of, start_events};

@@ -26,9 +26,10 @@ use Rattle.lineality.specs.Without.{without, with_zeros}
 use Rattle.lineality.proofs.Masks.{without-plus, without-scaled}
 use Rattle.lineality.proofs.StepsWithout.{IsGood, same_dot, norming-same, good-scaled, good-plus}
 use Rattle.word_lines.specs.declared.part.LogPair.{LogPair}
-use Rattle.log_rules.specs.Events.{Event, sum_from, dot_steps, meeting_steps, meeting_point, same_pairs}
+use Rattle.log_rules.specs.Events.{Event, sum_from, dot_steps}
 use Rattle.log_rules.specs.Events.Event.{test, step}
 use Rattle.log_rules.specs.Live.{find, log_pair, required_pairs}
+use Rattle.log_rules.specs.LiveEvents.{meeting_steps, meeting_point, same_pairs}
 use Rattle.log_rules.specs.declared.rule.Rule.TheVariants as rule
 use Rattle.log_rules.proofs.Kept.{Earlier, find_is}
 use Rattle.log_rules.proofs.PassedTests.{zero_number, zero_passes}

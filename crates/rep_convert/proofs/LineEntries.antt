@@ -13,7 +13,8 @@ use Rattle.polyhedra.proofs.Members.{member_of, pairs-head, pairs-tail}
 use Rattle.polyhedra.proofs.Tests.{both_hold}
 use Rattle.lineality.specs.Lines.{leading_place}
 use Rattle.lin_rows.specs.Sums.{AreHeld}
-use Rattle.log_rules.specs.Events.{Event, dot_steps, goes_on}
+use Rattle.log_rules.specs.AnswerEvents.{goes_on}
+use Rattle.log_rules.specs.Events.{Event, dot_steps}
 use Rattle.log_rules.specs.Events.Event.{test}
 use Rattle.log_rules.specs.declared.rule.Rule.TheVariants as rule
 use Rattle.word_lines.specs.Grammar.{is_formed}

@@ -26,13 +26,14 @@ use Rattle.lineality.proofs.Reduction.{reduced_of}
 use Rattle.lin_rows.specs.Sums.{AreHeld}
 use Rattle.double_descr.specs.State.{State as Description}
 use Rattle.upper_image.specs.Spots.{pieces}
-use Rattle.log_rules.specs.Events.{Event, dot_steps, rises}
+use Rattle.log_rules.specs.CutEvents.{rises}
+use Rattle.log_rules.specs.Events.{Event, dot_steps}
 use Rattle.log_rules.specs.Events.Event.{test}
 use Rattle.log_rules.specs.declared.rule.Rule.TheVariants as rule
 use Rattle.log_rules.proofs.HeldTests.{all_numbered}
 use Rattle.entry_checks.specs.Parts.{corner_events}
 use Rattle.word_lines.specs.Grammar.{is_formed}
-use Rattle.overflow_rules.specs.Operands.{IsMadeOver}
+use Rattle.overflow_rules.specs.Generators.{IsMadeOver}
 use Rattle.overflow_rules.proofs.Making.{generator_laws}
 use Rattle.rep_text.specs.ConvText.{conv_grammar}
 use Rattle.rep_text.specs.declared.conv.ConvEntry.{ConvEntry}

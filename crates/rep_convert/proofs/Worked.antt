@@ -24,7 +24,7 @@ use Rattle.polyhedra.proofs.Members.{Contains-map, all_of_members, pairs-nil}
 use Rattle.polyhedra.proofs.Order.{not_zero_of_positive}
 use Rattle.polyhedra.proofs.Tests.{same_vector_is}
 use Rattle.lineality.specs.Lines.{leading_place}
-use Rattle.overflow_rules.specs.Operands.{IsPairStep}
+use Rattle.overflow_rules.specs.Generators.{IsPairStep}
 use Rattle.overflow_rules.specs.Steps.{IsProductStep, operation, value_steps}
 use Rattle.overflow_rules.proofs.Making.{generator_laws}
 use Rattle.overflow_rules.proofs.Given.{not_held}

@@ -3,7 +3,7 @@
 use Rattle.std.proofs.Common.{◌≡◌, ℕ, Bool, true, false, not, List, None, Option, Some, ap, ◌∙◌, sym, inl, inr, true≢false}
 use Rattle.std.specs.Option.{is_some}
 use Rattle.frac128.specs.Held.{is_held}
-use Rattle.log_rules.specs.Events.{Failing}
+use Rattle.log_rules.specs.LogEvents.{Failing}
 use Rattle.word_lines.specs.Grammar.{IsTextOf}
 use Rattle.rep_text.specs.ConvText.{conv_grammar}
 use Rattle.rep_text.specs.declared.conv.ConvEntry.{ConvEntry}

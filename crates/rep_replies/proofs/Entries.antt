@@ -5,7 +5,8 @@ use Rattle.std.proofs.lemmas.List.{length-append}
 use Rattle.exact_field.specs.declared.op.Left.{Left as AStep}
 use Rattle.frac128.specs.Held.{is_held}
 use Rattle.frac128.specs.declared.frac.Frac.{Frac}
-use Rattle.log_rules.specs.Events.{Failing, Failure, first_failure}
+use Rattle.log_rules.specs.Events.{Failure, first_failure}
+use Rattle.log_rules.specs.LogEvents.{Failing}
 use Rattle.log_rules.specs.declared.rule.Rule.{Rule}
 use Rattle.word_lines.specs.Grammar.{ends_once}
 use Rattle.rep_text.specs.ConvText.{is_conv_end}

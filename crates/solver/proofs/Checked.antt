@@ -6,10 +6,10 @@ use Rattle.frac128.specs.Held.{is_held, held_zero}
 use Rattle.vlp_problem.specs.declared.problem.Problem.{Problem}
 use Rattle.deriv_log.specs.declared.entry.Entry.{Entry}
 use Rattle.deriv_log.specs.declared.licence.Place.TheVariants.{Step}
-use Rattle.log_rules.specs.Events.{plain_failure}
 use Rattle.log_rules.specs.Events.Failure.{left as overflows}
+use Rattle.log_rules.specs.LogEvents.{plain_failure}
 use Rattle.overflow_rules.specs.Licence.{IsOverflow}
-use Rattle.overflow_rules.specs.Operands.{Setting}
+use Rattle.overflow_rules.specs.Settings.{Setting}
 use Rattle.overflow_rules.proofs.Given.{overflow_laws}
 
 -- the overflow of the check of the trail, at its step, is one in any setting with this file and this trail

@@ -11,7 +11,7 @@ use Rattle.overflow_rules.proofs.Without.{licence_laws}
 use Rattle.overflows.specs.Faults.{OnLicence, Overflows}
 use Rattle.overflows.specs.declared.fault.SolveFault.{SolveFault}
 use Rattle.overflows.specs.declared.fault.SolveFault.TheVariants.{Left, NoMemory}
-use Rattle.overflow_rules.specs.Operands.{Setting}
+use Rattle.overflow_rules.specs.Settings.{Setting}
 use Rattle.std.proofs.Common.{refl}
 use Rattle.solver.specs.Ends.{IsSameFault}
 use Rattle.benson_primal.specs.Logs.{IsOwnLogAnyhow}

@@ -5,7 +5,7 @@ use Rattle.std.specs.List.{list_all}
 use Rattle.frac128.specs.Held.{is_held}
 use Rattle.vlp_problem.specs.declared.problem.Problem.{Problem}
 use Rattle.deriv_log.specs.declared.entry.Entry.{Entry}
-use Rattle.log_rules.specs.Events.{Failing, plain_failure}
+use Rattle.log_rules.specs.LogEvents.{Failing, plain_failure}
 use Rattle.log_rules.specs.Proves.{AllMeet, PlainProves}
 use Rattle.log_rules.specs.declared.answer.Answer.{Answer}
 use Rattle.log_versions.specs.Plain.{is_plain}

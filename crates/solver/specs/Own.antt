@@ -5,8 +5,8 @@ use Rattle.vlp_problem.specs.declared.problem.Problem.{Problem}
 use Rattle.deriv_log.specs.declared.entry.Entry.{Entry}
 use Rattle.deriv_log.specs.declared.licence.Licence.{Licence}
 use Rattle.deriv_log.specs.declared.licence.Place.TheVariants.{Step}
-use Rattle.log_rules.specs.Events.{plain_failure}
 use Rattle.log_rules.specs.Events.Failure.{left as overflows}
+use Rattle.log_rules.specs.LogEvents.{plain_failure}
 
 -- the licence of the first step of a log whose exact result is not held: its number in its entry,
 -- its operands, and the whole log

@@ -4,7 +4,7 @@ use Rattle.exact_field.specs.Rational.{ℚ}
 use Rattle.frac128.specs.Held.{is_held}
 use Rattle.frac128.specs.Sparse.{IsSparse}
 use Rattle.deriv_log.specs.declared.entry.Entry.TheVariants.{Whole, Line}
-use Rattle.log_rules.specs.Events.{whole_events, line_events}
+use Rattle.log_rules.specs.AnswerEvents.{whole_events, line_events}
 use Rattle.log_rules.specs.Order as order
 use Rattle.log_rules.specs.Runs.{Runs, steps}
 use Rattle.log_rules.proofs.Entries.{order_of}

@@ -18,7 +18,7 @@ use Rattle.cone_dual.proofs.Standing.{as_cone, at_file, given_inside, given_long
 use Rattle.cone_dual.proofs.dual_form.given_duality.Goals as goal
 
 pub scale_given-requires-clause-inside : goal.scale_given-requires-clause-inside
-scaled_given-requires-clause-inside g c =
+scale_given-requires-clause-inside g c =
     let value = g.F.Field.value in
     let form = c.args.form.now in
     let vectors = c.args.vectors.now in

@@ -2,7 +2,7 @@ use Rattle.std.proofs.Common.{◌≡◌, ℕ, List, ◌-◌, ◌+◌, length, ma
 use Rattle.exact_field.specs.Rational.{ℚ, zero_ℚ, inverse_ℚ, ◌<ℚ◌}
 use Rattle.exact_field.specs.Vector.{entry}
 use Rattle.exact_field.proofs.Inequalities.{positive-not-zero}
-use Rattle.overflow_rules.specs.Operands.{IsDivisor, IsScaled}
+use Rattle.overflow_rules.specs.Quotients.{IsDivisor, IsScaled}
 use Rattle.lin_rows.specs.Read.{numbers}
 use Rattle.lin_rows.proofs.Summing.{entry_read}
 use Rattle.lp_form.specs.Data.{duality_of}
@@ -26,10 +26,10 @@ pub positive_solution-requires-clause-solid : goal.positive_solution-requires-cl
 positive_solution-requires-clause-solid g c = solid g.F.Field.value c.args.form.now c.args.vectors.now c.requires.generators c.args.picks c.requires.picks
 
 pub scale_given-requires-clause-solid : goal.scale_given-requires-clause-solid
-scaled_given-requires-clause-solid g c = solid g.F.Field.value c.args.form.now c.args.vectors.now c.requires.generators c.args.picks c.requires.picks
+scale_given-requires-clause-solid g c = solid g.F.Field.value c.args.form.now c.args.vectors.now c.requires.generators c.args.picks c.requires.picks
 
 pub scale_given-requires-clause-inside : goal.scale_given-requires-clause-inside
-scaled_given-requires-clause-inside g c =
+scale_given-requires-clause-inside g c =
     let value = g.F.Field.value in
     let form = c.args.form.now in
     let vectors = c.args.vectors.now in

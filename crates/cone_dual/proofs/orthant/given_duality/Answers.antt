@@ -15,17 +15,17 @@ use Rattle.cone_dual.proofs.Standing.{as_cone, given_inside, given_long, given_t
 use Rattle.cone_dual.proofs.orthant.given_duality.Goals as goal
 
 pub scale_given-requires-clause-solid : goal.scale_given-requires-clause-solid
-scaled_given-requires-clause-solid g c =
+scale_given-requires-clause-solid g c =
     let form = c.args.form.now in
     as_cone g.F.Field.value form Orthant c.requires.cone (λ (k : Cone). HasInterior (length form.p) k) (orthant_laws.solid (length form.p))
 
 pub scale_given-requires-clause-pointed : goal.scale_given-requires-clause-pointed
-scaled_given-requires-clause-pointed g c =
+scale_given-requires-clause-pointed g c =
     let form = c.args.form.now in
     as_cone g.F.Field.value form Orthant c.requires.cone (λ (k : Cone). HasNoLine (length form.p) k) (orthant_laws.pointed (length form.p))
 
 pub scale_given-requires-clause-inside : goal.scale_given-requires-clause-inside
-scaled_given-requires-clause-inside g c =
+scale_given-requires-clause-inside g c =
     let value = g.F.Field.value in
     let form = c.args.form.now in
     let f = c.args.f.now in

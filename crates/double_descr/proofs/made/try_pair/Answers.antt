@@ -40,19 +40,19 @@ set_meet-requires-clause-second g c = c.requires.1.1.1.1.0
     ∙ sym (minus_bound g.F.Field.value g.addition c.args.generators.now c.args.plus.now c.args.minus.now c.requires.1.0 c.requires.1.1.0)
 
 pub make_between-requires-clause-same : goal.make_between-requires-clause-same
-between_two-requires-clause-same g c = plus_wide g.F.Field.value g.addition c.args.generators.now c.args.plus.now c.args.minus.now c.requires.1.0 c.requires.1.1.0
+make_between-requires-clause-same g c = plus_wide g.F.Field.value g.addition c.args.generators.now c.args.plus.now c.args.minus.now c.requires.1.0 c.requires.1.1.0
     ∙ sym (minus_wide g.F.Field.value g.addition c.args.generators.now c.args.plus.now c.args.minus.now c.requires.1.0 c.requires.1.1.0)
 
 pub make_between-requires-clause-narrow : goal.make_between-requires-clause-narrow
-between_two-requires-clause-narrow g c = subst (λ (n : ℕ). n < 4294967296)
+make_between-requires-clause-narrow g c = subst (λ (n : ℕ). n < 4294967296)
     (sym (plus_wide g.F.Field.value g.addition c.args.generators.now c.args.plus.now c.args.minus.now c.requires.1.0 c.requires.1.1.0)) c.requires.1.1.0
 
 pub make_between-requires-clause-bounds : goal.make_between-requires-clause-bounds
-between_two-requires-clause-bounds g c = plus_bound g.F.Field.value g.addition c.args.generators.now c.args.plus.now c.args.minus.now c.requires.1.0 c.requires.1.1.0
+make_between-requires-clause-bounds g c = plus_bound g.F.Field.value g.addition c.args.generators.now c.args.plus.now c.args.minus.now c.requires.1.0 c.requires.1.1.0
     ∙ sym (minus_bound g.F.Field.value g.addition c.args.generators.now c.args.plus.now c.args.minus.now c.requires.1.0 c.requires.1.1.0)
 
 pub make_between-requires-clause-room : goal.make_between-requires-clause-room
-between_two-requires-clause-room g c = subst (λ (n : ℕ). n + 1 < 4294967296)
+make_between-requires-clause-room g c = subst (λ (n : ℕ). n + 1 < 4294967296)
     (sym (plus_bound g.F.Field.value g.addition c.args.generators.now c.args.plus.now c.args.minus.now c.requires.1.0 c.requires.1.1.0)) c.requires.1.1.1.0
 
 pub returns-clause-ok : goal.returns-clause-ok

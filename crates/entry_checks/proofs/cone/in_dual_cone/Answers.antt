@@ -1,8 +1,8 @@
 use Rattle.std.proofs.Common.{sym, subst}
 use Rattle.std.specs.Prelude.{⊤}
 use Rattle.frac128.specs.Held.{is_held}
-use Rattle.log_rules.specs.Events.{in_cone}
 use Rattle.log_rules.specs.Runs.{Runs}
+use Rattle.log_rules.specs.VectorEvents.{in_cone}
 use Rattle.upper_image.specs.OrderingCone.{dual_of}
 use Rattle.vlp_problem.specs.declared.problem.Cone.{Cone}
 use Rattle.entry_checks.proofs.cone.in_dual_cone.Goals as goal

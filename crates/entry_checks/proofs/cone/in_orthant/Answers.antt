@@ -3,15 +3,15 @@ use Rattle.std.specs.Prelude.{⊤}
 use Rattle.std.specs.List.{list_all}
 use Rattle.exact_field.specs.Rational.{zero_ℚ, le_ℚ}
 use Rattle.frac128.specs.Held.{is_held}
-use Rattle.log_rules.specs.Events.{none_given}
 use Rattle.log_rules.specs.Events.Event.{test}
+use Rattle.log_rules.specs.VectorEvents.{none_given}
 use Rattle.log_rules.specs.declared.rule.Rule.TheVariants as rule
 use Rattle.log_rules.proofs.Failures.{stops-then}
 use Rattle.entry_checks.proofs.Going.{Passed, Ran, ran-after}
 use Rattle.entry_checks.proofs.cone.in_orthant.Goals as goal
 
 pub returns-in_err-has_no_multipliers : goal.returns-in_err-has_no_multipliers
-returns-in_err-none_given c = λ taken.
+returns-in_err-has_no_multipliers c = λ taken.
     let stopped = stops-then is_held (none_given c.args.m.now ∷ []) (test rule.Cone (list_all (le_ℚ zero_ℚ) c.args.e.now) ∷ []) taken c.in_err-has_no_multipliers.field-0.0 (c.in_err-has_no_multipliers.ensures taken) in
     search (stopped, rules)
 

@@ -1,6 +1,6 @@
 use Rattle.std.proofs.Common.{rules, [], ◌∷◌, ◌++◌, length}
 use Rattle.std.specs.Prelude.{⊤}
-use Rattle.log_rules.specs.Events.{places_within, values_positive}
+use Rattle.log_rules.specs.VectorEvents.{places_within, values_positive}
 use Rattle.upper_image.proofs.Widths.{vectors_wide}
 use Rattle.entry_checks.specs.Parts.{combination_events}
 use Rattle.entry_checks.proofs.Going.{Passed, Stopped, stopped-in, stopped-later, Ran, ran-after, spots-within}

@@ -1,12 +1,12 @@
 use Rattle.std.proofs.Common.{rules, [], ◌∷◌, length}
 use Rattle.std.specs.Prelude.{⊤}
-use Rattle.log_rules.specs.Events.{none_given, products_events}
+use Rattle.log_rules.specs.VectorEvents.{none_given, products_events}
 use Rattle.upper_image.proofs.Widths.{vectors_wide}
 use Rattle.entry_checks.proofs.Going.{Passed, Stopped, stopped-in, Ran, ran-after}
 use Rattle.entry_checks.proofs.cone.meets_rows.Goals as goal
 
 pub returns-in_err-has_no_multipliers : goal.returns-in_err-has_no_multipliers
-returns-in_err-none_given c =
+returns-in_err-has_no_multipliers c =
     let here : Stopped (none_given c.args.m.now ∷ []) c.args.counter.now.taken c.in_err-has_no_multipliers.field-0.0 = record { at = c.in_err-has_no_multipliers.ensures c.args.counter.now.taken } in
     let stopped = (stopped-in (products_events c.args.rows.now c.args.e.now) here).at in
     search (stopped, rules)

@@ -1,5 +1,5 @@
 use Rattle.std.proofs.Common.{◌≡◌, drop}
-use Rattle.log_rules.specs.Events.{all_reduced}
+use Rattle.log_rules.specs.LiveEvents.{all_reduced}
 use Rattle.upper_image.specs.Spots.{pieces}
 use Rattle.entry_checks.proofs.corner.are_rows_reduced.Given as goal
 

@@ -5,7 +5,9 @@ use Rattle.std.proofs.lemmas.List.{length-map}
 use Rattle.exact_field.specs.Order.{same_ℚ}
 use Rattle.exact_field.specs.Rational.{one_ℚ}
 use Rattle.frac128.specs.Held.{is_held}
-use Rattle.log_rules.specs.Events.{Event, rises, all_within, all_reduced, start_events}
+use Rattle.log_rules.specs.CutEvents.{rises, all_within}
+use Rattle.log_rules.specs.Events.{Event}
+use Rattle.log_rules.specs.LiveEvents.{all_reduced, start_events}
 use Rattle.log_rules.specs.Events.Event.{test}
 use Rattle.log_rules.specs.Runs.{Runs, Stops, steps}
 use Rattle.log_rules.specs.declared.rule.Rule.TheVariants as rule

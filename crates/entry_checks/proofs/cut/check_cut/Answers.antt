@@ -3,7 +3,9 @@ use Rattle.std.specs.Prelude.{⊤}
 use Rattle.exact_field.specs.Rational.{ℚ}
 use Rattle.frac128.specs.Held.{is_held}
 use Rattle.frac128.specs.declared.vectors.Spot.{Spot}
-use Rattle.log_rules.specs.Events.{Event, places_within, values_positive, in_cone, cut_events}
+use Rattle.log_rules.specs.CutEvents.{cut_events}
+use Rattle.log_rules.specs.Events.{Event}
+use Rattle.log_rules.specs.VectorEvents.{places_within, values_positive, in_cone}
 use Rattle.log_rules.specs.Events.Event.{test}
 use Rattle.log_rules.specs.Runs.{Runs, Stops, steps}
 use Rattle.log_rules.specs.declared.rule.Rule.TheVariants as rule

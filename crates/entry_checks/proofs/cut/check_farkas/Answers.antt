@@ -2,8 +2,10 @@ use Rattle.std.proofs.Common.{rules, sym, subst, ap, arith, ◌∙◌, ◌+◌, 
 use Rattle.std.specs.Prelude.{⊤}
 use Rattle.exact_field.specs.Rational.{ℚ}
 use Rattle.frac128.specs.Held.{is_held}
-use Rattle.log_rules.specs.Events.{Event, places_within, values_positive, farkas_events}
+use Rattle.log_rules.specs.CutEvents.{farkas_events}
+use Rattle.log_rules.specs.Events.{Event}
 use Rattle.log_rules.specs.Runs.{Runs, Stops, steps}
+use Rattle.log_rules.specs.VectorEvents.{places_within, values_positive}
 use Rattle.upper_image.specs.Spots.{dense}
 use Rattle.upper_image.proofs.Widths.{length-dense}
 use Rattle.vlp_problem.specs.Sides.{sides, side_bounds}

@@ -12,7 +12,7 @@ use Rattle.entry_checks.proofs.Going.{Passed, Stopped, stopped-in, stopped-later
 use Rattle.std.proofs.lemmas.List.{get_or_default}
 use Rattle.std.specs.Prelude.{Ok}
 use Rattle.entry_checks.proofs.Going.{whole-run}
-use Rattle.log_rules.specs.Events.{duality_events, follows_given, interior, has_lengths}
+use Rattle.log_rules.specs.CutEvents.{duality_events, follows_given, interior, has_lengths}
 use Rattle.polyhedra.proofs.Tests.{both_true}
 use Rattle.std.specs.Prelude.{◌&&◌}
 use Rattle.std.proofs.lemmas.Bool.{eqb-true}

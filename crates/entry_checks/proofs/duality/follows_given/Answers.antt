@@ -9,7 +9,7 @@ use Rattle.log_rules.specs.Runs.{Runs}
 use Rattle.log_rules.specs.declared.rule.Rule.TheVariants as rule
 use Rattle.entry_checks.specs.Parts.{follow_events}
 use Rattle.entry_checks.proofs.Going.{test-as}
-use Rattle.log_rules.specs.Events.{follows_given}
+use Rattle.log_rules.specs.CutEvents.{follows_given}
 use Rattle.std.specs.Prelude.{Option, None}
 use Rattle.std.proofs.lemmas.Bool.{eqb-true}
 use Rattle.vlp_problem.specs.declared.problem.Cone.{Cone}

@@ -7,7 +7,7 @@ use Rattle.log_rules.specs.Runs.{Runs}
 use Rattle.log_rules.specs.declared.rule.Rule.TheVariants as rule
 use Rattle.upper_image.proofs.Widths.{vectors_wide}
 use Rattle.entry_checks.proofs.Going.{test-as}
-use Rattle.log_rules.specs.Events.{interior}
+use Rattle.log_rules.specs.CutEvents.{interior}
 use Rattle.vlp_problem.specs.declared.problem.Cone.{Cone}
 use Rattle.vlp_problem.specs.Cones.{cone_fits}
 use Rattle.entry_checks.proofs.duality.is_interior.Goals as goal

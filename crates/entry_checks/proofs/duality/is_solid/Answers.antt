@@ -10,7 +10,7 @@ use Rattle.log_rules.specs.declared.rule.Rule.TheVariants as rule
 use Rattle.entry_checks.specs.Parts.{weights_events}
 use Rattle.entry_checks.proofs.Going.{Passed, Stopped, stopped-in, stopped-later, Ran, ran-after, test-passed, room-in, room-after}
 use Rattle.std.specs.Prelude.{Ok}
-use Rattle.log_rules.specs.Events.{rises, all_within, inverse_steps}
+use Rattle.log_rules.specs.CutEvents.{rises, all_within, inverse_steps}
 use Rattle.polyhedra.proofs.Tests.{both_true}
 use Rattle.std.specs.Prelude.{◌&&◌}
 use Rattle.entry_checks.proofs.duality.is_solid.Goals as goal

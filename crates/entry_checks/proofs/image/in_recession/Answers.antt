@@ -1,8 +1,9 @@
 use Rattle.std.proofs.Common.{rules, sym, subst, ◌∙◌, ◌+◌, ◌<◌, List, [], ◌∷◌, ◌++◌, map}
 use Rattle.std.specs.Prelude.{⊤}
 use Rattle.frac128.specs.Held.{is_held}
-use Rattle.log_rules.specs.Events.{Event, places_within}
+use Rattle.log_rules.specs.Events.{Event}
 use Rattle.log_rules.specs.Runs.{Runs, Stops, steps}
+use Rattle.log_rules.specs.VectorEvents.{places_within}
 use Rattle.upper_image.specs.Spots.{dense}
 use Rattle.upper_image.proofs.Widths.{length-dense}
 use Rattle.entry_checks.specs.Parts.{recession_events}

@@ -3,8 +3,9 @@ use Rattle.std.specs.Prelude.{⊤}
 use Rattle.exact_field.specs.Rational.{ℚ}
 use Rattle.frac128.specs.Held.{is_held}
 use Rattle.frac128.specs.declared.vectors.Spot.{Spot}
-use Rattle.log_rules.specs.Events.{Event, in_cone}
+use Rattle.log_rules.specs.Events.{Event}
 use Rattle.log_rules.specs.Runs.{Runs, Stops, steps}
+use Rattle.log_rules.specs.VectorEvents.{in_cone}
 use Rattle.upper_image.specs.Spots.{dense}
 use Rattle.upper_image.specs.UpperImage.{rest}
 use Rattle.upper_image.proofs.Widths.{length-dense}

@@ -3,9 +3,11 @@ use Rattle.std.specs.Prelude.{⊤}
 use Rattle.std.proofs.lemmas.List.{length-map}
 use Rattle.exact_field.specs.Rational.{ℚ, neg_ℚ}
 use Rattle.frac128.specs.Held.{is_held}
-use Rattle.log_rules.specs.Events.{Event, in_feasible, in_recession, above, goes_on, line_events}
+use Rattle.log_rules.specs.AnswerEvents.{goes_on, line_events}
+use Rattle.log_rules.specs.Events.{Event}
 use Rattle.log_rules.specs.Events.Event.{test}
 use Rattle.log_rules.specs.Runs.{Runs, Stops, steps}
+use Rattle.log_rules.specs.VectorEvents.{in_feasible, in_recession, above}
 use Rattle.log_rules.specs.declared.rule.Rule.TheVariants as rule
 use Rattle.entry_checks.proofs.Going.{Passed, Stopped, stopped-in, stopped-later, Ran, ran-after, room-in, room-after}
 use Rattle.std.specs.Prelude.{Ok}
@@ -60,13 +62,13 @@ returns-in_err-in_recession c =
     search (stopped, rules)
 
 pub is_above-requires-clause-entries : goal.is_above-requires-clause-entries
-above-requires-clause-entries c = (length-tested (length c.args.d.now) c.args.problem.now.objs (c.in_ok-pass.ensures 0).0)
+is_above-requires-clause-entries c = (length-tested (length c.args.d.now) c.args.problem.now.objs (c.in_ok-pass.ensures 0).0)
 
 pub is_above-requires-clause-vector : goal.is_above-requires-clause-vector
-above-requires-clause-vector c = record { sparse = c.requires.direction; places = recession-places c.in_feasible.new.counter.taken c.args.problem.now c.args.ray.now c.in_ok-in_recession.ensures.0 }
+is_above-requires-clause-vector c = record { sparse = c.requires.direction; places = recession-places c.in_feasible.new.counter.taken c.args.problem.now c.args.ray.now c.in_ok-in_recession.ensures.0 }
 
 pub is_above-requires-clause-room : goal.is_above-requires-clause-room
-above-requires-clause-room c =
+is_above-requires-clause-room c =
     let room : 0 + steps (line_events c.args.problem.now c.args.lines.now c.args.d.now c.args.x.now c.args.ray.now c.args.m.now c.args.back.now c.args.n.now) < 9223372036854775808 = let few = steps-line c.args.problem.now c.args.lines.now c.args.d.now c.args.x.now c.args.ray.now c.args.m.now c.args.back.now c.args.n.now (length-tested (length c.args.d.now) c.args.problem.now.objs (c.in_ok-pass.ensures 0).0) in omega (arith, few) in
     let came0 : Passed (test rule.Length (length c.args.d.now == c.args.problem.now.objs) ∷ []) 0 0 = record { none = (c.in_ok-pass.ensures 0).0; count = (c.in_ok-pass.ensures 0).1 } in
     let came1 : Passed (test rule.Scaled (goes_on c.args.lines.now c.args.d.now) ∷ []) 0 0 = record { none = (subst (λ (es : List Event). Runs {X = Unit {0}} is_held es 0 0 (λ _. ⊤) (Ok tt)) (ap (λ (b : Bool). test rule.Scaled b ∷ []) c.goes_on.ensures) ((c.in_ok-pass-2.ensures 0).0, (c.in_ok-pass-2.ensures 0).1, tt)).0; count = (subst (λ (es : List Event). Runs {X = Unit {0}} is_held es 0 0 (λ _. ⊤) (Ok tt)) (ap (λ (b : Bool). test rule.Scaled b ∷ []) c.goes_on.ensures) ((c.in_ok-pass-2.ensures 0).0, (c.in_ok-pass-2.ensures 0).1, tt)).1 } in
@@ -75,7 +77,7 @@ above-requires-clause-room c =
     room-in (above c.args.problem.now c.args.d.now c.args.ray.now c.args.m.now) ((in_recession c.args.problem.now c.args.back.now) ++ (([]) ++ (above c.args.problem.now (map neg_ℚ c.args.d.now) c.args.back.now c.args.n.now))) c.in_recession.new.counter.taken _ (room-after ((above c.args.problem.now c.args.d.now c.args.ray.now c.args.m.now) ++ ((in_recession c.args.problem.now c.args.back.now) ++ (([]) ++ (above c.args.problem.now (map neg_ℚ c.args.d.now) c.args.back.now c.args.n.now)))) _ came3 (room-after ((in_recession c.args.problem.now c.args.ray.now) ++ ((above c.args.problem.now c.args.d.now c.args.ray.now c.args.m.now) ++ ((in_recession c.args.problem.now c.args.back.now) ++ (([]) ++ (above c.args.problem.now (map neg_ℚ c.args.d.now) c.args.back.now c.args.n.now))))) _ came2 (room-after ((in_feasible c.args.problem.now c.args.x.now) ++ ((in_recession c.args.problem.now c.args.ray.now) ++ ((above c.args.problem.now c.args.d.now c.args.ray.now c.args.m.now) ++ ((in_recession c.args.problem.now c.args.back.now) ++ (([]) ++ (above c.args.problem.now (map neg_ℚ c.args.d.now) c.args.back.now c.args.n.now)))))) _ came1 (room-after ((test rule.Scaled (goes_on c.args.lines.now c.args.d.now) ∷ []) ++ ((in_feasible c.args.problem.now c.args.x.now) ++ ((in_recession c.args.problem.now c.args.ray.now) ++ ((above c.args.problem.now c.args.d.now c.args.ray.now c.args.m.now) ++ ((in_recession c.args.problem.now c.args.back.now) ++ (([]) ++ (above c.args.problem.now (map neg_ℚ c.args.d.now) c.args.back.now c.args.n.now))))))) _ came0 (subst (λ (es : List Event). 0 + steps es < 9223372036854775808) (line-parts (test rule.Length (length c.args.d.now == c.args.problem.now.objs)) (test rule.Scaled (goes_on c.args.lines.now c.args.d.now)) (in_feasible c.args.problem.now c.args.x.now) (in_recession c.args.problem.now c.args.ray.now) (above c.args.problem.now c.args.d.now c.args.ray.now c.args.m.now) (in_recession c.args.problem.now c.args.back.now) (above c.args.problem.now (map neg_ℚ c.args.d.now) c.args.back.now c.args.n.now)) room)))))
 
 pub returns-in_err-is_above : goal.returns-in_err-is_above
-returns-in_err-above c =
+returns-in_err-is_above c =
     let came0 : Passed (test rule.Length (length c.args.d.now == c.args.problem.now.objs) ∷ []) 0 0 = record { none = (c.in_ok-pass.ensures 0).0; count = (c.in_ok-pass.ensures 0).1 } in
     let came1 : Passed (test rule.Scaled (goes_on c.args.lines.now c.args.d.now) ∷ []) 0 0 = record { none = (subst (λ (es : List Event). Runs {X = Unit {0}} is_held es 0 0 (λ _. ⊤) (Ok tt)) (ap (λ (b : Bool). test rule.Scaled b ∷ []) c.goes_on.ensures) ((c.in_ok-pass-2.ensures 0).0, (c.in_ok-pass-2.ensures 0).1, tt)).0; count = (subst (λ (es : List Event). Runs {X = Unit {0}} is_held es 0 0 (λ _. ⊤) (Ok tt)) (ap (λ (b : Bool). test rule.Scaled b ∷ []) c.goes_on.ensures) ((c.in_ok-pass-2.ensures 0).0, (c.in_ok-pass-2.ensures 0).1, tt)).1 } in
     let came2 : Passed (in_feasible c.args.problem.now c.args.x.now) 0 c.in_feasible.new.counter.taken = record { none = c.in_ok-in_feasible.ensures.0; count = c.in_ok-in_feasible.ensures.1 } in
@@ -118,13 +120,13 @@ returns-in_err-opposite c =
     search (stopped, rules)
 
 pub is_above-requires-2-clause-entries : goal.is_above-requires-2-clause-entries
-above-requires-2-clause-entries c = ap (λ (v : List ℚ). length v) (c.as_slice.ensures.items ∙ (c.in_ok-opposite.ensures 0).2) ∙ length-map c.args.d.now neg_ℚ ∙ (length-tested (length c.args.d.now) c.args.problem.now.objs (c.in_ok-pass.ensures 0).0)
+is_above-requires-2-clause-entries c = ap (λ (v : List ℚ). length v) (c.as_slice.ensures.items ∙ (c.in_ok-opposite.ensures 0).2) ∙ length-map c.args.d.now neg_ℚ ∙ (length-tested (length c.args.d.now) c.args.problem.now.objs (c.in_ok-pass.ensures 0).0)
 
 pub is_above-requires-2-clause-vector : goal.is_above-requires-2-clause-vector
-above-requires-2-clause-vector c = record { sparse = c.requires.back; places = recession-places c.is_above.new.counter.taken c.args.problem.now c.args.back.now c.in_ok-in_recession-2.ensures.0 }
+is_above-requires-2-clause-vector c = record { sparse = c.requires.back; places = recession-places c.is_above.new.counter.taken c.args.problem.now c.args.back.now c.in_ok-in_recession-2.ensures.0 }
 
 pub is_above-requires-2-clause-room : goal.is_above-requires-2-clause-room
-above-requires-2-clause-room c =
+is_above-requires-2-clause-room c =
     let room : 0 + steps (line_events c.args.problem.now c.args.lines.now c.args.d.now c.args.x.now c.args.ray.now c.args.m.now c.args.back.now c.args.n.now) < 9223372036854775808 = let few = steps-line c.args.problem.now c.args.lines.now c.args.d.now c.args.x.now c.args.ray.now c.args.m.now c.args.back.now c.args.n.now (length-tested (length c.args.d.now) c.args.problem.now.objs (c.in_ok-pass.ensures 0).0) in omega (arith, few) in
     let came0 : Passed (test rule.Length (length c.args.d.now == c.args.problem.now.objs) ∷ []) 0 0 = record { none = (c.in_ok-pass.ensures 0).0; count = (c.in_ok-pass.ensures 0).1 } in
     let came1 : Passed (test rule.Scaled (goes_on c.args.lines.now c.args.d.now) ∷ []) 0 0 = record { none = (subst (λ (es : List Event). Runs {X = Unit {0}} is_held es 0 0 (λ _. ⊤) (Ok tt)) (ap (λ (b : Bool). test rule.Scaled b ∷ []) c.goes_on.ensures) ((c.in_ok-pass-2.ensures 0).0, (c.in_ok-pass-2.ensures 0).1, tt)).0; count = (subst (λ (es : List Event). Runs {X = Unit {0}} is_held es 0 0 (λ _. ⊤) (Ok tt)) (ap (λ (b : Bool). test rule.Scaled b ∷ []) c.goes_on.ensures) ((c.in_ok-pass-2.ensures 0).0, (c.in_ok-pass-2.ensures 0).1, tt)).1 } in

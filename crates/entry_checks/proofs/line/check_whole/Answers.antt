@@ -3,8 +3,10 @@ use Rattle.std.specs.Prelude.{⊤}
 use Rattle.std.proofs.lemmas.List.{length-map, append_assoc}
 use Rattle.exact_field.specs.Rational.{ℚ, neg_ℚ}
 use Rattle.frac128.specs.Held.{is_held}
-use Rattle.log_rules.specs.Events.{Event, in_feasible, in_recession, above, whole_events}
+use Rattle.log_rules.specs.AnswerEvents.{whole_events}
+use Rattle.log_rules.specs.Events.{Event}
 use Rattle.log_rules.specs.Runs.{Runs, Stops, steps}
+use Rattle.log_rules.specs.VectorEvents.{in_feasible, in_recession, above}
 use Rattle.entry_checks.proofs.Going.{Passed, Stopped, stopped-in, stopped-later, Ran, ran-after, room-in, room-after}
 use Rattle.entry_checks.proofs.Going.{whole-run}
 use Rattle.entry_checks.proofs.StepBounds.{steps-whole, recession-places}
@@ -43,13 +45,13 @@ returns-in_err-target c =
     search (stopped, rules)
 
 pub is_above-requires-clause-entries : goal.is_above-requires-clause-entries
-above-requires-clause-entries c = ap (λ (v : List ℚ). length v) (c.as_slice.ensures.items ∙ (c.in_ok-target.ensures 0).2) ∙ length-map c.args.c.now neg_ℚ ∙ c.requires.scale
+is_above-requires-clause-entries c = ap (λ (v : List ℚ). length v) (c.as_slice.ensures.items ∙ (c.in_ok-target.ensures 0).2) ∙ length-map c.args.c.now neg_ℚ ∙ c.requires.scale
 
 pub is_above-requires-clause-vector : goal.is_above-requires-clause-vector
-above-requires-clause-vector c = record { sparse = c.requires.direction; places = recession-places c.in_feasible.new.counter.taken c.args.problem.now c.args.ray.now c.in_ok-in_recession.ensures.0 }
+is_above-requires-clause-vector c = record { sparse = c.requires.direction; places = recession-places c.in_feasible.new.counter.taken c.args.problem.now c.args.ray.now c.in_ok-in_recession.ensures.0 }
 
 pub is_above-requires-clause-room : goal.is_above-requires-clause-room
-above-requires-clause-room c =
+is_above-requires-clause-room c =
     let room : 0 + steps (whole_events c.args.problem.now c.args.c.now c.args.x.now c.args.ray.now c.args.m.now) < 9223372036854775808 = let few = steps-whole c.args.problem.now c.args.c.now c.args.x.now c.args.ray.now c.args.m.now c.requires.scale in omega (arith, few) in
     let came0 : Passed (in_feasible c.args.problem.now c.args.x.now) 0 c.in_feasible.new.counter.taken = record { none = c.in_ok-in_feasible.ensures.0; count = c.in_ok-in_feasible.ensures.1 } in
     let came1 : Passed (in_recession c.args.problem.now c.args.ray.now) c.in_feasible.new.counter.taken c.in_recession.new.counter.taken = record { none = c.in_ok-in_recession.ensures.0; count = c.in_ok-in_recession.ensures.1 } in

@@ -1,5 +1,5 @@
 use Rattle.std.proofs.Common.{sym, ap, arith, ◌∙◌, ◌≡◌, ◌+◌, ◌-◌, ℕ, drop}
-use Rattle.log_rules.specs.Events.{rises}
+use Rattle.log_rules.specs.CutEvents.{rises}
 use Rattle.entry_checks.proofs.RisingNumbers.{rises-more, rises-end}
 use Rattle.entry_checks.proofs.numbers.rises.Goals as goal
 

@@ -1,5 +1,5 @@
 use Rattle.std.proofs.Common.{◌≡◌, ◌-◌, drop}
-use Rattle.log_rules.specs.Events.{rises}
+use Rattle.log_rules.specs.CutEvents.{rises}
 use Rattle.entry_checks.proofs.numbers.rises.Given as goal
 
 abbrev pub invariant-loop-i : goal.invariant-loop-i

@@ -12,7 +12,7 @@ use Rattle.exact_simplex.proofs.Phased.{start_at, turn_at, phase_primal, phase_i
 use Rattle.exact_simplex.proofs.phase.optimize.Goals as goal
 
 pub list_compared-requires : goal.list_compared-requires
-compared-requires g c =
+list_compared-requires g c =
     let value = g.F.Field.value in
     let p = c.args.system.now in
     let ok = system_ok value p c.requires.lengths in

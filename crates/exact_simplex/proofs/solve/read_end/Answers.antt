@@ -9,7 +9,7 @@ use Rattle.exact_simplex.proofs.SolvingEnds.{phase_best, without_limit}
 use Rattle.exact_simplex.proofs.solve.read_end.Goals as goal
 
 pub read_optimal-requires-clause-best : goal.read_optimal-requires-clause-best
-optimal-requires-clause-best g c =
+read_optimal-requires-clause-best g c =
     let value = g.F.Field.value in
     let p = c.args.system.now in
     let s = system_of value p in
@@ -19,21 +19,21 @@ optimal-requires-clause-best g c =
     (subst (λ (o : Option ℕ). IsPhaseEnd (equation_count s) (p.rows + 1) (unknown_count s) t.table o) c.in-None.is c.requires.end)
 
 pub read_unbounded-requires-clause-low : goal.read_unbounded-requires-clause-low
-unbounded-requires-clause-low g c =
+read_unbounded-requires-clause-low g c =
     let s = system_of g.F.Field.value c.args.system.now in
     let end : IsPhaseEnd (equation_count s) (c.args.system.now.rows + 1) (unknown_count s) c.args.tableau.now.table (Some c.in-Some.col) =
     subst (λ (o : Option ℕ). IsPhaseEnd (equation_count s) (c.args.system.now.rows + 1) (unknown_count s) c.args.tableau.now.table o) c.in-Some.is c.requires.end in
     end.0
 
 pub read_unbounded-requires-clause-high : goal.read_unbounded-requires-clause-high
-unbounded-requires-clause-high g c =
+read_unbounded-requires-clause-high g c =
     let s = system_of g.F.Field.value c.args.system.now in
     let end : IsPhaseEnd (equation_count s) (c.args.system.now.rows + 1) (unknown_count s) c.args.tableau.now.table (Some c.in-Some.col) =
     subst (λ (o : Option ℕ). IsPhaseEnd (equation_count s) (c.args.system.now.rows + 1) (unknown_count s) c.args.tableau.now.table o) c.in-Some.is c.requires.end in
     end.1
 
 pub read_unbounded-requires-clause-betters : goal.read_unbounded-requires-clause-betters
-unbounded-requires-clause-betters g c =
+read_unbounded-requires-clause-betters g c =
     let value = g.F.Field.value in
     let p = c.args.system.now in
     let s = system_of value p in
@@ -44,7 +44,7 @@ unbounded-requires-clause-betters g c =
     subst (λ (r : ℕ). at t.table r c.in-Some.col <ℚ zero_ℚ) row end.2
 
 pub read_unbounded-requires-clause-unlimited : goal.read_unbounded-requires-clause-unlimited
-unbounded-requires-clause-unlimited g c =
+read_unbounded-requires-clause-unlimited g c =
     let value = g.F.Field.value in
     let p = c.args.system.now in
     let s = system_of value p in

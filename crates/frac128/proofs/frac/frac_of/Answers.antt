@@ -8,7 +8,7 @@ use Rattle.frac128.proofs.Signs.{below_zero}
 use Rattle.frac128.proofs.frac.frac_of.Goals as goal
 
 pub with_sign-requires-clause-lowest : goal.with_sign-requires-clause-lowest
-signed-requires-clause-lowest g c =
+with_sign-requires-clause-lowest g c =
     let size : c.unsigned_abs.result ≡ unsigned_abs c.num-num.result = omega (arith, ints, c.unsigned_abs.ensures.value) in
     let den : unsigned_abs (to_z w128 (of_z w128 c.den-den.result)) ≡ (g.F.Field.value c.args.x).den = omega (arith, ints, c.den-den.ensures.part) in
     lowest_coprime _ _ _ _ (stored_lowest (g.F.Field.value c.args.x) c.num-num.result _ (is_below_zero c.num-num.result) _ _ (record { num = c.num-num.ensures.part; den = den }) refl size refl)

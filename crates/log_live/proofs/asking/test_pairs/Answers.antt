@@ -1,5 +1,5 @@
-use Rattle.log_rules.specs.Events.{same_pairs}
 use Rattle.log_rules.specs.Live.{required_pairs}
+use Rattle.log_rules.specs.LiveEvents.{same_pairs}
 use Rattle.log_rules.specs.declared.rule.Rule.TheVariants as rule
 use Rattle.entry_checks.proofs.Going.{test-as}
 use Rattle.log_live.specs.Live.{live_of}

@@ -1,6 +1,6 @@
 use Rattle.std.proofs.Common.{[], ◌∷◌, ◌++◌, sym, ap, ◌∙◌, ◌+◌, drop, Bool, false, if◌then◌else◌}
 use Rattle.word_lines.specs.declared.part.LogPair.{LogPair}
-use Rattle.log_rules.specs.Events.{same_pairs}
+use Rattle.log_rules.specs.LiveEvents.{same_pairs}
 use Rattle.log_live.proofs.matching.match_pair.Goals as goal
 
 pub returns-then-not-are_adjacent-clause-matches : goal.returns-then-not-are_adjacent-clause-matches

@@ -1,5 +1,5 @@
 use Rattle.std.proofs.Common.{rules, arith}
-use Rattle.log_rules.specs.Events.{above}
+use Rattle.log_rules.specs.VectorEvents.{above}
 use Rattle.entry_checks.proofs.Going.{Passed, Stopped, stopped-in, ran-after, whole-run}
 use Rattle.entry_checks.proofs.StepBounds.{steps-above}
 use Rattle.log_solved.specs.Shown.{member_events, shown_events}
@@ -16,7 +16,7 @@ returns-in_err-test_member c =
     search (stopped, rules)
 
 pub is_above-requires-clause-room : goal.is_above-requires-clause-room
-above-requires-clause-room c =
+is_above-requires-clause-room c =
     let first = steps-member c.args.kind c.args.problem.now c.args.x.now in
     let last = steps-above c.args.problem.now c.args.y.now c.args.x.now c.args.m.now c.requires.entries in
     let came = c.in_ok-test_member.ensures.1 in

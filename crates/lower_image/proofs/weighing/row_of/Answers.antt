@@ -3,7 +3,7 @@ use Rattle.std.specs.Prelude.{IfOk, Some}
 use Rattle.std.proofs.lemmas.List.{length-map}
 use Rattle.exact_field.specs.Rational.{ℚ}
 use Rattle.overflow_rules.specs.Base.{IsBaseRow}
-use Rattle.overflow_rules.specs.Operands.{IsBaseX}
+use Rattle.overflow_rules.specs.Products.{IsBaseX}
 use Rattle.geo_duality.specs.Rows.{exchange_row}
 use Rattle.outer_approx.specs.Task.{setting}
 use Rattle.lower_image.proofs.LowerRows.{image_wide}

@@ -9,7 +9,7 @@ use Rattle.lp_form.specs.Programs.{u_of}
 use Rattle.lp_form.proofs.Figures.{objective_number}
 use Rattle.upper_image.specs.OrderingCone.{IsInDualCone}
 use Rattle.overflow_rules.specs.Base.{IsBaseRow, IsBaseWeight, weight_of}
-use Rattle.overflow_rules.specs.Operands.{IsBaseX}
+use Rattle.overflow_rules.specs.Products.{IsBaseX}
 use Rattle.overflow_rules.specs.Turns.{IsRowTurn}
 use Rattle.outer_approx.specs.Task.{setting}
 use Rattle.lower_image.proofs.WeightEnds.{weight_cut}

@@ -12,19 +12,19 @@ use Rattle.recession.proofs.Across.{asked_is, cut_at, reached_is, side_start, wi
 use Rattle.recession.proofs.further.cut_or_line.Goals as goal
 
 pub find_across-requires-clause-tail : goal.find_across-requires-clause-tail
-across-requires-clause-tail g c =
+find_across-requires-clause-tail g c =
     let value = g.F.Field.value in
     let q_is = c.len.ensures.value ∙ objective_number value g.task.file c.args.form.now c.requires.1.0 in
     subst (λ (n : ℕ). AreTail n (normals_of value c.args.cuts.now) (map (told_by value) (reverse c.args.lines.now))) (sym q_is) c.requires.1.1.1.1.1.1.1.0.tail
 
 pub find_across-requires-clause-few : goal.find_across-requires-clause-few
-across-requires-clause-few g c =
+find_across-requires-clause-few g c =
     let q_is = c.len.ensures.value ∙ objective_number g.F.Field.value g.task.file c.args.form.now c.requires.1.0 in
     let few = c.requires.1.1.1.1.1.1.1.1 in
     omega (arith, few, q_is)
 
 pub find_across-requires-clause-wide : goal.find_across-requires-clause-wide
-across-requires-clause-wide g c =
+find_across-requires-clause-wide g c =
     let q_is = c.len.ensures.value ∙ objective_number g.F.Field.value g.task.file c.args.form.now c.requires.1.0 in
     wide_cuts g.F.Field.value g.task c.len.result c.args.cuts.now q_is c.requires.1.1.1.1.1.1.0
 
@@ -86,7 +86,7 @@ returns-in-Cut-clause-ok g c =
     c.in_ok-asked.ensures.ok c.in-Cut.cut c.in-Cut.is)
 
 pub ask_opposite-requires : goal.ask_opposite-requires
-opposite-requires g c κs within =
+ask_opposite-requires g c κs within =
     let value = g.F.Field.value in
     let holds = g.F.Field.holds in
     let d = map value c.in_ok-d.d in

@@ -4,4 +4,4 @@ abbrev pub ghost-ask : goal.ghost-ask
 ghost-ask g a = g.task
 
 abbrev pub ghost-ask_opposite : goal.ghost-ask_opposite
-ghost-opposite g a = g.task
+ghost-ask_opposite g a = g.task

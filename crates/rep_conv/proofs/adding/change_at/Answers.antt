@@ -1,8 +1,9 @@
 use Rattle.std.proofs.Common.{rules, ◌≡◌, [], ◌∷◌, ◌∙◌, arith}
 use Rattle.std.specs.List.{flat_map}
-use Rattle.log_rules.specs.Events.{dot_steps, same_pairs}
+use Rattle.log_rules.specs.Events.{dot_steps}
 use Rattle.log_rules.specs.Events.Event.{test}
 use Rattle.log_rules.specs.Live.{required_pairs}
+use Rattle.log_rules.specs.LiveEvents.{same_pairs}
 use Rattle.log_rules.specs.declared.rule.Rule.TheVariants as rule
 use Rattle.entry_checks.proofs.Going.{Passed, Stopped, passed-then, stopped-after, stopped-later, stopped-in}
 use Rattle.log_live.specs.Live.{live_of}

@@ -2,7 +2,8 @@ use Rattle.std.proofs.Common.{rules, ◌≡◌, ◌≢◌, List, [], Contains, S
 use Rattle.exact_field.specs.Rational.{ℚ, zero_ℚ, neg_ℚ, ◌/ℚ◌}
 use Rattle.frac128.specs.Held.{is_held}
 use Rattle.polyhedra.specs.DoubleDescription.{norming}
-use Rattle.log_rules.specs.Events.{Event, meeting_point}
+use Rattle.log_rules.specs.Events.{Event}
+use Rattle.log_rules.specs.LiveEvents.{meeting_point}
 use Rattle.rep_conv.specs.Events.{pair_of}
 use Rattle.log_rules.specs.Runs.{Stops}
 use Rattle.entry_checks.proofs.Going.{Passed, Stopped, stopped-after}

@@ -2,8 +2,9 @@ use Rattle.std.proofs.Common.{rules, ◌≡◌, ◌+◌, ◌<◌, List, [], ◌�
 use Rattle.exact_field.specs.Rational.{ℚ, neg_ℚ, ◌/ℚ◌}
 use Rattle.exact_field.specs.declared.op.Op.TheVariants as op
 use Rattle.frac128.specs.Held.{is_held}
-use Rattle.log_rules.specs.Events.{Event, meeting_point, meeting_steps}
+use Rattle.log_rules.specs.Events.{Event}
 use Rattle.log_rules.specs.Events.Event.{step}
+use Rattle.log_rules.specs.LiveEvents.{meeting_point, meeting_steps}
 use Rattle.log_rules.specs.Runs.{Runs, steps}
 use Rattle.entry_checks.proofs.Going.{Passed, Stopped, stopped-in, stopped-later, Ran, ran-after, room-in, room-after}
 use Rattle.polyhedra.specs.DoubleDescription.{magnitude, norming}

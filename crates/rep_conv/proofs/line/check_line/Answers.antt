@@ -4,7 +4,8 @@ use Rattle.std.specs.List.{flat_map}
 use Rattle.std.proofs.lemmas.Bool.{eqb-true}
 use Rattle.exact_field.specs.Rational.{ℚ}
 use Rattle.frac128.specs.Held.{is_held}
-use Rattle.log_rules.specs.Events.{Event, goes_on}
+use Rattle.log_rules.specs.AnswerEvents.{goes_on}
+use Rattle.log_rules.specs.Events.{Event}
 use Rattle.log_rules.specs.Events.Event.{test}
 use Rattle.log_rules.specs.Runs.{Runs, steps}
 use Rattle.log_rules.specs.declared.rule.Rule.TheVariants as rule

@@ -5,7 +5,8 @@ use Rattle.std.proofs.lemmas.Bool.{eqb-true}
 use Rattle.exact_field.specs.Rational.{ℚ}
 use Rattle.polyhedra.proofs.Tests.{both_true}
 use Rattle.upper_image.specs.Spots.{pieces}
-use Rattle.log_rules.specs.Events.{Event, rises}
+use Rattle.log_rules.specs.CutEvents.{rises}
+use Rattle.log_rules.specs.Events.{Event}
 use Rattle.log_rules.specs.Events.Event.{test}
 use Rattle.log_rules.specs.declared.rule.Rule.TheVariants as rule
 use Rattle.entry_checks.proofs.Going.{Passed, Stopped, stopped-in, Ran, ran-after, whole-run, first-passed}

@@ -15,8 +15,8 @@ use Rattle.shown_program.proofs.Assembled.{program_of}
 use Rattle.shown_program.proofs.BensonRows.{benson_row, others_long}
 use Rattle.shown_program.proofs.written.benson_columns.Goals as goal
 
-pub assembled-requires-clause-unknowns : goal.assembled-requires-clause-unknowns
-assembled-requires-clause-unknowns g c =
+pub assemble-requires-clause-unknowns : goal.assemble-requires-clause-unknowns
+assemble-requires-clause-unknowns g c =
     omega (
       arith,
       c.in_ok-cost.ensures.long,
@@ -44,11 +44,11 @@ returns g c = λ file stands.
     let count : equation_count s ≡ benson_equations value form =
     sym ok.right_each ∙ ap length (sym right_is ∙ c.in_ok-right.ensures)
     ∙ omega (arith, length-append (zeros before) (one_ℚ ∷ []), length-zeros before) in
-    IfOk-weaker c.assembled.result (IsAssembled value form others right cost) (IsProgramOf value s)
+    IfOk-weaker c.assemble.result (IsAssembled value form others right cost) (IsProgramOf value s)
     (λ p h.
     program_of value form others right cost p h s ok right_is
     (c.in_ok-cost.ensures.costs file stands)
     (λ k low high.
     benson_row value file form c.args.c.now stands c.requires.c others vs c.args.t k
     c.in_ok-others.ensures.numbers low (omega (arith, high, count))))
-    c.assembled.ensures
+    c.assemble.ensures

@@ -12,7 +12,7 @@ use Rattle.shown_program.proofs.Assembled.{feasible_row, program_of}
 use Rattle.shown_program.proofs.written.feasible_columns.Goals as goal
 
 pub assemble-requires-clause-unknowns : goal.assemble-requires-clause-unknowns
-assembled-requires-clause-unknowns g c =
+assemble-requires-clause-unknowns g c =
     omega (arith, ap length c.new.ensures, c.in_ok-cost.ensures.long)
 
 pub returns : goal.returns

@@ -14,7 +14,7 @@ use Rattle.shown_program.proofs.GivenRows.{given_long, given_row_is, no_equation
 use Rattle.shown_program.proofs.written.given_columns.Goals as goal
 
 pub assemble-requires-clause-unknowns : goal.assemble-requires-clause-unknowns
-assembled-requires-clause-unknowns g c =
+assemble-requires-clause-unknowns g c =
     omega (
       arith,
       c.in_ok-cost.ensures.long,

@@ -22,7 +22,7 @@ returns-in_err-den c =
     rw c.from_residual-in_err-den.ensures (let wide = c.in_err-den.ensures in lowest_wide_den _ _ _ _ exact (omega arith))
 
 pub with_sign-requires-clause-positive : goal.with_sign-requires-clause-positive
-signed-requires-clause-positive c =
+with_sign-requires-clause-positive c =
     let ex : c.unsigned_abs-size.result ≡ unsigned_abs c.self.inside.num = omega (arith, ints, c.unsigned_abs-size.ensures.value) in
     let ey : c.unsigned_abs-other_size.result ≡ unsigned_abs c.other.inside.num = omega (arith, ints, c.unsigned_abs-other_size.ensures.value) in
     let exact = product_lowest c.args.self c.args.other c.self.inside.num c.other.inside.num c.self.inside.den c.other.inside.den _ _ _ _ _ _ _ _
@@ -31,7 +31,7 @@ signed-requires-clause-positive c =
     lowest_positive _ _ _ _ here
 
 pub with_sign-requires-clause-lowest : goal.with_sign-requires-clause-lowest
-signed-requires-clause-lowest c =
+with_sign-requires-clause-lowest c =
     let ex : c.unsigned_abs-size.result ≡ unsigned_abs c.self.inside.num = omega (arith, ints, c.unsigned_abs-size.ensures.value) in
     let ey : c.unsigned_abs-other_size.result ≡ unsigned_abs c.other.inside.num = omega (arith, ints, c.unsigned_abs-other_size.ensures.value) in
     let exact = product_lowest c.args.self c.args.other c.self.inside.num c.other.inside.num c.self.inside.den c.other.inside.den _ _ _ _ _ _ _ _

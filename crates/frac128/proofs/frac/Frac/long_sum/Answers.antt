@@ -28,7 +28,7 @@ returns-in_err-den c =
     rw c.from_residual-in_err-den.ensures (let wide = c.in_err-den.ensures in lowest_wide_den _ _ _ _ exact (omega arith))
 
 pub with_sign-requires-clause-positive : goal.with_sign-requires-clause-positive
-signed-requires-clause-positive c =
+with_sign-requires-clause-positive c =
     let total = c.in_ok-sum.ensures.value ∙ same_total c.self.inside.num c.other.inside.num _ _ c.exact_quotient-right.result c.exact_quotient-left.result (kept c.self.inside.num c.self.invariant.0) (kept c.other.inside.num c.other.invariant.0) in
     let exact = sum_lowest c.args.self c.args.other c.self.inside.num c.other.inside.num c.self.inside.den c.other.inside.den _ _ _ c.in_ok-sum.sum.negative c.in_ok-sum.sum.whole c.in_ok-sum.sum.rest _ _ _ _
     (stored _ _ c.self.view_is) (stored _ _ c.other.view_is) c.gcd-common.ensures.gcd c.exact_quotient-left.ensures c.exact_quotient-right.ensures total c.in_ok-sum.ensures.rest c.gcd-shared.ensures.gcd c.exact_quotient.ensures c.exact_quotient-2.ensures c.exact_quotient-3.ensures in
@@ -36,7 +36,7 @@ signed-requires-clause-positive c =
     lowest_positive _ _ _ _ here
 
 pub with_sign-requires-clause-lowest : goal.with_sign-requires-clause-lowest
-signed-requires-clause-lowest c =
+with_sign-requires-clause-lowest c =
     let total = c.in_ok-sum.ensures.value ∙ same_total c.self.inside.num c.other.inside.num _ _ c.exact_quotient-right.result c.exact_quotient-left.result (kept c.self.inside.num c.self.invariant.0) (kept c.other.inside.num c.other.invariant.0) in
     let exact = sum_lowest c.args.self c.args.other c.self.inside.num c.other.inside.num c.self.inside.den c.other.inside.den _ _ _ c.in_ok-sum.sum.negative c.in_ok-sum.sum.whole c.in_ok-sum.sum.rest _ _ _ _
     (stored _ _ c.self.view_is) (stored _ _ c.other.view_is) c.gcd-common.ensures.gcd c.exact_quotient-left.ensures c.exact_quotient-right.ensures total c.in_ok-sum.ensures.rest c.gcd-shared.ensures.gcd c.exact_quotient.ensures c.exact_quotient-2.ensures c.exact_quotient-3.ensures in

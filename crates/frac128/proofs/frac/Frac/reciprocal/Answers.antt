@@ -6,12 +6,12 @@ use Rattle.frac128.proofs.Signs.{below_zero, kept}
 use Rattle.frac128.proofs.frac.Frac.reciprocal.Goals as goal
 
 pub with_sign-requires-clause-positive : goal.with_sign-requires-clause-positive
-signed-requires-clause-positive c =
+with_sign-requires-clause-positive c =
     let size : c.unsigned_abs.result ≡ unsigned_abs c.self.inside.num = omega (arith, ints, c.unsigned_abs.ensures.value) in
     lowest_positive _ _ _ _ (reciprocal_lowest c.args.self c.self.inside.num c.self.inside.den _ c.requires (stored _ _ c.self.view_is) size)
 
 pub with_sign-requires-clause-lowest : goal.with_sign-requires-clause-lowest
-signed-requires-clause-lowest c =
+with_sign-requires-clause-lowest c =
     let size : c.unsigned_abs.result ≡ unsigned_abs c.self.inside.num = omega (arith, ints, c.unsigned_abs.ensures.value) in
     lowest_coprime _ _ _ _ (reciprocal_lowest c.args.self c.self.inside.num c.self.inside.den _ c.requires (stored _ _ c.self.view_is) size)
 

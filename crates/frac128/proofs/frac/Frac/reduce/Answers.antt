@@ -3,11 +3,11 @@ use Rattle.frac128.proofs.frac.Frac.reduce.Goals as goal
 use Rattle.frac128.proofs.frac.Frac.reduce.Goals.{else-num-lt-LIMIT-via-then-num-lt-LIMIT+else-den-lt-LIMIT, else-num-lt-LIMIT-via-else-num-lt-LIMIT}
 
 pub with_sign-requires-clause-positive : goal.with_sign-requires-clause-positive
-signed-requires-clause-positive c =
+with_sign-requires-clause-positive c =
     lowest_positive _ _ _ _ (reduced_lowest c.args.negative c.args.num c.args.den _ _ _ c.requires c.gcd-common.ensures.gcd c.exact_quotient-num.ensures c.exact_quotient-den.ensures)
 
 pub with_sign-requires-clause-lowest : goal.with_sign-requires-clause-lowest
-signed-requires-clause-lowest c =
+with_sign-requires-clause-lowest c =
     lowest_coprime _ _ _ _ (reduced_lowest c.args.negative c.args.num c.args.den _ _ _ c.requires c.gcd-common.ensures.gcd c.exact_quotient-num.ensures c.exact_quotient-den.ensures)
 
 pub returns-then-den-lt-LIMIT : goal.returns-then-den-lt-LIMIT

@@ -20,7 +20,7 @@ pub quotient_words-requires-4 : goal.quotient_words-requires-4
 quotient_words-requires-4 c = pos_of_dvd_of_pos c.gcd_words-first.ensures.1 c.other.inside.positive
 
 pub with_sign-requires : goal.with_sign-requires
-signed-requires c =
+with_sign-requires c =
     let left = stored _ _ c.self.view_is in
     let right = stored _ _ c.other.view_is in
     let ex : c.unsigned_abs-size.result ≡ unsigned_abs c.self.inside.num = omega (arith, ints, c.unsigned_abs-size.ensures.value) in

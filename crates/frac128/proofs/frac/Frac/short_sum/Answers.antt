@@ -49,7 +49,7 @@ overflow_cast-shared c =
     record { fits = omega (arith, le_of_dvd (omega arith) c.gcd-shared.ensures.gcd.1, le_of_dvd c.self.inside.positive c.gcd_words-common.ensures.0) }
 
 pub with_sign-requires : goal.with_sign-requires
-signed-requires c =
+with_sign-requires c =
     let left = stored _ _ c.self.view_is in
     let right = stored _ _ c.other.view_is in
     let total = c.sum_of_products-sum.ensures.value ∙ same_total c.self.inside.num c.other.inside.num _ _ c.quotient_words-right.result c.quotient_words-left.result (kept c.self.inside.num c.self.invariant.0) (kept c.other.inside.num c.other.invariant.0) in

@@ -8,7 +8,7 @@ use Rattle.frac128.proofs.Signs.{below_zero}
 use Rattle.frac128.proofs.tiny.Tiny.frac.Goals as goal
 
 pub with_sign-requires-clause-lowest : goal.with_sign-requires-clause-lowest
-signed-requires-clause-lowest c =
+with_sign-requires-clause-lowest c =
     let size : c.from.result ≡ unsigned_abs c.self.inside.num = omega (arith, ints, c.unsigned_abs.ensures.value, c.from.ensures) in
     let den : c.from-2.result ≡ c.self.inside.den = omega (arith, c.from-2.ensures) in
     lowest_coprime _ _ _ _ (stored_lowest c.args.self c.self.inside.num c.self.inside.den (is_below_zero c.self.inside.num) _ _ (stored _ _ c.self.view_is) refl size den)

@@ -1,6 +1,6 @@
 use Rattle.std.proofs.Common.{subst, false, ◌∙◌, ap, length, take, List, ◌≡◌, arith, rules}
 use Rattle.exact_field.specs.Rational.{ℚ}
-use Rattle.log_rules.specs.Events.{is_open, y_at}
+use Rattle.log_rules.specs.AnswerEvents.{is_open, y_at}
 use Rattle.log_rules.specs.Live.{state}
 use Rattle.log_rules.specs.declared.rule.Rule.TheVariants as rule
 use Rattle.log_live.specs.Live.{IsOpenAt}

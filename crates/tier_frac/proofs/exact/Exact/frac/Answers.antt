@@ -6,7 +6,7 @@ use Rattle.frac128.proofs.Lowest.{stored}
 use Rattle.tier_frac.proofs.exact.Exact.frac.Goals as goal
 
 pub with_sign-requires-clause-lowest : goal.with_sign-requires-clause-lowest
-signed-requires-clause-lowest c = subst (λ (n : ℕ). IsGcd n c.self.inside.den 1) (size-signed c.self.inside.negative c.self.inside.num) c.self.inside.lowest
+with_sign-requires-clause-lowest c = subst (λ (n : ℕ). IsGcd n c.self.inside.den 1) (size-signed c.self.inside.negative c.self.inside.num) c.self.inside.lowest
 
 pub returns-then-self-lt-LIMIT-2 : goal.returns-then-self-lt-LIMIT-2
 returns-then-self-lt-LIMIT-2 c =

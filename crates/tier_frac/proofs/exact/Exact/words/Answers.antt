@@ -7,7 +7,7 @@ use Rattle.tier_frac.proofs.Fitting.{small_parts}
 use Rattle.tier_frac.proofs.exact.Exact.words.Goals as goal
 
 pub with_sign-requires-clause-lowest : goal.with_sign-requires-clause-lowest
-signed-requires-clause-lowest c = subst (λ (n : ℕ). IsGcd n c.self.inside.den 1) (size-signed c.self.inside.negative c.self.inside.num) c.self.inside.lowest
+with_sign-requires-clause-lowest c = subst (λ (n : ℕ). IsGcd n c.self.inside.den 1) (size-signed c.self.inside.negative c.self.inside.num) c.self.inside.lowest
 
 pub returns-then-fits : goal.returns-then-fits
 returns-then-fits c =

@@ -6,7 +6,7 @@ use Rattle.tier_frac.proofs.Fitting.{kept_word}
 use Rattle.tier_frac.proofs.words.Words.frac.Goals as goal
 
 pub with_sign-requires-clause-lowest : goal.with_sign-requires-clause-lowest
-signed-requires-clause-lowest c =
+with_sign-requires-clause-lowest c =
     let number = kept_word c.self.inside.num c.self.inside.den c.self.invariant in
     let size = c.from-size.ensures ∙ c.unsigned_abs.ensures.value ∙ ap unsigned_abs number in
     lowest_coprime _ _ _ _ (stored_lowest c.args.self c.self.inside.num c.self.inside.den (is_below_zero c.self.inside.num) _ _ (stored _ _ c.self.view_is) refl size c.from.ensures)

@@ -10,6 +10,6 @@ returns c =
     lowest_same _ _ _ _ _ (negative_lowest c.args.self c.self.inside.num c.self.inside.den _ (stored _ _ c.self.view_is) c.self.invariant.0 size) c.with_sign.ensures.num c.with_sign.ensures.den
 
 pub with_sign-requires-clause-lowest : goal.with_sign-requires-clause-lowest
-signed-requires-clause-lowest c =
+with_sign-requires-clause-lowest c =
     let size : c.unsigned_abs.result ≡ unsigned_abs c.self.inside.num = omega (arith, ints, c.unsigned_abs.ensures.value) in
     lowest_coprime _ _ _ _ (negative_lowest c.args.self c.self.inside.num c.self.inside.den _ (stored _ _ c.self.view_is) c.self.invariant.0 size)
