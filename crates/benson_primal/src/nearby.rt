@@ -6,8 +6,7 @@ ghost use Rattle.lineality.specs.Without.{open_count, with_zeros};
 ghost use Rattle.outer_approx.specs.Cuts.{said_by};
 ghost use Rattle.polyhedra.specs.Exactness.{row_of};
 
-use exact_field::Field;
-use lin_rows::cells::{is_negative, is_zero};
+use exact_field::{Field, is_negative, is_zero};
 use lin_rows::dot;
 use lp_form::Cut;
 use outer_approx::cut_row;

@@ -1,5 +1,6 @@
 -- The overflow of a full share.
 use Rattle.std.proofs.Common.{◌≡◌, ℕ, List, [], refl, sym, ap, ap₂, ◌∙◌, subst, ◌≤◌, Bool, inl, inr, length}
+use Rattle.exact_field.specs.Field.{IsLeftOf}
 use Rattle.exact_field.specs.Rational.{ℚ, zero_ℚ, neg_ℚ, ◌<ℚ◌, ◌*ℚ◌}
 use Rattle.exact_field.specs.Vector.{entry}
 use Rattle.exact_field.specs.declared.op.Op.{Op}
@@ -27,8 +28,8 @@ module _ {F : Type 0} (value : F → ℚ) (holds : ℚ → Bool) (s : Setting) (
   factor_same : factor ≡ magnitude (value_of y)
   factor_same = factor_is ∙ sym (magnitude_below (value_of y) low)
 
-  in_place : (o : Op) (a b x z : ℚ) (left : Operation F) → left.op ≡ o → value left.a ≡ a → value left.b ≡ b → a ≡ x → b ≡ z → in_numbers value left ≡ operation o x z
-  in_place o a b x z left d e f k l = ap (λ (p : Op). operation p (value left.a) (value left.b)) d ∙ ap₂ (λ (p q : ℚ). operation o p q) (e ∙ k) (f ∙ l)
+  in_place : (o : Op) (a b x z : ℚ) (left : Operation F) → IsLeftOf value holds o a b left → a ≡ x → b ≡ z → in_numbers value left ≡ operation o x z
+  in_place o a b x z left h k l = ap (λ (p : Op). operation p (value left.a) (value left.b)) h.0 ∙ ap₂ (λ (p q : ℚ). operation o p q) (h.1 ∙ k) (h.2 ∙ l)
 
   share_step : (col step : ℕ) (left : Operation F) → 1 ≤ col → col ≤ length share → IsPlusLeft value holds (entry share col) factor (entry weights col) step left →
       IsShareStep s col step (in_numbers value left) × IsNotHeld holds (in_numbers value left)
@@ -41,12 +42,12 @@ module _ {F : Type 0} (value : F → ℚ) (holds : ℚ → Bool) (s : Setting) (
       to_end = subst (λ (n : ℕ). col ≤ n) (long ∙ ap length weights_are) to_end;
       operands = inl (
         h.0,
-        in_place Mul factor (entry weights col) (magnitude (value_of y)) (entry s.weights col) left h.1 h.2 h.3 factor_same
+        in_place Mul factor (entry weights col) (magnitude (value_of y)) (entry s.weights col) left h.1 factor_same
             (ap (λ w. entry w col) weights_are),
       );
     },
-    subst (IsNotHeld holds) (sym (in_place Mul factor (entry weights col) factor (entry weights col) left h.1 h.2 h.3 refl refl))
-        record { defined = λ e. cc; not_held = h.4 },
+    subst (IsNotHeld holds) (sym (in_place Mul factor (entry weights col) factor (entry weights col) left h.1 refl refl))
+        record { defined = λ e. cc; not_held = h.1.3 },
   )
   share_step col step left from_one to_end (inr h) = (
     record {
@@ -58,12 +59,12 @@ module _ {F : Type 0} (value : F → ℚ) (holds : ℚ → Bool) (s : Setting) (
       operands = inr (
         h.0,
         in_place Add (entry share col) (factor *ℚ entry weights col) (entry (share_of s.file s.file.cone y) col)
-            (magnitude (value_of y) *ℚ entry s.weights col) left h.1 h.2 h.3 (ap (λ w. entry w col) share_is)
+            (magnitude (value_of y) *ℚ entry s.weights col) left h.1 (ap (λ w. entry w col) share_is)
             (ap₂ (λ (p : ℚ) (w : List ℚ). p *ℚ entry w col) factor_same weights_are),
       );
     },
-    subst (IsNotHeld holds) (sym (in_place Add (entry share col) (factor *ℚ entry weights col) (entry share col) (factor *ℚ entry weights col) left h.1 h.2 h.3 refl refl))
-        record { defined = λ e. cc; not_held = h.4 },
+    subst (IsNotHeld holds) (sym (in_place Add (entry share col) (factor *ℚ entry weights col) (entry share col) (factor *ℚ entry weights col) left h.1 refl refl))
+        record { defined = λ e. cc; not_held = h.1.3 },
   )
 
   licensed : (rows : List (List ℚ)) (basis : List ℕ) (row col step : ℕ) (left : Operation F) (trail : List Entry) (result : SolveFault) → trail ≡ [] → row ≡ 0 →

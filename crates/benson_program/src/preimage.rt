@@ -13,8 +13,7 @@ ghost use Rattle.upper_image.specs.Shows.{ShowsFitting};
 ghost use Rattle.vlp_problem.specs.declared.problem.Problem.{Problem as File};
 
 use crate::whole::generator_count;
-use exact_field::Field;
-use lin_rows::cells::is_negative;
+use exact_field::{Field, is_negative};
 use lin_rows::{Rows, combine};
 use lp_form::{Data, Preimage, negative};
 use overflows::{SolveFault, elimination_fault};

@@ -6,9 +6,8 @@ ghost use Rattle.lin_rows.specs.Read.{numbers};
 ghost use Rattle.polyhedra.specs.Vectors.{AreWide};
 ghost use Rattle.tableaux.specs.Table.{row_of};
 
-use exact_field::Field;
+use exact_field::{Field, is_positive};
 use lin_rows::Rows;
-use lin_rows::cells::is_positive;
 use src_sink::{Items, NoMemory};
 use std::alloc::Global;
 

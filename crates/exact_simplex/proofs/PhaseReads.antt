@@ -1,7 +1,8 @@
 -- What the choices of a phase say of its table.
-use Rattle.std.proofs.Common.{◌≡◌, ℕ, zero, suc, List, [], ◌∷◌, length, refl, sym, ap, ap₂, ◌∙◌, subst, arith, ◌<◌, ◌≤◌, ◌+◌, inl, Bool, None, Some, slice_index_or}
-use Rattle.std.specs.Prelude.{IsFalse}
-use Rattle.exact_field.specs.Rational.{ℚ, zero_ℚ, ◌/ℚ◌, ◌≤ℚ◌, ◌<ℚ◌}
+use Rattle.std.proofs.Common.{◌≡◌, ℕ, zero, suc, List, [], ◌∷◌, length, refl, sym, ap, ◌∙◌, subst, arith, ◌<◌, ◌≤◌, ◌+◌, inl, Bool, None, Some, slice_index_or}
+use Rattle.exact_field.specs.Field.{IsLeftOf}
+use Rattle.exact_field.specs.Rational.{ℚ, zero_ℚ, ◌≤ℚ◌, ◌<ℚ◌}
+use Rattle.exact_field.specs.declared.op.Op.TheVariants.{Div}
 use Rattle.exact_field.specs.declared.op.Left.{Left}
 use Rattle.polyhedra.specs.Sparse.{Entry}
 use Rattle.tableaux.specs.Table.{at}
@@ -46,9 +47,7 @@ module _ (n : ℕ) (ls : List (List Entry)) (h : AreLines n ls) where
         there.1,
         inl (
           refl,
-          ratio.2,
-          ratio.3 ∙ sym at_j,
-          ratio.4 ∙ sym at_col,
-          subst (λ (q : ℚ). IsFalse (holds q)) (ap₂ (λ x y. x /ℚ y) (sym at_j) (sym at_col)) ratio.5,
+          subst (λ (x : ℚ). IsLeftOf value holds Div x (at (table_of n ls) (row + 1) col) left) (sym at_j)
+              (subst (λ (y : ℚ). IsLeftOf value holds Div (sum_at (slice_index_or ls row []) j) y left) (sym at_col) ratio.2),
         ),
       )

@@ -1,8 +1,8 @@
 -- What is read off a tableau of a program.
 use Rattle.std.proofs.Common.{◌≡◌, ℕ, length, map, sym, refl, ap, ◌∙◌, subst, arith, ◌<◌, ◌≤◌, ◌+◌, ◌-◌, Bool, inr, slice_index_or}
-use Rattle.std.specs.Prelude.{IsFalse}
 use Rattle.std.proofs.lemmas.List.{get_or-map}
-use Rattle.exact_field.specs.Rational.{ℚ, zero_ℚ, one_ℚ, ◌*ℚ◌, ◌-ℚ◌}
+use Rattle.exact_field.specs.Field.{IsLeftOf}
+use Rattle.exact_field.specs.Rational.{ℚ, zero_ℚ, one_ℚ, ◌*ℚ◌}
 use Rattle.exact_field.specs.Vector.{entry}
 use Rattle.exact_field.specs.declared.op.Op.TheVariants.{Sub}
 use Rattle.exact_field.specs.declared.op.Left.{Left as Operation}
@@ -49,10 +49,10 @@ module _ {F : Type 0} (value : F → ℚ) (p : Program F) (lengths : HasLengths 
       pub artificial_high : col ≤ t.width
       artificial_high = omega (arith, col_is, inside, right_column_is value p lengths, held.width)
 
-      pub less_one_fault : (holds : ℚ → Bool) (left : Operation F) (fault : RowFault F) → left.op ≡ Sub → value left.a ≡ at t.table (p.rows + 1) (artificial_column s (i + 1)) →
-          value left.b ≡ one_ℚ → IsFalse (holds (at t.table (p.rows + 1) (artificial_column s (i + 1)) -ℚ one_ℚ)) → IsGivenUp t.basis (p.rows + 1) col 3 left fault →
+      pub less_one_fault : (holds : ℚ → Bool) (left : Operation F) (fault : RowFault F) →
+          IsLeftOf value holds Sub (at t.table (p.rows + 1) (artificial_column s (i + 1))) one_ℚ left → IsGivenUp t.basis (p.rows + 1) col 3 left fault →
           IsSystemFault value holds s fault
-      less_one_fault holds left fault op a b wide e =
+      less_one_fault holds left fault stuck e =
           let first : p.rows + 1 ≡ first_cost s = omega (arith, equation_count_is value p lengths) in
           subst (IsSystemFault value holds s) (sym e) (
             t.table,
@@ -64,9 +64,6 @@ module _ {F : Type 0} (value : F → ℚ) (p : Program F) (lengths : HasLengths 
               first,
               artificial_is,
               refl,
-              op,
-              a ∙ ap (at t.table (p.rows + 1)) (sym artificial_is),
-              b,
-              subst (λ (c : ℕ). IsFalse (holds (at t.table (p.rows + 1) c -ℚ one_ℚ))) (sym artificial_is) wide,
+              subst (λ (c : ℕ). IsLeftOf value holds Sub (at t.table (p.rows + 1) c) one_ℚ left) (sym artificial_is) stuck,
             ),
           )

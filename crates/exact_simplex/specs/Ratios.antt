@@ -1,5 +1,6 @@
 -- The quotients of a row that the ratio test compares, over sparse rows.
-use Rattle.std.specs.Prelude.{ℕ, ◌<◌, ◌≤◌, ◌≡◌, false, Bool, IsFalse, List, [], map, length, slice_index_or, Option, None, Some}
+use Rattle.std.specs.Prelude.{ℕ, ◌<◌, ◌≤◌, ◌≡◌, false, Bool, List, [], map, length, slice_index_or, Option, None, Some}
+use Rattle.exact_field.specs.Field.{IsLeftOf}
 use Rattle.exact_field.specs.Rational.{ℚ, zero_ℚ, ◌/ℚ◌, ◌≤ℚ◌, ◌<ℚ◌}
 use Rattle.exact_field.specs.declared.op.Op.TheVariants.{Div}
 use Rattle.exact_field.specs.declared.op.Left.{Left}
@@ -17,13 +18,12 @@ ratios p es columns = map (λ c. sum_at es c /ℚ p) columns
 -- a quotient of an entry at one of these columns is not held
 abbrev pub IsRatioLeft : {F : Type 0} → (F → ℚ) → (ℚ → Bool) → ℚ → List Entry → List ℕ → Left F → Type 0
 IsRatioLeft value holds p es columns left =
-    (k : ℕ) × (k < length columns) × (left.op ≡ Div) × (value left.a ≡ sum_at es (slice_index_or columns k 0)) × (value left.b ≡ p)
-    × IsFalse (holds (sum_at es (slice_index_or columns k 0) /ℚ p))
+    (k : ℕ) × (k < length columns) × IsLeftOf value holds Div (sum_at es (slice_index_or columns k 0)) p left
 
 -- a quotient of one of two rows is not held at this column
 abbrev pub IsEitherAt : {F : Type 0} → (F → ℚ) → (ℚ → Bool) → ℚ → List Entry → ℚ → List Entry → ℕ → Either F → Type 0
-IsEitherAt value holds p us r vs col (First left) = (left.op ≡ Div) × (value left.a ≡ sum_at us col) × (value left.b ≡ p) × IsFalse (holds (sum_at us col /ℚ p))
-IsEitherAt value holds p us r vs col (Second left) = (left.op ≡ Div) × (value left.a ≡ sum_at vs col) × (value left.b ≡ r) × IsFalse (holds (sum_at vs col /ℚ r))
+IsEitherAt value holds p us r vs col (First left) = IsLeftOf value holds Div (sum_at us col) p left
+IsEitherAt value holds p us r vs col (Second left) = IsLeftOf value holds Div (sum_at vs col) r left
 
 -- a quotient of one of two rows is not held at one of these columns
 abbrev pub IsEither : {F : Type 0} → (F → ℚ) → (ℚ → Bool) → ℚ → List Entry → ℚ → List Entry → List ℕ → Either F → Type 0

@@ -7,8 +7,8 @@ ghost use Rattle.exact_simplex.specs.Ends.{IsSystemFault};
 ghost use Rattle.exact_simplex.specs.Program.{IsFeasible, IsIdle};
 ghost use Rattle.lin_rows.specs.System.{HasLengths, system_of};
 
-use exact_field::Field;
-use lin_rows::cells::{Cell, is_zero};
+use exact_field::{Field, is_zero};
+use lin_rows::cells::Cell;
 use lin_rows::tableau::Tableau;
 use lin_rows::{RowFault, System};
 

@@ -9,9 +9,9 @@ ghost use Rattle.exact_simplex.specs.Ends.{IsSystemFault};
 ghost use Rattle.exact_simplex.specs.Program.{IsPrimal, IsUnopened};
 ghost use Rattle.lin_rows.specs.System.{HasLengths, coefficients_of, system_of};
 
-use exact_field::Field;
+use exact_field::{Field, is_negative};
 use lin_rows::build::{line_of, push_kept};
-use lin_rows::cells::{Cell, is_negative};
+use lin_rows::cells::Cell;
 use lin_rows::tableau::Tableau;
 use lin_rows::{RowFault, System};
 use src_sink::{MOST_ITEMS, NoMemory};

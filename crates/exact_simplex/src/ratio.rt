@@ -10,8 +10,8 @@ ghost use Rattle.exact_simplex.specs.Ratios.{IsEither, IsEitherAt, IsEntering, I
 ghost use Rattle.tableaux.specs.Lex.{lex_less};
 
 use crate::measure::{magnitude, measure};
-use exact_field::{Field, Left};
-use lin_rows::cells::{Cell, entry_at, is_negative, is_positive};
+use exact_field::{Field, Left, is_negative, is_positive};
+use lin_rows::cells::{Cell, entry_at};
 use std::cmp::Ordering;
 
 /// Which of two rows an overflow concerns.

@@ -12,9 +12,8 @@ ghost use Rattle.lin_rows.specs.System.{HasLengths, system_of};
 
 use crate::answer::LpEnd;
 use crate::opening::artificial_column;
-use exact_field::Field;
+use exact_field::{Field, is_negative};
 use lin_rows::build::{column_values, ray};
-use lin_rows::cells::is_negative;
 use lin_rows::tableau::Tableau;
 use lin_rows::{RowFault, System};
 use src_sink::{Items, NoMemory};

@@ -11,7 +11,6 @@ pub mod Merging
 pub mod PivotRows
 pub mod Pivoted
 pub mod Places
-pub mod Signs
 pub mod Summing
 pub mod Sweeping
 pub mod Views

@@ -1,9 +1,11 @@
 -- Products and sums of lists, in order, and where they are given up.
-use Rattle.std.specs.Prelude.{ℕ, ◌<◌, ◌≤◌, ◌≡◌, ◌≢◌, ◌+◌, ◌⊎◌, Bool, IsTrue, IsFalse, List, [], take, length}
+use Rattle.std.specs.Prelude.{ℕ, ◌<◌, ◌≤◌, ◌≡◌, ◌≢◌, ◌+◌, ◌⊎◌, Bool, IsTrue, List, [], take, length}
+use Rattle.exact_field.specs.Field.{IsLeftOf}
 use Rattle.exact_field.specs.Rational.{ℚ, zero_ℚ, ◌+ℚ◌, ◌*ℚ◌}
 use Rattle.exact_field.specs.Vector.{entry, dot}
 use Rattle.exact_field.specs.declared.op.Op.TheVariants.{Add, Mul}
 use Rattle.exact_field.specs.declared.op.Left.{Left}
+use Rattle.lin_rows.specs.Clear.{IfStep}
 use Rattle.lin_rows.specs.declared.cells.Stop.{Stop}
 use Rattle.lin_rows.specs.declared.cells.Stop.TheVariants.{Step, NoMemory as Want}
 use Rattle.lin_rows.specs.declared.fault.RowFault.{RowFault}
@@ -21,8 +23,7 @@ AreHeld holds a b n = (k : ℕ) → 1 ≤ k → k ≤ n → entry a k ≢ zero_�
 -- the product of x and y is not held, or it is, and its sum with the total is not
 abbrev pub IsTermLeft : {F : Type 0} → (F → ℚ) → (ℚ → Bool) → ℚ → ℚ → ℚ → Left F → Type 0
 IsTermLeft value holds total x y left =
-    ((left.op ≡ Mul) × (value left.a ≡ x) × (value left.b ≡ y) × IsFalse (holds (x *ℚ y)))
-    ⊎ ((left.op ≡ Add) × (value left.a ≡ total) × (value left.b ≡ x *ℚ y) × IsTrue (holds (x *ℚ y)) × IsFalse (holds (total +ℚ x *ℚ y)))
+    IsLeftOf value holds Mul x y left ⊎ (IsTrue (holds (x *ℚ y)) × IsLeftOf value holds Add total (x *ℚ y) left)
 
 -- a step at some place is the first that is not held
 pub record IsDotLeft {F : Type 0} (value : F → ℚ) (holds : ℚ → Bool) (a b : List ℚ) (left : Left F) : Type 0 where
@@ -36,18 +37,15 @@ pub record IsDotLeft {F : Type 0} (value : F → ℚ) (holds : ℚ → Bool) (a 
 -- the product of k and y is not held (step 2), or its sum with x is not (step 3)
 abbrev pub IsPlusLeft : {F : Type 0} → (F → ℚ) → (ℚ → Bool) → ℚ → ℚ → ℚ → ℕ → Left F → Type 0
 IsPlusLeft value holds x k y step left =
-    ((step ≡ 2) × (left.op ≡ Mul) × (value left.a ≡ k) × (value left.b ≡ y) × IsFalse (holds (k *ℚ y)))
-    ⊎ ((step ≡ 3) × (left.op ≡ Add) × (value left.a ≡ x) × (value left.b ≡ k *ℚ y) × IsFalse (holds (x +ℚ k *ℚ y)))
+    ((step ≡ 2) × IsLeftOf value holds Mul k y left) ⊎ ((step ≡ 3) × IsLeftOf value holds Add x (k *ℚ y) left)
 
--- the same of what was given up, and nothing of want of memory
+-- the same of what was given up
 abbrev pub PlusStops : {F : Type 0} → (F → ℚ) → (ℚ → Bool) → ℚ → ℚ → ℚ → Stop F → Type 0
-PlusStops value holds x k y (Step step left) = IsPlusLeft value holds x k y step left
-PlusStops value holds x k y Want = Unit {0}
+PlusStops value holds x k y stop = IfStep (IsPlusLeft value holds x k y) stop
 
 -- the product of k and y is not held
 abbrev pub ProductStops : {F : Type 0} → (F → ℚ) → (ℚ → Bool) → ℚ → ℚ → Stop F → Type 0
-ProductStops value holds k y (Step step left) = (step ≡ 2) × (left.op ≡ Mul) × (value left.a ≡ k) × (value left.b ≡ y) × IsFalse (holds (k *ℚ y))
-ProductStops value holds k y Want = Unit {0}
+ProductStops value holds k y stop = IfStep (λ step left. (step ≡ 2) × IsLeftOf value holds Mul k y left) stop
 
 -- what was given up at an index, as a fault
 abbrev pub IsFaultAt : {F : Type 0} → ℕ → Stop F → RowFault F → Type 0
@@ -71,6 +69,5 @@ IsCombineFault value holds a k b NoMemory = Unit {0}
 -- nothing is eliminated, and the product of k with an entry is not held
 abbrev pub IsScaleFault : {F : Type 0} → (F → ℚ) → (ℚ → Bool) → ℚ → List ℚ → RowFault F → Type 0
 IsScaleFault value holds k a (Stuck basis row col step left) =
-    (basis ≡ []) × (row ≡ 0) × (1 ≤ col) × (col ≤ length a)
-    × (step ≡ 2) × (left.op ≡ Mul) × (value left.a ≡ k) × (value left.b ≡ entry a col) × IsFalse (holds (k *ℚ entry a col))
+    (basis ≡ []) × (row ≡ 0) × (1 ≤ col) × (col ≤ length a) × (step ≡ 2) × IsLeftOf value holds Mul k (entry a col) left
 IsScaleFault value holds k a NoMemory = Unit {0}

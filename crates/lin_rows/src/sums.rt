@@ -7,9 +7,9 @@ ghost use Rattle.exact_field.specs.declared.op.Op.TheVariants.{Mul};
 ghost use Rattle.polyhedra.specs.Vectors.{plus, scaled};
 ghost use Rattle.lin_rows.specs.Sums.{AreHeld, AreProductsHeld, AreSumsHeld, IsCombineFault, IsDotLeft, IsFaultAt, IsScaleFault, IsTermLeft, PlusStops, ProductStops};
 
-use crate::cells::{Stop, is_zero};
+use crate::cells::Stop;
 use crate::fault::RowFault;
-use exact_field::{Field, Left};
+use exact_field::{Field, Left, is_zero};
 use src_sink::Items;
 use std::alloc::Global;
 

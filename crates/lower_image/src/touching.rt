@@ -4,8 +4,7 @@ ghost use Rattle.std.specs.Prelude.{◌≤◌, length, All, Contains};
 ghost use Rattle.polyhedra.specs.LiveList.{numbers};
 
 use double_descr::Dd;
-use exact_field::Field;
-use lin_rows::cells::is_zero;
+use exact_field::{Field, is_zero};
 use src_sink::{Items, MOST_ITEMS, NoMemory};
 use std::alloc::Global;
 

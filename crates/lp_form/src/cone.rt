@@ -14,9 +14,8 @@ ghost use Rattle.lp_form.specs.Shapes.{vectors_fit, duality_fits};
 use crate::data::ConeOf;
 use crate::equations::system;
 use crate::pieces::{column, push_difference, push_negated, push_zeros, unit};
-use exact_field::Field;
+use exact_field::{Field, is_zero};
 use lin_rows::System;
-use lin_rows::cells::is_zero;
 use src_sink::{Items, NoMemory};
 use std::alloc::Global;
 

@@ -9,8 +9,7 @@ ghost use Rattle.lp_form.specs.Reading.{AreParts, AreRead, AreDisjoint, HasColum
 
 use crate::data::{ConeOf, Data};
 use crate::name::{LpName, Parts};
-use exact_field::Field;
-use lin_rows::cells::is_zero;
+use exact_field::{Field, is_zero};
 use src_sink::{Items, NoMemory};
 use std::alloc::Global;
 

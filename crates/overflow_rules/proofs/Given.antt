@@ -3,7 +3,7 @@ use Rattle.std.proofs.Common.{◌≡◌, ◌≢◌, ℕ, suc, ◌+◌, ◌-◌, 
 use Rattle.std.specs.Prelude.{IsFalse, Option, None, ⊤}
 use Rattle.std.proofs.lemmas.Option.{slice_get-get_or}
 use Rattle.std.proofs.Math.Seq.{get_or-append_seam}
-use Rattle.exact_field.specs.Field.{exact}
+use Rattle.exact_field.specs.Field.{exact, IsLeftOf}
 use Rattle.exact_field.specs.Rational.{ℚ, zero_ℚ, ◌+ℚ◌, ◌-ℚ◌, ◌*ℚ◌, ◌/ℚ◌, inverse_ℚ, one_ℚ, whole, fraction}
 use Rattle.exact_field.specs.Vector.{entry}
 use Rattle.exact_field.specs.declared.op.Op.{Op}
@@ -67,13 +67,13 @@ step_not_held : (holds : ℚ → Bool) (n : ℕ) (t : Table) (row col number : �
     IsFalse (holds (exact left.op left.a left.b))
 step_not_held holds n t row col number left (j, low, high, inl s) =
     still holds (exact left.op left.a left.b) (quotient_at t row col j)
-    (same_exact left.op Div left.a (at t row j) left.b (at t row col) s.1 s.2 s.3) s.4
+    (same_exact left.op Div left.a (at t row j) left.b (at t row col) s.1.0 s.1.1 s.1.2) s.1.3
 step_not_held holds n t row col number left (j, low, high, inr (i, a, b, c, inl s)) =
     still holds (exact left.op left.a left.b) (at t i col *ℚ quotient_at t row col j)
-    (same_exact left.op Mul left.a (at t i col) left.b (quotient_at t row col j) s.1 s.2 s.3) s.4
+    (same_exact left.op Mul left.a (at t i col) left.b (quotient_at t row col j) s.1.0 s.1.1 s.1.2) s.1.3
 step_not_held holds n t row col number left (j, low, high, inr (i, a, b, c, inr s)) =
     still holds (exact left.op left.a left.b) (at t i j -ℚ at t i col *ℚ quotient_at t row col j)
-    (same_exact left.op Sub left.a (at t i j) left.b (at t i col *ℚ quotient_at t row col j) s.1 s.2 s.3) s.4
+    (same_exact left.op Sub left.a (at t i j) left.b (at t i col *ℚ quotient_at t row col j) s.1.0 s.1.1 s.1.2) s.1.3
 
 -- and its pivot is not 0 where the first operand is held: over 0 the quotients are 0, and the other
 -- steps change nothing
@@ -90,13 +90,13 @@ pivot_not_zero holds n t row col number left zero first (j, low, high, how) none
     clash : (x y : ℚ) → x ≡ y → IsTrue (holds y) → IsFalse (holds x) → ⊥
     clash x y same h k = true≢false (sym h ∙ sym (ap holds same) ∙ k)
 
-    go : ((number ≡ 1) × (left.op ≡ Div) × (left.a ≡ at t row j) × (left.b ≡ at t row col) × IsFalse (holds (quotient_at t row col j)))
+    go : ((number ≡ 1) × IsLeftOf (λ q. q) holds Div (at t row j) (at t row col) left)
         ⊎ ((i : ℕ) × (1 ≤ i) × (i ≤ length t) × (i ≢ row) × IsStuckAt (λ q. q) holds (at t i col) (at t i j) (quotient_at t row col j) number left) → ⊥
-    go (inl s) = clash (quotient_at t row col j) zero_ℚ quotient zero s.4
-    go (inr (i, a, b, c, inl s)) = clash (at t i col *ℚ quotient_at t row col j) zero_ℚ (product (at t i col)) zero s.4
+    go (inl s) = clash (quotient_at t row col j) zero_ℚ quotient zero s.1.3
+    go (inr (i, a, b, c, inl s)) = clash (at t i col *ℚ quotient_at t row col j) zero_ℚ (product (at t i col)) zero s.1.3
     go (inr (i, a, b, c, inr s)) =
         clash (at t i j -ℚ at t i col *ℚ quotient_at t row col j) left.a
-        (ap (λ (d : ℚ). at t i j -ℚ d) (product (at t i col)) ∙ less_zero (at t i j) ∙ sym s.2) first s.4
+        (ap (λ (d : ℚ). at t i j -ℚ d) (product (at t i col)) ∙ less_zero (at t i j) ∙ sym s.1.1) first s.1.3
 
 -- ---- programs
 of_program : (holds : ℚ → Bool) (s : Setting) (p : Program) (basis : List ℕ) (row col number : ℕ) (left : Left ℚ) →
@@ -116,7 +116,7 @@ of_program holds s p basis row col number left zero first allowed (d, is, inl h)
 of_program holds s p basis row col number left zero first allowed (d, is, inr h) =
     record {
       not_held = not_held holds left zero
-          (still holds (exact left.op left.a left.b) (at d row col -ℚ one_ℚ) (same_exact left.op Sub left.a (at d row col) left.b one_ℚ h.6 h.7 h.8) h.9);
+          (still holds (exact left.op left.a left.b) (at d row col -ℚ one_ℚ) (same_exact left.op Sub left.a (at d row col) left.b one_ℚ h.6.0 h.6.1 h.6.2) h.6.3);
       operands = record {
         allowed = allowed;
         dictionary = d;
@@ -172,13 +172,13 @@ term holds s rows basis xs ys place left zero allowed low in_first in_second h =
     unheld (inl t) = still holds (exact left.op left.a left.b) (entry xs place *ℚ entry ys place)
         (same_exact left.op Mul left.a (entry xs place) left.b (entry ys place) t.0 t.1 t.2) t.3
     unheld (inr t) = still holds (exact left.op left.a left.b) (partial xs ys (place - 1) +ℚ entry xs place *ℚ entry ys place)
-        (same_exact left.op Add left.a (partial xs ys (place - 1)) left.b (entry xs place *ℚ entry ys place) t.0 t.1 t.2) t.4
+        (same_exact left.op Add left.a (partial xs ys (place - 1)) left.b (entry xs place *ℚ entry ys place) t.1.0 t.1.1 t.1.2) t.1.3
 
     operands : IsTermLeft (λ q. q) holds (partial xs ys (place - 1)) (entry xs place) (entry ys place) left →
         ((term_number left.op ≡ 2) × (left ≡ operation Mul (entry xs place) (entry ys place)))
         ⊎ ((term_number left.op ≡ 3) × (left ≡ operation Add (partial xs ys (place - 1)) (entry xs place *ℚ entry ys place)))
     operands (inl t) = inl (ap (λ (o : Op). term_number o) t.0, same_operation left.op Mul left.a (entry xs place) left.b (entry ys place) t.0 t.1 t.2)
-    operands (inr t) = inr (ap (λ (o : Op). term_number o) t.0, same_operation left.op Add left.a (partial xs ys (place - 1)) left.b (entry xs place *ℚ entry ys place) t.0 t.1 t.2)
+    operands (inr t) = inr (ap (λ (o : Op). term_number o) t.1.0, same_operation left.op Add left.a (partial xs ys (place - 1)) left.b (entry xs place *ℚ entry ys place) t.1.0 t.1.1 t.1.2)
 
     at_place : IsProductStep place (term_number left.op) xs ys left
     at_place = record { from_one = low; in_first = in_first; in_second = in_second; operands = operands h }

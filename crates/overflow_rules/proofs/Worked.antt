@@ -97,7 +97,7 @@ pivot = overflow_laws.program is_few (setting plain ones) Feasible [] 1 1 1 (ope
       2,
       lit≤ tt,
       lit≤ tt,
-      inl (refl, refl, equal (n 1) (at (table_of feasible) 1 2) refl, equal (n 2) (at (table_of feasible) 1 1) refl, refl),
+      inl (refl, (refl, equal (n 1) (at (table_of feasible) 1 2) refl, equal (n 2) (at (table_of feasible) 1 1) refl, refl)),
     ),
   ),
 )
@@ -124,7 +124,7 @@ turned h = go h.operands h.operands.operands
     go : (o : IsProgramStep is_few (setting plain ones) Feasible [] 1 1 1 (operation Div (n 2) (n 1))) →
         IsSystemStep (λ q. q) is_few feasible o.dictionary 1 1 1 (operation Div (n 2) (n 1)) → ⊥
     go o (inl (a, b, c, d, (j, l, u, inl s))) =
-        not_two (s.3 ∙ at_start (right_column feasible) (table_of feasible) [] o.dictionary 1 1 no_names o.is.dictionary (lit≤ tt) one_row ∙ two_at)
+        not_two (s.1.2 ∙ at_start (right_column feasible) (table_of feasible) [] o.dictionary 1 1 no_names o.is.dictionary (lit≤ tt) one_row ∙ two_at)
     go o (inl (a, b, c, d, (j, l, u, inr (i, e, f, g, inl s)))) = let k = s.0 in omega (arith, k)
     go o (inl (a, b, c, d, (j, l, u, inr (i, e, f, g, inr s)))) = let k = s.0 in omega (arith, k)
     go o (inr x) = not_cost_row x.3
@@ -138,7 +138,7 @@ other_step h = go h.operands h.operands.operands
     go : (o : IsProgramStep is_few (setting plain ones) Feasible [] 1 1 2 (operation Div (n 1) (n 2))) →
         IsSystemStep (λ q. q) is_few feasible o.dictionary 1 1 2 (operation Div (n 1) (n 2)) → ⊥
     go o (inl (a, b, c, d, (j, l, u, inl s))) = let k = s.0 in omega (arith, k)
-    go o (inl (a, b, c, d, (j, l, u, inr (i, e, f, g, inl s)))) = no_product s.1
+    go o (inl (a, b, c, d, (j, l, u, inr (i, e, f, g, inl s)))) = no_product s.1.0
     go o (inl (a, b, c, d, (j, l, u, inr (i, e, f, g, inr s)))) = let k = s.0 in omega (arith, k)
     go o (inr x) = not_cost_row x.3
 
@@ -177,7 +177,7 @@ origin = overflow_laws.program is_few (setting plain ones) (Benson (n 0 ∷ n 0 
       2,
       lit≤ tt,
       lit≤ tt,
-      inl (refl, refl, equal (n 1) (at (table_of at_origin) 1 2) refl, equal (n 2) (at (table_of at_origin) 1 1) refl, refl),
+      inl (refl, (refl, equal (n 1) (at (table_of at_origin) 1 2) refl, equal (n 2) (at (table_of at_origin) 1 1) refl, refl)),
     ),
   ),
 )
@@ -230,7 +230,7 @@ elimination = overflow_laws.elimination is_few given cone_rows 2 cone_rows 2 [] 
     (IsElimTable.alone refl refl) (lit≤ tt) (lit≤ tt) (
       cone_rows,
       starts 2 cone_rows [] (wide_test 2 cone_rows refl) no_names,
-      (2, lit≤ tt, lit≤ tt, inl (refl, refl, equal (n 1) (at cone_rows 1 2) refl, equal (n 2) (at cone_rows 1 1) refl, refl)),
+      (2, lit≤ tt, lit≤ tt, inl (refl, (refl, equal (n 1) (at cone_rows 1 2) refl, equal (n 2) (at cone_rows 1 1) refl, refl))),
       lit≤ tt,
       lit≤ tt,
       lit≤ tt,
@@ -253,7 +253,7 @@ turned_elimination h = go h.operands
     within e (j, l, u, inl s) =
         let first = begins_with_two e.width e.columns e.is.table e.is.of_rows in
         let long = first.0 in
-        not_two (s.3 ∙ at_start e.columns e.is.table [] e.dictionary 1 1 no_names e.is.is (lit≤ tt) (omega (arith, long)) ∙ first.1)
+        not_two (s.1.2 ∙ at_start e.columns e.is.table [] e.dictionary 1 1 no_names e.is.is (lit≤ tt) (omega (arith, long)) ∙ first.1)
     within e (j, l, u, inr (i, a, b, c, inl s)) = let k = s.0 in omega (arith, k)
     within e (j, l, u, inr (i, a, b, c, inr s)) = let k = s.0 in omega (arith, k)
 

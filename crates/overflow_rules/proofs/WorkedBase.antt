@@ -348,7 +348,7 @@ weight_pivot = overflow_laws.program is_few (setting steep ones) (Weight unit_we
       2,
       lit≤ tt,
       lit≤ tt,
-      inl (refl, refl, equal (n 1) (at (table_of weighed) 1 2) refl, equal (n 2) (at (table_of weighed) 1 1) refl, refl),
+      inl (refl, (refl, equal (n 1) (at (table_of weighed) 1 2) refl, equal (n 2) (at (table_of weighed) 1 1) refl, refl)),
     ),
   ),
 )
@@ -388,7 +388,7 @@ elimination = overflow_laws.elimination is_few (setting steep ones) base_rows 3 
     (AreElimRows.of_base ones refl rows_are) (IsElimTable.alone refl refl) (lit≤ tt) (lit≤ tt) (
       base_rows,
       starts 3 base_rows [] (wide_test 3 base_rows refl) no_names,
-      (3, lit≤ tt, lit≤ tt, inl (refl, refl, equal (n 1) (at base_rows 3 3) refl, equal (minus 1) (at base_rows 3 1) refl, refl)),
+      (3, lit≤ tt, lit≤ tt, inl (refl, (refl, equal (n 1) (at base_rows 3 3) refl, equal (minus 1) (at base_rows 3 1) refl, refl))),
       lit≤ tt,
       lit≤ tt,
       lit≤ tt,

@@ -81,7 +81,7 @@ of_normals = record {
       2,
       lit≤ tt,
       lit≤ tt,
-      inl (refl, refl, equal three_quarters (at normal_rows 3 2) refl, equal quarter (at normal_rows 3 1) refl, refl),
+      inl (refl, (refl, equal three_quarters (at normal_rows 3 2) refl, equal quarter (at normal_rows 3 1) refl, refl)),
     );
     pivot = λ e. apart quarter zero_ℚ refl (equal quarter (at normal_rows 3 1) refl ∙ e);
   });
@@ -129,7 +129,7 @@ elimination = overflow_laws.elimination is_few in_chain image_rows 3 image_rows 
     (IsElimTable.alone refl refl) (lit≤ tt) (lit≤ tt) (
       image_rows,
       starts 3 image_rows [] (wide_test 3 image_rows refl) no_names,
-      (2, lit≤ tt, lit≤ tt, inl (refl, refl, equal (n 1) (at image_rows 3 2) refl, equal (minus 4) (at image_rows 3 3) refl, refl)),
+      (2, lit≤ tt, lit≤ tt, inl (refl, (refl, equal (n 1) (at image_rows 3 2) refl, equal (minus 4) (at image_rows 3 3) refl, refl))),
       lit≤ tt,
       lit≤ tt,
       lit≤ tt,

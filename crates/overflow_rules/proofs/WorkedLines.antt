@@ -365,7 +365,7 @@ elimination = overflow_laws.elimination is_few in_along short_rows 2 short_rows 
     (IsElimTable.alone refl refl) (lit≤ tt) (lit≤ tt) (
       short_rows,
       starts 2 short_rows [] (wide_test 2 short_rows refl) no_names,
-      (1, lit≤ tt, lit≤ tt, inl (refl, refl, equal (n 1) (at short_rows 2 1) refl, equal (minus 4) (at short_rows 2 2) refl, refl)),
+      (1, lit≤ tt, lit≤ tt, inl (refl, (refl, equal (n 1) (at short_rows 2 1) refl, equal (minus 4) (at short_rows 2 2) refl, refl))),
       lit≤ tt,
       lit≤ tt,
       lit≤ tt,

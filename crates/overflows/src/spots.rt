@@ -4,9 +4,8 @@ ghost use Rattle.frac128.specs.Sparse.{is_zero as is_nought};
 ghost use Rattle.lin_rows.specs.Clear.{Writes};
 ghost use Rattle.upper_image.specs.Spots.{dense, entry_of, IsVector};
 
-use exact_field::Field;
+use exact_field::{Field, is_zero};
 use frac128::{Sparse, Spot, frac_of};
-use lin_rows::cells::is_zero;
 use src_sink::{Items, NoMemory};
 use std::alloc::Global;
 

@@ -11,8 +11,7 @@ ghost use Rattle.overflows.specs.Faults.{Overflows};
 ghost use Rattle.recession.specs.Asking.{IsAsked, IsProper};
 
 use benson_program::{BensonEnd, Kept, benson_end, cut_of, preimage_of};
-use exact_field::Field;
-use lin_rows::cells::is_positive;
+use exact_field::{Field, is_positive};
 use lp_form::{Cut, Data, Preimage};
 use overflows::SolveFault;
 use src_sink::Items;

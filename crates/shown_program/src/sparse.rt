@@ -5,9 +5,9 @@ ghost use Rattle.polyhedra.specs.Vectors.{plus, scaled};
 ghost use Rattle.lp_form.specs.Shapes.{are_places};
 ghost use Rattle.shown_program.specs.Columns.{filled};
 
-use exact_field::Field;
+use exact_field::{Field, is_zero};
 use lin_rows::add_product;
-use lin_rows::cells::{Cell, is_zero};
+use lin_rows::cells::Cell;
 
 /// The number at a place, from 1.
 pub(crate) fn number_at<F: Field>(list: &[F], place: u32) -> F

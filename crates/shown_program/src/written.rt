@@ -18,8 +18,8 @@ ghost use Rattle.shown_program.specs.Program.{IsProgramOf};
 ghost use Rattle.shown_program.specs.Written.{AreGiven, AreOthers, IsAssembled, IsDirect};
 
 use crate::columns::Columns;
-use exact_field::Field;
-use lin_rows::cells::{Cell, is_negative, is_zero};
+use exact_field::{Field, is_negative, is_zero};
+use lin_rows::cells::Cell;
 use lp_form::{ConeOf, Data, LpName, column, negative, zeros};
 use src_sink::{Items, NoMemory};
 use std::alloc::Global;

@@ -2,9 +2,8 @@
 //! logs are given up.
 use cert_check::check;
 use deriv_log::{Family, Place};
-use exact_field::{Field, Left, Op};
+use exact_field::{Field, Left, Op, is_zero};
 use frac128::{Frac, Tiny};
-use lin_rows::cells::is_zero;
 use lp_form::Data;
 use sol_writer::report;
 use solver::{SolveEnd, dual_log_of, log_of, solve};

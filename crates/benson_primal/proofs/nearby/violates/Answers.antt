@@ -27,4 +27,4 @@ returns-in-Ok g c =
     let short = map value c.args.generator.now in
     let row_is = ap (map value) c.as_slice.ensures.items ∙ c.in_ok-row.ensures in
     let product_is = c.in-Ok.ensures.ok ∙ ap (λ r. dot r short) row_is ∙ dot-without bs (row_of (said_by value cut)) short in
-    λ yes. subst (λ q. q <ℚ zero_ℚ) product_is (c.is_negative.ensures.0 yes)
+    λ yes. subst (λ q. q <ℚ zero_ℚ) product_is (c.is_negative.ensures.fact.0 yes)

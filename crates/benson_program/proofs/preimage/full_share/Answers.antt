@@ -27,7 +27,7 @@ returns-then-is_negative-clause-ok g c = λ file stands.
     let weights = map value c.args.weights.now in
     let last = last_is value dual (length dual - 1) c.index-dual-dual.result (some_last value c.args.form.now e.0 e.4 dual (low_long e.0 e.1 e.2 e.3 y e.5))
     c.index-dual-dual.is refl in
-    let below = subst (λ (q : ℚ). q <ℚ zero_ℚ) last (c.is_negative.ensures.0 c.if-is_negative.true) in
+    let below = subst (λ (q : ℚ). q <ℚ zero_ℚ) last (c.is_negative.ensures.fact.0 c.if-is_negative.true) in
     let own = ap (map value) c.as_slice.ensures.items ∙ c.in_ok-own.ensures file stands in
     IfOk-weaker c.add_weights.result _ (λ (m : List F). map value m ≡ full_share_of file file.cone weights y)
     (λ m is. is ∙ ap₂ (λ (a : List ℚ) (q : ℚ). plus a (scaled (neg_ℚ q) weights)) own last ∙ full_below file file.cone weights y below) c.add_weights.ensures.ok
@@ -52,4 +52,4 @@ returns-else-is_negative-clause-ok g c = λ file stands.
     c.index-dual-dual.is refl in
     c.in_ok-own.ensures file stands
     ∙ full_other file file.cone (map value c.args.weights.now) y
-    (λ l. true≢false (sym (c.is_negative.ensures.1 (subst (λ (q : ℚ). q <ℚ zero_ℚ) (sym last) l)) ∙ c.if-is_negative.false))
+    (λ l. true≢false (sym (c.is_negative.ensures.fact.1 (subst (λ (q : ℚ). q <ℚ zero_ℚ) (sym last) l)) ∙ c.if-is_negative.false))

@@ -24,7 +24,7 @@ returns-then-is_positive-clause-ok g c =
     let here : entry x (n + n + 1) ≡ value c.index-as_slice-n.result =
     last_read value form vectors c.requires.generators f c.requires.duality g.F.Field.holds c.in-Optimal.x c.as_slice.result.now d c.index-as_slice-n.result optimal
     c.as_slice.ensures.items c.index-as_slice-n.is in
-    let high : zero_ℚ <ℚ entry x (n + n + 1) = subst (λ (z : ℚ). zero_ℚ <ℚ z) (sym here) (c.is_positive.ensures.0 c.if-is_positive.true) in
+    let high : zero_ℚ <ℚ entry x (n + n + 1) = subst (λ (z : ℚ). zero_ℚ <ℚ z) (sym here) (c.is_positive.ensures.fact.0 c.if-is_positive.true) in
     optimal_inside value form vectors c.requires.generators f c.requires.duality x d optimal high
 
 pub outside_fault-requires-clause-long : goal.outside_fault-requires-clause-long
@@ -55,7 +55,7 @@ outside_fault-requires-clause-shown g c =
     last_read value form vectors c.requires.generators f c.requires.duality g.F.Field.holds c.in-Optimal.x c.as_slice.result.now d read optimal
     c.as_slice.ensures.items c.index-as_slice-n.is in
     let low : entry x (n + n + 1) ≤ℚ zero_ℚ =
-    subst (λ (z : ℚ). z ≤ℚ zero_ℚ) (sym here) (not_positive c.is_positive.result (value read) c.is_positive.ensures c.if-is_positive.false) in
+    subst (λ (z : ℚ). z ≤ℚ zero_ℚ) (sym here) (not_positive c.is_positive.result (value read) c.is_positive.ensures.fact c.if-is_positive.false) in
     optimal_outside value form vectors c.requires.generators f c.requires.duality x d (map value c.as_slice-in-Optimal.result.now)
     (ap (map value) c.as_slice-in-Optimal.ensures.items) optimal low
 

@@ -24,7 +24,7 @@ returns-then-not-is_positive-clause-end g c = λ file stands.
     let here : entry (map value f) (length form.p) ≡ value c.index-f-f.result =
     ap (entry (map value f)) (sym last) ∙ entry_read value holds f (length f - 1) c.index-f-f.result (omega (arith, long, some)) c.index-f-f.is in
     let low : entry (map value f) (length form.p) ≤ℚ zero_ℚ =
-    subst (λ (x : ℚ). x ≤ℚ zero_ℚ) (sym here) (not_positive c.is_positive.result (value c.index-f-f.result) c.is_positive.ensures c.if-not-is_positive.true) in
+    subst (λ (x : ℚ). x ≤ℚ zero_ℚ) (sym here) (not_positive c.is_positive.result (value c.index-f-f.result) c.is_positive.ensures.fact c.if-not-is_positive.true) in
     at_file value form file stands (λ (q : ℕ) (k : Cone) (d : Option (List ℚ)). HasInterior q k × HasNoLine q k × IsGivenInside q k d × ShowsLast q k d c.new.result) (
       c.requires.solid,
       c.requires.pointed,

@@ -22,7 +22,7 @@ returns-then-not-is_zero g c =
     λ n rises.
     let e = entry_read value row i cell inside c.index-row-i.is in
     let low : 1 ≤ cell.at = subst (λ p. 1 ≤ p.place) (sym e) (place_above n 0 (entries value row) i (record { place = cell.at; value = value cell.value }) rises (omega (arith, inside, length-entries value row))) in
-    (low, c.if-cell-count.true, subst (λ (q : ℚ). q ≢ zero_ℚ) (found_at value n row rises i cell inside c.index-row-i.is) (not_zero c.is_zero.result (value cell.value) c.is_zero.ensures c.if-not-is_zero.true))
+    (low, c.if-cell-count.true, subst (λ (q : ℚ). q ≢ zero_ℚ) (found_at value n row rises i cell inside c.index-row-i.is) (not_zero c.is_zero.result (value cell.value) c.is_zero.ensures.fact c.if-not-is_zero.true))
 
 pub loop-i-preserved : goal.loop-i-preserved
 loop-i-preserved g c =
@@ -35,7 +35,7 @@ loop-i-preserved g c =
     elim c.else-cell-count.branch [
       | else-cell-count-via-then-cell-count+else-not-is_zero w ↦
           scanned_zero value row i cell j inside c.index-row-i.is (c.loop-i.invariant j l)
-          (shown_zero (nat_eq cell.at j) (value cell.value) (is_zero_value w.is_zero.result (value cell.value) w.is_zero.ensures w.if-not-is_zero.false))
+          (shown_zero (nat_eq cell.at j) (value cell.value) (is_zero_value w.is_zero.result (value cell.value) w.is_zero.ensures.fact w.if-not-is_zero.false))
       | else-cell-count-via-else-cell-count w ↦
           scanned_zero value row i cell j inside c.index-row-i.is (c.loop-i.invariant j l)
           (shown_nowhere (nat_eq cell.at j) (value cell.value) (not_same cell.at j (λ e. omega (arith, e, l, w.if-cell-count.false))))

@@ -19,12 +19,12 @@ loop-i-preserved g c =
       | then-cell-count+then-is_negative w ↦
           subst (λ (o : Option Candidate). IsBestSo value row count (i + 1) o) (sym w.best-is)
           (candidate_found value row count i cell inside c.index-row-i.is c.loop-i.best w.better_column.result w.better_column.ensures w.if-cell-count.true
-          (w.is_negative.ensures.0 w.if-is_negative.true) c.loop-i.invariant)
+          (w.is_negative.ensures.fact.0 w.if-is_negative.true) c.loop-i.invariant)
       | else-cell-count w ↦
           subst (λ (o : Option Candidate). IsBestSo value row count (i + 1) o) (sym w.best-is) (elim w.else-cell-count.branch [
             | else-cell-count-via-then-cell-count+else-is_negative v ↦
                 candidate_kept value row count i cell inside c.index-row-i.is c.loop-i.best
-                (not_negative v.is_negative.result (value cell.value) v.is_negative.ensures v.if-is_negative.false) c.loop-i.invariant
+                (not_negative v.is_negative.result (value cell.value) v.is_negative.ensures.fact v.if-is_negative.false) c.loop-i.invariant
             | else-cell-count-via-else-cell-count v ↦
                 candidate_kept_else value row count i cell inside c.index-row-i.is c.loop-i.best v.if-cell-count.false c.loop-i.invariant
           ])

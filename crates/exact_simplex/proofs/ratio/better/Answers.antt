@@ -16,7 +16,7 @@ returns-then-not-is_positive-clause-ok g c =
     λ n h least.
     let p = entry_is value rows n c.args.col c.args.columns.now h c.args.i c.requires.inside c.deref.result.now c.index-rows-i.result c.deref.ensures.value c.index-rows-i.is (value c.entry_at-p.result) c.entry_at-p.ensures in
     kept (entry_in ls c.args.col) (ratios_in ls c.args.col c.args.columns.now) c.args.i c.args.best
-    (subst (λ (q : ℚ). q ≤ℚ zero_ℚ) p (not_positive c.is_positive.result (value c.entry_at-p.result) c.is_positive.ensures c.if-not-is_positive.true)) least
+    (subst (λ (q : ℚ). q ≤ℚ zero_ℚ) p (not_positive c.is_positive.result (value c.entry_at-p.result) c.is_positive.ensures.fact c.if-not-is_positive.true)) least
 
 pub returns-in-None-clause-ok : goal.returns-in-None-clause-ok
 returns-in-None-clause-ok g c =
@@ -26,7 +26,7 @@ returns-in-None-clause-ok g c =
     λ n h least.
     let p = entry_is value rows n c.args.col c.args.columns.now h c.args.i c.requires.inside c.deref.result.now c.index-rows-i.result c.deref.ensures.value c.index-rows-i.is (value c.entry_at-p.result) c.entry_at-p.ensures in
     found_first (entry_in ls c.args.col) (ratios_in ls c.args.col c.args.columns.now) c.args.i
-    (subst (λ (q : ℚ). zero_ℚ <ℚ q) p (c.is_positive.ensures.0 c.if-not-is_positive.false))
+    (subst (λ (q : ℚ). zero_ℚ <ℚ q) p (c.is_positive.ensures.fact.0 c.if-not-is_positive.false))
     (subst (IsLeaving ls c.args.col c.args.columns.now c.args.i) c.in-None.is least)
 
 pub returns-in-Err-clause-left : goal.returns-in-Err-clause-left
@@ -69,7 +69,7 @@ returns-in-Ok-true-clause-ok g c =
     (rises value rows n col columns h i c.requires.inside c.deref-in-Some-2.result.now c.index-rows-i-in-Some.result c.deref-in-Some-2.ensures.value c.index-rows-i-in-Some.is)
     (rises value rows n col columns h b b_in c.deref-in-Some-3.result.now c.index-rows-b-in-Some.result c.deref-in-Some-3.ensures.value c.index-rows-b-in-Some.is))
     ∙ c.in-Ok-true.field-0-test in
-    found_less (entry_in ls col) (ratios_in ls col columns) i b (subst (λ (q : ℚ). zero_ℚ <ℚ q) p (c.is_positive.ensures.0 c.if-not-is_positive.false))
+    found_less (entry_in ls col) (ratios_in ls col columns) i b (subst (λ (q : ℚ). zero_ℚ <ℚ q) p (c.is_positive.ensures.fact.0 c.if-not-is_positive.false))
     (subst (IsLeaving ls col columns i) c.in-Some.is least) before
 
 pub returns-in-Ok-false-clause-ok : goal.returns-in-Ok-false-clause-ok

@@ -1,6 +1,7 @@
 use Rattle.std.proofs.Common.{◌≡◌, ◌∙◌, ◌+◌, ℕ, ap, ap₂, sym, subst, arith, slice_index_or}
-use Rattle.std.specs.Prelude.{IsFalse}
+use Rattle.exact_field.specs.Field.{IsLeftOf}
 use Rattle.exact_field.specs.Rational.{ℚ, one_ℚ, ◌*ℚ◌, ◌-ℚ◌}
+use Rattle.exact_field.specs.declared.op.Op.TheVariants.{Sub}
 use Rattle.tableaux.specs.Table.{artificial_column, at, listed, first_cost, equation_count, table_of}
 use Rattle.lin_rows.proofs.Lists.{mapped_more}
 use Rattle.lin_rows.specs.System.{system_of}
@@ -26,14 +27,19 @@ give_up-requires g c = omega (arith, row_there g.F.Field.value c.args.system.now
 pub returns-in-Err-clause-left : goal.returns-in-Err-clause-left
 returns-in-Err-clause-left g c =
     let value = g.F.Field.value in
+    let holds = g.F.Field.holds in
     let p = c.args.system.now in
     let t = c.loop-i.tableau in
     let i : ℕ = c.loop-i.i in
+    let left = c.in-Err.left in
+    let is = c.in-Err.ensures.0 in
     let entry = c.entry-entry.ensures
     ∙ ap (at t.table (p.rows + 1)) (artificial_is value p c.requires.lengths t (subst (IsTableauOf (system_of g.F.Field.value c.args.system.now)) (sym c.loop-i.invariant.same) c.requires.held) i (omega arith) c.artificial_column-col.result c.artificial_column-col.ensures) in
-    less_one_fault value p c.requires.lengths t (subst (IsTableauOf (system_of g.F.Field.value c.args.system.now)) (sym c.loop-i.invariant.same) c.requires.held) i (omega arith) c.artificial_column-col.result c.artificial_column-col.ensures g.F.Field.holds c.in-Err.left c.give_up.result
-    (ap (λ x. x.op) c.in-Err.ensures.0) (ap (λ x. value x.a) c.in-Err.ensures.0 ∙ entry) (ap (λ x. value x.b) c.in-Err.ensures.0 ∙ c.one.ensures)
-    (subst (λ (q : ℚ). IsFalse (g.F.Field.holds q)) (ap₂ (λ x y. x -ℚ y) entry c.one.ensures) c.in-Err.ensures.1) c.give_up.ensures
+    less_one_fault value p c.requires.lengths t (subst (IsTableauOf (system_of g.F.Field.value c.args.system.now)) (sym c.loop-i.invariant.same) c.requires.held) i (omega arith) c.artificial_column-col.result c.artificial_column-col.ensures holds left c.give_up.result
+    (subst (λ (x : ℚ). IsLeftOf value holds Sub x one_ℚ left) entry
+    (subst (λ (y : ℚ). IsLeftOf value holds Sub (value c.entry-entry.result) y left) c.one.ensures
+    (ap (λ x. x.op) is, ap (λ x. value x.a) is, ap (λ x. value x.b) is, c.in-Err.ensures.1)))
+    c.give_up.ensures
 
 pub loop-i-preserved : goal.loop-i-preserved
 loop-i-preserved g c =

@@ -48,4 +48,4 @@ returns-clause-below g c =
     let t = c.in_ok-tableau.tableau in
     let row : p.rows + 1 ≡ first_cost s = omega (arith, equation_count_is value p c.requires.lengths) in
     let entry = c.entry.ensures ∙ ap₂ (λ r k. at t.table r k) row (c.width.ensures ∙ c.in_ok-tableau.ensures.primal.held.width) in
-    subst (λ (q : ℚ). IsTrue c.is_negative-below.result ↔ (q <ℚ zero_ℚ)) entry c.is_negative-below.ensures
+    subst (λ (q : ℚ). IsTrue c.is_negative-below.result ↔ (q <ℚ zero_ℚ)) entry c.is_negative-below.ensures.fact

@@ -10,7 +10,7 @@ second_none : (t x y : ℚ) → y ≡ zero_ℚ → t ≡ t +ℚ x *ℚ y
 second_none t x y e = sym (ap (λ q. t +ℚ q) (ap (λ q. x *ℚ q) e ∙ mul-zero_ℚ x) ∙ add-zero_ℚ t)
 
 pub returns-then-is_zero-clause-ok : goal.returns-then-is_zero-clause-ok
-returns-then-is_zero-clause-ok g c = let value = g.F.Field.value in first_none (value c.args.total) (value c.args.x) (value c.args.y) (c.if-is_zero.ensures.0 refl)
+returns-then-is_zero-clause-ok g c = let value = g.F.Field.value in first_none (value c.args.total) (value c.args.x) (value c.args.y) (c.if-is_zero.ensures.fact.0 refl)
 
 pub returns-then-is_zero-2-clause-ok : goal.returns-then-is_zero-2-clause-ok
-returns-then-is_zero-2-clause-ok g c = let value = g.F.Field.value in second_none (value c.args.total) (value c.args.x) (value c.args.y) (c.if-is_zero-2.ensures.0 refl)
+returns-then-is_zero-2-clause-ok g c = let value = g.F.Field.value in second_none (value c.args.total) (value c.args.x) (value c.args.y) (c.if-is_zero-2.ensures.fact.0 refl)

@@ -9,6 +9,6 @@ returns-clause-kept g c =
     let value = g.F.Field.value in
     let old = c.args.spots.now in
     let new = c.push.new.self in
-    let own = ap (λ q. not (is_zero q)) c.frac_of-value.ensures ∙ ap not (not_nought (value c.args.x) c.is_zero.result c.is_zero.ensures c.if-is_zero.false) in
+    let own = ap (λ q. not (is_zero q)) c.frac_of-value.ensures ∙ ap not (not_nought (value c.args.x) c.is_zero.result c.is_zero.ensures.fact c.if-is_zero.false) in
     on_ok c.push.result _ (AreKept old → AreKept new)
     (λ pushed. kept_more old new (record { at = c.args.at; value = c.frac_of-value.result }) pushed own) c.push.ensures.ok

@@ -56,7 +56,7 @@ preimage_of-requires-clause-dual g c =
       c.args.t,
       c.requires.1.0,
       low_in value g.F.Field.holds g.task c.requires.1.1.1.1.0 c.args.form.now c.requires.1.0 v c.args.t o.0 (map value c.args.z.now) dual v_long o.1
-          (not_positive _ _ c.is_positive.result last c.is_positive.ensures c.if-is_positive.false),
+          (not_positive _ _ c.is_positive.result last c.is_positive.ensures.fact c.if-is_positive.false),
     )
 
 pub returns-in_err-parts-clause-left : goal.returns-in_err-parts-clause-left
@@ -70,7 +70,7 @@ returns-in_err-parts-clause-left g c = λ trail start.
     let last = last_in value holds g.task c.requires.1.1.1.1.0 c.args.form.now c.requires.1.0 v c.args.t o.0 (map value c.args.z.now) dual v_long o.1 (length dual - 1)
     c.index-dual-dual.result c.index-dual-dual.is refl in
     let low = low_in value holds g.task c.requires.1.1.1.1.0 c.args.form.now c.requires.1.0 v c.args.t o.0 (map value c.args.z.now) dual v_long o.1
-    (not_positive _ _ c.is_positive.result last c.is_positive.ensures c.if-is_positive.false) in
+    (not_positive _ _ c.is_positive.result last c.is_positive.ensures.fact c.if-is_positive.false) in
     err_holds c.from_residual-in_err-parts.result c.in_err-parts.field-0.0 (Overflows holds (behind g.task trail) []) c.from_residual-in_err-parts.ensures.1
     (c.in_err-parts.ensures.left (behind g.task trail) g.task.c v c.args.t c.requires.1.0 refl c.requires.1.1.1.0 start low)
 
@@ -88,7 +88,7 @@ returns-in_ok-cut-clause-ok g c =
     c.index-dual-dual.is refl in
     let of_z = subst (λ (d : List ℚ). IsCutOf value g.task.file d z cut) c.requires.1.1.0 (c.in_ok-cut.ensures.ok g.task.file c.requires.1.0) in
     asked_cut value g.task cut z of_z v c.args.t o.0 (map value dual) o.1
-    (subst (λ (x : ℚ). zero_ℚ <ℚ x) last (c.is_positive.ensures.0 c.if-is_positive.true))
+    (subst (λ (x : ℚ). zero_ℚ <ℚ x) last (c.is_positive.ensures.fact.0 c.if-is_positive.true))
 
 pub returns-in_ok-parts-clause-ok : goal.returns-in_ok-parts-clause-ok
 returns-in_ok-parts-clause-ok g c =
@@ -101,7 +101,7 @@ returns-in_ok-parts-clause-ok g c =
     let last = last_in value holds g.task c.requires.1.1.1.1.0 c.args.form.now c.requires.1.0 v c.args.t o.0 (map value c.args.z.now) dual v_long o.1 (length dual - 1)
     c.index-dual-dual.result c.index-dual-dual.is refl in
     let low = low_in value holds g.task c.requires.1.1.1.1.0 c.args.form.now c.requires.1.0 v c.args.t o.0 (map value c.args.z.now) dual v_long o.1
-    (not_positive _ _ c.is_positive.result last c.is_positive.ensures c.if-is_positive.false) in
+    (not_positive _ _ c.is_positive.result last c.is_positive.ensures.fact c.if-is_positive.false) in
     let f = c.requires.1.1.1.1.0 in
     subst (λ (w : List ℚ). IsPreimageOf value g.task.file g.task.c w v c.args.t c.in_ok-parts.parts) c.requires.1.1.1.0
     (c.in_ok-parts.ensures.ok g.task.file g.task.c v c.args.t f.picks f.inverse c.requires.1.0 low

@@ -14,7 +14,7 @@ returns-then-is_zero g c = λ yes.
     let es = entries value c.args.cells.now in
     added_end value (value c.args.x) c.args.cells.now es c.args.total.now
     (map value c.args.total.now)
-    (λ j. ap (λ q. q *ℚ sum_at es j) (c.is_zero.ensures.0 c.if-is_zero.true)
+    (λ j. ap (λ q. q *ℚ sum_at es j) (c.is_zero.ensures.fact.0 c.if-is_zero.true)
     ∙ zero-mul_ℚ (sum_at es j))
     (added_none value (value c.args.x) es (map value c.args.total.now))
 
