@@ -18,20 +18,20 @@ loop-i-preserved g c =
     let x = c.index-vals-i.result in
     let at = c.loop-i.invariant in
     let inside : i < length first = omega (arith, c.args.generators.now.ok.0) in
-    elim c.if-not-is_below.branch [
-      | goal.then-not-is_below w ↦ record {
+    elim c.if-not-is_negative.branch [
+      | goal.then-not-is_negative w ↦ record {
         many = ap (λ v. v.len) w.generators-is ∙ w.swap.ensures.len ∙ at.many;
         capacity = ap (λ v. v.cap) w.generators-is ∙ w.swap.ensures.capacity ∙ at.capacity;
         sifted = subst (λ (p : List (Generator _) × ℕ). IsSifted value vals first p.0 p.1 (i + 1))
             (λ j. (sym (ap (λ v. v.items) w.generators-is ∙ w.swap.ensures.items) j, sym w.kept-is j))
-            (one_kept value vals first now kept i at.sifted inside c.loop-i-test.true x c.index-vals-i.is (sym c.is_below.ensures.test ∙ w.if-not-is_below.true));
+            (one_kept value vals first now kept i at.sifted inside c.loop-i-test.true x c.index-vals-i.is (sym c.is_negative.ensures.test ∙ w.if-not-is_negative.true));
       }
-      | goal.else-not-is_below w ↦ record {
+      | goal.else-not-is_negative w ↦ record {
         many = ap (λ v. v.len) w.generators-is ∙ at.many;
         capacity = ap (λ v. v.cap) w.generators-is ∙ at.capacity;
         sifted = subst (λ (p : List (Generator _) × ℕ). IsSifted value vals first p.0 p.1 (i + 1))
             (λ j. (sym (ap (λ v. v.items) w.generators-is) j, sym w.kept-is j))
-            (one_dropped value vals first now kept i at.sifted inside c.loop-i-test.true x c.index-vals-i.is (sym c.is_below.ensures.test ∙ w.if-not-is_below.false));
+            (one_dropped value vals first now kept i at.sifted inside c.loop-i-test.true x c.index-vals-i.is (sym c.is_negative.ensures.test ∙ w.if-not-is_negative.false));
       }
     ]
 
