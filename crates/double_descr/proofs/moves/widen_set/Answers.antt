@@ -1,4 +1,4 @@
-use Rattle.std.proofs.Common.{[], ◌∷◌, ◌++◌, absurd, ap, ◌∙◌}
+use Rattle.std.proofs.Common.{[], ◌∷◌, ◌++◌, ap, sym, ◌∙◌, true≢false}
 use Rattle.double_descr.specs.State.{with_set}
 use Rattle.double_descr.proofs.moves.widen_set.Goals as goal
 
@@ -6,7 +6,7 @@ pub widen-requires : goal.widen-requires
 widen-requires g c = c.requires.few
 
 pub unreachable-requires : goal.unreachable-requires
-unreachable-requires g c = c.in-Err.ensures.free c.requires.free
+unreachable-requires g c = true≢false (sym (c.in-Err.ensures.free c.requires.free))
 
 pub returns : goal.returns
 returns g c =
