@@ -57,17 +57,17 @@ not_held holds left zero h = record { defined = λ div. go div h; not_held = h }
     go div h = defined holds zero left.a left.b (subst (λ (o : Op). IsFalse (holds (exact o left.a left.b))) div h)
 
 -- ---- pivots
-same_exact : (o o' : Op) (a a' b b' : ℚ) → o ≡ o' → a ≡ a' → b ≡ b' → exact o a b ≡ exact o' a' b'
+pub same_exact : (o o' : Op) (a a' b b' : ℚ) → o ≡ o' → a ≡ a' → b ≡ b' → exact o a b ≡ exact o' a' b'
 same_exact o o' a a' b b' e f g = cc
 
 same_operation : (o o' : Op) (a a' b b' : ℚ) → o ≡ o' → a ≡ a' → b ≡ b' → operation o a b ≡ operation o' a' b'
 same_operation o o' a a' b b' e f g = cc
 
-still : (holds : ℚ → Bool) (x y : ℚ) → x ≡ y → IsFalse (holds y) → IsFalse (holds x)
+pub still : (holds : ℚ → Bool) (x y : ℚ) → x ≡ y → IsFalse (holds y) → IsFalse (holds x)
 still holds x y same h = ap holds same ∙ h
 
 -- the result of a step of a pivot is not held
-step_not_held : (holds : ℚ → Bool) (n : ℕ) (t : Table) (row col number : ℕ) (left : Left ℚ) → IsPivotStep (λ q. q) holds n t row col number left →
+pub step_not_held : (holds : ℚ → Bool) (n : ℕ) (t : Table) (row col number : ℕ) (left : Left ℚ) → IsPivotStep (λ q. q) holds n t row col number left →
     IsFalse (holds (exact left.op left.a left.b))
 step_not_held holds n t row col number left (j, low, high, inl s) =
     still holds (exact left.op left.a left.b) (quotient_at t row col j)
@@ -81,7 +81,7 @@ step_not_held holds n t row col number left (j, low, high, inr (i, a, b, c, inr 
 
 -- and its pivot is not 0 where the first operand is held: over 0 the quotients are 0, and the other
 -- steps change nothing
-pivot_not_zero : (holds : ℚ → Bool) (n : ℕ) (t : Table) (row col number : ℕ) (left : Left ℚ) → IsTrue (holds zero_ℚ) → IsTrue (holds left.a) →
+pub pivot_not_zero : (holds : ℚ → Bool) (n : ℕ) (t : Table) (row col number : ℕ) (left : Left ℚ) → IsTrue (holds zero_ℚ) → IsTrue (holds left.a) →
     IsPivotStep (λ q. q) holds n t row col number left → at t row col ≢ zero_ℚ
 pivot_not_zero holds n t row col number left zero first (j, low, high, how) none = go how
   where

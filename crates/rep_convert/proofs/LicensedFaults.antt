@@ -1,22 +1,17 @@
 -- What eliminations and sums of products tell of their overflows, as licences of a conversion.
-use Rattle.std.proofs.Common.{◌≡◌, ◌≢◌, ℕ, ◌+◌, ◌-◌, ◌≤◌, List, [], ◌∷◌, length, refl, sym, ap, ap₂, ◌∙◌, subst, true≢false, IsTrue, ◌⊎◌, inl, inr}
+use Rattle.std.proofs.Common.{◌≡◌, ℕ, ◌+◌, ◌-◌, List, [], ◌∷◌, length, refl, sym, ap, ap₂, subst, IsTrue, ◌⊎◌, inl, inr}
 use Rattle.std.specs.Prelude.{IsFalse}
 use Rattle.std.proofs.lemmas.List.{map-id}
 use Rattle.exact_field.specs.Field.{exact}
-use Rattle.exact_field.specs.Rational.{ℚ, zero_ℚ, ◌+ℚ◌, ◌-ℚ◌, ◌*ℚ◌, ◌/ℚ◌, inverse_ℚ, whole, fraction}
+use Rattle.exact_field.specs.Rational.{ℚ, zero_ℚ, ◌+ℚ◌, ◌*ℚ◌, ◌/ℚ◌, whole}
 use Rattle.exact_field.specs.Vector.{entry}
 use Rattle.exact_field.specs.declared.op.Op.{Op}
-use Rattle.exact_field.specs.declared.op.Op.TheVariants.{Add, Sub, Mul, Div}
+use Rattle.exact_field.specs.declared.op.Op.TheVariants.{Add, Mul, Div}
 use Rattle.exact_field.specs.declared.op.Left.{Left as Operation}
-use Rattle.exact_field.proofs.Rationals.{neg-zero_ℚ}
-use Rattle.polyhedra.proofs.Algebra.{mul_zero}
-use Rattle.polyhedra.proofs.Laws.{add_zero}
 use Rattle.polyhedra.specs.DoubleDescription.{magnitude, norming}
-use Rattle.tableaux.specs.Table.{Table, at, beside_unit, column_of, quotient_at}
+use Rattle.tableaux.specs.Table.{Table, at, beside_unit, column_of}
 use Rattle.frac128.specs.Held.{is_held}
-use Rattle.lin_rows.specs.Clear.{IsStuckAt}
 use Rattle.lin_rows.specs.Eliminate.{IsElimFault}
-use Rattle.lin_rows.specs.Pivot.{IsPivotStep}
 use Rattle.lin_rows.specs.Read.{numbers}
 use Rattle.lin_rows.specs.Sums.{IsTermLeft, partial}
 use Rattle.lin_rows.specs.declared.fault.RowFault.{RowFault}
@@ -28,7 +23,7 @@ use Rattle.deriv_log.specs.declared.licence.Place.{Place}
 use Rattle.deriv_log.specs.declared.licence.Place.TheVariants.{Elim}
 use Rattle.overflow_rules.specs.Laws.{term_number}
 use Rattle.overflow_rules.specs.Steps.{operation, IsNotHeld}
-use Rattle.overflow_rules.proofs.Given.{not_held}
+use Rattle.overflow_rules.proofs.Given.{not_held, pivot_not_zero, same_exact, step_not_held, still}
 use Rattle.overflows.specs.Faults.{IsEliminationLeft, IsLeftAt, IsTermAt}
 use Rattle.overflows.specs.declared.fault.SolveFault.{SolveFault}
 use Rattle.overflows.specs.declared.fault.SolveFault.TheVariants as solving
@@ -49,55 +44,6 @@ zero_held : IsTrue (is_held zero_ℚ)
 unfolding whole
 zero_held = refl
 
--- ---- pivots
-over_zero : inverse_ℚ zero_ℚ ≡ zero_ℚ
-unfolding inverse_ℚ whole fraction
-over_zero = refl
-
-same_exact : (o o' : Op) (a a' b b' : ℚ) → o ≡ o' → a ≡ a' → b ≡ b' → exact o a b ≡ exact o' a' b'
-same_exact o o' a a' b b' e f g = cc
-
-still : (x y : ℚ) → x ≡ y → IsFalse (is_held y) → IsFalse (is_held x)
-still x y same h = ap is_held same ∙ h
-
--- the result of a step of a pivot is not held
-step_not_held : (n : ℕ) (t : Table) (row col number : ℕ) (left : Operation ℚ) → IsPivotStep (λ q. q) is_held n t row col number left →
-    IsFalse (is_held (exact left.op left.a left.b))
-step_not_held n t row col number left (j, low, high, inl s) =
-    still (exact left.op left.a left.b) (quotient_at t row col j) (same_exact left.op Div left.a (at t row j) left.b (at t row col) s.1 s.2 s.3) s.4
-step_not_held n t row col number left (j, low, high, inr (i, a, b, c, inl s)) =
-    still (exact left.op left.a left.b) (at t i col *ℚ quotient_at t row col j)
-    (same_exact left.op Mul left.a (at t i col) left.b (quotient_at t row col j) s.1 s.2 s.3) s.4
-step_not_held n t row col number left (j, low, high, inr (i, a, b, c, inr s)) =
-    still (exact left.op left.a left.b) (at t i j -ℚ at t i col *ℚ quotient_at t row col j)
-    (same_exact left.op Sub left.a (at t i j) left.b (at t i col *ℚ quotient_at t row col j) s.1 s.2 s.3) s.4
-
--- and its pivot is not 0 where the first operand is held: over 0 the quotients are 0, and the other
--- steps change nothing
-pivot_not_zero : (n : ℕ) (t : Table) (row col number : ℕ) (left : Operation ℚ) → IsTrue (is_held left.a) →
-    IsPivotStep (λ q. q) is_held n t row col number left → at t row col ≢ zero_ℚ
-pivot_not_zero n t row col number left first (j, low, high, how) none = go how
-  where
-    quotient : quotient_at t row col j ≡ zero_ℚ
-    quotient = ap (λ (d : ℚ). at t row j *ℚ inverse_ℚ d) none ∙ ap (λ (d : ℚ). at t row j *ℚ d) over_zero ∙ mul_zero (at t row j)
-
-    product : (x : ℚ) → x *ℚ quotient_at t row col j ≡ zero_ℚ
-    product x = ap (λ (d : ℚ). x *ℚ d) quotient ∙ mul_zero x
-
-    less_zero : (x : ℚ) → x -ℚ zero_ℚ ≡ x
-    less_zero x = ap (λ (d : ℚ). x +ℚ d) neg-zero_ℚ ∙ add_zero x
-
-    clash : (x y : ℚ) → x ≡ y → IsTrue (is_held y) → IsFalse (is_held x) → ⊥
-    clash x y same h k = true≢false (sym h ∙ sym (ap is_held same) ∙ k)
-
-    go : ((number ≡ 1) × (left.op ≡ Div) × (left.a ≡ at t row j) × (left.b ≡ at t row col) × IsFalse (is_held (quotient_at t row col j)))
-        ⊎ ((i : ℕ) × (1 ≤ i) × (i ≤ length t) × (i ≢ row) × IsStuckAt (λ q. q) is_held (at t i col) (at t i j) (quotient_at t row col j) number left) → ⊥
-    go (inl s) = clash (quotient_at t row col j) zero_ℚ quotient zero_held s.4
-    go (inr (i, a, b, c, inl s)) = clash (at t i col *ℚ quotient_at t row col j) zero_ℚ (product (at t i col)) zero_held s.4
-    go (inr (i, a, b, c, inr s)) =
-        clash (at t i j -ℚ at t i col *ℚ quotient_at t row col j) left.a
-        (ap (λ (d : ℚ). at t i j -ℚ d) (product (at t i col)) ∙ less_zero (at t i j) ∙ sym s.2) first s.4
-
 -- ---- licences
 -- an operation at a place, as what is told
 licensed : (rep : Rep) (place : Place) (left : Operation ℚ) (told : SolveFault) (result : ConvFault) → IsLeftAt place left [] told → IsFaultOf told result →
@@ -117,7 +63,7 @@ pub elimination_licensed : (rep : Rep) (rows : List (List ℚ)) (t : Table) (col
     IsElimFault (λ (q : ℚ). q) is_held columns t fault → IsConvLeft is_held rep result
 elimination_licensed rep rows t columns (Stuck basis row col step left) told result held is same allowed (d, dictionary, operands, low, high, col_low, col_high) =
     licensed rep (Elim rows basis row col step) left told result is same
-    (not_held is_held left zero_held (step_not_held columns d row col step left operands))
+    (not_held is_held left zero_held (step_not_held is_held columns d row col step left operands))
     (inl (record {
       table = t;
       columns = columns;
@@ -127,7 +73,7 @@ elimination_licensed rep rows t columns (Stuck basis row col step left) told res
       row_from_one = low;
       col_from_one = col_low;
       operands = operands;
-      pivot = pivot_not_zero columns d row col step left held operands;
+      pivot = pivot_not_zero is_held columns d row col step left zero_held held operands;
     }))
 elimination_licensed rep rows t columns Want told result held is same allowed fault = no_memory rep told result is same
 
@@ -147,7 +93,7 @@ start_licensed rep lines rows (Stuck basis row col step left) told result held i
         let same_left : left ≡ operation Div (entry v col) (magnitude (norming v)) =
         same_operation left.op Div left.a (entry v col) left.b (magnitude (norming v)) h.left_is.0 h.left_is.1 h.left_is.2 in
         licensed rep (Elim rows basis row col step) left told result is same
-        (not_held is_held left zero_held (still (exact left.op left.a left.b) (entry v col /ℚ magnitude (norming v))
+        (not_held is_held left zero_held (still is_held (exact left.op left.a left.b) (entry v col /ℚ magnitude (norming v))
         (same_exact left.op Div left.a (entry v col) left.b (magnitude (norming v)) h.left_is.0 h.left_is.1 h.left_is.2) h.left_is.3))
         (inr (
           zero_row,
@@ -179,11 +125,11 @@ term_licensed rep row v fault told result is same allowed h =
     (inr (refl, IsListStep.forward row v allowed (record { from_one = h.from_one; in_first = h.in_first; in_second = h.in_second; operands = operands h.step })))
   where
     unheld : IsTermLeft (λ (q : ℚ). q) is_held (partial row v (fault.place - 1)) (entry row fault.place) (entry v fault.place) fault.left → IsFalse (is_held (exact fault.left.op fault.left.a fault.left.b))
-    unheld (inl t) = still (exact fault.left.op fault.left.a fault.left.b) (entry row fault.place *ℚ entry v fault.place) (same_exact fault.left.op Mul fault.left.a (entry row fault.place) fault.left.b (entry v fault.place) t.0 t.1 t.2) t.3
-    unheld (inr t) = still (exact fault.left.op fault.left.a fault.left.b) (partial row v (fault.place - 1) +ℚ entry row fault.place *ℚ entry v fault.place)
-        (same_exact fault.left.op Add fault.left.a (partial row v (fault.place - 1)) fault.left.b (entry row fault.place *ℚ entry v fault.place) t.0 t.1 t.2) t.4
+    unheld (inl t) = still is_held (exact fault.left.op fault.left.a fault.left.b) (entry row fault.place *ℚ entry v fault.place) (same_exact fault.left.op Mul fault.left.a (entry row fault.place) fault.left.b (entry v fault.place) t.0 t.1 t.2) t.3
+    unheld (inr t) = still is_held (exact fault.left.op fault.left.a fault.left.b) (partial row v (fault.place - 1) +ℚ entry row fault.place *ℚ entry v fault.place)
+        (same_exact fault.left.op Add fault.left.a (partial row v (fault.place - 1)) fault.left.b (entry row fault.place *ℚ entry v fault.place) t.1.0 t.1.1 t.1.2) t.1.3
 
     operands : IsTermLeft (λ (q : ℚ). q) is_held (partial row v (fault.place - 1)) (entry row fault.place) (entry v fault.place) fault.left →
         ((term_number fault.left.op ≡ 2) × (fault.left ≡ operation Mul (entry row fault.place) (entry v fault.place))) ⊎ ((term_number fault.left.op ≡ 3) × (fault.left ≡ operation Add (partial row v (fault.place - 1)) (entry row fault.place *ℚ entry v fault.place)))
     operands (inl t) = inl (ap (λ (o : Op). term_number o) t.0, same_operation fault.left.op Mul fault.left.a (entry row fault.place) fault.left.b (entry v fault.place) t.0 t.1 t.2)
-    operands (inr t) = inr (ap (λ (o : Op). term_number o) t.0, same_operation fault.left.op Add fault.left.a (partial row v (fault.place - 1)) fault.left.b (entry row fault.place *ℚ entry v fault.place) t.0 t.1 t.2)
+    operands (inr t) = inr (ap (λ (o : Op). term_number o) t.1.0, same_operation fault.left.op Add fault.left.a (partial row v (fault.place - 1)) fault.left.b (entry row fault.place *ℚ entry v fault.place) t.1.0 t.1.1 t.1.2)
