@@ -1,9 +1,9 @@
 pub mod Agreeing
 pub mod Asking_ends
-pub mod Across
 pub mod Excluded
 pub mod Free
 pub mod Grown
+pub mod Opposites
 pub mod OwnLogs
 pub mod Tail
 pub mod Trails

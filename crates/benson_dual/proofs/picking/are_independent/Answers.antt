@@ -1,6 +1,6 @@
 use Rattle.std.proofs.Common.{sym}
 use Rattle.outer_approx.specs.Task.{setting}
-use Rattle.recession.proofs.Across.{wide_cuts}
+use Rattle.recession.proofs.Opposites.{wide_cuts}
 use Rattle.recession.proofs.Trails.{licensed, trail_base, trail_has, trail_of}
 use Rattle.benson_dual.proofs.picking.are_independent.Goals as goal
 

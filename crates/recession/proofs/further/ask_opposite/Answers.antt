@@ -5,7 +5,7 @@ use Rattle.lin_rows.proofs.Errors.{err_holds}
 use Rattle.polyhedra.specs.Negatives.{negated}
 use Rattle.outer_approx.specs.Task.{setting}
 use Rattle.overflows.specs.Faults.{Overflows}
-use Rattle.recession.proofs.Across.{asked_is, cut_opposite, line_at, opposite_start, reached_is}
+use Rattle.recession.proofs.Opposites.{asked_is, cut_opposite, line_at, opposite_start, reached_is}
 use Rattle.recession.proofs.further.ask_opposite.Goals as goal
 
 pub ask-requires : goal.ask-requires

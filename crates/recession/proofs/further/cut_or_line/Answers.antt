@@ -8,7 +8,7 @@ use Rattle.outer_approx.specs.Lines.{told_by}
 use Rattle.outer_approx.specs.Task.{setting}
 use Rattle.overflows.specs.Faults.{Overflows}
 use Rattle.recession.specs.Further.{AreTail, IsNextSide, normals_of}
-use Rattle.recession.proofs.Across.{asked_is, cut_at, reached_is, side_start, wide_cuts}
+use Rattle.recession.proofs.Opposites.{asked_is, cut_at, reached_is, side_start, wide_cuts}
 use Rattle.recession.proofs.further.cut_or_line.Goals as goal
 
 pub find_across-requires-clause-tail : goal.find_across-requires-clause-tail
