@@ -225,7 +225,7 @@ eliminated = record {
   is = starts 2 all_rows (0 ∷ 0 ∷ 0 ∷ []) (wide_test 2 all_rows refl) (λ i. no_column 3 (i - 1));
   row_from_one = lit≤ tt;
   col_from_one = lit≤ tt;
-  operands = (2, lit≤ tt, lit≤ tt, inl (refl, refl, refl, refl, refl));
+  operands = (2, lit≤ tt, lit≤ tt, inl (refl, (refl, refl, refl, refl)));
   pivot = apart (whole (negsuc 2)) zero_ℚ refl;
 }
 
