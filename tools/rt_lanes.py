@@ -5,13 +5,14 @@
 
 `rt all check --jobs N` hands N crates at a time to its workers, lowest first, and a worker that has a crate waits until those
 below it are built, while others that could be proved wait for a worker. Here a crate is begun once those below it are built, of
-several that one first on which the longest chain of others stands, by their lines. Each is proved by two jobs at least, since a
-job often waits for another of its crate, and by up to four where fewer crates are ready than there are processors. A library
-holds the statements that were proved of it, as in the gate, and not the checked proofs, which no crate above reads: it is built
-and read sooner, and takes little of the disk. A program is checked as `rt run` builds it. The sources of a crate are summed up
-once: some kits sum them up once for each path through the lists of libraries, and nothing writes to the launcher's copy of the
-sources while it builds. The quick pass over all sources that comes before the proofs, and proves nothing, is left out. What is
-proved, and how, is the kit's. Where `rt` is no such program, it runs itself.
+several that one first on which the longest chain of others stands, by their lines. Where there are fewer of them than
+processors each is proved by two jobs or more, up to four, and those on which the longest chains stand are so at all times,
+since it is these that all wait for at the end. A library holds the statements that were proved of it, as in the gate, and not
+the checked proofs, which no crate above reads: it is built and read sooner, and takes little of the disk. A program is checked
+as `rt run` builds it. The sources of a crate are summed up once: some kits sum them up once for each path through the lists of
+libraries, and nothing writes to the launcher's copy of the sources while it builds. The quick pass over all sources that comes
+before the proofs, and proves nothing, is left out. What is proved, and how, is the kit's. Where `rt` is no such program, it
+runs itself.
 """
 import functools
 import importlib.machinery
@@ -46,12 +47,12 @@ def lines_of(folder):
     return count
 
 
-# The fewest and the most jobs by which one crate is proved.
-FEWEST_JOBS, MOST_JOBS = 2, 4
+# The most jobs by which one crate is proved.
+MOST_JOBS = 4
 # How long the first crates wait, in seconds, until all are handed in.
 HANDING_IN = 0.5
-# How many of the workers each crate has that is being proved.
-SHARES = {}
+# How many jobs each crate that was begun may use.
+JOBS = {}
 
 
 class Lanes(ThreadPoolExecutor):
@@ -59,10 +60,11 @@ class Lanes(ThreadPoolExecutor):
 
     def __init__(self, count):
         super().__init__(count)
-        self.idle = count
+        self.count = self.idle = count
         self.lock = threading.Lock()
         self.waiting = []
-        self.ended = set()
+        # The crates that have ended, and those that were begun, with the length of the chain above each.
+        self.ended, self.begun = set(), {}
         self.first = None
 
     def submit(self, call, *given):
@@ -89,25 +91,30 @@ class Lanes(ThreadPoolExecutor):
         return chains
 
     def begin(self):
-        """Begins as many calls as there are idle workers, those first that the longest chains wait for."""
-        is_ready = lambda task: self.ended.issuperset(task[1].below())
-        ready, chains = list(filter(is_ready, self.waiting)), self.chains()
+        """Begins as many calls as there are idle workers, those first that the longest chains wait for, which get more of them."""
+        chains = self.chains()
+        ready = [task for task in self.waiting if self.ended.issuperset(task[1].below())]
         ready.sort(key=lambda task: -chains[task[1]])
+        longest = max([*chains.values(), *self.begun.values()], default=0)
+        are_few = len(ready) + len(self.begun) < self.count
         for at, task in enumerate(ready[: self.idle]):
-            share = max(1, min(MOST_JOBS, self.idle // (len(ready) - at)))
+            crate = task[1]
+            share = min(MOST_JOBS, -(-self.idle // (len(ready) - at)))
+            JOBS[crate] = max(share, 2 if are_few or 10 * chains[crate] >= 9 * longest else 1)
             self.waiting.remove(task)
             self.idle -= share
-            SHARES[task[1]] = share
-            super().submit(self.work, *task)
+            self.begun[crate] = chains[crate]
+            super().submit(self.work, share, *task)
 
-    def work(self, call, crate, future):
+    def work(self, share, call, crate, future):
         try:
             future.set_result(call(crate))
         except BaseException as fault:
             future.set_exception(fault)
         with self.lock:
             self.ended.add(crate)
-            self.idle += SHARES.pop(crate)
+            self.begun.pop(crate)
+            self.idle += share
             self.begin()
 
 
@@ -140,7 +147,7 @@ def in_jobs(method):
 
     def call(crate, flags, *given, **named):
         if flags == ["--jobs", "1"]:
-            flags = ["--jobs", str(max(FEWEST_JOBS, SHARES.get(crate, 1)))]
+            flags = ["--jobs", str(JOBS.get(crate, 1))]
         return method(crate, flags, *given, **named)
 
     return call
