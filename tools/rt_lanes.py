@@ -100,7 +100,7 @@ class Lanes(ThreadPoolExecutor):
         for at, task in enumerate(ready[: self.idle]):
             crate = task[1]
             share = min(MOST_JOBS, -(-self.idle // (len(ready) - at)))
-            JOBS[crate] = max(share, 2 if are_few or 10 * chains[crate] >= 9 * longest else 1)
+            JOBS[crate] = max(share, 2 if are_few or 4 * chains[crate] >= 3 * longest else 1)
             self.waiting.remove(task)
             self.idle -= share
             self.begun[crate] = chains[crate]
