@@ -17,8 +17,7 @@ fn support<F: Field>(row: &[Cell<F>], count: u32) -> Option<u32>
     ensures { (n : ℕ) → Rises n 0 (entries F.value row.now)
         → IsSupport (entries F.value row.now) count result }
 {
-    for i in 0..row.len() {
-        let cell = row[i];
+    for cell in row {
         if cell.at <= count && !is_zero(cell.value) {
             return Some(cell.at);
         }

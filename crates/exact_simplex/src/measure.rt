@@ -48,7 +48,7 @@ pub fn measure<F: Field>(rows: &[Vec<Cell<F>>], count: usize, greatest: &mut [u3
     for slot in greatest.iter_mut() {
         *slot = 0;
     }
-    for i in 0..count {
-        measure_row(&rows[i], greatest);
+    for row in &rows[..count] {
+        measure_row(row, greatest);
     }
 }

@@ -69,12 +69,11 @@ fn is_before<F: Field>(
         → IfErr result (IsEither F.value F.holds (F.value p) (entries F.value u.now) (F.value r)
         (entries F.value v.now) columns.now) }
 {
-    for i in 0..columns.len() {
-        match compare_at(u, p, v, r, columns[i]) {
-            Err(left) => return Err(left),
-            Ok(Ordering::Less) => return Ok(true),
-            Ok(Ordering::Greater) => return Ok(false),
-            Ok(Ordering::Equal) => {}
+    for column in columns {
+        match compare_at(u, p, v, r, *column)? {
+            Ordering::Less => return Ok(true),
+            Ordering::Greater => return Ok(false),
+            Ordering::Equal => {}
         }
     }
     Ok(false)
@@ -190,10 +189,9 @@ fn best_column<F: Field>(row: &[Cell<F>], count: u32, greatest: &[u32]) -> Optio
         → IsEnteringCandidate (entries F.value row.now) count result }
 {
     let mut best = None;
-    for i in 0..row.len() {
-        let cell = row[i];
+    for cell in row {
         if cell.at <= count && is_negative(cell.value) {
-            best = Some(better_column(cell, greatest, best));
+            best = Some(better_column(*cell, greatest, best));
         }
     }
     best

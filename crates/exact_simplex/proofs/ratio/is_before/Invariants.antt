@@ -4,9 +4,9 @@ use Rattle.exact_simplex.specs.Ratios.{ratios}
 use Rattle.tableaux.specs.Lex.{lex_less}
 use Rattle.exact_simplex.proofs.ratio.is_before.Given as goal
 
-abbrev pub invariant-loop-i : goal.invariant-loop-i
-invariant-loop-i g l =
+abbrev pub invariant-loop-column : goal.invariant-loop-column
+invariant-loop-column g l =
     let value = g.F.Field.value in
     let us = ratios (value l.p) (entries value l.u) l.columns in
     let vs = ratios (value l.r) (entries value l.v) l.columns in
-    (n : ℕ) → Rises n 0 (entries value l.u) → Rises n 0 (entries value l.v) → lex_less (drop l.i us) (drop l.i vs) ≡ lex_less us vs
+    (n : ℕ) → Rises n 0 (entries value l.u) → Rises n 0 (entries value l.v) → lex_less (drop l.column-index us) (drop l.column-index vs) ≡ lex_less us vs
