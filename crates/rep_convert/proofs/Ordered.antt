@@ -1,8 +1,8 @@
 -- The order of further rows as it is listed, and as it is gone through.
-use Rattle.std.proofs.Common.{◌≡◌, ◌≢◌, ℕ, ◌+◌, ◌<◌, ◌≤◌, List, [], ◌∷◌, ◌++◌, length, take, All, AllPairs, Contains, Result, Ok, Err, eqb-true, eq-eqb, sym, ap, ◌∙◌, subst, arith, inl, inr, slice_index_or, append_assoc}
+use Rattle.std.proofs.Common.{◌≡◌, ◌≢◌, ℕ, ◌+◌, ◌<◌, ◌≤◌, List, [], ◌∷◌, ◌++◌, length, take, All, AllPairs, Contains, eqb-true, eq-eqb, sym, ap, ◌∙◌, subst, arith, inl, inr, slice_index_or, append_assoc}
 use Rattle.std.specs.Bool.{Decides}
 use Rattle.std.specs.List.Sorted.{IsPermutation}
-use Rattle.std.specs.Prelude.{◌==◌, OnOk}
+use Rattle.std.specs.Prelude.{◌==◌}
 use Rattle.std.proofs.lemmas.Bool.{cases_eq}
 use Rattle.std.proofs.lemmas.List.Sorted.{All-permutation, Contains-permutation}
 use Rattle.std.proofs.lemmas.Map.Keys.{IsDistinct-IsPermutation}
@@ -87,10 +87,6 @@ rises_more k xs new rise below is = subst (λ (ys : List ℕ). AllPairs (λ i j.
   where
     only_one : (a b : ℕ) → Contains (a ∷ []) b → a ≡ b
     only_one a b c = elim (Contains-cases a [] b c) [ inl e ↦ e | inr n ↦ absurd (Contains-nil b n) ]
-
-pub on_ok : {T E : Type 0} (r : Result T E) (P Q : Type 0) → (P → Q) → OnOk r P → OnOk r Q
-on_ok (Ok x) P Q f h = f h
-on_ok (Err e) P Q f h = tt
 
 -- ---- as it is gone through
 module _ (n : ℕ) (used order : List ℕ) (h : IsOrder n used order) (i : ℕ) (inside : i < length order) (number : ℕ) (is : number ≡ slice_index_or order i 0)

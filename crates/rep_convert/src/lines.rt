@@ -22,8 +22,8 @@ fn whole_rows(alloc: Global, width: u32, rows: &[Vector]) -> Result<Rows<Frac>, 
     ensures rows { IfOk result (λ list. list.list ≡ rows.now) }
 {
     let mut list = Rows::new(alloc, width);
-    for i in 0..rows.len() {
-        list.push_row(rows[i].as_slice())?;
+    for row in rows {
+        list.push_row(row.as_slice())?;
     }
     Ok(list)
 }

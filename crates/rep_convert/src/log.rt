@@ -30,8 +30,8 @@ pub(crate) fn lines_log(alloc: Global, lines: &[Vector]) -> Result<ConvLog, NoMe
 {
     let mut log = Items::new(alloc);
     log.push(ConvEntry::Conv(1))?;
-    for i in 0..lines.len() {
-        push_line(alloc, &mut log, &lines[i])?;
+    for line in lines {
+        push_line(alloc, &mut log, line)?;
     }
     Ok(log)
 }
@@ -41,8 +41,8 @@ fn join(alloc: Global, vectors: &[Vector]) -> Result<Vector, NoMemory>
     ensures { IfOk result (λ list. list ≡ flat_map (λ v. v) vectors.now) }
 {
     let mut list = Items::new(alloc);
-    for i in 0..vectors.len() {
-        list.append(vectors[i].as_slice())?;
+    for vector in vectors {
+        list.append(vector.as_slice())?;
     }
     Ok(list)
 }

@@ -12,8 +12,8 @@ fn leading_place(v: &[Frac]) -> usize
     requires { length v.now ≤ 4294967294 }
     ensures { result ≡ leading_place v.now }
 {
-    for k in 0..v.len() {
-        if !is_zero(v[k]) {
+    for (k, x) in v.iter().enumerate() {
+        if !is_zero(*x) {
             return k + 1;
         }
     }
@@ -55,8 +55,8 @@ pub(crate) fn open_places(places: &[bool]) -> u32
     ensures { result ≡ open_count places.now }
 {
     let mut count = 0;
-    for k in 0..places.len() {
-        if !places[k] {
+    for is_line in places {
+        if !*is_line {
             count += 1;
         }
     }
@@ -89,8 +89,8 @@ pub(crate) fn fill(alloc: Global, places: &[bool], short: &[Frac]) -> Result<Vec
 {
     let mut full = Items::new(alloc);
     let mut next = 0;
-    for k in 0..places.len() {
-        if places[k] {
+    for is_line in places {
+        if *is_line {
             full.push(Frac::from(0))?;
         } else if next < short.len() {
             full.push(short[next])?;

@@ -34,8 +34,8 @@ fn try_row(alloc: Global, row: &[Frac], vectors: &[Vector]) -> Result<(), ConvFa
     ensures left { (rep : Rep) → All (AreMultiplied rep row.now) vectors.now
         → IfErr result (IsConvLeft is_held rep) }
 {
-    for i in 0..vectors.len() {
-        try_product(alloc, row, vectors[i].as_slice())?;
+    for vector in vectors {
+        try_product(alloc, row, vector.as_slice())?;
     }
     Ok(())
 }
@@ -52,8 +52,8 @@ pub(crate) fn try_products(
     ensures left { (rep : Rep) → All (λ r. All (AreMultiplied rep r) vectors.now) rows.now
         → IfErr result (IsConvLeft is_held rep) }
 {
-    for k in 0..rows.len() {
-        try_row(alloc, rows[k].as_slice(), vectors)?;
+    for row in rows {
+        try_row(alloc, row.as_slice(), vectors)?;
     }
     Ok(())
 }

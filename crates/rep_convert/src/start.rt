@@ -39,8 +39,8 @@ fn short_rows(alloc: Global, places: &[bool], rows: &[Vector]) -> Result<Rows<Fr
     ensures rows { IfOk result (λ short. short.list ≡ map (without places.now) rows.now) }
 {
     let mut short = Rows::new(alloc, open_places(places) + 1);
-    for i in 0..rows.len() {
-        let row = row_without(alloc, places, rows[i].as_slice())?;
+    for whole in rows {
+        let row = row_without(alloc, places, whole.as_slice())?;
         short.push_row(row.as_slice())?;
     }
     Ok(short)
@@ -52,8 +52,8 @@ fn from_zero(alloc: Global, numbers: &[u32]) -> Result<Items<u32>, NoMemory>
     ensures { IfOk result (λ list. list ≡ map (λ k. k - 1) numbers.now) }
 {
     let mut list = Items::new(alloc);
-    for i in 0..numbers.len() {
-        list.push(numbers[i] - 1)?;
+    for number in numbers {
+        list.push(*number - 1)?;
     }
     Ok(list)
 }
@@ -90,8 +90,8 @@ fn at_places(alloc: Global, list: &[u32], places: &[u32]) -> Result<Items<u32>, 
     ensures { IfOk result (λ out. out ≡ map (λ i. slice_index_or list.now (i - 1) 0) places.now) }
 {
     let mut out = Items::new(alloc);
-    for i in 0..places.len() {
-        out.push(list[places[i] as usize - 1])?;
+    for place in places {
+        out.push(list[*place as usize - 1])?;
     }
     Ok(out)
 }
@@ -183,8 +183,8 @@ fn picked_rows(alloc: Global, rows: &Rows<Frac>, picks: &[u32]) -> Result<Rows<F
 {
     let _count = rows.count();
     let mut out = Rows::new(alloc, rows.width());
-    for i in 0..picks.len() {
-        out.push_row(rows.row(picks[i] + 1))?;
+    for number in picks {
+        out.push_row(rows.row(*number + 1))?;
     }
     Ok(out)
 }
@@ -225,8 +225,8 @@ pub(crate) fn filled_generators(
 {
     let numbers = dd.live();
     let mut gens = Items::new(alloc);
-    for i in 0..numbers.len() {
-        gens.push(fill(alloc, places, dd.generator(numbers[i]))?)?;
+    for number in numbers {
+        gens.push(fill(alloc, places, dd.generator(*number))?)?;
     }
     Ok(gens)
 }
@@ -238,9 +238,9 @@ fn rows_at(alloc: Global, rows: &[Vector], picks: &[u32]) -> Result<Vectors, NoM
         (λ out. out ≡ map (λ k. slice_index_or rows.now k []) picks.now) }
 {
     let mut out = Items::new(alloc);
-    for i in 0..picks.len() {
+    for number in picks {
         let mut row = Items::new(alloc);
-        row.append(rows[picks[i] as usize].as_slice())?;
+        row.append(rows[*number as usize].as_slice())?;
         out.push(row)?;
     }
     Ok(out)

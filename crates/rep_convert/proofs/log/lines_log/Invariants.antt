@@ -4,8 +4,8 @@ use Rattle.rep_text.specs.ConvText.{conv_grammar}
 use Rattle.rep_text.specs.declared.conv.ConvEntry.TheVariants.{Conv, Line}
 use Rattle.rep_convert.proofs.log.lines_log.Given as goal
 
-abbrev pub invariant-loop-i : goal.invariant-loop-i
-invariant-loop-i l = record {
-  log : l.log ≡ Conv 1 ∷ map Line (take l.i l.lines);
+abbrev pub invariant-loop-line : goal.invariant-loop-line
+invariant-loop-line l = record {
+  log : l.log ≡ Conv 1 ∷ map Line (take l.line-index l.lines);
   written : All (λ e. IsTrue (is_formed conv_grammar e)) l.log;
 }

@@ -1,8 +1,9 @@
 use Rattle.std.proofs.Common.{◌≡◌, ◌++◌, ◌∷◌, [], sym, ◌∙◌, ap}
 use Rattle.std.specs.Prelude.{not}
 use Rattle.log_rules.proofs.PassedTests.{contained, not_contained}
+use Rattle.overflows.proofs.Sparse.{on_ok}
 use Rattle.rep_convert.specs.Order.{IsOrder}
-use Rattle.rep_convert.proofs.Ordered.{on_ok, order_more, order_skip}
+use Rattle.rep_convert.proofs.Ordered.{order_more, order_skip}
 use Rattle.rep_convert.proofs.order.push_unused.Goals as goal
 
 pub returns-then-contains : goal.returns-then-contains

@@ -5,6 +5,6 @@ use Rattle.rep_convert.proofs.places.open_places.Goals as goal
 
 pub returns : goal.returns
 returns c =
-    let none : open_count (drop c.loop-k.k c.args.places.now) ≡ 0 = ap open_count (drop_all c.loop-k.k c.args.places.now c.loop-k-test.false) in
-    let same = c.loop-k.invariant.same in
+    let none : open_count (drop c.loop-is_line.is_line-index c.args.places.now) ≡ 0 = ap open_count (drop_all c.loop-is_line.is_line-index c.args.places.now c.loop-is_line-test.false) in
+    let same = c.loop-is_line.invariant.same in
     omega (arith, same, none)

@@ -4,11 +4,11 @@ use Rattle.rep_conv.proofs.Ends.{same_place}
 use Rattle.rep_convert.proofs.Lists.{gens_more}
 use Rattle.rep_convert.proofs.start.filled_generators.Goals as goal
 
-pub loop-i-preserved : goal.loop-i-preserved
-loop-i-preserved c =
+pub loop-number-preserved : goal.loop-number-preserved
+loop-number-preserved c =
     let live = c.args.dd.now.list.live in
     let named = c.live-numbers.ensures.live in
-    let inside : c.loop-i.i < length (numbers live) = subst (λ (ks : List ℕ). c.loop-i.i < length ks) named c.loop-i-test.true in
-    gens_more c.args.places.now live c.loop-i.i (slice_index_or c.live-numbers.result.now c.loop-i.i 0) c.loop-i.gens c.push.new.self c.in_ok-fill.field-0 c.generator.result.now
-    inside (ap (λ (ks : List ℕ). slice_index_or ks c.loop-i.i 0) named ∙ same_place (numbers live) c.loop-i.i 0 (slice_index_or c.live-numbers.result.now c.loop-i.i 0) inside)
-    c.in_ok-push.ensures.ok c.in_ok-fill.ensures c.generator.ensures.only c.loop-i.invariant
+    let inside : c.loop-number.number-index < length (numbers live) = subst (λ (ks : List ℕ). c.loop-number.number-index < length ks) named c.loop-number-test.true in
+    gens_more c.args.places.now live c.loop-number.number-index (slice_index_or c.live-numbers.result.now c.loop-number.number-index 0) c.loop-number.gens c.push.new.self c.in_ok-fill.field-0 c.generator.result.now
+    inside (ap (λ (ks : List ℕ). slice_index_or ks c.loop-number.number-index 0) named ∙ same_place (numbers live) c.loop-number.number-index 0 (slice_index_or c.live-numbers.result.now c.loop-number.number-index 0) inside)
+    c.in_ok-push.ensures.ok c.in_ok-fill.ensures c.generator.ensures.only c.loop-number.invariant

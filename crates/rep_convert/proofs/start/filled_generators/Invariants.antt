@@ -3,5 +3,5 @@ use Rattle.lineality.specs.Without.{with_zeros}
 use Rattle.polyhedra.specs.LiveList.{vectors}
 use Rattle.rep_convert.proofs.start.filled_generators.Given as goal
 
-abbrev pub invariant-loop-i : goal.invariant-loop-i
-invariant-loop-i l = l.gens ≡ map (with_zeros l.places) (take l.i (vectors l.dd.list.live))
+abbrev pub invariant-loop-number : goal.invariant-loop-number
+invariant-loop-number l = l.gens ≡ map (with_zeros l.places) (take l.number-index (vectors l.dd.list.live))

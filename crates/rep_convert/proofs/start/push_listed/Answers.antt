@@ -1,5 +1,6 @@
 use Rattle.std.proofs.Common.{◌≡◌, ◌<◌, ◌+◌, ◌++◌, ◌∷◌, [], All, AllPairs}
-use Rattle.rep_convert.proofs.Ordered.{on_ok, rises_more, weaker}
+use Rattle.overflows.proofs.Sparse.{on_ok}
+use Rattle.rep_convert.proofs.Ordered.{rises_more, weaker}
 use Rattle.rep_convert.proofs.start.push_listed.Goals as goal
 
 pub returns-then-not-contains-clause-exist : goal.returns-then-not-contains-clause-exist

@@ -14,7 +14,7 @@ overflow_add-open_places c =
 pub push_row-requires : goal.push_row-requires
 push_row-requires c =
     let places = c.args.places.now in
-    let row = c.index-rows-i.result in
-    let wide : length row ≡ suc (length places) = subst (λ (r : List ℚ). length r ≡ suc (length places)) (sym c.index-rows-i.is) (c.requires.wide c.loop-i.i row c.loop-i-test.true) in
-    ap (λ (v : List ℚ). length v) (c.as_slice-in-loop-i.ensures.items ∙ c.in_ok-row.ensures ∙ ap (without places) c.as_slice.ensures.items)
-    ∙ length-short places row wide ∙ sym c.loop-i.invariant.width
+    let row = c.whole-item.result in
+    let wide : length row ≡ suc (length places) = subst (λ (r : List ℚ). length r ≡ suc (length places)) (sym c.whole-item.is) (c.requires.wide c.loop-whole.whole-index row c.loop-whole-test.true) in
+    ap (λ (v : List ℚ). length v) (c.as_slice-in-loop-whole.ensures.items ∙ c.in_ok-row.ensures ∙ ap (without places) c.as_slice.ensures.items)
+    ∙ length-short places row wide ∙ sym c.loop-whole.invariant.width
