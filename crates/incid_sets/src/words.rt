@@ -115,21 +115,6 @@ pub fn have_at_least(words: &[u64], count: u32) -> bool
     missing == 0
 }
 
-/// How many numbers of a word the word `i` of others has too. That one is not read for a word
-/// without a number, and nothing is counted where they have none in common, as most words do.
-fn common_count(word: u64, other: &[u64], i: usize) -> usize
-    ensures { result ≡ count_ones (bit_and word (slice_index other.now i)) }
-{
-    if word == 0 {
-        return 0;
-    }
-    let common = word & word_at(other, i);
-    if common == 0 {
-        return 0;
-    }
-    common.count_ones() as usize
-}
-
 /// Whether the two have at least as many common numbers as `count`. It stops at the first words
 /// that do.
 pub fn share_at_least(a: &[u64], b: &[u64], count: usize) -> bool
@@ -137,8 +122,8 @@ pub fn share_at_least(a: &[u64], b: &[u64], count: usize) -> bool
         → IsTrue result ↔ (count ≤ size (marks_below bound (common_words a.now b.now))) }
 {
     let mut missing = count;
-    for (i, word) in a.iter().enumerate() {
-        let ones = common_count(*word, b, i);
+    for (x, y) in a.iter().zip(b) {
+        let ones = (*x & *y).count_ones() as usize;
         if missing <= ones {
             return true;
         }
