@@ -1,12 +1,12 @@
 -- Sets of tight rows: the meet of two, and how many rows two have in common.
-use Rattle.std.proofs.Common.{true≢false, IsTrue, ◌↔◌, Contains, ◌+◌, ◌-◌, ◌++◌, min, set, ◌≡◌, ℕ, zero, suc, ◌<◌, ◌≤◌, ◌⊎◌, inl, inr, subst, cond, count_by, List, [], ◌∷◌, length, map, Bool, true, false, ◌&&◌, refl, sym, ap, ap₂, ◌∙◌, arith}
+use Rattle.std.proofs.Common.{true≢false, IsTrue, ◌↔◌, Contains, ◌+◌, ◌-◌, min, ◌≡◌, ℕ, zero, suc, ◌<◌, ◌≤◌, ◌⊎◌, inl, inr, subst, cond, count_by, List, [], ◌∷◌, length, map, Bool, true, false, ◌&&◌, refl, sym, ap, ◌∙◌, arith}
 use Rattle.std.specs.Prelude.{IsFalse}
 use Rattle.std.proofs.lemmas.Bool.{cases_lt}
 use Rattle.std.proofs.lemmas.List.{ext_get_or, length-map}
 use Rattle.std.proofs.lemmas.List.Sums.{sum_by-cons, length-filter}
 use Rattle.exact_field.specs.Rational.{ℚ}
 use Rattle.exact_field.specs.Vector.{dot}
-use Rattle.incid_sets.specs.Marks.{has, no_marks, size, IsMeet}
+use Rattle.incid_sets.specs.Marks.{has, size, IsMeet}
 use Rattle.polyhedra.specs.DoubleDescription.{is_zero, is_uncovered}
 use Rattle.polyhedra.specs.Generators.{common_rows, tight_rows}
 use Rattle.polyhedra.specs.LiveList.{Numbered, vectors, tight_set, without_numbers, is_uncovered_live}

@@ -3,13 +3,13 @@ use Rattle.std.proofs.Common.{◌≡◌, ℕ, ◌<◌, List, [], ◌∷◌, ◌+
 use Rattle.std.proofs.lemmas.List.{map-append, length-map}
 use Rattle.exact_field.specs.Rational.{ℚ}
 use Rattle.exact_field.specs.Vector.{dot}
-use Rattle.polyhedra.specs.LiveList.{LiveList, Numbered, numbers, staying, step, tight_set}
+use Rattle.polyhedra.specs.LiveList.{LiveList, Numbered, numbers, staying, step}
 use Rattle.polyhedra.specs.LiveSteps.{IsLive}
 use Rattle.polyhedra.proofs.Lists.{wide-nil, wide-cons}
 use Rattle.polyhedra.proofs.LiveSteps.{are_live}
 use Rattle.double_descr.specs.Making.{Addition, AreNextSets, AreSetsFor, AreValuesAt, IsAddition, IsMoving, IsNext, addition_of}
 use Rattle.double_descr.specs.Steps.{values}
-use Rattle.double_descr.specs.State.{State, list_of, live_of, tight_sets, HasTightSet, IsKept}
+use Rattle.double_descr.specs.State.{State, list_of, live_of, HasTightSet, IsKept}
 use Rattle.double_descr.specs.declared.generator.Generator.{Generator}
 use Rattle.double_descr.specs.declared.next.Next.{Next}
 use Rattle.double_descr.proofs.NextLists.{list_after, one_each, sets_fit}

@@ -60,9 +60,6 @@ fn try_pair<F: Field>(
         (live_of F.value generators.now) (pair_of F.value plus.now minus.now))
         (block_of F.value plus.now minus.now (F.value at_plus) (F.value at_minus))) }
 {
-    if !share_enough(plus, minus) {
-        return Ok(());
-    }
     so_far.common.set_meet(&plus.tight, &minus.tight);
     if !are_adjacent(generators, plus, minus, &so_far.common, &mut so_far.last) {
         return Ok(());
@@ -81,7 +78,7 @@ fn try_pair<F: Field>(
 }
 
 /// Makes the new generator of one generator, at which the row is positive, with generator `j`, at
-/// which it is negative.
+/// which it is negative. Most pairs have too few common rows, and nothing else of them is read.
 fn meet_at<F: Field>(
     alloc: Global,
     generators: &[Generator<F>],
@@ -109,8 +106,10 @@ fn meet_at<F: Field>(
         (blocks_of_pairs F.value addition generators.now)) }
 {
     let minus = &generators[j];
-    let at_minus = values[j];
-    try_pair(alloc, generators, plus, minus, at_plus, at_minus, so_far)
+    if !share_enough(plus, minus) {
+        return Ok(());
+    }
+    try_pair(alloc, generators, plus, minus, at_plus, values[j], so_far)
 }
 
 /// Makes the new generators of one generator at which the row is positive, with each at which it is

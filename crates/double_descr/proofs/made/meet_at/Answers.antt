@@ -1,11 +1,11 @@
-use Rattle.std.proofs.Common.{◌≡◌, ℕ, ◌<◌, List, ◌∷◌, map, length, get_or, Contains, sym, ap, ◌∙◌, subst, arith}
+use Rattle.std.proofs.Common.{◌≡◌, ℕ, ◌<◌, Bool, refl, List, ◌∷◌, map, length, get_or, Contains, sym, ap, ◌∙◌, subst, arith}
 use Rattle.std.proofs.lemmas.List.{get_or-map, get_or_default}
 use Rattle.exact_field.specs.Rational.{ℚ, zero_ℚ, ◌<ℚ◌}
 use Rattle.exact_field.specs.Vector.{dot}
 use Rattle.polyhedra.specs.LiveList.{LivePair}
 use Rattle.double_descr.specs.Steps.{values}
 use Rattle.double_descr.specs.State.{numbered_of, pair_of}
-use Rattle.double_descr.specs.Making.{IsMadeSoFar, pair_at}
+use Rattle.double_descr.specs.Making.{IsMadeSoFar, IsTried, pair_at}
 use Rattle.double_descr.specs.declared.generator.Generator.{Generator}
 use Rattle.double_descr.proofs.made.meet_at.Goals as goal
 use Rattle.double_descr.proofs.MadePairs.{value_at_index, norming_of, two_of, tried, tried_fault}
@@ -46,6 +46,33 @@ try_pair-requires g c κs within =
         ),
       ),
     )
+
+-- a pair with too few common rows is left out
+pub returns-then-not-share_enough-clause-ok : goal.returns-then-not-share_enough-clause-ok
+returns-then-not-share_enough-clause-ok g c = λ left h.
+    let F = g.row.F.Denot in
+    let value = g.F.Field.value in
+    let holds = g.F.Field.holds in
+    let d = g.addition in
+    let gens = c.args.generators.now in
+    let vals = c.args.values.now in
+    let p = c.args.plus.now in
+    let P = c.requires.1.0 in
+    let inside = c.requires.1.1.1.1.0 in
+    let within : c.args.j < length vals = omega (arith, c.requires.1.1.0, inside) in
+    let m = c.index-generators-j.result in
+    let a : ℚ = value c.args.at_plus in
+    let b : F = get_or vals c.args.j c.args.at_plus in
+    let is : b ≡ get_or vals c.args.j b = get_or_default vals c.args.j c.args.at_plus b within in
+    let mc : Contains gens m = (c.args.j, inside, sym c.index-generators-j.is) in
+    let be : value b ≡ dot d.row (values value m.vector.items) = value_at_index value d.row gens vals P.at_row c.args.j b m within inside is c.index-generators-j.is in
+    let down : value b <ℚ zero_ℚ = below_at value vals c.args.j b within is c.requires.1.1.1.1.1 in
+    let two = two_of value d gens P.addition p m a (value b) P.listed mc P.valued be P.positive down in
+    let covered = c.share_enough.ensures (length d.row) d.rows gens two c.if-not-share_enough.true in
+    let here : IsMadeSoFar value holds d gens (pair_of value p m ∷ left) c.args.so_far.now =
+    subst (λ (q : LivePair). IsMadeSoFar value holds d gens (q ∷ left) c.args.so_far.now) (candidate value gens p m c.args.j inside c.index-generators-j.is) h in
+    tried value holds d gens P.addition p m P.listed mc a (value b) P.valued be P.positive down left c.args.so_far.now c.args.so_far.now here
+    (subst (λ (t : Bool). IsTried value holds t p m a (value b) c.args.so_far.now c.args.so_far.now) (sym covered) (refl, refl)) refl refl
 
 pub returns-clause-ok : goal.returns-clause-ok
 returns-clause-ok g c = λ left h.

@@ -77,12 +77,6 @@ returns-clause-ok g c =
       held = c.in_ok-generator.ensures.held;
     })
 
-pub returns-then-not-share_enough-clause-ok : goal.returns-then-not-share_enough-clause-ok
-returns-then-not-share_enough-clause-ok g c =
-    let value = g.F.Field.value in
-    subst (λ (t : Bool). IsTried value g.F.Field.holds t c.args.plus.now c.args.minus.now (value c.args.at_plus) (value c.args.at_minus) c.args.so_far.now c.args.so_far.now)
-    (sym (c.share_enough.ensures (length g.addition.row) g.addition.rows c.args.generators.now c.requires.1.0 c.if-not-share_enough.true)) (refl, refl)
-
 pub returns-then-not-are_adjacent-clause-ok : goal.returns-then-not-are_adjacent-clause-ok
 returns-then-not-are_adjacent-clause-ok g c =
     let two = c.requires.1.0 in

@@ -1,5 +1,5 @@
 use Rattle.lin_rows.proofs.Errors.{err_holds}
-use Rattle.std.proofs.Common.{◌≡◌, ◌+◌, List, [], ◌∷◌, ◌++◌, length, map, All, refl, sym, ap, ◌∙◌, subst, arith}
+use Rattle.std.proofs.Common.{◌≡◌, List, [], ◌∷◌, ◌++◌, length, map, All, refl, sym, ap, ◌∙◌, subst, arith}
 use Rattle.double_descr.specs.Steps.{values}
 use Rattle.double_descr.specs.State.{State, list_of, live_of}
 use Rattle.double_descr.specs.declared.generator.Generator.{Generator}
