@@ -95,8 +95,8 @@ pub fn full_vector<F: Field>(
 {
     let mut full = Items::new(alloc);
     let mut next = 0;
-    for k in 0..places.len() {
-        if places[k] {
+    for is_line in places {
+        if *is_line {
             full.push(F::zero())?;
         } else if next < short.len() {
             full.push(short[next])?;
