@@ -8,7 +8,7 @@ use Rattle.exact_field.proofs.Rationals.{add-zero_ℚ, zero-add_ℚ, add_assoc_�
 use Rattle.polyhedra.specs.Vectors.{plus, scaled}
 use Rattle.polyhedra.proofs.Linear.{length-plus, length-scaled}
 use Rattle.tableaux.proofs.Places.{entry-plus, entry-scaled}
-use Rattle.lin_rows.specs.Sums.{partial, AreHeld, AreSumsHeld, AreProductsHeld}
+use Rattle.lin_rows.specs.Sums.{partial, AreHeld, IsCombinationHeld, AreProductsHeld}
 
 pub partial-more : (a b : List ℚ) (i : ℕ) → i < length a → i < length b → partial a b (i + 1) ≡ partial a b i +ℚ slice_index_or a i zero_ℚ *ℚ slice_index_or b i zero_ℚ
 partial-more [] b i l u = absurd (omega arith)
@@ -74,7 +74,7 @@ module _ {F : Type 0} (value : F → ℚ) (holds : ℚ → Bool) where
         ap (map value) pushed ∙ map_push value old z ∙ ap₂ (λ p q. p ++ q ∷ []) is (own ∙ sym (plus_at k))
         ∙ sym (take_more (plus xs (scaled k ys)) i zero_ℚ (omega (arith, l, plus_long k)))
 
-    pub sums_held_more : (k : ℚ) → AreSumsHeld holds xs k ys i → IsTrue (holds (k *ℚ value y)) × IsTrue (holds (value x +ℚ k *ℚ value y)) → AreSumsHeld holds xs k ys (i + 1)
+    pub sums_held_more : (k : ℚ) → IsCombinationHeld holds xs k ys i → IsTrue (holds (k *ℚ value y)) × IsTrue (holds (value x +ℚ k *ℚ value y)) → IsCombinationHeld holds xs k ys (i + 1)
     sums_held_more k before here =
         let first = entry_read a i x l x_is in
         let second = entry_read b i y (omega arith) y_is in

@@ -53,8 +53,8 @@ IsFaultAt index (Step step left) fault = fault ≡ Stuck [] 0 (index + 1) step l
 IsFaultAt index Want fault = fault ≡ NoMemory
 
 -- at each place the product with k, and its sum, are held
-abbrev pub AreSumsHeld : (ℚ → Bool) → List ℚ → ℚ → List ℚ → ℕ → Type 0
-AreSumsHeld holds a k b n = (j : ℕ) → 1 ≤ j → j ≤ n → IsTrue (holds (k *ℚ entry b j)) × IsTrue (holds (entry a j +ℚ k *ℚ entry b j))
+abbrev pub IsCombinationHeld : (ℚ → Bool) → List ℚ → ℚ → List ℚ → ℕ → Type 0
+IsCombinationHeld holds a k b n = (j : ℕ) → 1 ≤ j → j ≤ n → IsTrue (holds (k *ℚ entry b j)) × IsTrue (holds (entry a j +ℚ k *ℚ entry b j))
 
 -- the products of k with the first n entries are held
 abbrev pub AreProductsHeld : (ℚ → Bool) → ℚ → List ℚ → ℕ → Type 0

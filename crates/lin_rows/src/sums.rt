@@ -5,7 +5,7 @@ ghost use Rattle.exact_field.specs.Rational.{zero_ℚ, ◌+ℚ◌, ◌*ℚ◌};
 ghost use Rattle.exact_field.specs.Vector.{dot as product};
 ghost use Rattle.exact_field.specs.declared.op.Op.TheVariants.{Mul};
 ghost use Rattle.polyhedra.specs.Vectors.{plus, scaled};
-ghost use Rattle.lin_rows.specs.Sums.{AreHeld, AreProductsHeld, AreSumsHeld, IsCombineFault, IsDotLeft, IsFaultAt, IsScaleFault, IsTermLeft, PlusStops, ProductStops};
+ghost use Rattle.lin_rows.specs.Sums.{AreHeld, AreProductsHeld, IsCombinationHeld, IsCombineFault, IsDotLeft, IsFaultAt, IsScaleFault, IsTermLeft, PlusStops, ProductStops};
 
 use crate::cells::Stop;
 use crate::fault::RowFault;
@@ -90,7 +90,7 @@ pub fn combine<F: Field>(alloc: Global, a: &[F], k: F, b: &[F]) -> Result<Items<
     requires short { length a.now ≤ 4294967294 }
     ensures ok { IfOk result
         (λ r. map F.value r ≡ plus (map F.value a.now) (scaled (F.value k) (map F.value b.now))) }
-    ensures held { IfOk result (λ r. AreSumsHeld F.holds (map F.value a.now) (F.value k)
+    ensures held { IfOk result (λ r. IsCombinationHeld F.holds (map F.value a.now) (F.value k)
         (map F.value b.now) (length a.now)) }
     ensures left { IfErr result
         (IsCombineFault F.value F.holds (map F.value a.now) (F.value k) (map F.value b.now)) }
@@ -126,8 +126,8 @@ pub fn scale<F: Field>(alloc: Global, a: &[F], k: F) -> Result<Items<F>, RowFaul
     ensures left { IfErr result (IsScaleFault F.value F.holds (F.value k) (map F.value a.now)) }
 {
     let mut out = Items::new(alloc);
-    for i in 0..a.len() {
-        match product_of(k, a[i]) {
+    for (i, y) in a.iter().enumerate() {
+        match product_of(k, *y) {
             Err(stop) => return Err(fault_at(alloc, i, stop)),
             Ok(product) => out.push(product)?,
         }
