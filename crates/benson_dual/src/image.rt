@@ -61,8 +61,8 @@ fn take_all<F: Field>(
     ensures trail { IsOpenTrail task trail.new }
     ensures left { IfErr result (Overflows F.holds (setting task trail.new) []) }
 {
-    for i in 0..cuts.len() {
-        take_cut(alloc, places, trail, dd, &cuts[i])?;
+    for cut in cuts {
+        take_cut(alloc, places, trail, dd, cut)?;
     }
     Ok(())
 }
@@ -174,8 +174,8 @@ impl<'a, F: Field> Image<'a, F> {
             OnLicence fault (Licensed F.holds task.file task.c)) }
     {
         let last = orders.len() - 1;
-        for i in 0..last {
-            if let Some(found) = self.try_order(facets, orders[i].as_slice())? {
+        for order in &orders[..last] {
+            if let Some(found) = self.try_order(facets, order.as_slice())? {
                 return Ok(found);
             }
         }

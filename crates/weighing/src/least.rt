@@ -34,8 +34,8 @@ fn point_products(
         StopsWalk dir w.now (point_items points.now) earlier end) }
 {
     let mut values = Items::new(alloc);
-    for index in 0..points.len() {
-        let value = product(w, points[index].y.as_slice(), earlier + index as u64 + 1)?;
+    for (index, point) in points.iter().enumerate() {
+        let value = product(w, point.y.as_slice(), earlier + index as u64 + 1)?;
         values.push(value)?;
     }
     Ok(values)
@@ -66,8 +66,8 @@ fn places_of(alloc: Global, values: &Items<Frac>, value: Frac) -> Result<Items<u
 {
     let list = values.as_slice();
     let mut places = Items::new(alloc);
-    for index in 0..list.len() {
-        if list[index] == value {
+    for (index, other) in list.iter().enumerate() {
+        if *other == value {
             places.push(index as u32 + 1)?;
         }
     }

@@ -24,8 +24,8 @@ fn lists_with(alloc: Global, lists: &Items<Items<u32>>, number: u32) -> Result<I
 {
     let list = lists.as_slice();
     let mut found = Items::new(alloc);
-    for index in 0..list.len() {
-        if has(list[index].as_slice(), number) {
+    for (index, numbers) in list.iter().enumerate() {
+        if has(numbers.as_slice(), number) {
             found.push(index as u32 + 1)?;
         }
     }

@@ -46,8 +46,8 @@ fn put_sets(points: &[Gen], sets: &[Items<u32>], into: &mut Bytes) -> Result<(),
     requires { length sets.now ≡ length points.now }
     ensures { OnOk result (into.new ≡ into.old ++ lines_text (sets_lines points.now sets.now)) }
 {
-    for index in 0..points.len() {
-        put_vector_line(b"1", points[index].y.as_slice(), into)?;
+    for (index, point) in points.iter().enumerate() {
+        put_vector_line(b"1", point.y.as_slice(), into)?;
         put_numbers(sets[index].as_slice(), into)?;
     }
     Ok(())

@@ -103,8 +103,8 @@ pub(crate) fn walk_lines(
     ensures ok { IfOk result (IsWalked direction w.now (line_items lines.now)) }
     ensures left { IfErr result (StopsWalk direction w.now (line_items lines.now) 0) }
 {
-    for index in 0..lines.len() {
-        let d = lines[index].d.as_slice();
+    for (index, line) in lines.iter().enumerate() {
+        let d = line.d.as_slice();
         let value = product(w, d, index as u64 + 1)?;
         if !is_zero(value) {
             return Ok(Some(way_down(alloc, direction, value, d)?));
@@ -128,8 +128,8 @@ pub(crate) fn walk_directions(
     ensures left { IfErr result
         (StopsWalk direction w.now (direction_items directions.now) earlier) }
 {
-    for index in 0..directions.len() {
-        let d = directions[index].y.as_slice();
+    for (index, generator) in directions.iter().enumerate() {
+        let d = generator.y.as_slice();
         let value = product(w, d, earlier + index as u64 + 1)?;
         if is_down(direction, value) {
             return Ok(Some(copy_of(alloc, d)?));

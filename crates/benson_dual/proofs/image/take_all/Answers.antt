@@ -10,8 +10,8 @@ one_more : {X : Type 0} (start seen more : List X) (e : X) (old new : List X) �
 one_more start seen more e old new so_far grown longer =
     grown ∙ ap (λ es. es ++ e ∷ []) so_far ∙ append_assoc start seen (e ∷ []) ∙ ap (λ es. start ++ es) (sym longer)
 
-pub loop-i-init : goal.loop-i-init
-loop-i-init g c = record {
+pub loop-cut-init : goal.loop-cut-init
+loop-cut-init g c = record {
   outer = c.requires.1.0;
   said = sym (append-nil (cuts_of g.task c.args.trail.now));
   lines_stay = refl;
@@ -23,28 +23,28 @@ take-requires g c κs within =
     let value = g.F.Field.value in (
       search rules,
       (
-        c.loop-i.invariant.outer,
+        c.loop-cut.invariant.outer,
         (
-          c.requires.1.1.0 ∙ ap (marks g.task.file.objs) (sym c.loop-i.invariant.lines_stay),
-          subst (λ (x : Cut g.row.F.Denot). IsCutFor value g.task x) (sym c.index-cuts-i.is)
-              (c.requires.1.1.1 c.loop-i.i c.index-cuts-i.result c.loop-i-test.true),
+          c.requires.1.1.0 ∙ ap (marks g.task.file.objs) (sym c.loop-cut.invariant.lines_stay),
+          subst (λ (x : Cut g.row.F.Denot). IsCutFor value g.task x) (sym c.cut-item.is)
+              (c.requires.1.1.1 c.loop-cut.cut-index c.cut-item.result c.loop-cut-test.true),
         ),
       ),
     )
 
-pub loop-i-preserved : goal.loop-i-preserved
-loop-i-preserved g c =
+pub loop-cut-preserved : goal.loop-cut-preserved
+loop-cut-preserved g c =
     let value = g.F.Field.value in
     let cuts = c.args.cuts.now in
-    let i = c.loop-i.i in
-    let cut = c.index-cuts-i.result in
+    let i = c.loop-cut.cut-index in
+    let cut = c.cut-item.result in
     let longer : map (said_by value) (take (i + 1) cuts) ≡ map (said_by value) (take i cuts) ++ said_by value cut ∷ [] =
-    ap (map (said_by value)) (take_more cuts i cut c.loop-i-test.true ∙ ap (λ (x : Cut g.row.F.Denot). take i cuts ++ x ∷ []) (sym c.index-cuts-i.is))
+    ap (map (said_by value)) (take_more cuts i cut c.loop-cut-test.true ∙ ap (λ (x : Cut g.row.F.Denot). take i cuts ++ x ∷ []) (sym c.cut-item.is))
     ∙ map-append (said_by value) (take i cuts) (cut ∷ []) in
     record {
       outer = c.in_ok-take.ensures.ok;
       said = one_more (cuts_of g.task c.args.trail.now) (map (said_by value) (take i cuts)) (map (said_by value) (take (i + 1) cuts)) (said_by value cut)
-          (cuts_of g.task c.loop-i.trail) (cuts_of g.task c.take.new.trail) c.loop-i.invariant.said c.in_ok-take.ensures.cuts longer;
-      lines_stay = c.in_ok-take.ensures.lines ∙ c.loop-i.invariant.lines_stay;
-      preimages_stay = λ k. c.in_ok-take.ensures.preimages k ∙ c.loop-i.invariant.preimages_stay k;
+          (cuts_of g.task c.loop-cut.trail) (cuts_of g.task c.take.new.trail) c.loop-cut.invariant.said c.in_ok-take.ensures.cuts longer;
+      lines_stay = c.in_ok-take.ensures.lines ∙ c.loop-cut.invariant.lines_stay;
+      preimages_stay = λ k. c.in_ok-take.ensures.preimages k ∙ c.loop-cut.invariant.preimages_stay k;
     }

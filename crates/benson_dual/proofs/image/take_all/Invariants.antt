@@ -7,10 +7,10 @@ use Rattle.benson_dual.proofs.image.take_all.Given as goal
 abbrev pub ghost-take : goal.ghost-take
 ghost-take g a = g.task
 
-abbrev pub invariant-loop-i : goal.invariant-loop-i
-invariant-loop-i g l = record {
+abbrev pub invariant-loop-cut : goal.invariant-loop-cut
+invariant-loop-cut g l = record {
   outer : IsOuter g.task l.trail l.dd;
-  said : cuts_of g.task l.trail ≡ cuts_of g.task l.initial.trail ++ map (said_by g.F.Field.value) (take l.i l.cuts);
+  said : cuts_of g.task l.trail ≡ cuts_of g.task l.initial.trail ++ map (said_by g.F.Field.value) (take l.cut-index l.cuts);
   lines_stay : lines l.trail ≡ lines l.initial.trail;
   preimages_stay : (k : ℕ) → preimages l.trail k ≡ preimages l.initial.trail k;
 }

@@ -1,4 +1,4 @@
-use Rattle.std.proofs.Common.{◌≡◌, ◌+◌, ◌∙◌, List, sym, ap, subst, arith}
+use Rattle.std.proofs.Common.{◌≡◌, ◌+◌, List, subst, arith}
 use Rattle.exact_field.specs.Rational.{ℚ}
 use Rattle.exact_field.specs.Vector.{dot}
 use Rattle.lin_rows.proofs.Errors.{err_holds}
@@ -17,7 +17,7 @@ returns-in_err-value-clause-left c =
     let k = c.args.earlier + i + 1 in
     let x = c.index-points-index.result in
     let e = c.in_err-value.field-0.0 in
-    let y_is = c.as_slice.ensures.items ∙ ap (λ (g : Gen). g.y) (sym c.index-points-index.is) in
+    let y_is = c.as_slice.ensures.items in
     let left : IsProductLeft w x.y k e = subst (λ (v : List ℚ). IsProductLeft w v k e) y_is c.in_err-value.ensures.left in
     err_holds c.from_residual.result e (λ end. (dir : Dir) → StopsWalk dir w (point_items c.args.points.now) c.args.earlier end) c.from_residual.ensures.1
     (λ dir. stuck_at dir w (λ (g : Gen). point g.y) c.args.points.now i c.args.earlier k x e c.loop-index-test.true c.index-points-index.is
@@ -28,7 +28,7 @@ loop-index-preserved c =
     let w = c.args.w.now in
     let x = c.index-points-index.result in
     let value = c.in_ok-value.value in
-    let y_is = c.as_slice.ensures.items ∙ ap (λ (g : Gen). g.y) (sym c.index-points-index.is) in
+    let y_is = c.as_slice.ensures.items in
     let taken : IsTaken w x.y = subst (λ (v : List ℚ). IsTaken w v) y_is c.in_ok-value.ensures.taken in
     let value_is : value ≡ dot w x.y = subst (λ (v : List ℚ). value ≡ dot w v) y_is c.in_ok-value.ensures.ok in
     record {

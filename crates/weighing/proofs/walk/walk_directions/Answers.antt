@@ -18,7 +18,7 @@ returns-in_err-value-clause-left c =
     let k = c.args.earlier + i + 1 in
     let x = c.index-directions-index.result in
     let e = c.in_err-value.field-0.0 in
-    let left : IsProductLeft w x.y k e = subst (λ (v : List ℚ). IsProductLeft w v k e) (c.as_slice-d.ensures.items ∙ ap (λ (g : Gen). g.y) (sym c.index-directions-index.is)) c.in_err-value.ensures.left in
+    let left : IsProductLeft w x.y k e = subst (λ (v : List ℚ). IsProductLeft w v k e) c.as_slice-d.ensures.items c.in_err-value.ensures.left in
     err_holds c.from_residual.result e (StopsWalk c.args.direction w (direction_items c.args.directions.now) c.args.earlier) c.from_residual.ensures.1
     (stuck_at c.args.direction w (λ (g : Gen). direction g.y) c.args.directions.now i c.args.earlier k x e c.loop-index-test.true c.index-directions-index.is c.loop-index.invariant (omega arith) left)
 
@@ -28,7 +28,7 @@ returns-then-is_down-clause-ok c =
     let dir = c.args.direction in
     let x = c.index-directions-index.result in
     let value = c.in_ok-value.value in
-    let d_is = c.as_slice-d.ensures.items ∙ ap (λ (g : Gen). g.y) (sym c.index-directions-index.is) in
+    let d_is = c.as_slice-d.ensures.items in
     let taken : IsTaken w x.y = subst (λ (v : List ℚ). IsTaken w v) d_is c.in_ok-value.ensures.taken in
     let value_is : value ≡ dot w x.y = subst (λ (v : List ℚ). value ≡ dot w v) d_is c.in_ok-value.ensures.ok in
     let way_is : c.in_ok-copy_of.field-0 ≡ x.y = c.in_ok-copy_of.ensures ∙ d_is in
@@ -47,7 +47,7 @@ loop-index-preserved c =
     let dir = c.args.direction in
     let x = c.index-directions-index.result in
     let value = c.in_ok-value.value in
-    let d_is = c.as_slice-d.ensures.items ∙ ap (λ (g : Gen). g.y) (sym c.index-directions-index.is) in
+    let d_is = c.as_slice-d.ensures.items in
     let taken : IsTaken w x.y = subst (λ (v : List ℚ). IsTaken w v) d_is c.in_ok-value.ensures.taken in
     let value_is : value ≡ dot w x.y = subst (λ (v : List ℚ). value ≡ dot w v) d_is c.in_ok-value.ensures.ok in
     let up : zero_ℚ ≤ℚ signed dir value = not_below (signed dir value) zero_ℚ c.is_down.result c.is_down.ensures c.if-is_down.false in

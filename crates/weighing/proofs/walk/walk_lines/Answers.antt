@@ -1,4 +1,4 @@
-use Rattle.std.proofs.Common.{◌≡◌, ◌+◌, ◌∙◌, List, true≢false, sym, ap, subst, arith}
+use Rattle.std.proofs.Common.{◌≡◌, ◌+◌, ◌∙◌, List, true≢false, sym, subst, arith}
 use Rattle.exact_field.specs.Rational.{ℚ, zero_ℚ, ◌<ℚ◌}
 use Rattle.exact_field.specs.Vector.{dot}
 use Rattle.lin_rows.proofs.Errors.{err_holds}
@@ -16,7 +16,7 @@ returns-in_err-value-clause-left c =
     let i = c.loop-index.index in
     let x = c.index-lines-index.result in
     let e = c.in_err-value.field-0.0 in
-    let left : IsProductLeft w x.d (i + 1) e = subst (λ (v : List ℚ). IsProductLeft w v (i + 1) e) (c.as_slice-d.ensures.items ∙ ap (λ (l : LineGen). l.d) (sym c.index-lines-index.is)) c.in_err-value.ensures.left in
+    let left : IsProductLeft w x.d (i + 1) e = subst (λ (v : List ℚ). IsProductLeft w v (i + 1) e) c.as_slice-d.ensures.items c.in_err-value.ensures.left in
     err_holds c.from_residual.result e (StopsWalk c.args.direction w (line_items c.args.lines.now) 0) c.from_residual.ensures.1
     (stuck_at c.args.direction w (λ (l : LineGen). line l.d) c.args.lines.now i 0 (i + 1) x e c.loop-index-test.true c.index-lines-index.is c.loop-index.invariant (omega arith) left)
 
@@ -26,7 +26,7 @@ returns-then-not-is_zero-clause-ok c =
     let dir = c.args.direction in
     let x = c.index-lines-index.result in
     let value = c.in_ok-value.value in
-    let d_is = c.as_slice-d.ensures.items ∙ ap (λ (l : LineGen). l.d) (sym c.index-lines-index.is) in
+    let d_is = c.as_slice-d.ensures.items in
     let taken : IsTaken w x.d = subst (λ (v : List ℚ). IsTaken w v) d_is c.in_ok-value.ensures.taken in
     let value_is : value ≡ dot w x.d = subst (λ (v : List ℚ). value ≡ dot w v) d_is c.in_ok-value.ensures.ok in
     let way_is : way_of dir value x.d ≡ c.in_ok-way_down.field-0 = sym (subst (λ (v : List ℚ). c.in_ok-way_down.field-0 ≡ way_of dir value v) d_is c.in_ok-way_down.ensures) in
@@ -45,7 +45,7 @@ loop-index-preserved c =
     let w = c.args.w.now in
     let x = c.index-lines-index.result in
     let value = c.in_ok-value.value in
-    let d_is = c.as_slice-d.ensures.items ∙ ap (λ (l : LineGen). l.d) (sym c.index-lines-index.is) in
+    let d_is = c.as_slice-d.ensures.items in
     let taken : IsTaken w x.d = subst (λ (v : List ℚ). IsTaken w v) d_is c.in_ok-value.ensures.taken in
     let value_is : value ≡ dot w x.d = subst (λ (v : List ℚ). value ≡ dot w v) d_is c.in_ok-value.ensures.ok in
     let passed : IsPassed c.args.direction w (line x.d) = record { taken = taken; on = sym value_is ∙ c.is_zero.ensures.0 c.if-not-is_zero.false } in

@@ -1,4 +1,5 @@
 use Rattle.std.proofs.Common.{rules, List, arith, length, subst, sym}
+use Rattle.std.proofs.lemmas.List.Elements.{All-take}
 use Rattle.benson_dual.specs.Order.{IsOrder}
 use Rattle.benson_dual.proofs.image.Image.in_first_order.Goals as goal
 
@@ -11,8 +12,8 @@ try_order-requires g c κs within =
         (
           c.requires.1.1.0,
           subst (IsOrder (length facets)) (sym c.as_slice.ensures.items)
-              (subst (λ (o : List _). IsOrder (length facets) o) (sym c.index-orders-i.is)
-              (c.requires.1.1.1.1 c.loop-i.i c.index-orders-i.result (let l = c.loop-i-test.true in omega (arith, l)))),
+              (subst (λ (o : List _). IsOrder (length facets) o) (sym c.order-item.is)
+              (All-take (IsOrder (length facets)) _ c.args.orders.now c.requires.1.1.1.1 c.loop-order.order-index c.order-item.result c.loop-order-test.true)),
         ),
       ),
     )
