@@ -2,7 +2,6 @@ pub mod Covering
 pub mod InPlace
 pub mod KeptNext
 pub mod MadePairs
-pub mod MarkedSoFar
 pub mod NegativePlaces
 pub mod NextLists
 pub mod NormedCorners

@@ -20,19 +20,6 @@ use lin_rows::{RowFault, Rows};
 use src_sink::{Items, NoMemory};
 use std::alloc::Global;
 
-/// The set of all numbers below the bound but one.
-fn mark_all_but(alloc: Global, bound: u32, out: u32) -> Result<Marks, NoMemory>
-    ensures { IfOk result (λ marks. IsAllBut bound out marks) }
-{
-    let mut marks = Marks::new(alloc, bound)?;
-    for k in 0..bound {
-        if k != out {
-            marks.insert(k);
-        }
-    }
-    Ok(marks)
-}
-
 /// A vector, normed, as a generator of so many rows, of which all but the one at its place are
 /// tight at it.
 fn normed_generator<F: Field>(
@@ -62,7 +49,7 @@ fn normed_generator<F: Field>(
             left,
         })),
         Ok(vector) => {
-            let tight = mark_all_but(alloc, count, place)?;
+            let tight = Marks::all_but(alloc, count, place)?;
             Ok(Generator {
                 number: place + 1,
                 vector,

@@ -1,6 +1,6 @@
 -- Sets as lists of their numbers below a bound: what the words of a set say of the set.
 use Rattle.std.proofs.Common.{◌≡◌, ◌≢◌, ℕ, zero, suc, ◌/◌, ◌%◌, max, length-append, ◌+◌, ◌-◌, ◌*◌, ◌<◌, ◌≤◌, List, [], ◌∷◌, ◌++◌, length, get_or, set, replicate, min, Bool, true, false, ◌&&◌, refl, sym, ap, ap₂, ◌∙◌, ◌⊎◌, inl, inr, arith}
-use Rattle.std.specs.Prelude.{IsTrue, ◌↔◌, ◌==◌}
+use Rattle.std.specs.Prelude.{IsTrue, ◌↔◌, ◌==◌, not, nat_eq}
 use Rattle.std.specs.Int.{bit_at}
 use Rattle.std.proofs.lemmas.Bool.{cases_eq, cases_lt}
 use Rattle.std.proofs.lemmas.Nat.Bits.{bit_at-zero}
@@ -8,7 +8,7 @@ use Rattle.std.proofs.lemmas.List.{get_or_past, length-replicate, get_or-append_
 use Rattle.std.proofs.Math.ListN.{get_or-append}
 use Rattle.std.proofs.lemmas.List.FromFn.{length-map-range_with_len, get_or-map-range_with_len, fill_by_all}
 use Rattle.incid_sets.specs.Words.{is_marked, marks_below, AreBounded, AddsMark, TellsMark}
-use Rattle.incid_sets.specs.Marks.{has, no_marks, ContainsAll, CoversBoth, IsMeet}
+use Rattle.incid_sets.specs.Marks.{has, no_marks, ContainsAll, CoversBoth, IsAllBut, IsMeet}
 
 pub length-marks_below : (bound : ℕ) (words : List ℕ) → length (marks_below bound words) ≡ bound
 length-marks_below bound words = length-map-range_with_len (is_marked words) 0 bound
@@ -199,3 +199,29 @@ widened old grown new bound is_in h room same told = (
             let here : k ≡ bound = omega arith in
             get_or-append_right (marks_below bound old) (is_in ∷ []) bound k false (length-marks_below bound old) p
             ∙ ap (λ n. get_or (is_in ∷ []) n false) last ∙ sym (ap (is_marked new) here ∙ (facts is_in told).1)
+
+-- ---- all numbers but one
+at_last : (xs : List Bool) (b : Bool) → has (xs ++ b ∷ []) (length xs) ≡ b
+at_last [] b = refl
+at_last (x ∷ xs) b = at_last xs b
+
+before_last : (xs : List Bool) (b : Bool) (k : ℕ) → k < length xs → has (xs ++ b ∷ []) k ≡ has xs k
+before_last [] b k h = absurd (omega (arith, h))
+before_last (x ∷ xs) b zero h = refl
+before_last (x ∷ xs) b (suc k) h = before_last xs b k (omega (arith, h))
+
+-- such a set is made from the front
+pub none_but : (out : ℕ) (marks : List Bool) → marks ≡ [] → IsAllBut 0 out marks
+none_but out marks e = record { bounded = ap length e; others = λ k h. absurd (omega (arith, h)) }
+
+pub one_more_but : (k out : ℕ) (old new : List Bool) → IsAllBut k out old → new ≡ old ++ not (nat_eq k out) ∷ [] → IsAllBut (k + 1) out new
+one_more_but k out old new h e = record {
+  bounded = let a = h.bounded in let b = length-append old (not (nat_eq k out) ∷ []) in ap length e ∙ omega (arith, a, b);
+  others = λ j l. ap (λ (m : List Bool). has m j) e ∙ go j l (cases_eq j k);
+}
+  where
+    go : (j : ℕ) → j < k + 1 → (j ≡ k) ⊎ (j ≢ k) → has (old ++ not (nat_eq k out) ∷ []) j ≡ not (nat_eq j out)
+    go j l (inl e) =
+        let a = h.bounded in
+        ap (has (old ++ not (nat_eq k out) ∷ [])) (let s : j ≡ length old = omega (arith, e, a) in s) ∙ at_last old (not (nat_eq k out)) ∙ ap (λ n. not (nat_eq n out)) (sym e)
+    go j l (inr o) = let a = h.bounded in before_last old (not (nat_eq k out)) j (omega (arith, l, o, a)) ∙ h.others j (omega (arith, l, o))

@@ -1,6 +1,6 @@
 //! Sets of numbers below a bound.
 ghost use Rattle.std.specs.Prelude.{◌≡◌, ◌<◌, ◌≤◌, ◌*◌, ◌+◌, ◌-◌, ◌++◌, ◌∷◌, [], ◌↔◌, ℕ, List, Bool, IsOk, IsTrue, true, OnOk, OnErr, IfOk, length, slice_set};
-ghost use Rattle.incid_sets.specs.Marks.{has, no_marks, size, ContainsAll, CoversBoth, HasRoom, IsMeet};
+ghost use Rattle.incid_sets.specs.Marks.{has, no_marks, size, ContainsAll, CoversBoth, HasRoom, IsAllBut, IsMeet};
 
 use crate::words::{
     WORD, contains_words, count_marks, covers_words, grow_words, has_mark, have_at_least, set_mark,
@@ -35,6 +35,17 @@ impl Marks {
     {
         let words = zero_words(alloc, words_for(bound))?;
         Ok(Marks { words, bound })
+    }
+
+    /// The set of all numbers below `bound` but one.
+    pub fn all_but(alloc: Global, bound: u32, out: u32) -> Result<Marks, NoMemory>
+        ensures { IfOk result (λ marks. IsAllBut bound out marks) }
+    {
+        let mut marks = Marks::new(alloc, 0)?;
+        for k in 0..bound {
+            marks.widen(k != out)?;
+        }
+        Ok(marks)
     }
 
     /// The number below which all members are.

@@ -11,7 +11,7 @@ ghost use Rattle.upper_image.specs.Spots.{pieces};
 
 use frac128::{Frac, Vector};
 use incid_sets::Marks;
-use log_live::{Generator, mark_all_but};
+use log_live::Generator;
 use src_sink::{Items, NoMemory};
 use std::alloc::Global;
 
@@ -49,7 +49,7 @@ fn first_generator(
     Ok(Generator {
         number: place + 1,
         vector: copy_vector(alloc, entries)?,
-        tight: mark_all_but(alloc, count, place)?,
+        tight: Marks::all_but(alloc, count, place)?,
         pre: None,
     })
 }
