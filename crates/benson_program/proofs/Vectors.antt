@@ -17,18 +17,9 @@ use Rattle.polyhedra.proofs.Negatives.{dot-negated}
 use Rattle.tableaux.specs.Table.{minus}
 use Rattle.tableaux.proofs.Inverse.{dot-append}
 use Rattle.overflow_rules.proofs.Violated.{minus-is}
+pub use Rattle.cone_rules.proofs.Parts.{append_parts}
 
 -- ---- cut at one place
-pub append_parts : (a b c d : List ℚ) → length a ≡ length c → a ++ b ≡ c ++ d → (a ≡ c) × (b ≡ d)
-append_parts [] b [] d h e = (refl, e)
-append_parts [] b (y ∷ c) d h e = absurd (omega arith)
-append_parts (x ∷ a) b [] d h e = absurd (omega arith)
-append_parts (x ∷ a) b (y ∷ c) d h e =
-    let heads : x ≡ y = cc in
-    let tails : a ++ b ≡ c ++ d = cc in
-    let parts = append_parts a b c d (omega arith) tails in
-    (ap₂ (λ p q. p ∷ q) heads parts.0, parts.1)
-
 -- a vector is its four parts
 pub parts_of : (m q : ℕ) (z : List ℚ) → take m z ++ take q (drop m z) ++ take q (drop (m + q) z) ++ drop (m + q + q) z ≡ z
 parts_of m q z =

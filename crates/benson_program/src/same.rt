@@ -73,8 +73,8 @@ pub(crate) fn is_same_vector<F: Field>(one: &[F], other: &[F]) -> bool
     if one.len() != other.len() {
         return false;
     }
-    for i in 0..one.len() {
-        if !is_same_number(one[i], other[i]) {
+    for (x, y) in one.iter().zip(other) {
+        if !is_same_number(*x, *y) {
             return false;
         }
     }
@@ -88,8 +88,8 @@ fn are_same_vectors<F: Field>(one: &[Items<F>], other: &[Items<F>]) -> bool
     if one.len() != other.len() {
         return false;
     }
-    for i in 0..one.len() {
-        if !is_same_vector(one[i].as_slice(), other[i].as_slice()) {
+    for (vector, like) in one.iter().zip(other) {
+        if !is_same_vector(vector.as_slice(), like.as_slice()) {
             return false;
         }
     }
@@ -103,8 +103,8 @@ fn is_same_line<F: Field>(one: &[At<F>], other: &[At<F>]) -> bool
     if one.len() != other.len() {
         return false;
     }
-    for i in 0..one.len() {
-        if one[i].at != other[i].at || !is_same_number(one[i].value, other[i].value) {
+    for (entry, like) in one.iter().zip(other) {
+        if entry.at != like.at || !is_same_number(entry.value, like.value) {
             return false;
         }
     }
@@ -118,8 +118,8 @@ fn are_same_lines<F: Field>(one: &[Items<At<F>>], other: &[Items<At<F>>]) -> boo
     if one.len() != other.len() {
         return false;
     }
-    for i in 0..one.len() {
-        if !is_same_line(one[i].as_slice(), other[i].as_slice()) {
+    for (line, like) in one.iter().zip(other) {
+        if !is_same_line(line.as_slice(), like.as_slice()) {
             return false;
         }
     }
@@ -133,9 +133,9 @@ fn are_same_sides<F: Field>(one: &[SideOf<F>], other: &[SideOf<F>]) -> bool
     if one.len() != other.len() {
         return false;
     }
-    for i in 0..one.len() {
-        if !is_same_number(one[i].beta, other[i].beta)
-            || !is_same_line(one[i].g.as_slice(), other[i].g.as_slice())
+    for (side, like) in one.iter().zip(other) {
+        if !is_same_number(side.beta, like.beta)
+            || !is_same_line(side.g.as_slice(), like.g.as_slice())
         {
             return false;
         }

@@ -177,7 +177,3 @@ when_done (Err e) P Q R h f = tt
 pub when_err : {T E : Type 0} (r : Result T E) (P : T → Type 0) (Q : E → Type 0) (R : E → Type 0) → MatchResult r P Q → ((e : E) → Q e → R e) → IfErr r R
 when_err (Ok x) P Q R h f = tt
 when_err (Err e) P Q R h f = f e h
-
-pub if_ok_map : {T E : Type 0} (r : Result T E) (P Q : T → Type 0) → IfOk r P → ((x : T) → P x → Q x) → IfOk r Q
-if_ok_map (Ok x) P Q h f = f x h
-if_ok_map (Err e) P Q h f = tt

@@ -1,5 +1,5 @@
-use Rattle.std.proofs.Common.{◌≡◌, take}
+use Rattle.std.proofs.Common.{◌≡◌, length, take}
 use Rattle.benson_program.proofs.same.are_same_sides.Given as goal
 
-abbrev pub invariant-loop-i : goal.invariant-loop-i
-invariant-loop-i g l = take l.i l.one ≡ take l.i l.other
+abbrev pub invariant-loop-side : goal.invariant-loop-side
+invariant-loop-side g l = take (length l.yielded) l.one ≡ take (length l.yielded) l.other

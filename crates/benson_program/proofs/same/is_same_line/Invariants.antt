@@ -1,5 +1,5 @@
-use Rattle.std.proofs.Common.{◌≡◌, take}
+use Rattle.std.proofs.Common.{◌≡◌, length, take}
 use Rattle.benson_program.proofs.same.is_same_line.Given as goal
 
-abbrev pub invariant-loop-i : goal.invariant-loop-i
-invariant-loop-i g l = take l.i l.one ≡ take l.i l.other
+abbrev pub invariant-loop-entry : goal.invariant-loop-entry
+invariant-loop-entry g l = take (length l.yielded) l.one ≡ take (length l.yielded) l.other

@@ -5,9 +5,9 @@ use Rattle.exact_field.specs.Vector.{dot, front, last}
 use Rattle.lin_rows.specs.Sums.{IsDotLeft}
 use Rattle.lin_rows.proofs.Errors.{err_holds}
 use Rattle.double_descr.specs.Steps.{IsFirst, IsHeld, Step}
-use Rattle.double_descr.proofs.StepLists.{if_err_map, on_ok_map}
+use Rattle.double_descr.proofs.StepLists.{if_err_map, if_ok_map, on_ok_map}
 use Rattle.geo_duality.specs.Coupling.{IsCouplingLeft, IsProductHeld, joined, joining_steps, last_steps}
-use Rattle.geo_duality.proofs.Dual.{coupling_is, if_ok_map, mapped_front, mapped_last, product_held}
+use Rattle.geo_duality.proofs.Dual.{coupling_is, mapped_front, mapped_last, product_held}
 use Rattle.geo_duality.proofs.coupling.phi.Goals as goal
 
 pub returns-in_err-direct-clause-left : goal.returns-in_err-direct-clause-left
