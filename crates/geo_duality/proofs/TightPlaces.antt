@@ -9,7 +9,7 @@ use Rattle.polyhedra.specs.DoubleDescription.{is_zero}
 use Rattle.polyhedra.specs.FirstNamed.{tight_lies_in}
 use Rattle.polyhedra.specs.LiveList.{Numbered, numbers, tight_set, vectors}
 use Rattle.polyhedra.proofs.Tests.{both_hold, both_true, implied, implies, same_tests}
-use Rattle.double_descr.proofs.MarkedSoFar.{IsMarkedBelow}
+use Rattle.geo_duality.proofs.MarkedSoFar.{IsMarkedBelow}
 use Rattle.geo_duality.specs.Facets.{row_at, tight_places}
 
 -- where each generator that is tight at the one row is tight at the other, as sets and as a test of the generators

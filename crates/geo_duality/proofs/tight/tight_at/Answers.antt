@@ -3,7 +3,7 @@ use Rattle.std.proofs.lemmas.List.{length-map}
 use Rattle.exact_field.specs.Vector.{dot}
 use Rattle.polyhedra.specs.DoubleDescription.{is_zero}
 use Rattle.polyhedra.specs.LiveList.{Numbered, numbers, vectors}
-use Rattle.double_descr.proofs.MarkedSoFar.{one_marked, one_passed}
+use Rattle.geo_duality.proofs.MarkedSoFar.{one_marked, one_passed}
 use Rattle.geo_duality.specs.Facets.{row_at}
 use Rattle.geo_duality.proofs.TightPlaces.{has_place, marks_done}
 use Rattle.geo_duality.proofs.tight.tight_at.Goals as goal

@@ -2,7 +2,7 @@ use Rattle.std.proofs.Common.{slice_index_or, [], length}
 use Rattle.exact_field.specs.Vector.{dot}
 use Rattle.polyhedra.specs.DoubleDescription.{is_zero}
 use Rattle.polyhedra.specs.LiveList.{vectors}
-use Rattle.double_descr.proofs.MarkedSoFar.{IsMarkedBelow}
+use Rattle.geo_duality.proofs.MarkedSoFar.{IsMarkedBelow}
 use Rattle.geo_duality.specs.Facets.{row_at}
 use Rattle.geo_duality.proofs.tight.tight_at.Given as goal
 
