@@ -11,7 +11,7 @@ use Rattle.exact_field.specs.Vector.{dot}
 use Rattle.polyhedra.specs.Cone.{HasFullRank}
 use Rattle.polyhedra.specs.Hull.{IsValidAt}
 use Rattle.polyhedra.specs.Inequality.{Inequality}
-use Rattle.polyhedra.proofs.Lists.{all_from_map}
+use Rattle.polyhedra.proofs.Lists.{all_from_map, all_front}
 use Rattle.polyhedra.proofs.Members.{all_of_members, member_of}
 use Rattle.lineality.specs.Lines.{IsInLineality}
 use Rattle.lineality.specs.Without.{marks, open_count, without}
@@ -29,7 +29,7 @@ use Rattle.outer_approx.specs.declared.log.Line.{Line}
 use Rattle.recession.specs.First.{AreFirstCuts}
 use Rattle.recession.specs.Further.{normals_of}
 use Rattle.recession.proofs.Asking_ends.{sparse_there}
-use Rattle.recession.proofs.Free.{HasFree, all_front}
+use Rattle.recession.proofs.Free.{HasFree}
 use Rattle.recession.proofs.Grown.{cut_level}
 use Rattle.recession.proofs.Tail.{all_sides}
 use Rattle.recession.proofs.Whole.{complement_by_rank, full_rank_without, many_together}

@@ -8,7 +8,7 @@ use Rattle.exact_field.specs.Rational.{ℚ, zero_ℚ}
 use Rattle.exact_field.specs.Vector.{dot}
 use Rattle.polyhedra.specs.Dependence.{AreDependent}
 use Rattle.polyhedra.proofs.Dependence.{dependent_value, more_are_dependent, null_vector}
-use Rattle.polyhedra.proofs.Lists.{HasWidth, all_from_map, Contains-here}
+use Rattle.polyhedra.proofs.Lists.{HasWidth, all_from_map, Contains-here, all_front}
 use Rattle.polyhedra.proofs.Members.{all_of_members, member_of}
 use Rattle.lineality.specs.Lines.{IsCombined}
 use Rattle.lineality.specs.Without.{marks, open_count, with_zeros, without}
@@ -20,7 +20,7 @@ use Rattle.lineality.proofs.OpenPlaces.{open_places}
 use Rattle.lineality.proofs.Reduction.{level_combination}
 use Rattle.lin_rows.specs.Complement.{AreComplement}
 use Rattle.recession.specs.Further.{IsOffAcross}
-use Rattle.recession.proofs.Free.{HasFree, all_front, has_free-more, has_free-none}
+use Rattle.recession.proofs.Free.{HasFree, has_free-more, has_free-none}
 use Rattle.recession.proofs.Whole.{complement_by_rank, free_without, full_rank_without, many_together, rank_of_complement}
 use Rattle.benson_dual.specs.Picking.{EachOffAcross, IsCount, IsWithin}
 

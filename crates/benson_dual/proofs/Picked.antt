@@ -6,13 +6,12 @@ use Rattle.std.proofs.lemmas.List.Elements.{All-map, All-nil, All-push}
 use Rattle.std.proofs.lemmas.List.Sorted.{IsPermutation-append_left, IsPermutation-middle, IsPermutation-push_more, IsPermutation-refl, IsPermutation-sym}
 use Rattle.exact_field.specs.Rational.{ℚ, zero_ℚ}
 use Rattle.exact_field.specs.Vector.{dot}
-use Rattle.polyhedra.proofs.Lists.{HasWidth}
+use Rattle.polyhedra.proofs.Lists.{HasWidth, all_front}
 use Rattle.polyhedra.proofs.Members.{all_of_members, member_of}
 use Rattle.lp_form.specs.declared.shown.Cut.{Cut}
 use Rattle.outer_approx.specs.Cuts.{IsCutFor}
 use Rattle.outer_approx.specs.Task.{Task}
 use Rattle.recession.specs.Further.{IsOffAcross, normals_of}
-use Rattle.recession.proofs.Free.{all_front}
 use Rattle.benson_dual.specs.Picking.{ArePicked, EachOffAcross, IsWithin}
 use Rattle.benson_dual.proofs.Counted.{off_more, off_none}
 

@@ -1,5 +1,5 @@
 -- The set of the numbers that have a pre-image.
-use Rattle.std.proofs.Common.{◌≡◌, ◌≢◌, ◌≤◌, ◌<◌, ◌+◌, ◌-◌, ℕ, Bool, List, [], ◌||◌, nat_eq, map, length, Contains, sym, ap, ◌∙◌, subst, arith, true≢false, inl, inr, slice_index_or}
+use Rattle.std.proofs.Common.{◌≡◌, ◌≢◌, ◌≤◌, ◌<◌, ◌-◌, ℕ, Bool, List, [], ◌||◌, nat_eq, map, length, Contains, sym, ap, ◌∙◌, subst, arith, true≢false, inl, inr, slice_index_or}
 use Rattle.std.proofs.lemmas.List.{get_or-map, length-map}
 use Rattle.std.proofs.lemmas.List.Elements.{Contains-get_or}
 use Rattle.exact_field.specs.Rational.{ℚ}
@@ -47,15 +47,6 @@ pub stay_reached : (old new : List Entry) (g : ℕ) → preimages new g ≢ [] �
 stay_reached old new g here others k had = elim (eqb_tells k g) [
   | inl t ↦ subst (λ (j : ℕ). preimages new j ≢ []) (sym t.1) here
   | inr f ↦ λ none. had (sym (others k f.1) ∙ none)
-]
-
--- what holds of the last i of n numbers, and of one more
-pub seen_more : (live : List ℕ) (P Q : ℕ → Type 0) (n i : ℕ) → i < n → ((j : ℕ) → n - i ≤ j → j < n → P (slice_index_or live j 0)) →
-    ((k : ℕ) → P k → Q k) → Q (slice_index_or live (n - 1 - i) 0) →
-    (j : ℕ) → n - (i + 1) ≤ j → j < n → Q (slice_index_or live j 0)
-seen_more live P Q n i inside seen stay here j low high = elim (eqb_tells j (n - 1 - i)) [
-  | inl t ↦ subst (λ (k : ℕ). Q (slice_index_or live k 0)) (sym t.1) here
-  | inr f ↦ stay (slice_index_or live j 0) (seen j (omega (arith, low, high, inside, f.1)) high)
 ]
 
 -- where each of n numbers is done, which are all, each generator that is asked has a pre-image

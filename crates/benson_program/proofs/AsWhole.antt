@@ -11,10 +11,10 @@ use Rattle.frac128.specs.declared.vectors.Spot.{Spot}
 use Rattle.polyhedra.specs.DoubleDescription.{magnitude}
 use Rattle.polyhedra.specs.Negatives.{negated}
 use Rattle.polyhedra.specs.Vectors.{AtLeastZero, zeros, scaled, combination, values}
-use Rattle.polyhedra.proofs.Algebra.{neg_zero, zero_add}
+use Rattle.polyhedra.proofs.Algebra.{zero_add}
 use Rattle.polyhedra.proofs.Laws.{add_zero, le_of_lt, mul_comm, mul_inverse, mul_nonneg}
 use Rattle.polyhedra.proofs.Linear.{dot-combination, dot-plus, dot-scaled, dot-scaled_left, dot-zeros, length-scaled, length-zeros}
-use Rattle.polyhedra.proofs.Negatives.{dot-negated}
+use Rattle.polyhedra.proofs.Negatives.{dot-negated, negated-zeros}
 use Rattle.polyhedra.proofs.Order.{inverse_positive, neg_positive}
 use Rattle.tableaux.specs.Simplex.{IsInfeasible}
 use Rattle.tableaux.specs.Table.{column_of}
@@ -70,13 +70,9 @@ share_made file q (Gens vectors) y s m positive h same =
           ∙ ap (λ x. dot x (values vectors r)) (sym same),
     )
 
-negated_zeros : (n : ℕ) → negated (zeros n) ≡ zeros n
-negated_zeros zero = refl
-negated_zeros (suc n) = ap₂ (λ a b. a ∷ b) neg_zero (negated_zeros n)
-
 no_cost : (m q more : ℕ) → on_parts (zeros m) (negated (zeros q)) (zeros more) ≡ zeros (m + q + q + more)
 no_cost m q more =
-    ap₂ (λ a b. zeros m ++ a ++ b ++ zeros more) (negated_zeros q) (ap negated (negated_zeros q) ∙ negated_zeros q)
+    ap₂ (λ a b. zeros m ++ a ++ b ++ zeros more) (negated-zeros q) (ap negated (negated-zeros q) ∙ negated-zeros q)
     ∙ ap (λ a. a ++ zeros q ++ zeros more) (replicate-append-replicate m q zero_ℚ) ∙ ap (λ a. a ++ zeros more) (replicate-append-replicate (m + q) q zero_ℚ)
     ∙ replicate-append-replicate (m + q + q) more zero_ℚ
 

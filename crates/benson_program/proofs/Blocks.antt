@@ -1,14 +1,15 @@
 -- The equations of Benson's program at a solution u, a, b, h, where w is a - b: the sides times u less the objectives times w, what the
 -- ordering cone asks of w and h, and w . c.
-use Rattle.std.proofs.Common.{◌≡◌, ℕ, zero, suc, List, [], ◌∷◌, ◌++◌, length, refl, sym, ap, ap₂, ◌∙◌, arith, ◌≤◌, ◌-◌, slice_index_or}
+use Rattle.std.proofs.Common.{◌≡◌, ℕ, List, [], ◌∷◌, ◌++◌, length, sym, ap, ap₂, ◌∙◌, arith, ◌≤◌, ◌-◌}
 use Rattle.std.proofs.lemmas.List.{map-append, length-map}
 use Rattle.exact_field.specs.Rational.{ℚ, zero_ℚ, ◌+ℚ◌, neg_ℚ}
 use Rattle.exact_field.specs.Vector.{dot, entry}
 use Rattle.polyhedra.specs.Negatives.{negated}
 use Rattle.polyhedra.specs.Vectors.{zeros, plus, combination, values}
 use Rattle.polyhedra.proofs.Laws.{add_zero, add_assoc}
-use Rattle.polyhedra.proofs.Algebra.{zero_add, neg_zero}
+use Rattle.polyhedra.proofs.Algebra.{zero_add}
 use Rattle.polyhedra.proofs.Linear.{dot_comm, dot-zeros, length-combination, length-plus, length-zeros}
+use Rattle.polyhedra.proofs.Entries.{entry-negated}
 use Rattle.tableaux.specs.Table.{Table, row_of, column_of, listed, unit, minus}
 use Rattle.tableaux.proofs.Definition.{value_at}
 use Rattle.tableaux.proofs.Found.{map-list_from}
@@ -36,14 +37,6 @@ on_parts-value p w k u a b h i j l =
 
 none_left : (n : ℕ) (v : List ℚ) → dot (zeros n) v ≡ zero_ℚ
 none_left n v = dot_comm (zeros n) v ∙ dot-zeros v n
-
-entry-negated : (v : List ℚ) (j : ℕ) → entry (negated v) j ≡ neg_ℚ (entry v j)
-entry-negated v j = go v (j - 1)
-  where
-    go : (u : List ℚ) (k : ℕ) → slice_index_or (negated u) k zero_ℚ ≡ neg_ℚ (slice_index_or u k zero_ℚ)
-    go [] k = sym neg_zero
-    go (x ∷ u) zero = refl
-    go (x ∷ u) (suc k) = go u k
 
 -- rows by the function that numbers them, at z
 pub values_listed : (n : ℕ) (f : ℕ → List ℚ) (z v : List ℚ) → length v ≡ n → ((j : ℕ) → 1 ≤ j → j ≤ n → dot (f j) z ≡ entry v j) → values (listed n f) z ≡ v

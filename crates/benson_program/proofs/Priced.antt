@@ -1,6 +1,6 @@
 -- The columns of Benson's program priced with multipliers x, p, theta of its equations: the normals at x; at each place of w, and of its
 -- negative, minus the objectives at x plus what the cone's equations give with p plus theta c; and minus what they give after it.
-use Rattle.std.proofs.Common.{◌≡◌, ℕ, zero, suc, List, [], ◌∷◌, ◌++◌, length, take, drop, refl, sym, ap, ap₂, ◌∙◌, subst, arith, ◌≤◌, ◌+◌, slice_index_or, append_assoc, drop-drop, length-append, true}
+use Rattle.std.proofs.Common.{◌≡◌, ℕ, suc, List, [], ◌∷◌, ◌++◌, length, take, drop, refl, sym, ap, ap₂, ◌∙◌, subst, arith, ◌≤◌, ◌+◌, slice_index_or, append_assoc, drop-drop, length-append, true}
 use Rattle.std.specs.Prelude.{pos, negsuc}
 use Rattle.std.proofs.lemmas.List.{length-take-le, length-drop, length-map, take-append-drop}
 use Rattle.exact_field.specs.Rational.{ℚ, zero_ℚ, ◌+ℚ◌, ◌*ℚ◌, neg_ℚ, ◌≤ℚ◌}
@@ -12,6 +12,7 @@ use Rattle.polyhedra.specs.Negatives.{negated}
 use Rattle.polyhedra.specs.Vectors.{AreWide, AtLeastZero, zeros, plus, scaled, combination, values}
 use Rattle.polyhedra.proofs.Linear.{dot_comm, dot-combination, dot-plus, dot-scaled, length-combination, length-plus, length-scaled, length-zeros}
 use Rattle.polyhedra.proofs.Negatives.{dot-negated}
+use Rattle.polyhedra.proofs.Entries.{last_one}
 use Rattle.tableaux.specs.Table.{column_of, minus}
 use Rattle.tableaux.proofs.Inverse.{dot-append}
 use Rattle.tableaux.proofs.Unique.{entry-combination}
@@ -79,12 +80,6 @@ negated-pushed (Dual vectors) p = go vectors
     go (v ∷ vs) = ap₂ (λ a b. a ∷ b) (sym (dot-negated v p)) (go vs)
 
 -- ---- the multipliers by their parts
-last_one : (k : ℕ) (y : List ℚ) → length y ≡ suc k → drop k y ≡ slice_index_or y k zero_ℚ ∷ []
-last_one k [] l = absurd (omega arith)
-last_one zero (x ∷ []) l = refl
-last_one zero (x ∷ y ∷ z) l = absurd (omega arith)
-last_one (suc k) (x ∷ y) l = last_one k y (omega arith)
-
 module _ (file : Problem) (c y : List ℚ) (c_long : length c ≡ file.objs) (y_long : length y ≡ suc (file.cols + dual_equations file.objs file.cone)) where
   abbrev members : ℕ
   members = dual_equations file.objs file.cone

@@ -10,6 +10,7 @@ use Rattle.polyhedra.proofs.Algebra.{mul_zero, zero_mul}
 use Rattle.polyhedra.proofs.Laws.{add_comm, add_neg, add_zero, zero_lt_one}
 use Rattle.polyhedra.proofs.Linear.{dot-plus}
 use Rattle.polyhedra.proofs.Order.{lt_irrefl}
+use Rattle.polyhedra.proofs.Entries.{slice-negated}
 use Rattle.tableaux.specs.Table.{Table, System, IsSystem, row_of, at, column_of, table_of, equation_count, unknown_count, right_column}
 use Rattle.tableaux.specs.Dictionary.{basic_column, IsFullDictionaryOf, IsBasicCombination, value_of_column, solution}
 use Rattle.tableaux.proofs.Eliminated.{dot_none}
@@ -19,7 +20,6 @@ use Rattle.tableaux.proofs.Products.{value-is}
 use Rattle.tableaux.proofs.Ties.{column_entry}
 use Rattle.tableaux.proofs.Unique.{entry-combination, column-long}
 use Rattle.cone_rules.specs.Laws.{OppositeColumns}
-use Rattle.cone_rules.proofs.Parts.{slice-negated}
 
 -- the value at a column is 0, or some row has the column
 value_or_row : (basis : List ℕ) (vs : List ℚ) (j : ℕ) →

@@ -7,7 +7,7 @@ use Rattle.exact_field.specs.Rational.{ℚ, zero_ℚ, one_ℚ, ◌+ℚ◌, ◌*�
 use Rattle.exact_field.specs.Vector.{entry, dot}
 use Rattle.polyhedra.specs.Negatives.{negated}
 use Rattle.polyhedra.specs.Vectors.{AreWide, AtLeastZero, zeros, values, combination}
-use Rattle.polyhedra.proofs.Algebra.{zero_add, neg_zero}
+use Rattle.polyhedra.proofs.Algebra.{zero_add}
 use Rattle.polyhedra.proofs.Laws.{add_assoc, add_comm, add_zero, add_neg, le_antisymm, mul_comm}
 use Rattle.polyhedra.proofs.Linear.{dot_comm, dot-nil, dot-zeros, dot-combination_left, length-combination, length-zeros}
 use Rattle.polyhedra.proofs.Lists.{nonneg-head, nonneg-tail}
@@ -62,14 +62,6 @@ zeros-append (suc m) n = ap zeros step ∙ ap (λ v. zero_ℚ ∷ v) (zeros-appe
     step = omega arith
 
 -- ---- entries
-pub slice-negated : (v : List ℚ) (k : ℕ) → slice_index_or (negated v) k zero_ℚ ≡ neg_ℚ (slice_index_or v k zero_ℚ)
-slice-negated [] k = sym neg_zero
-slice-negated (x ∷ v) zero = refl
-slice-negated (x ∷ v) (suc k) = slice-negated v k
-
-pub entry-negated : (v : List ℚ) (j : ℕ) → entry (negated v) j ≡ neg_ℚ (entry v j)
-entry-negated v j = slice-negated v (j - 1)
-
 abbrev pub ones : ℕ → List ℚ
 ones n = replicate n one_ℚ
 

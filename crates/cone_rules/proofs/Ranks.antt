@@ -14,6 +14,7 @@ use Rattle.polyhedra.proofs.Lists.{HoldsAt}
 use Rattle.polyhedra.proofs.Members.{all_of_members, member_of}
 use Rattle.polyhedra.proofs.Negatives.{dot-negated}
 use Rattle.polyhedra.proofs.Order.{lt_irrefl}
+use Rattle.polyhedra.proofs.Entries.{entry-negated}
 use Rattle.tableaux.specs.Table.{unit}
 use Rattle.tableaux.proofs.Definition.{slice_eq, unit_entry}
 use Rattle.tableaux.proofs.Places.{delta, delta-same, same_or_other, if_true, if_false}
@@ -25,7 +26,7 @@ use Rattle.upper_image.proofs.Units.{units, units_wide, units_positive}
 use Rattle.lp_form.proofs.Systems.{length-unit}
 use Rattle.cone_rules.specs.Faults.{HasNoLine, ShowsOutside}
 use Rattle.cone_rules.specs.Laws.{OrthantLaws, RankLaws}
-use Rattle.cone_rules.proofs.Parts.{ones, all_entries, all_at, zero_of_both, entry-negated}
+use Rattle.cone_rules.proofs.Parts.{ones, all_entries, all_at, zero_of_both}
 use Rattle.cone_rules.proofs.Rows.{no_spot}
 
 -- ---- unit vectors

@@ -1,5 +1,5 @@
 -- The new generators of an addition, one opposite pair at a time.
-use Rattle.std.proofs.Common.{◌≡◌, ℕ, suc, ◌+◌, ◌<◌, List, [], ◌∷◌, ◌++◌, map, length, filter, All, Contains, Bool, true, false, cond, refl, sym, ap, ap₂, ◌∙◌, subst, arith, append_assoc, get_or}
+use Rattle.std.proofs.Common.{◌≡◌, ℕ, ◌+◌, ◌<◌, List, [], ◌∷◌, ◌++◌, map, length, filter, All, Contains, Bool, true, false, cond, refl, sym, ap, ap₂, ◌∙◌, subst, append_assoc, get_or}
 use Rattle.double_descr.proofs.NotZero.{meeting_not_zero}
 use Rattle.polyhedra.specs.DoubleDescription.{norming}
 use Rattle.std.proofs.lemmas.List.{get_or-map, map-append, length-map}
@@ -23,17 +23,9 @@ use Rattle.double_descr.specs.declared.fault.DdFault.{DdFault}
 use Rattle.double_descr.specs.declared.fault.DdFault.TheVariants.{Elim, Left as Stuck, NoMemory}
 use Rattle.polyhedra.proofs.Covering.{meet_is_tight, tight_with}
 use Rattle.polyhedra.proofs.Tests.{test_of_zero}
+use Rattle.polyhedra.proofs.LiveList.{numbered_push}
 
 -- ---- numbered vectors
-pub length-numbered : (k : ℕ) (vs : List (List ℚ)) → length (numbered k vs) ≡ length vs
-length-numbered k [] = refl
-length-numbered k (v ∷ vs) = ap suc (length-numbered (suc k) vs)
-
-pub numbered_push : (k : ℕ) (vs : List (List ℚ)) (v : List ℚ) → numbered k (vs ++ v ∷ []) ≡ numbered k vs ++ record { number = k + length vs; vector = v } ∷ []
-numbered_push k [] v = ap (λ n. record { number = n; vector = v } ∷ []) (let e : k ≡ k + 0 = omega arith in e)
-numbered_push k (w ∷ vs) v = ap (λ l. record { number = k; vector = w } ∷ l) (numbered_push (suc k) vs v
-    ∙ ap (λ n. numbered (suc k) vs ++ record { number = n; vector = v } ∷ []) (let e : suc k + length vs ≡ k + suc (length vs) = omega arith in e))
-
 pub numbers_are : {F : Type 0} (value : F → ℚ) (gens : List (Generator F)) → map (λ (g : Generator F). g.number) gens ≡ numbers (live_of value gens)
 numbers_are value [] = refl
 numbers_are value (g ∷ gens) = ap (λ r. g.number ∷ r) (numbers_are value gens)

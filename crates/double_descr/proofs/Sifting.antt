@@ -9,6 +9,8 @@ use Rattle.std.proofs.lemmas.Grind.{drop_more_same}
 use Rattle.exact_field.specs.Rational.{ℚ, zero_ℚ, lt_ℚ}
 use Rattle.exact_field.specs.Vector.{dot}
 use Rattle.polyhedra.specs.LiveList.{Numbered, staying}
+use Rattle.polyhedra.proofs.Lists.{drop_value}
+use Rattle.polyhedra.proofs.Members.{listed}
 use Rattle.double_descr.specs.Making.{AreValuesAt}
 use Rattle.double_descr.specs.State.{HasTightSet, live_of, numbered_of}
 use Rattle.double_descr.specs.Steps.{values}
@@ -16,7 +18,6 @@ use Rattle.double_descr.specs.declared.generator.Generator.{Generator}
 use Rattle.double_descr.proofs.InPlace.{drop_swapped, here_is, item_here, swapped}
 use Rattle.double_descr.proofs.MadePairs.{staying_on, value_at_index}
 use Rattle.double_descr.proofs.SignTests.{at_least}
-use Rattle.double_descr.proofs.StepLists.{drop_value, listed}
 
 goes : (row : List ℚ) (m : Numbered) → lt_ℚ (dot row m.vector) zero_ℚ ≡ true → staying row (m ∷ []) ≡ []
 goes row m h = ap (λ c. cond c (m ∷ []) []) (at_least (dot row m.vector) ∙ ap not h)

@@ -8,6 +8,7 @@ use Rattle.polyhedra.specs.LiveList.{numbered, starting}
 use Rattle.polyhedra.specs.LiveSteps.{IsLive}
 use Rattle.polyhedra.proofs.Corners.{start}
 use Rattle.polyhedra.proofs.LiveSteps.{are_live}
+use Rattle.polyhedra.proofs.LiveList.{length-numbered, numbered_push}
 use Rattle.lin_rows.specs.Read.{numbers as table}
 use Rattle.lin_rows.specs.declared.fault.RowFault.TheVariants.{Left as Stopped, NoMemory as Want}
 use Rattle.double_descr.specs.Starting.{IsStart, IsNormingFault, AreNotNormed, norming_steps}
@@ -16,7 +17,7 @@ use Rattle.double_descr.specs.Steps.{IsHeld, values}
 use Rattle.double_descr.specs.declared.generator.Generator.{Generator}
 use Rattle.double_descr.specs.declared.fault.DdFault.{DdFault}
 use Rattle.double_descr.specs.declared.fault.DdFault.TheVariants.{Elim, Left as Stuck, NoMemory}
-use Rattle.double_descr.proofs.MadePairs.{length-numbered, numbered_push, numbers_are}
+use Rattle.double_descr.proofs.MadePairs.{numbers_are}
 use Rattle.double_descr.proofs.NormedCorners.{normed_corners, normed_all}
 
 -- a list around one of its places

@@ -1,5 +1,5 @@
 -- Steps that are done and steps that are left.
-use Rattle.std.proofs.Common.{◌≡◌, ℕ, zero, suc, ◌+◌, ◌<◌, ◌≤◌, List, [], ◌∷◌, ◌++◌, length, drop, map, All, Bool, true, false, cond, refl, sym, ap, ap₂, ◌∙◌, subst, arith, ◌||◌, ◌⊎◌, inl, inr, slice_index_or, append_assoc, length-append}
+use Rattle.std.proofs.Common.{◌≡◌, ℕ, suc, ◌+◌, ◌≤◌, List, [], ◌∷◌, ◌++◌, length, map, All, Bool, true, false, cond, refl, sym, ap, ap₂, ◌∙◌, subst, arith, ◌||◌, ◌⊎◌, inl, inr, append_assoc, length-append}
 use Rattle.std.specs.Prelude.{IsFalse}
 use Rattle.std.proofs.lemmas.List.{append-nil, map-append}
 use Rattle.exact_field.specs.declared.op.Op.TheVariants.{Add, Mul, Div}
@@ -19,7 +19,6 @@ use Rattle.double_descr.specs.declared.steps.Stop.{Stop}
 use Rattle.double_descr.specs.Steps.{Runs, StopsAt, combination_steps, quotient_steps, multiple_steps, product_steps, term_steps, Step, IsHeld, IsFirst, IsSoFar}
 use Rattle.polyhedra.proofs.Algebra.{zero_mul, mul_zero}
 use Rattle.polyhedra.proofs.Laws.{add_zero}
-use Rattle.polyhedra.proofs.Members.{member_of}
 
 pub start : (holds : ℚ → Bool) (steps : List Step) → IsSoFar holds steps steps 0
 start holds steps = record { before = []; split = refl; held = All-nil (IsHeld holds); counted = refl }
@@ -65,14 +64,6 @@ stopped_second value holds steps s left n operands h k o a b = subst (λ (m : �
 
 pub at_number : (holds : ℚ → Bool) (steps left : List Step) (n m : ℕ) → n ≡ m → IsSoFar holds steps left n → IsSoFar holds steps left m
 at_number holds steps left n m e h = subst (λ (k : ℕ). IsSoFar holds steps left k) e h
-
--- a list from an index on, where it holds an element
-pub drop_value : {A B : Type 0} (f : A → B) (xs : List A) (i : ℕ) (x : A) → i < length xs → x ≡ slice_index_or xs i x →
-    drop i (map f xs) ≡ f x ∷ drop (i + 1) (map f xs)
-drop_value f [] i x h e = absurd (omega arith)
-drop_value f (y ∷ xs) zero x h e = ap (λ z. f z ∷ map f xs) (sym e)
-drop_value f (y ∷ xs) (suc i) x h e = drop_value f xs i x (omega arith) e ∙ ap (λ k. f x ∷ drop k (map f xs)) (let k : i + 1 ≡ suc i = omega arith in k)
-    ∙ ap (λ k. f x ∷ drop k (f y ∷ map f xs)) (let k : suc (suc i) ≡ suc i + 1 = omega arith in k)
 
 -- ---- the steps of a term
 pub no_term : (total x y : ℚ) → (is_zero x || is_zero y) ≡ true → term_steps total x y ≡ []
@@ -180,10 +171,6 @@ leading_at v v' x e h = sym (ap leading e ∙ ap (λ b. cond b (leading v') x) h
 
 pub leading_here : (v v' : List ℚ) (x : ℚ) → v ≡ x ∷ v' → is_zero x ≡ false → x ≡ leading v
 leading_here v v' x e h = sym (ap leading e ∙ ap (λ b. cond b (leading v') x) h)
-
--- an element that was read
-pub listed : {A : Type 0} (P : A → Type 0) (xs : List A) (i : ℕ) (x : A) → All P xs → i < length xs → x ≡ slice_index_or xs i x → P x
-listed P xs i x h l e = member_of P xs x h (i, l, sym e)
 
 -- ---- answers that are handed on
 pub on_ok_map : {T E : Type 0} (r : Result T E) (P Q : Type 0) → OnOk r P → (P → Q) → OnOk r Q

@@ -7,7 +7,6 @@ use Rattle.std.specs.Prelude.{pos, IfErr, IfOk, MatchResult, OnOk}
 use Rattle.std.specs.List.{take-map}
 use Rattle.std.proofs.lemmas.List.{get_or-map, length-map, length-take-le, map-append, get_or-take}
 use Rattle.lin_rows.specs.Sums.{AreHeld}
-use Rattle.double_descr.proofs.StepLists.{drop_value}
 use Rattle.exact_field.specs.Vector.{dot, entry, front, last}
 use Rattle.exact_field.proofs.RingTool.{ring}
 use Rattle.exact_field.proofs.Rationals.{rationals}
@@ -17,6 +16,7 @@ use Rattle.polyhedra.proofs.Homogenised.{IsHomogenised, unhomogenised, dot-homog
 use Rattle.polyhedra.proofs.Linear.{dot_comm}
 use Rattle.geo_duality.specs.Coupling.{inequality_of, joined, slack}
 use Rattle.polyhedra.specs.Vectors.{scaled}
+use Rattle.polyhedra.proofs.Lists.{drop_value}
 use Rattle.tableaux.specs.Table.{minus}
 use Rattle.geo_duality.specs.Exchange.{difference_steps, dual_vector, entry_steps}
 use Rattle.geo_duality.specs.Rows.{exchange_row}

@@ -12,7 +12,7 @@ use Rattle.polyhedra.specs.Inequality.{Inequality}
 use Rattle.polyhedra.specs.TightSets.{IsDoubleDescriptionPair}
 use Rattle.polyhedra.specs.Exactness.{homogenised, rows_of, IsCornerOf}
 use Rattle.polyhedra.proofs.CornerStarts.{corner_starts}
-use Rattle.polyhedra.proofs.Lists.{HasWidth, Contains-here, Contains-there}
+use Rattle.polyhedra.proofs.Lists.{HasWidth, Contains-here, Contains-there, slice-map}
 use Rattle.polyhedra.proofs.Members.{all_of_members, member_of, pairs-head, pairs-tail}
 use Rattle.lineality.specs.Lines.{leading_place, AreEchelon}
 use Rattle.lineality.specs.Without.{is_line_place, marks_from, marks, open_count, without}
@@ -123,11 +123,6 @@ open_places n lines h =
     ap (λ k. k + length lines) c.1 ∙ c.2
 
 -- ---- corners
-slice-map : {X Y : Type 0} (f : X → Y) (xs : List X) (i : ℕ) (d : X) (e : Y) → f d ≡ e → slice_index_or (map f xs) i e ≡ f (slice_index_or xs i d)
-slice-map f [] i d e h = sym h
-slice-map f (x ∷ xs) zero d e h = refl
-slice-map f (x ∷ xs) (suc i) d e h = slice-map f xs i d e h
-
 without-nil : (bs : List Bool) → without bs [] ≡ []
 without-nil [] = refl
 without-nil (b ∷ bs) = refl

@@ -1,5 +1,5 @@
 -- One step of double description with and without entries that are 0 in all generators.
-use Rattle.std.proofs.Common.{◌≡◌, ℕ, suc, ◌+◌, List, [], ◌∷◌, ◌++◌, map, length, filter, All, Contains, Bool, true, false, not, ◌||◌, cond, refl, sym, ap, ap₂, ◌∙◌, subst, arith, ◌-◌, slice_index_or, length-append}
+use Rattle.std.proofs.Common.{◌≡◌, ℕ, suc, ◌+◌, List, [], ◌∷◌, ◌++◌, map, length, filter, All, Contains, Bool, true, false, not, ◌||◌, cond, refl, sym, ap, ap₂, ◌∙◌, subst, ◌-◌}
 use Rattle.std.specs.Prelude.{nat_eq}
 use Rattle.std.proofs.lemmas.List.{length-map, map-append}
 use Rattle.std.proofs.lemmas.List.Elements.{All-nil, All-head, All-tail, All-map, All-append}
@@ -9,7 +9,7 @@ use Rattle.polyhedra.specs.Vectors.{plus, scaled}
 use Rattle.polyhedra.specs.DoubleDescription.{Pair, is_zero, magnitude, leading, norming, normed, meeting, covers, made}
 use Rattle.polyhedra.specs.Exactness.{homogenised}
 use Rattle.polyhedra.specs.LiveList.{Numbered, LiveList, vectors, numbered, LivePair, without_numbers, products, is_uncovered_live, staying, live_pairs, pairs, new_vectors, step}
-use Rattle.polyhedra.proofs.Homogenised.{IsHomogenised, unhomogenised, length-homogenised}
+use Rattle.polyhedra.proofs.Homogenised.{IsHomogenised, unhomogenised, length-homogenised, last-homogenised}
 use Rattle.polyhedra.proofs.Linear.{length-plus, length-scaled}
 use Rattle.polyhedra.proofs.Lists.{HasWidth}
 use Rattle.polyhedra.proofs.Members.{all_of_members, member_of, Contains-map, Contains-filter_source}
@@ -65,16 +65,6 @@ module _ (bs : List Bool) where
   vectors-numbered k (v ∷ vs) = ap (λ ws. v ∷ ws) (vectors-numbered (suc k) vs)
 
   -- ---- norming
-  last-homogenised : (y : List ℚ) (t : ℚ) → entry (homogenised y t) (length (homogenised y t)) ≡ t
-  last-homogenised y t = ap (λ n. slice_index_or (homogenised y t) n zero_ℚ) (count y) ∙ at_end y
-    where
-      count : (v : List ℚ) → length (homogenised v t) - 1 ≡ length v
-      count v = omega (arith, length-append v (t ∷ []))
-
-      at_end : (v : List ℚ) → slice_index_or (homogenised v t) (length v) zero_ℚ ≡ t
-      at_end [] = refl
-      at_end (x ∷ v) = at_end v
-
   pub norming-same : (v : List ℚ) → IsGood v → norming (W v) ≡ norming v
   norming-same v h = go (unhomogenised (length bs) v h.wide)
     where

@@ -2,7 +2,6 @@ pub mod Columns
 pub mod Finding
 pub mod OneMore
 pub mod ValuesAt
-pub mod ListItems
 pub mod PairMatches
 pub mod NewVectors
 pub mod NewSets

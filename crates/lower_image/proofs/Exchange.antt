@@ -9,11 +9,11 @@ use Rattle.exact_field.specs.Vector.{entry, dot, front}
 use Rattle.exact_field.specs.Ring.{v0, v1, v2, v3, v4, ◌⊕◌, ◌⊝◌, ◌⊗◌, ⊖, num}
 use Rattle.exact_field.proofs.RingTool.{ring}
 use Rattle.exact_field.proofs.Rationals.{rationals}
-use Rattle.polyhedra.specs.Negatives.{negated}
 use Rattle.polyhedra.specs.Vectors.{plus, scaled, zeros}
 use Rattle.polyhedra.proofs.Laws.{add_zero}
-use Rattle.polyhedra.proofs.Algebra.{neg_mul, neg_zero, one_mul, zero_mul, mul_zero}
+use Rattle.polyhedra.proofs.Algebra.{neg_mul, neg_zero, one_mul, zero_mul}
 use Rattle.polyhedra.proofs.Linear.{dot_comm, dot-plus_left, dot-scaled_left, length-scaled}
+use Rattle.polyhedra.proofs.Entries.{negated-scaled, at_drop, last_one}
 use Rattle.tableaux.specs.Table.{minus}
 use Rattle.geo_duality.specs.Rows.{exchange_row}
 use Rattle.overflow_rules.proofs.Violated.{dot-append, dot-take, minus-is, length-minus}
@@ -34,16 +34,6 @@ two_more zero = refl
 two_more (suc n) = ap (λ (v : List ℚ). zero_ℚ ∷ v) (two_more n)
 
 -- ---- the row
-at_drop : (s : ℚ) (k : ℕ) (y : List ℚ) → dot (s ∷ []) (drop k y) ≡ s *ℚ slice_index_or y k zero_ℚ
-at_drop s zero [] = sym (mul_zero s)
-at_drop s (suc k) [] = sym (mul_zero s)
-at_drop s zero (x ∷ y) = add_zero (s *ℚ x)
-at_drop s (suc k) (x ∷ y) = at_drop s k y
-
-negated-scaled : (q : ℚ) (v : List ℚ) → negated (scaled q v) ≡ scaled (neg_ℚ q) v
-negated-scaled q [] = refl
-negated-scaled q (x ∷ v) = ap₂ (λ (a : ℚ) (b : List ℚ). a ∷ b) (sym (neg_mul q x)) (negated-scaled q v)
-
 -- the row of y with k at the bound's place
 abbrev pub tilt : List ℚ → List ℚ → ℚ → List ℚ
 tilt c y k = minus (front y) (scaled (entry y (length y)) (front c)) ++ k ∷ entry y (length y) ∷ []
@@ -146,12 +136,6 @@ module _ (c f : List ℚ) (s : ℚ) (some : 1 ≤ length c) (f_long : length f �
     where
       left : (a b : ℚ) → a +ℚ (b -ℚ a) *ℚ one_ℚ ≡ b
       left a b = ring rationals (a ∷ b ∷ []) (v0 ⊕ (v1 ⊝ v0) ⊗ num (pos 1)) v1 refl
-
-last_one : (k : ℕ) (y : List ℚ) → length y ≡ suc k → drop k y ≡ slice_index_or y k zero_ℚ ∷ []
-last_one k [] l = absurd (omega arith)
-last_one zero (x ∷ []) l = refl
-last_one zero (x ∷ y ∷ z) l = absurd (omega arith)
-last_one (suc k) (x ∷ y) l = last_one k y (omega arith)
 
 -- a vector is the weight of its front and its product with c
 pub weight_again : (c w : List ℚ) → 1 ≤ length c → length w ≡ length c → entry c (length c) ≡ one_ℚ → weight_at c (front w) (dot w c) ≡ w

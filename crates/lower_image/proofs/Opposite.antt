@@ -7,6 +7,7 @@ use Rattle.exact_field.specs.Vector.{entry}
 use Rattle.polyhedra.specs.Negatives.{negated}
 use Rattle.polyhedra.specs.Vectors.{zeros}
 use Rattle.polyhedra.proofs.Algebra.{neg_neg}
+use Rattle.polyhedra.proofs.Entries.{slice-negated}
 use Rattle.tableaux.specs.Table.{Table, column_of, list_from, listed, unit}
 use Rattle.vlp_problem.specs.Sides.{side_column, numbers_from}
 use Rattle.vlp_problem.specs.declared.problem.Problem.{Problem}
@@ -16,7 +17,6 @@ use Rattle.upper_image.specs.UpperImage.{objective_column}
 use Rattle.upper_image.proofs.Widths.{length-numbers}
 use Rattle.lp_form.specs.Programs.{side_total, on_parts, balances, weight_members, weight_unknowns}
 use Rattle.lp_form.proofs.Systems.{length-unit, length-negated, length-zeros, length-side_column}
-use Rattle.cone_rules.proofs.Parts.{slice-negated}
 use Rattle.lower_image.proofs.WeightEquations.{weight_rows}
 
 -- the entries at two places, counted from 0, are opposite

@@ -1,8 +1,7 @@
 -- What stands while a search for all facets goes on, and that it comes nearer to its end.
-use Rattle.std.proofs.Common.{◌≡◌, ◌≢◌, ◌≤◌, ◌<◌, ◌+◌, ◌-◌, ◌∙◌, ◌||◌, ◌++◌, ℕ, suc, Bool, List, [], ◌∷◌, Option, Some, None, All, Contains, length, map, nat_eq, refl, sym, ap, subst, arith, inl, inr, slice_index_or}
+use Rattle.std.proofs.Common.{◌≡◌, ◌≢◌, ◌≤◌, ◌<◌, ◌+◌, ◌-◌, ◌∙◌, ◌||◌, ◌++◌, ℕ, suc, Bool, List, [], ◌∷◌, Option, Some, None, All, Contains, length, map, nat_eq, refl, sym, ap, subst, arith, slice_index_or}
 use Rattle.std.specs.Prelude.{IfSome, IfOk, IsTrue}
 use Rattle.std.specs.Option.{unwrap_or}
-use Rattle.std.proofs.lemmas.Bool.Decides.{eqb_tells}
 use Rattle.std.proofs.lemmas.List.{get_or-map, length-map}
 use Rattle.std.proofs.lemmas.List.Elements.{Contains-get_or}
 use Rattle.exact_field.specs.Rational.{ℚ, zero_ℚ}
@@ -130,15 +129,6 @@ module _ {F : Type 0} (value : F → ℚ) (holds : ℚ → Bool) (task : Task) w
   one_row_more old new row n is = record { row = map value row; turn = n.turn; rows = ap (λ (d : Description). d.rows) is }
 
 -- ---- rounds
--- what holds of the last i of n numbers, and of one more
-pub seen_more : (live : List ℕ) (P Q : ℕ → Type 0) (n i : ℕ) → i < n → ((j : ℕ) → n - i ≤ j → j < n → P (slice_index_or live j 0)) →
-    ((k : ℕ) → P k → Q k) → Q (slice_index_or live (n - 1 - i) 0) →
-    (j : ℕ) → n - (i + 1) ≤ j → j < n → Q (slice_index_or live j 0)
-seen_more live P Q n i inside seen stay here j low high = elim (eqb_tells j (n - 1 - i)) [
-  | inl t ↦ subst (λ (k : ℕ). Q (slice_index_or live k 0)) (sym t.1) here
-  | inr f ↦ stay (slice_index_or live j 0) (seen j (omega (arith, low, high, inside, f.1)) high)
-]
-
 -- where each of n numbers is done, which are all, each generator that stands for an inequality is certified
 pub all_done : (task : Task) (dd : Description) (nums : List ℕ) (n i : ℕ) → n ≡ length (numbers dd.list.live) → n ≤ i →
     ((j : ℕ) → n - i ≤ j → j < n → IsDone task dd nums (slice_index_or (numbers dd.list.live) j 0)) → AreAllCertified task dd nums

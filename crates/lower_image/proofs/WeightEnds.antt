@@ -1,17 +1,17 @@
 -- The ends of the program of a weight.
-use Rattle.std.proofs.Common.{◌≡◌, ℕ, zero, suc, List, ◌∷◌, ◌++◌, length, refl, sym, ap, ap₂, ◌∙◌, subst, arith, ◌≤◌, ◌+◌, ◌-◌, length-append}
+use Rattle.std.proofs.Common.{◌≡◌, ℕ, List, ◌++◌, length, sym, ap, ap₂, ◌∙◌, subst, arith, ◌≤◌, ◌+◌, ◌-◌, length-append}
 use Rattle.std.proofs.lemmas.List.{length-map, replicate-append-replicate}
 use Rattle.exact_field.specs.Rational.{ℚ, zero_ℚ, one_ℚ, ◌+ℚ◌, neg_ℚ, ◌≤ℚ◌, ◌<ℚ◌}
 use Rattle.exact_field.specs.Vector.{dot, entry}
 use Rattle.frac128.specs.declared.vectors.Spot.{Spot}
 use Rattle.polyhedra.specs.Hull.{IsValidAt}
-use Rattle.polyhedra.specs.Negatives.{negated}
 use Rattle.polyhedra.specs.Vectors.{AtLeastZero, zeros, values, combination}
-use Rattle.polyhedra.proofs.Algebra.{zero_add, neg_zero}
+use Rattle.polyhedra.proofs.Algebra.{zero_add}
 use Rattle.polyhedra.proofs.Farkas.{cut_holds, no_solution, weak_duality}
 use Rattle.polyhedra.proofs.Laws.{add_zero, le_antisymm}
 use Rattle.polyhedra.proofs.Linear.{dot_comm, dot-combination, dot-combination_left, dot-zeros, length-combination, length-zeros, same_wide}
 use Rattle.polyhedra.proofs.Order.{le_of_difference, lt_of_le_of_lt}
+use Rattle.polyhedra.proofs.Negatives.{negated-zeros}
 use Rattle.tableaux.specs.Simplex.{IsOptimal, IsInfeasible, IsUnbounded}
 use Rattle.tableaux.specs.Table.{column_of}
 use Rattle.tableaux.proofs.Inverse.{dot-append}
@@ -174,13 +174,9 @@ weight_choice = record {
 }
 
 -- ---- no solution
-negated_zeros : (n : ℕ) → negated (zeros n) ≡ zeros n
-negated_zeros zero = refl
-negated_zeros (suc n) = ap₂ (λ a b. a ∷ b) neg_zero (negated_zeros n)
-
 no_cost : (m q more : ℕ) → on_parts (zeros m) (zeros q) (zeros more) ≡ zeros (m + q + q + more)
 no_cost m q more =
-    ap (λ a. zeros m ++ zeros q ++ a ++ zeros more) (negated_zeros q)
+    ap (λ a. zeros m ++ zeros q ++ a ++ zeros more) (negated-zeros q)
     ∙ ap (λ a. a ++ zeros q ++ zeros more) (replicate-append-replicate m q zero_ℚ) ∙ ap (λ a. a ++ zeros more) (replicate-append-replicate (m + q) q zero_ℚ)
     ∙ replicate-append-replicate (m + q + q) more zero_ℚ
 

@@ -1,16 +1,17 @@
 -- The equations of the program of a weight at a solution u, a, b, h: the sides times u less the objectives times a - b, a - b itself, and
 -- in the dual form a - b less the combination of the vectors by h.
-use Rattle.std.proofs.Common.{◌≡◌, ℕ, zero, suc, List, [], ◌∷◌, ◌++◌, length, take, drop, refl, sym, ap, ap₂, ◌∙◌, arith, ◌+◌, ◌-◌, slice_index_or, length-append}
+use Rattle.std.proofs.Common.{◌≡◌, ℕ, List, [], ◌++◌, length, take, drop, refl, sym, ap, ap₂, ◌∙◌, arith, ◌+◌, ◌-◌, length-append}
 use Rattle.std.proofs.lemmas.List.{map-append, length-map, length-take-le, length-drop}
 use Rattle.std.proofs.lemmas.List.Elements.{All-take, All-drop}
 use Rattle.exact_field.specs.Rational.{ℚ, zero_ℚ, ◌+ℚ◌, neg_ℚ, ◌≤ℚ◌}
-use Rattle.exact_field.specs.Vector.{dot, entry}
+use Rattle.exact_field.specs.Vector.{dot}
 use Rattle.polyhedra.specs.Negatives.{negated}
 use Rattle.polyhedra.specs.Vectors.{AtLeastZero, zeros, plus, combination, values}
 use Rattle.polyhedra.proofs.Laws.{add_zero}
-use Rattle.polyhedra.proofs.Algebra.{zero_add, neg_zero}
+use Rattle.polyhedra.proofs.Algebra.{zero_add}
 use Rattle.polyhedra.proofs.Linear.{dot_comm, dot-zeros, length-combination, length-plus, length-zeros}
 use Rattle.polyhedra.proofs.Negatives.{dot-negated}
+use Rattle.polyhedra.proofs.Entries.{entry-negated}
 use Rattle.tableaux.specs.Table.{Table, listed, unit, minus}
 use Rattle.tableaux.proofs.Places.{entry-plus}
 use Rattle.tableaux.proofs.Unique.{dot-unit, entry-combination}
@@ -27,14 +28,6 @@ use Rattle.benson_program.proofs.Blocks.{on_parts-value, values_listed, members-
 
 none_left : (n : ℕ) (v : List ℚ) → dot (zeros n) v ≡ zero_ℚ
 none_left n v = dot_comm (zeros n) v ∙ dot-zeros v n
-
-entry-negated : (v : List ℚ) (j : ℕ) → entry (negated v) j ≡ neg_ℚ (entry v j)
-entry-negated v j = go v (j - 1)
-  where
-    go : (u : List ℚ) (k : ℕ) → slice_index_or (negated u) k zero_ℚ ≡ neg_ℚ (slice_index_or u k zero_ℚ)
-    go [] k = sym neg_zero
-    go (x ∷ u) zero = refl
-    go (x ∷ u) (suc k) = go u k
 
 length-objective_column : (file : Problem) (j : ℕ) → length (objective_column file j) ≡ file.objs
 length-objective_column file j = length-map (numbers_from 1 file.objs) _ ∙ length-numbers 1 file.objs

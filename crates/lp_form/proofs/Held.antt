@@ -9,7 +9,7 @@ use Rattle.frac128.specs.Sparse.{is_zero, rises_above}
 use Rattle.frac128.specs.declared.vectors.Spot.{Spot}
 use Rattle.polyhedra.specs.Sparse.{Entry, value_at, values_from, dense}
 use Rattle.polyhedra.specs.Inequality.{Inequality}
-use Rattle.polyhedra.proofs.Lists.{all_from_map}
+use Rattle.polyhedra.proofs.Lists.{all_from_map, all_front, all_back}
 use Rattle.polyhedra.proofs.Tests.{both_true}
 use Rattle.lin_rows.specs.Lines.{Rises}
 use Rattle.lin_rows.proofs.Merging.{not_same}
@@ -27,14 +27,6 @@ use Rattle.vlp_problem.specs.Values.{bound_numbers, printed_numbers, cone_vector
 use Rattle.lp_form.specs.Data.{IsFirstUnheld}
 
 -- ---- lists in pieces
-all_front : {X : Type 0} (P : X → Type 0) (xs ys : List X) → All P (xs ++ ys) → All P xs
-all_front P [] ys h = All-nil P
-all_front P (x ∷ xs) ys h = All-cons P x xs (All-head P x (xs ++ ys) h) (all_front P xs ys (All-tail P x (xs ++ ys) h))
-
-all_back : {X : Type 0} (P : X → Type 0) (xs ys : List X) → All P (xs ++ ys) → All P ys
-all_back P [] ys h = h
-all_back P (x ∷ xs) ys h = all_back P xs ys (All-tail P x (xs ++ ys) h)
-
 all_pieces : {X Y : Type 0} (P : Y → Type 0) (f : X → List Y) (xs : List X) → All P (flat_map f xs) → All (λ x. All P (f x)) xs
 all_pieces P f [] h = All-nil (λ x. All P (f x))
 all_pieces P f (x ∷ xs) h =

@@ -1,5 +1,5 @@
 -- The rows that are facets, with and without entries that are 0 in all generators.
-use Rattle.std.proofs.Common.{◌≡◌, ℕ, zero, suc, ◌-◌, List, [], ◌∷◌, map, length, filter, Contains, Bool, not, ◌&&◌, ◌||◌, cond, refl, sym, ap, ap₂, ◌∙◌, slice_index_or}
+use Rattle.std.proofs.Common.{◌≡◌, ℕ, ◌-◌, List, [], ◌∷◌, map, length, filter, Contains, Bool, not, ◌&&◌, ◌||◌, cond, refl, sym, ap, ap₂, ◌∙◌, slice_index_or}
 use Rattle.std.specs.List.{range_with_len}
 use Rattle.std.proofs.lemmas.List.{length-map}
 use Rattle.exact_field.specs.Rational.{ℚ}
@@ -8,6 +8,7 @@ use Rattle.polyhedra.specs.DoubleDescription.{is_zero}
 use Rattle.polyhedra.specs.FirstNamed.{firsts, tight_lies_in}
 use Rattle.polyhedra.proofs.Members.{all_of_members}
 use Rattle.polyhedra.proofs.Tests.{list_all_same}
+use Rattle.polyhedra.proofs.Lists.{slice-map}
 use Rattle.geo_duality.specs.Facets.{facet_rows, may_be_facet, row_at, same_at}
 use Rattle.lineality.specs.Without.{without}
 
@@ -22,11 +23,6 @@ firsts_same s t [] h = refl
 firsts_same s t (x ∷ xs) h =
     ap (λ ys. x ∷ ys) (filter_same (λ y. not (s x y)) (λ y. not (t x y)) (firsts s xs) (λ y. ap not (h x y))
     ∙ ap (filter (λ y. not (t x y))) (firsts_same s t xs h))
-
-slice-map : {X Y : Type 0} (f : X → Y) (xs : List X) (i : ℕ) (d : X) (e : Y) → f d ≡ e → slice_index_or (map f xs) i e ≡ f (slice_index_or xs i d)
-slice-map f [] i d e h = sym h
-slice-map f (x ∷ xs) zero d e h = refl
-slice-map f (x ∷ xs) (suc i) d e h = slice-map f xs i d e h
 
 without-nil : (bs : List Bool) → without bs [] ≡ []
 without-nil [] = refl

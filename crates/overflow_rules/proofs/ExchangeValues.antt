@@ -8,9 +8,9 @@ use Rattle.exact_field.specs.Rational.{ℚ, zero_ℚ, one_ℚ, ◌+ℚ◌, ◌-�
 use Rattle.exact_field.specs.Vector.{entry, dot, front as front_of}
 use Rattle.polyhedra.specs.Vectors.{plus, scaled}
 use Rattle.polyhedra.proofs.Laws.{add_assoc, add_comm, add_zero, mul_one, mul_comm}
-use Rattle.polyhedra.proofs.Algebra.{one_mul, zero_mul, neg_mul, neg_zero, add_mul, mul_zero}
+use Rattle.polyhedra.proofs.Algebra.{one_mul, zero_mul, neg_mul, neg_zero, add_mul}
 use Rattle.polyhedra.proofs.Linear.{dot_comm, dot-plus_left, dot-scaled_left, length-scaled}
-use Rattle.polyhedra.specs.Negatives.{negated}
+use Rattle.polyhedra.proofs.Entries.{negated-scaled, at_drop}
 use Rattle.tableaux.specs.Table.{minus}
 use Rattle.overflow_rules.specs.Base.{weight_of}
 use Rattle.geo_duality.specs.Rows.{exchange_row}
@@ -21,16 +21,6 @@ slice-take zero v i h = absurd (omega arith)
 slice-take (suc k) [] i h = refl
 slice-take (suc k) (x ∷ v) zero h = refl
 slice-take (suc k) (x ∷ v) (suc i) h = slice-take k v i (omega arith)
-
-at_drop : (s : ℚ) (k : ℕ) (y : List ℚ) → dot (s ∷ []) (drop k y) ≡ s *ℚ slice_index_or y k zero_ℚ
-at_drop s zero [] = sym (mul_zero s)
-at_drop s (suc k) [] = sym (mul_zero s)
-at_drop s zero (x ∷ y) = add_zero (s *ℚ x)
-at_drop s (suc k) (x ∷ y) = at_drop s k y
-
-negated-scaled : (q : ℚ) (v : List ℚ) → negated (scaled q v) ≡ scaled (neg_ℚ q) v
-negated-scaled q [] = refl
-negated-scaled q (x ∷ v) = ap₂ (λ (a : ℚ) (b : List ℚ). a ∷ b) (sym (neg_mul q x)) (negated-scaled q v)
 
 module _ (c y front : List ℚ) (gamma : ℚ) (t : Bool) (some : 1 ≤ length c) (y_long : length y ≡ length c) (front_long : length front ≡ length c - 1) where
   abbrev k : ℕ

@@ -1,12 +1,11 @@
 -- Members of a cone that is given by generators: its generators, 0, sums and multiples.
-use Rattle.std.proofs.Common.{◌≡◌, ℕ, zero, suc, List, [], ◌∷◌, length, Contains, sym, ap, ap₂, ◌∙◌, ◌⊎◌, inl, inr}
+use Rattle.std.proofs.Common.{◌≡◌, ℕ, suc, List, [], ◌∷◌, length, Contains, sym, ap, ap₂, ◌∙◌, ◌⊎◌, inl, inr}
 use Rattle.exact_field.specs.Rational.{ℚ, zero_ℚ, one_ℚ, ◌+ℚ◌, ◌*ℚ◌, ◌≤ℚ◌}
 use Rattle.exact_field.specs.Vector.{dot}
 use Rattle.polyhedra.specs.Vectors.{AreWide, zeros, plus, scaled, values, combination, AtLeastZero}
 use Rattle.polyhedra.specs.Cone.{IsGenerated}
-use Rattle.polyhedra.proofs.Laws.{add_zero, le_refl, le_of_lt, mul_nonneg, zero_lt_one}
-use Rattle.polyhedra.proofs.Order.{add_nonneg}
-use Rattle.polyhedra.proofs.Lists.{nonneg-nil, nonneg-cons, nonneg-head, nonneg-tail, wide-head, wide-tail, Contains-cases, Contains-nil}
+use Rattle.polyhedra.proofs.Laws.{add_zero, le_refl, le_of_lt, zero_lt_one}
+use Rattle.polyhedra.proofs.Lists.{nonneg-cons, wide-head, wide-tail, Contains-cases, Contains-nil, nonneg-plus, nonneg-scaled, nonneg-zeros}
 use Rattle.polyhedra.proofs.Algebra.{zero_add, zero_mul, one_mul}
 use Rattle.polyhedra.proofs.Linear.{dot_comm, dot-plus, dot-plus_left, dot-scaled, dot-scaled_left, dot-zeros, length-plus, length-scaled, length-zeros, dot-combination, length-combination, same_wide}
 
@@ -33,20 +32,6 @@ more_generators n e gens z wide g =
     (nonneg-cons zero_ℚ g.multipliers (le_refl zero_ℚ) g.at_least_zero)
     (λ r. generated_value n gens z g r ∙ sym (ap (λ v. v +ℚ dot g.multipliers (values gens r)) (zero_mul (dot e r)) ∙ zero_add
     (dot g.multipliers (values gens r))))
-
-nonneg-plus : (xs ys : List ℚ) → AtLeastZero xs → AtLeastZero ys → AtLeastZero (plus xs ys)
-nonneg-plus [] ys h k = k
-nonneg-plus (x ∷ xs) [] h k = h
-nonneg-plus (x ∷ xs) (y ∷ ys) h k = nonneg-cons (x +ℚ y) (plus xs ys) (add_nonneg x y (nonneg-head x xs h) (nonneg-head y ys k))
-    (nonneg-plus xs ys (nonneg-tail x xs h) (nonneg-tail y ys k))
-
-nonneg-scaled : (c : ℚ) (xs : List ℚ) → zero_ℚ ≤ℚ c → AtLeastZero xs → AtLeastZero (scaled c xs)
-nonneg-scaled c [] h k = nonneg-nil
-nonneg-scaled c (x ∷ xs) h k = nonneg-cons (c *ℚ x) (scaled c xs) (mul_nonneg c x h (nonneg-head x xs k)) (nonneg-scaled c xs h (nonneg-tail x xs k))
-
-nonneg-zeros : (n : ℕ) → AtLeastZero (zeros n)
-nonneg-zeros zero = nonneg-nil
-nonneg-zeros (suc n) = nonneg-cons zero_ℚ (zeros n) (le_refl zero_ℚ) (nonneg-zeros n)
 
 pub generated_zero : (n : ℕ) (gens : List (List ℚ)) → AreWide n gens → IsGenerated n gens (zeros n)
 generated_zero n gens wide = generated_by_values n gens (zeros n) (zeros (length gens)) wide (length-zeros n) (length-zeros (length gens))

@@ -74,7 +74,7 @@ leading-homogenised : (y : List ℚ) → leading (homogenised y zero_ℚ) ≡ le
 leading-homogenised [] = ap (λ b. cond b zero_ℚ zero_ℚ) (test_of_zero zero_ℚ refl)
 leading-homogenised (x ∷ y) = ap (λ a. cond (is_zero x) a x) (leading-homogenised y)
 
-last-homogenised : (y : List ℚ) (t : ℚ) → entry (homogenised y t) (length (homogenised y t)) ≡ t
+pub last-homogenised : (y : List ℚ) (t : ℚ) → entry (homogenised y t) (length (homogenised y t)) ≡ t
 last-homogenised y t = ap (λ n. slice_index_or (homogenised y t) n zero_ℚ) (count y) ∙ at_end y
   where
     count : (v : List ℚ) → length (homogenised v t) - 1 ≡ length v

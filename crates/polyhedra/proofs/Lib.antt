@@ -13,6 +13,7 @@ pub mod Duality
 pub mod Enclosed
 pub mod EnclosedDirections
 pub mod EnclosedVertices
+pub mod Entries
 pub mod Farkas
 pub mod FirstNamed
 pub mod Generated

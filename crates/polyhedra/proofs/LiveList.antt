@@ -254,3 +254,12 @@ numbers_stay rows list row r = record {
   old_or_new = all_of_members (λ g. Contains list.live g ⊎ (list.next ≤ g.number)) (step rows list row).live (old_or_new rows list row r);
   gone = all_of_members (λ k. Contains (numbers (step rows list row).live) k → ⊥) (dropped row list.live) (gone rows list row r);
 }
+
+pub length-numbered : (k : ℕ) (vs : List (List ℚ)) → length (numbered k vs) ≡ length vs
+length-numbered k [] = refl
+length-numbered k (v ∷ vs) = ap suc (length-numbered (suc k) vs)
+
+pub numbered_push : (k : ℕ) (vs : List (List ℚ)) (v : List ℚ) → numbered k (vs ++ v ∷ []) ≡ numbered k vs ++ record { number = k + length vs; vector = v } ∷ []
+numbered_push k [] v = ap (λ n. record { number = n; vector = v } ∷ []) (let e : k ≡ k + 0 = omega arith in e)
+numbered_push k (w ∷ vs) v = ap (λ l. record { number = k; vector = w } ∷ l) (numbered_push (suc k) vs v
+    ∙ ap (λ n. numbered (suc k) vs ++ record { number = n; vector = v } ∷ []) (let e : suc k + length vs ≡ k + suc (length vs) = omega arith in e))

@@ -1,5 +1,5 @@
 -- Members of lists: of images, of what a filter keeps, and of pairs of elements; and tests of every element.
-use Rattle.std.proofs.Common.{◌≡◌, zero, suc, List, [], ◌∷◌, ◌++◌, map, All, AllPairs, Contains, refl, sym, ap, ◌∙◌, subst, arith, ◌⊎◌, inl, inr, Bool, true, false, true≢false, filter, cond}
+use Rattle.std.proofs.Common.{◌≡◌, zero, suc, List, [], ◌∷◌, ◌++◌, map, All, AllPairs, Contains, refl, sym, ap, ◌∙◌, subst, arith, ◌⊎◌, inl, inr, Bool, true, false, true≢false, filter, cond, ℕ, ◌<◌, length, slice_index_or}
 use Rattle.std.proofs.lemmas.List.Elements.{All-nil, All-cons, All-head, All-tail, All-weaker, All-contains, All-contains_itself, Contains-append_cases, Contains-append_left, Contains-append_right}
 use Rattle.polyhedra.proofs.Lists.{Contains-here, Contains-there, Contains-cases, Contains-nil}
 
@@ -125,3 +125,7 @@ pairs-filter R test (x ∷ xs) h = go (test x) (pairs-filter R test xs (pairs-ta
     go true k = pairs-cons R x (filter test xs) (all_of_members (R x) (filter test xs)
         (λ y m. member_of (R x) xs y (pairs-head R x xs h) (Contains-filter_source test xs y m).0)) k
     go false k = k
+
+-- an element that was read
+pub listed : {A : Type 0} (P : A → Type 0) (xs : List A) (i : ℕ) (x : A) → All P xs → i < length xs → x ≡ slice_index_or xs i x → P x
+listed P xs i x h l e = member_of P xs x h (i, l, sym e)

@@ -3,9 +3,9 @@ use Rattle.std.proofs.Common.{◌≡◌, ℕ, zero, suc, List, [], ◌∷◌, �
 use Rattle.std.proofs.lemmas.List.{length-map}
 use Rattle.exact_field.specs.Rational.{ℚ, zero_ℚ, one_ℚ, ◌+ℚ◌, neg_ℚ, le_ℚ, ◌≤ℚ◌, ◌<ℚ◌, ◌*ℚ◌}
 use Rattle.exact_field.specs.Vector.{dot}
-use Rattle.exact_field.specs.Ring.{v0, v1, ◌⊕◌, ◌⊝◌, ⊖}
+use Rattle.exact_field.specs.Ring.{v0, v1, ◌⊕◌, ◌⊝◌, ⊖, ◌⊗◌}
 use Rattle.polyhedra.proofs.Order.{Sign, negative, none, positive, neg_positive, negative_of_neg, sign_of}
-use Rattle.polyhedra.specs.Vectors.{zeros, plus, scaled, combination}
+use Rattle.polyhedra.specs.Vectors.{zeros, plus, scaled, combination, values}
 use Rattle.polyhedra.specs.DoubleDescription.{is_zero, magnitude, leading}
 use Rattle.polyhedra.specs.Inequality.{Inequality}
 use Rattle.polyhedra.specs.Hull.{IsInHull, IsVertex, IsExtremeDirection, IsValidAt, IsFacet}
@@ -19,6 +19,7 @@ use Rattle.polyhedra.proofs.Homogenised.{length-homogenised}
 use Rattle.exact_field.proofs.RingTool.{ring}
 use Rattle.exact_field.proofs.Rationals.{rationals}
 use Rattle.polyhedra.proofs.Laws.{le_of_lt}
+use Rattle.polyhedra.proofs.Linear.{dot_comm}
 
 -- ---- all signs
 negated-plus : (u v : List ℚ) → negated (plus u v) ≡ plus (negated u) (negated v)
@@ -34,7 +35,7 @@ pub negated_twice : (v : List ℚ) → negated (negated v) ≡ v
 negated_twice [] = refl
 negated_twice (x ∷ v) = ap₂ (λ a b. a ∷ b) (neg_neg x) (negated_twice v)
 
-negated-zeros : (n : ℕ) → negated (zeros n) ≡ zeros n
+pub negated-zeros : (n : ℕ) → negated (zeros n) ≡ zeros n
 negated-zeros zero = refl
 negated-zeros (suc n) = ap₂ (λ a b. a ∷ b) neg_zero (negated-zeros n)
 
@@ -42,6 +43,15 @@ pub dot-negated : (r v : List ℚ) → dot r (negated v) ≡ neg_ℚ (dot r v)
 dot-negated [] v = sym neg_zero
 dot-negated (r ∷ rs) [] = sym neg_zero
 dot-negated (r ∷ rs) (x ∷ v) = ap₂ (λ a b. a +ℚ b) (mul_neg r x) (dot-negated rs v) ∙ sym (neg_add (r *ℚ x) (dot rs v))
+
+pub dot-negated_left : (v z : List ℚ) → dot (negated v) z ≡ neg_ℚ (dot v z)
+dot-negated_left v z = dot_comm (negated v) z ∙ dot-negated z v ∙ ap neg_ℚ (dot_comm z v)
+
+pub negated_values : (ms : List ℚ) (vs : List (List ℚ)) (r : List ℚ) → dot ms (values (map negated vs) r) ≡ dot (negated ms) (values vs r)
+negated_values [] vs r = refl
+negated_values (m ∷ ms) [] r = refl
+negated_values (m ∷ ms) (v ∷ vs) r = ap₂ (λ a b. m *ℚ a +ℚ b) (dot-negated_left v r) (negated_values ms vs r)
+    ∙ ap (λ x. x +ℚ dot (negated ms) (values vs r)) (ring rationals (m ∷ dot v r ∷ []) (v0 ⊗ ⊖ v1) (⊖ v0 ⊗ v1) refl)
 
 negated-combination : (n : ℕ) (ms : List ℚ) (vs : List (List ℚ)) → negated (combination n ms vs) ≡ combination n ms (map negated vs)
 negated-combination n [] vs = negated-zeros n

@@ -1,5 +1,5 @@
 -- A vector that is not 0 is normed by a positive factor.
-use Rattle.std.proofs.Common.{◌≡◌, List, [], ◌∷◌, length, refl, sym, ap, ap₂, ◌∙◌, ◌⊎◌, inl, inr, Bool, true, false, true≢false, cond, ℕ, zero, suc, ◌-◌, slice_index_or}
+use Rattle.std.proofs.Common.{◌≡◌, List, [], ◌∷◌, length, refl, sym, ap, ap₂, ◌∙◌, ◌⊎◌, inl, inr, Bool, true, false, true≢false, cond, ◌-◌}
 use Rattle.exact_field.specs.Rational.{ℚ, zero_ℚ, ◌+ℚ◌, ◌*ℚ◌, neg_ℚ, inverse_ℚ, le_ℚ, ◌≤ℚ◌, ◌<ℚ◌, one_ℚ}
 use Rattle.exact_field.specs.Vector.{dot, entry}
 use Rattle.polyhedra.specs.DoubleDescription.{is_zero, magnitude, leading, norming, normed, IsNormed}
@@ -9,6 +9,7 @@ use Rattle.polyhedra.proofs.Algebra.{mul_zero, mul_neg}
 use Rattle.polyhedra.proofs.Order.{zero_or_positive, neg_positive, inverse_positive, le_or_lt, not_lt_of_le, product_zero, mul_negative}
 use Rattle.polyhedra.proofs.Linear.{dot-nil, length-scaled, scaled-one}
 use Rattle.polyhedra.proofs.Tests.{test_of_other, test_of_zero, zero_of_test}
+use Rattle.polyhedra.proofs.Entries.{slice-scaled}
 
 -- the magnitude of a number that is not 0 is positive
 pub magnitude-positive : (q : ℚ) → (q ≡ zero_ℚ → ⊥) → zero_ℚ <ℚ magnitude q
@@ -87,11 +88,6 @@ magnitude-scaled q x p = go (le_or_lt zero_ℚ x)
     go (inr h) = of_negative (q *ℚ x) (mul_negative q x p h) ∙ sym (mul_neg q x) ∙ ap (λ a. q *ℚ a) (sym (of_negative x h))
 
 -- ---- a normed vector is normed
-slice-scaled : (q : ℚ) (v : List ℚ) (k : ℕ) → slice_index_or (scaled q v) k zero_ℚ ≡ q *ℚ slice_index_or v k zero_ℚ
-slice-scaled q [] k = sym (mul_zero q)
-slice-scaled q (x ∷ v) zero = refl
-slice-scaled q (x ∷ v) (suc k) = slice-scaled q v k
-
 pub norming-scaled : (q : ℚ) (v : List ℚ) → zero_ℚ <ℚ q → norming (scaled q v) ≡ q *ℚ norming v
 norming-scaled q v p =
     ap (λ a. cond (is_zero a) (leading (scaled q v)) a) (ap (λ n. entry (scaled q v) n) (length-scaled q v) ∙ slice-scaled q v (length v - 1))

@@ -12,7 +12,7 @@ use Rattle.polyhedra.proofs.Algebra.{zero_mul, mul_zero, zero_add}
 use Rattle.polyhedra.proofs.Dependence.{more_are_dependent, dependent_value}
 use Rattle.polyhedra.proofs.Laws.{add_zero, mul_comm, le_refl}
 use Rattle.polyhedra.proofs.Linear.{dot-nil}
-use Rattle.polyhedra.proofs.Lists.{wide-nil, wide-cons}
+use Rattle.polyhedra.proofs.Lists.{wide-nil, wide-cons, all_front, all_back}
 use Rattle.polyhedra.proofs.Order.{add_nonneg, add_zero_left, add_zero_right, square_nonneg, square_zero}
 use Rattle.recession.specs.Further.{IsOffAcross}
 
@@ -80,14 +80,6 @@ free-rank n vs wide many f z long across =
             ∙ ap zeros long
 
 -- ---- two lists
-pub all_front : {X : Type 0} (P : X → Type 0) (xs ys : List X) → All P (xs ++ ys) → All P xs
-all_front P [] ys h = All-nil P
-all_front P (x ∷ xs) ys h = All-cons P x xs (All-head P x (xs ++ ys) h) (all_front P xs ys (All-tail P x (xs ++ ys) h))
-
-pub all_back : {X : Type 0} (P : X → Type 0) (xs ys : List X) → All P (xs ++ ys) → All P ys
-all_back P [] ys h = h
-all_back P (x ∷ xs) ys h = all_back P xs ys (All-tail P x (xs ++ ys) h)
-
 -- ---- normals of which each is not 0 at a vector at which those before it are
 pub record HasFree (q : ℕ) (normals : List (List ℚ)) : Type 0 where
   pub rows : List (List ℚ)

@@ -15,7 +15,7 @@ use Rattle.polyhedra.specs.Vectors.{AreWide, zeros, plus, scaled, combination}
 use Rattle.polyhedra.proofs.Algebra.{zero_add, zero_mul, mul_zero, neg_zero}
 use Rattle.polyhedra.proofs.Laws.{add_zero}
 use Rattle.polyhedra.proofs.Linear.{dot-plus, dot-scaled, dot-zeros, length-plus, length-scaled, length-zeros, length-combination, same_wide}
-use Rattle.polyhedra.proofs.Lists.{HasWidth, all_from_map, wide-head, wide-nil, wide-tail, Contains-here, Contains-cases, Contains-nil}
+use Rattle.polyhedra.proofs.Lists.{HasWidth, all_from_map, wide-head, wide-nil, wide-tail, Contains-here, Contains-cases, Contains-nil, all_front, all_back}
 use Rattle.polyhedra.proofs.Members.{all_of_members, member_of, pairs-head, pairs-nil, pairs-tail}
 use Rattle.polyhedra.proofs.Negatives.{dot-negated}
 use Rattle.lineality.specs.Lines.{AreEchelon, AreLines, IsCombined, IsInLineality, leading_place}
@@ -26,7 +26,6 @@ use Rattle.lin_rows.specs.Complement.{AreComplement}
 use Rattle.lin_rows.specs.Read.{numbers}
 use Rattle.overflow_rules.specs.Base.{IsSide}
 use Rattle.recession.specs.Further.{AreTail, IsNextSide, IsZeroBefore}
-use Rattle.recession.proofs.Free.{all_back, all_front}
 use Rattle.recession.proofs.Whole.{many_together}
 
 -- ---- two lists

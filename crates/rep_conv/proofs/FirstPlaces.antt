@@ -6,13 +6,14 @@ use Rattle.exact_field.specs.Rational.{ℚ}
 use Rattle.exact_field.specs.Vector.{dot}
 use Rattle.polyhedra.specs.LiveList.{Numbered, numbered, starting, tight_set}
 use Rattle.polyhedra.proofs.Order.{not_zero_of_positive}
+use Rattle.polyhedra.proofs.LiveList.{numbered_push}
 use Rattle.upper_image.specs.Spots.{pieces}
 use Rattle.entry_checks.proofs.RisingNumbers.{length-pieces}
 use Rattle.log_live.specs.Live.{AreLive, HasTightSet, live_of, numbered_of}
 use Rattle.incid_sets.specs.Marks.{IsAllBut}
 use Rattle.log_live.specs.declared.generator.Generator.{Generator}
 use Rattle.log_live.proofs.FirstGenerators.{all_but_tight}
-use Rattle.log_live.proofs.LivePairs.{length-take_to, numbered_push, take_all_of}
+use Rattle.log_live.proofs.LivePairs.{length-take_to, take_all_of}
 use Rattle.rep_conv.specs.Live.{State}
 use Rattle.rep_conv.specs.Meets.{MeetsStart}
 use Rattle.rep_conv.specs.Rows.{row_at}

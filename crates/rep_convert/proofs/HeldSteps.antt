@@ -17,6 +17,7 @@ use Rattle.polyhedra.proofs.Laws.{add_zero}
 use Rattle.polyhedra.proofs.Linear.{length-scaled}
 use Rattle.polyhedra.proofs.Members.{all_of_members, member_of, Contains-map, Contains-map_source}
 use Rattle.polyhedra.proofs.Tests.{same_tests, test_of_zero, zero_of_test}
+use Rattle.polyhedra.proofs.Lists.{all_front, all_back}
 use Rattle.double_descr.specs.Adding.{Block, AreHeld, value_block, pair_block, add_blocks}
 use Rattle.double_descr.specs.Steps.{Step, IsHeld, term_steps, multiple_steps}
 use Rattle.double_descr.specs.Steps as description
@@ -37,14 +38,6 @@ use Rattle.log_live.proofs.LivePairs.{parted}
 use Rattle.rep_conv.specs.Events.{IsHeldStep, pair_steps, quotient_steps, pair_of, added_events}
 
 -- ---- lists
-all_front : {X : Type 0} (P : X → Type 0) (xs ys : List X) → All P (xs ++ ys) → All P xs
-all_front P [] ys h = All-nil P
-all_front P (x ∷ xs) ys h = All-cons P x xs (All-head P x (xs ++ ys) h) (all_front P xs ys (All-tail P x (xs ++ ys) h))
-
-all_back : {X : Type 0} (P : X → Type 0) (xs ys : List X) → All P (xs ++ ys) → All P ys
-all_back P [] ys h = h
-all_back P (x ∷ xs) ys h = all_back P xs ys (All-tail P x (xs ++ ys) h)
-
 map-map : {X Y V : Type 0} (g : Y → V) (f : X → Y) (xs : List X) → map g (map f xs) ≡ map (λ x. g (f x)) xs
 map-map g f [] = refl
 map-map g f (x ∷ xs) = ap (λ ys. g (f x) ∷ ys) (map-map g f xs)

@@ -2,7 +2,7 @@
 -- orthant, and so is what is left of a unit vector.
 use Rattle.std.proofs.Common.{◌≡◌, ℕ, zero, suc, ◌+◌, List, [], ◌∷◌, length, take, refl, sym, ap, ap₂, ◌∙◌, arith, ◌⊎◌, inl, inr}
 use Rattle.std.proofs.lemmas.List.{length-map}
-use Rattle.exact_field.specs.Rational.{ℚ, zero_ℚ, one_ℚ, ◌+ℚ◌, ◌*ℚ◌, inverse_ℚ, ◌≤ℚ◌, ◌<ℚ◌}
+use Rattle.exact_field.specs.Rational.{ℚ, zero_ℚ, one_ℚ, ◌+ℚ◌, ◌*ℚ◌, inverse_ℚ, ◌<ℚ◌}
 use Rattle.exact_field.specs.Vector.{dot, sum_ℚ}
 use Rattle.exact_field.specs.Ring.{v0, v1, v2, ◌⊕◌, ◌⊗◌}
 use Rattle.exact_field.proofs.RingTool.{ring}
@@ -10,12 +10,13 @@ use Rattle.exact_field.proofs.Rationals.{rationals}
 use Rattle.polyhedra.specs.Vectors.{AreWide, zeros, plus, scaled, values, AtLeastZero}
 use Rattle.polyhedra.specs.Hull.{IsMultiple, IsConvex, IsExtremeDirection}
 use Rattle.polyhedra.specs.Image.{IsConvexCone, IsImage}
-use Rattle.polyhedra.proofs.Laws.{add_zero, mul_one, mul_nonneg, le_refl, le_of_lt, zero_lt_one}
+use Rattle.polyhedra.proofs.Laws.{add_zero, mul_one, le_refl, le_of_lt, zero_lt_one}
 use Rattle.polyhedra.proofs.Algebra.{zero_add, mul_zero, mul_left_comm}
-use Rattle.polyhedra.proofs.Order.{zero_or_positive, add_nonneg, mul_inverse_cancel}
+use Rattle.polyhedra.proofs.Order.{zero_or_positive, mul_inverse_cancel}
 use Rattle.polyhedra.proofs.Linear.{dot-plus, dot-scaled, dot-zeros, length-plus, length-scaled, length-zeros, same_wide}
 use Rattle.polyhedra.proofs.Image.{image_is_convex}
-use Rattle.polyhedra.proofs.Lists.{nonneg-nil, nonneg-cons, nonneg-head, nonneg-tail}
+use Rattle.polyhedra.proofs.Lists.{nonneg-cons, nonneg-head, nonneg-tail, nonneg-plus, nonneg-scaled, nonneg-zeros}
+use Rattle.polyhedra.proofs.Entries.{scaled-zeros}
 use Rattle.lineality.specs.Lines.{RunsAlong, IsReducedIn, reduction}
 use Rattle.lineality.proofs.Reduction.{length-reduction, reduction_same, reduction-plus, reduction-scaled, reduction_directs}
 use Rattle.representations.specs.Dropped.{IsInOrthant, IsReducedUnit, DroppedAreUnits}
@@ -36,10 +37,6 @@ record IsParted (e : List ℚ) : Type 0 where
   pub wide : length others ≡ length e
   pub at_least_zero : AtLeastZero others
   pub same : e ≡ plus (scaled factor (unit_at before after)) others
-
-scaled-zeros : (c : ℚ) (n : ℕ) → scaled c (zeros n) ≡ zeros n
-scaled-zeros c zero = refl
-scaled-zeros c (suc n) = ap₂ (λ a b. a ∷ b) (mul_zero c) (scaled-zeros c n)
 
 plus-zeros_left : (v : List ℚ) → plus (zeros (length v)) v ≡ v
 plus-zeros_left [] = refl
@@ -78,23 +75,9 @@ parted (x ∷ e) h = go (zero_or_positive x (nonneg-head x e h)) (parted e (nonn
         deeper : (b c n : ℕ) → b + suc c ≡ n → suc b + suc c ≡ suc n
         deeper b c n q = omega arith
 
-nonneg-zeros : (n : ℕ) → AtLeastZero (zeros n)
-nonneg-zeros zero = nonneg-nil
-nonneg-zeros (suc n) = nonneg-cons zero_ℚ (zeros n) (le_refl zero_ℚ) (nonneg-zeros n)
-
 nonneg-unit : (b c : ℕ) → AtLeastZero (unit_at b c)
 nonneg-unit zero c = nonneg-cons one_ℚ (zeros c) (le_of_lt zero_ℚ one_ℚ zero_lt_one) (nonneg-zeros c)
 nonneg-unit (suc b) c = nonneg-cons zero_ℚ (unit_at b c) (le_refl zero_ℚ) (nonneg-unit b c)
-
-nonneg-scaled : (c : ℚ) (xs : List ℚ) → zero_ℚ ≤ℚ c → AtLeastZero xs → AtLeastZero (scaled c xs)
-nonneg-scaled c [] h k = nonneg-nil
-nonneg-scaled c (x ∷ xs) h k = nonneg-cons (c *ℚ x) (scaled c xs) (mul_nonneg c x h (nonneg-head x xs k)) (nonneg-scaled c xs h (nonneg-tail x xs k))
-
-nonneg-plus : (xs ys : List ℚ) → AtLeastZero xs → AtLeastZero ys → AtLeastZero (plus xs ys)
-nonneg-plus [] ys h k = k
-nonneg-plus (x ∷ xs) [] h k = h
-nonneg-plus (x ∷ xs) (y ∷ ys) h k = nonneg-cons (x +ℚ y) (plus xs ys) (add_nonneg x y (nonneg-head x xs h) (nonneg-head y ys k))
-    (nonneg-plus xs ys (nonneg-tail x xs h) (nonneg-tail y ys k))
 
 orthant : (n : ℕ) → IsConvexCone n (IsInOrthant n)
 orthant n = record {

@@ -25,6 +25,7 @@ use Rattle.polyhedra.proofs.Support.{dot_nonneg}
 use Rattle.polyhedra.proofs.Duality.{dual_cones}
 use Rattle.polyhedra.proofs.Homogenised.{length-homogenised, plus-homogenised, scaled-homogenised, zeros-homogenised, homogenised-same}
 use Rattle.polyhedra.proofs.Cones.{IsSumOf, generated_append, generated_through}
+use Rattle.polyhedra.proofs.Negatives.{negated_values}
 use Rattle.lineality.proofs.Lineality.{length-negated}
 use Rattle.representations.specs.Lined.{pinned, AreReaders, IsSpanned, AreLined, LinedCone, AreSidesOf, SidesAreHull, generator_rows, HoldsFor, EqualFor, HullIsSides}
 use Rattle.representations.proofs.Faces.{hull_by_values}
@@ -325,12 +326,6 @@ module _ (n : ℕ) (points directions lines rows readers gens equations : List (
   -- ---- back
   lines_back_wide : AreWide n (map negated lines)
   lines_back_wide = record { wide = All-map (HasWidth n) negated lines (All-weaker (HasWidth n) (λ v. length (negated v) ≡ n) (λ v h. length-negated v ∙ h) lines l.wide) }
-
-  negated_values : (ms : List ℚ) (vs : List (List ℚ)) (r : List ℚ) → dot ms (values (map negated vs) r) ≡ dot (negated ms) (values vs r)
-  negated_values [] vs r = refl
-  negated_values (m ∷ ms) [] r = refl
-  negated_values (m ∷ ms) (v ∷ vs) r = ap₂ (λ a b. m *ℚ a +ℚ b) (dot-negated v r) (negated_values ms vs r)
-      ∙ ap (λ x. x +ℚ dot (negated ms) (values vs r)) (ring rationals (m ∷ dot v r ∷ []) (v0 ⊗ ⊖ v1) (⊖ v0 ⊗ v1) refl)
 
   raised_back : (vs : List (List ℚ)) → map (λ y. homogenised (negated y) zero_ℚ) vs ≡ map (λ y. homogenised y zero_ℚ) (map negated vs)
   raised_back [] = refl

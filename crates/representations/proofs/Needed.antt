@@ -29,6 +29,7 @@ use Rattle.polyhedra.proofs.Farkas.{farkas}
 use Rattle.polyhedra.proofs.Homogenised.{length-homogenised, plus-homogenised, scaled-homogenised, homogenised-same}
 use Rattle.polyhedra.proofs.Cones.{IsSumOf, generated_append, gens_same}
 use Rattle.polyhedra.proofs.Generators.{described_are_extreme}
+use Rattle.polyhedra.proofs.Negatives.{negated_values}
 use Rattle.lineality.proofs.Lineality.{length-negated}
 use Rattle.representations.specs.Lined.{pinned, AreReaders, IsSpanned, AreSidesOf}
 use Rattle.representations.specs.Needed.{AreOthers, GeneratorIsNeeded, SpannedIsNeeded, HullIsNeeded, OneListOfGenerators}
@@ -249,12 +250,6 @@ module _ (n : ℕ) (readers rows gens points directions lines : List (List ℚ))
 
       all_wide : AreWide (suc n) all
       all_wide = record { wide = All-append (HasWidth (suc n)) fewer ends fewer_wide.wide ends_wide.wide }
-
-      negated_values : (ms : List ℚ) (vs : List (List ℚ)) (r : List ℚ) → dot ms (values (map negated vs) r) ≡ dot (negated ms) (values vs r)
-      negated_values [] vs r = refl
-      negated_values (m ∷ ms) [] r = refl
-      negated_values (m ∷ ms) (v ∷ vs) r = ap₂ (λ a b. m *ℚ a +ℚ b) (dot-negated v r) (negated_values ms vs r)
-          ∙ ap (λ x. x +ℚ dot (negated ms) (values vs r)) (ring rationals (m ∷ dot v r ∷ []) (v0 ⊗ ⊖ v1) (⊖ v0 ⊗ v1) refl)
 
       apart : Contains (map (λ v. homogenised v one_ℚ) points) (homogenised d zero_ℚ) ⊎ Contains (map (λ v. homogenised v zero_ℚ) others) (homogenised d zero_ℚ) → ⊥
       apart (inl c) =

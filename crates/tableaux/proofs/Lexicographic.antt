@@ -4,9 +4,10 @@ use Rattle.exact_field.specs.Rational.{ℚ, zero_ℚ, le_ℚ, neg_ℚ, inverse_�
 use Rattle.exact_field.proofs.Inequalities.{add_right-le, mul_right-le, three_cases}
 use Rattle.polyhedra.specs.Vectors.{zeros, plus, scaled}
 use Rattle.polyhedra.proofs.Laws.{le_refl, le_antisymm, le_of_lt, mul_comm, add_zero, add_neg}
-use Rattle.polyhedra.proofs.Algebra.{zero_add, mul_zero, zero_mul, neg_mul, neg_zero}
+use Rattle.polyhedra.proofs.Algebra.{zero_add, zero_mul, neg_mul, neg_zero}
 use Rattle.polyhedra.proofs.Order.{lt_of_le_of_lt, le_of_eq, inverse_positive, neg_positive, le_or_lt, mul_inverse_cancel}
 use Rattle.polyhedra.proofs.Linear.{plus_comm, length-plus, length-scaled, length-zeros}
+use Rattle.polyhedra.proofs.Entries.{scaled-zeros}
 use Rattle.tableaux.specs.Lex.{lex_less, IsLexBelow, IsLexPositive, LexLaws}
 
 -- the first of two vectors' entries that differ decides
@@ -101,10 +102,6 @@ lex-scaled c (x ∷ u) [] h = refl
 lex-scaled c (x ∷ u) (y ∷ v) h =
     same_test (le_ℚ y x) (le_ℚ (c *ℚ y) (c *ℚ x)) (le_ℚ x y) (le_ℚ (c *ℚ x) (c *ℚ y)) (lex_less u v) (lex_less (scaled c u) (scaled c v))
     (multiple-le c y x h) (multiple-le c x y h) (lex-scaled c u v h)
-
-scaled-zeros : (c : ℚ) (n : ℕ) → scaled c (zeros n) ≡ zeros n
-scaled-zeros c zero = refl
-scaled-zeros c (suc n) = ap₂ (λ a b. a ∷ b) (mul_zero c) (scaled-zeros c n)
 
 zeros-plus : (u : List ℚ) → plus (zeros (length u)) u ≡ u
 zeros-plus [] = refl

@@ -2,11 +2,11 @@ use Rattle.std.proofs.Common.{◌≡◌, ◌+◌, ◌++◌, true, false, List, d
 use Rattle.exact_field.specs.Rational.{zero_ℚ, lt_ℚ}
 use Rattle.exact_field.specs.Vector.{dot}
 use Rattle.polyhedra.specs.LiveList.{LivePair}
+use Rattle.polyhedra.proofs.Lists.{drop_value}
 use Rattle.double_descr.specs.Steps.{values}
 use Rattle.double_descr.specs.State.{live_of, numbered_of}
 use Rattle.double_descr.specs.Making.{IsMadeSoFar, candidates_from, with_negatives}
 use Rattle.double_descr.proofs.made.try_plus.Goals as goal
-use Rattle.double_descr.proofs.StepLists.{drop_value}
 use Rattle.double_descr.proofs.MadePairs.{value_at_index, candidates_at}
 
 pub meet_with-requires : goal.meet_with-requires

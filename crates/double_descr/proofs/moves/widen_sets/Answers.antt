@@ -1,6 +1,7 @@
 use Rattle.std.proofs.Common.{◌≡◌, ◌+◌, ◌<◌, [], ◌∷◌, ◌++◌, get_or, length, refl, ap, ◌∙◌, arith}
 use Rattle.std.proofs.lemmas.List.{drop-set-lt}
 use Rattle.std.proofs.lemmas.Grind.{drop_more_same}
+use Rattle.polyhedra.proofs.Members.{listed}
 use Rattle.double_descr.specs.Making.{HasRoomForRow}
 use Rattle.double_descr.specs.State.{HasTightSet, with_set, with_tight_set}
 use Rattle.double_descr.specs.Steps.{values}
@@ -8,7 +9,6 @@ use Rattle.double_descr.specs.declared.generator.Generator.{Generator}
 use Rattle.double_descr.proofs.InPlace.{all_mapped, here_same, none_mapped, one_more_mapped}
 use Rattle.double_descr.proofs.MadePairs.{value_at_index}
 use Rattle.double_descr.proofs.NextLists.{set_with}
-use Rattle.double_descr.proofs.StepLists.{listed}
 use Rattle.double_descr.proofs.moves.widen_sets.Goals as goal
 
 pub widen_set-requires : goal.widen_set-requires

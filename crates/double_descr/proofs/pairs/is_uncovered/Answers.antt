@@ -4,9 +4,10 @@ use Rattle.std.proofs.lemmas.Bool.{not_from_false, not_from_true}
 use Rattle.std.proofs.lemmas.List.{drop_all, length-map}
 use Rattle.polyhedra.proofs.Covering.{none_at, all_but}
 use Rattle.polyhedra.specs.LiveList.{third_test}
+use Rattle.polyhedra.proofs.Lists.{drop_value}
+use Rattle.polyhedra.proofs.Members.{listed}
 use Rattle.double_descr.specs.State.{HasTightSet, live_of, numbered_of, pair_of}
 use Rattle.double_descr.proofs.pairs.is_uncovered.Goals as goal
-use Rattle.double_descr.proofs.StepLists.{listed, drop_value}
 
 pub loop-i-init : goal.loop-i-init
 loop-i-init g c = λ rows all a b m. refl

@@ -1,7 +1,7 @@
 use Rattle.std.proofs.Common.{◌+◌, drop, arith}
+use Rattle.polyhedra.proofs.Lists.{drop_value}
 use Rattle.double_descr.specs.State.{live_of, numbered_of}
 use Rattle.double_descr.proofs.parts.list_numbers.Goals as goal
-use Rattle.double_descr.proofs.StepLists.{drop_value}
 use Rattle.double_descr.proofs.MadePairs.{dropped_on, numbers_on, value_at_index}
 
 pub list_number-requires : goal.list_number-requires

@@ -1,12 +1,13 @@
 use Rattle.std.proofs.Common.{◌+◌, ◌<◌, [], ◌∷◌, ◌++◌, drop, length, sym, ap, ◌∙◌, arith}
 use Rattle.polyhedra.specs.LiveList.{tight_set}
+use Rattle.polyhedra.proofs.Lists.{drop_value}
+use Rattle.polyhedra.proofs.Members.{listed}
 use Rattle.double_descr.specs.State.{HasTightSet, tight_sets}
 use Rattle.double_descr.specs.Steps.{values}
 use Rattle.double_descr.specs.declared.generator.Generator.{Generator}
 use Rattle.double_descr.proofs.InPlace.{push_on}
 use Rattle.double_descr.proofs.MadePairs.{value_at_index}
 use Rattle.double_descr.proofs.NextLists.{set_with}
-use Rattle.double_descr.proofs.StepLists.{drop_value, listed}
 use Rattle.double_descr.proofs.parts.next_sets.Goals as goal
 
 pub next_set-requires : goal.next_set-requires

@@ -1,7 +1,7 @@
 use Rattle.std.proofs.Common.{◌+◌, true, false, map, drop, sym, ◌∙◌}
 use Rattle.std.proofs.lemmas.List.{append-nil}
+use Rattle.polyhedra.proofs.Lists.{drop_value}
 use Rattle.double_descr.proofs.NegativePlaces.{places_on}
-use Rattle.double_descr.proofs.StepLists.{drop_value}
 use Rattle.double_descr.proofs.parts.places_below.Goals as goal
 use Rattle.double_descr.proofs.parts.places_below.Goals.{then-is_negative+in_ok-push, else-is_negative}
 

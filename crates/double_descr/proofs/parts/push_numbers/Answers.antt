@@ -1,7 +1,7 @@
 use Rattle.std.proofs.Common.{◌+◌, ◌++◌, drop, map, refl, sym, ap, ◌∙◌}
+use Rattle.polyhedra.proofs.Lists.{drop_value}
 use Rattle.double_descr.specs.declared.generator.Generator.{Generator}
 use Rattle.double_descr.proofs.InPlace.{push_on}
-use Rattle.double_descr.proofs.StepLists.{drop_value}
 use Rattle.double_descr.proofs.parts.push_numbers.Goals as goal
 
 pub loop-generator-preserved : goal.loop-generator-preserved

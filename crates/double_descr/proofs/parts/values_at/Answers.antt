@@ -2,11 +2,12 @@ use Rattle.std.proofs.Common.{◌+◌, [], ◌∷◌, ◌++◌, map, drop, sym, 
 use Rattle.std.proofs.lemmas.List.Elements.{All-nil, All-cons, All-append}
 use Rattle.exact_field.specs.Vector.{dot}
 use Rattle.polyhedra.specs.LiveList.{Numbered}
+use Rattle.polyhedra.proofs.Lists.{drop_value}
 use Rattle.double_descr.specs.State.{live_of, numbered_of}
 use Rattle.double_descr.specs.Adding.{AreHeld, value_block}
 use Rattle.double_descr.proofs.parts.values_at.Goals as goal
 use Rattle.lin_rows.proofs.Errors.{err_holds}
-use Rattle.double_descr.proofs.StepLists.{drop_value, write_on}
+use Rattle.double_descr.proofs.StepLists.{write_on}
 use Rattle.double_descr.proofs.MadePairs.{fault_at, block_on}
 
 pub returns-in_err-value_at-clause-left : goal.returns-in_err-value_at-clause-left

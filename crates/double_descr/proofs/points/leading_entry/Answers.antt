@@ -1,6 +1,7 @@
 use Rattle.std.proofs.Common.{drop, map, sym, ◌∙◌}
+use Rattle.polyhedra.proofs.Lists.{drop_value}
 use Rattle.double_descr.proofs.points.leading_entry.Goals as goal
-use Rattle.double_descr.proofs.StepLists.{leading_here, leading_at, drop_value}
+use Rattle.double_descr.proofs.StepLists.{leading_here, leading_at}
 
 pub returns-then-not-is_zero : goal.returns-then-not-is_zero
 returns-then-not-is_zero g c =

@@ -2,8 +2,9 @@ use Rattle.std.proofs.Common.{◌+◌, ◌++◌, drop, map, sym, ap₂, ◌∙�
 use Rattle.std.proofs.lemmas.List.{drop_all, length-map}
 use Rattle.double_descr.specs.Steps.{combination_steps}
 use Rattle.polyhedra.specs.Vectors.{plus, scaled}
+use Rattle.polyhedra.proofs.Lists.{drop_value}
 use Rattle.double_descr.proofs.steps.combination.Goals as goal
-use Rattle.double_descr.proofs.StepLists.{drop_value, at_number, written_all, match_stop, same_left, plus_end, combination_at, combination_end, write_on}
+use Rattle.double_descr.proofs.StepLists.{at_number, written_all, match_stop, same_left, plus_end, combination_at, combination_end, write_on}
 
 pub returns-in_err-add_product-clause-runs : goal.returns-in_err-add_product-clause-runs
 returns-in_err-add_product-clause-runs g c = λ steps left h.

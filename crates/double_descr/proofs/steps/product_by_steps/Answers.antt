@@ -3,9 +3,10 @@ use Rattle.exact_field.specs.Rational.{zero_ℚ, ◌+ℚ◌}
 use Rattle.exact_field.specs.Vector.{dot}
 use Rattle.std.proofs.lemmas.List.{drop_all, length-map}
 use Rattle.double_descr.proofs.steps.product_by_steps.Goals as goal
-use Rattle.double_descr.proofs.StepLists.{same_left, drop_value, product_done, stop_runs, start, product_at, sum_at_term}
+use Rattle.double_descr.proofs.StepLists.{same_left, product_done, stop_runs, start, product_at, sum_at_term}
 use Rattle.double_descr.specs.Steps.{product_steps}
 use Rattle.polyhedra.proofs.Algebra.{zero_add}
+use Rattle.polyhedra.proofs.Lists.{drop_value}
 
 pub loop-i-init : goal.loop-i-init
 loop-i-init g c =

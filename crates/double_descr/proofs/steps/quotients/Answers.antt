@@ -3,8 +3,9 @@ use Rattle.std.proofs.lemmas.List.{drop_all, length-map}
 use Rattle.exact_field.specs.Rational.{inverse_ℚ}
 use Rattle.polyhedra.specs.Vectors.{scaled}
 use Rattle.double_descr.proofs.steps.quotients.Goals as goal
-use Rattle.double_descr.proofs.StepLists.{drop_value, at_number, written_all, stopped, one_more, same_left, quotients_at, quotients_end, write_on}
+use Rattle.double_descr.proofs.StepLists.{at_number, written_all, stopped, one_more, same_left, quotients_at, quotients_end, write_on}
 use Rattle.polyhedra.proofs.Laws.{mul_comm}
+use Rattle.polyhedra.proofs.Lists.{drop_value}
 
 pub returns-in-Err-clause-runs : goal.returns-in-Err-clause-runs
 returns-in-Err-clause-runs g c = λ steps left h.

@@ -3,13 +3,13 @@ use Rattle.std.specs.Prelude.{Contains}
 use Rattle.std.specs.List.{flat_map}
 use Rattle.std.proofs.lemmas.List.{length-map}
 use Rattle.polyhedra.specs.LiveList.{Numbered, LivePair}
+use Rattle.polyhedra.proofs.Members.{listed}
 use Rattle.log_versions.specs.Hints.{opposite_pairs}
 use Rattle.log_live.specs.Adding.{AreAtPairs}
 use Rattle.log_live.specs.Live.{live_of, numbered_of}
 use Rattle.log_live.specs.Hinting.{Walks, pairs_beside_at}
 use Rattle.log_live.specs.declared.generator.Generator.{Generator}
 use Rattle.log_live.specs.declared.hinting.Meeting.{Meeting}
-use Rattle.log_live.proofs.ListItems.{listed}
 use Rattle.log_live.proofs.PairMatches.{flat-more, flat-split, flat-whole, mapped-at, all-among}
 use Rattle.log_live.proofs.Hintings.{walks-then, walks-stop, opposite-are, whole_listed, whole_hinted, whole_stopped}
 use Rattle.log_rules.specs.Live.{value}

@@ -2,11 +2,11 @@ use Rattle.std.proofs.Common.{◌≡◌, sym, subst, arith, ◌∙◌, ◌+◌, 
 use Rattle.std.specs.List.{flat_map}
 use Rattle.std.proofs.lemmas.List.{length-map}
 use Rattle.polyhedra.specs.LiveList.{Numbered, LivePair}
+use Rattle.polyhedra.proofs.Members.{listed}
 use Rattle.log_live.specs.declared.generator.Generator.{Generator}
 use Rattle.log_live.specs.Live.{live_of, numbered_of}
 use Rattle.log_live.specs.Adding.{AreAtPairs, AreTwo}
 use Rattle.log_live.specs.Hinting.{Walks}
-use Rattle.log_live.proofs.ListItems.{listed}
 use Rattle.log_live.proofs.PairMatches.{flat-more, flat-split, flat-whole}
 use Rattle.log_live.proofs.Hintings.{walks-then, walks-stop}
 use Rattle.vlp_matrices.proofs.Lists.{map-at}

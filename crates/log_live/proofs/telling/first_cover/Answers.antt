@@ -1,9 +1,10 @@
 use Rattle.std.proofs.Common.{◌+◌, drop, sym, ap, ◌∙◌, arith}
 use Rattle.std.proofs.lemmas.List.{drop_all, length-map}
+use Rattle.polyhedra.proofs.Lists.{drop_value}
+use Rattle.polyhedra.proofs.Members.{listed}
 use Rattle.log_versions.specs.Hints.{first_cover}
 use Rattle.log_live.specs.Adding.{pair_of}
 use Rattle.log_live.specs.Live.{HasTightSet, live_of, numbered_of}
-use Rattle.log_live.proofs.ListItems.{listed, drop_value}
 use Rattle.log_live.proofs.Tellings.{cover_here, cover_later}
 use Rattle.log_live.proofs.telling.first_cover.Goals as goal
 

@@ -2,13 +2,13 @@ use Rattle.std.proofs.Common.{◌≡◌, sym, subst, ap, refl, arith, ◌∙◌,
 use Rattle.std.specs.List.{flat_map}
 use Rattle.std.proofs.lemmas.List.{length-map}
 use Rattle.polyhedra.specs.LiveList.{Numbered, LivePair}
+use Rattle.polyhedra.proofs.Members.{listed}
 use Rattle.log_rules.specs.Live.{value}
 use Rattle.log_versions.specs.Hints.{opposite_pairs}
 use Rattle.log_live.specs.Live.{HasTightSet, live_of, numbered_of}
 use Rattle.log_live.specs.Hinting.{Tells, pairs_beside_at}
 use Rattle.log_live.specs.declared.generator.Generator.{Generator}
 use Rattle.log_live.specs.declared.telling.Telling.{Telling}
-use Rattle.log_live.proofs.ListItems.{listed}
 use Rattle.log_live.proofs.PairMatches.{flat-more, flat-whole, mapped-at, all-among}
 use Rattle.log_live.proofs.Hintings.{opposite-are}
 use Rattle.log_live.proofs.Tellings.{tells-then, told}

@@ -2,10 +2,10 @@ use Rattle.std.proofs.Common.{sym, subst, arith, ◌∙◌, ◌<◌, List, [], �
 use Rattle.std.specs.List.{flat_map}
 use Rattle.std.proofs.lemmas.List.{length-map}
 use Rattle.polyhedra.specs.LiveList.{Numbered, LivePair}
+use Rattle.polyhedra.proofs.Members.{listed}
 use Rattle.log_live.specs.declared.generator.Generator.{Generator}
 use Rattle.log_live.specs.Live.{HasTightSet, live_of, numbered_of}
 use Rattle.log_live.specs.Hinting.{Tells}
-use Rattle.log_live.proofs.ListItems.{listed}
 use Rattle.log_live.proofs.PairMatches.{flat-more}
 use Rattle.log_live.proofs.Tellings.{tells-then}
 use Rattle.vlp_matrices.proofs.Lists.{map-at}

@@ -1,4 +1,5 @@
 use Rattle.std.proofs.Common.{rules, ◌∙◌, ap, sym, subst}
+use Rattle.polyhedra.proofs.Lists.{all_back}
 use Rattle.lineality.specs.Without.{marks}
 use Rattle.overflows.specs.Faults.{OnLicence}
 use Rattle.lower_image.specs.Lower.{AreAllFacets}
@@ -6,7 +7,6 @@ use Rattle.outer_approx.specs.Cuts.{IsCutFor}
 use Rattle.outer_approx.specs.Standing.{IsOpening, IsOpenTrail}
 use Rattle.outer_approx.specs.Task.{setting}
 use Rattle.outer_approx.proofs.Outer.{on_any}
-use Rattle.recession.proofs.Free.{all_back}
 use Rattle.recession.proofs.OwnLogs.{carried, licensed}
 use Rattle.benson_dual.proofs.image.Image.approximation.Goals as goal
 

@@ -1,10 +1,11 @@
 use Rattle.std.proofs.Common.{◌∙◌, ◌+◌, ◌-◌, ◌<◌, ◌≤◌, ℕ, List, ap, length, slice_index_or, subst, sym}
 use Rattle.std.specs.Prelude.{IfNone, IfSome}
 use Rattle.polyhedra.specs.LiveList.{numbers}
+use Rattle.polyhedra.proofs.Lists.{seen_more}
 use Rattle.deriv_log.specs.declared.entry.Entry.{Entry}
 use Rattle.double_descr.specs.State.{State as Description}
 use Rattle.benson_primal.specs.Search.{AreReached, HasSameRows, IsDone, IsFound, IsSearching}
-use Rattle.benson_primal.proofs.Marked.{all_done, done_stays, seen_more}
+use Rattle.benson_primal.proofs.Marked.{all_done, done_stays}
 use Rattle.benson_primal.proofs.Searched.{any_stays, grown_from, kept_stays, rows_on, some_not_none}
 use Rattle.benson_primal.proofs.search.Search.advance.Goals as goal
 use Rattle.benson_primal.proofs.search.Search.advance.Goals.{in-Some+in_ok-try_cut+else-branch+else-is_spent, in_default}

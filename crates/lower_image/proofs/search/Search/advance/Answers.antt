@@ -2,9 +2,10 @@ use Rattle.std.proofs.Common.{◌≡◌, ◌≤◌, ◌<◌, ◌+◌, ◌-◌, �
 use Rattle.std.specs.Prelude.{IfNone, IfSome}
 use Rattle.lin_rows.proofs.Errors.{err_holds}
 use Rattle.polyhedra.specs.LiveList.{numbers}
+use Rattle.polyhedra.proofs.Lists.{seen_more}
 use Rattle.double_descr.specs.State.{State as Description}
 use Rattle.lower_image.specs.Search.{AreAllCertified, IsDone, IsNextRow, IsSearching}
-use Rattle.lower_image.proofs.Searched.{all_done, done_stays, kept_holds, seen_more, some_not_none}
+use Rattle.lower_image.proofs.Searched.{all_done, done_stays, kept_holds, some_not_none}
 use Rattle.lower_image.proofs.search.Search.advance.Goals as goal
 use Rattle.lower_image.proofs.search.Search.advance.Goals.{in-Some+in_ok-try_row+else-branch+else-tries-eq-MOST_TRIES, in_default}
 
