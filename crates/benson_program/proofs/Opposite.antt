@@ -1,5 +1,5 @@
 -- In Benson's program the two columns of an entry of w are opposite.
-use Rattle.std.proofs.Common.{◌≡◌, ℕ, zero, suc, List, [], ◌∷◌, ◌++◌, length, refl, sym, ap, ap₂, ◌∙◌, arith, ◌<◌, ◌≤◌, ◌+◌, ◌-◌, All, slice_index_or, length-append}
+use Rattle.std.proofs.Common.{◌≡◌, ℕ, List, [], ◌∷◌, ◌++◌, length, refl, sym, ap, ap₂, ◌∙◌, arith, ◌<◌, ◌+◌, ◌-◌, All, slice_index_or, length-append}
 use Rattle.std.proofs.lemmas.List.{get_or_append_left, get_or-append_right, length-map}
 use Rattle.std.proofs.lemmas.List.Elements.{All-nil, All-cons, All-head, All-tail, All-append}
 use Rattle.exact_field.specs.Rational.{ℚ, zero_ℚ, neg_ℚ}
@@ -8,8 +8,8 @@ use Rattle.polyhedra.specs.Negatives.{negated}
 use Rattle.polyhedra.specs.Vectors.{zeros}
 use Rattle.polyhedra.proofs.Algebra.{neg_neg}
 use Rattle.polyhedra.proofs.Entries.{slice-negated}
-use Rattle.tableaux.specs.Table.{Table, column_of, list_from, row_of, unit}
-use Rattle.tableaux.proofs.Places.{row-wide}
+use Rattle.tableaux.specs.Table.{Table, column_of, row_of, unit}
+use Rattle.tableaux.proofs.Places.{row-wide, all_from}
 use Rattle.vlp_problem.specs.Sides.{side_column, numbers_from}
 use Rattle.vlp_problem.specs.declared.problem.Problem.{Problem}
 use Rattle.vlp_problem.specs.declared.problem.Cone.{Cone}
@@ -41,11 +41,6 @@ parts_opposite m q i u w after u_long w_long inside =
     ∙ get_or-append_right (u ++ w) (negated w) (m + q) (m + q + i) zero_ℚ two (omega arith)
     ∙ ap (λ (k : ℕ). slice_index_or (negated w) k zero_ℚ) high
     ∙ slice-negated w i))
-
-all_from : (P : List ℚ → Type 0) (k n : ℕ) (f : ℕ → List ℚ) → ((i : ℕ) → k ≤ i → i < k + n → P (f i)) → All P (list_from k n f)
-all_from P k zero f h = All-nil P
-all_from P k (suc n) f h =
-    All-cons P (f k) (list_from (suc k) n f) (h k (omega arith) (omega arith)) (all_from P (suc k) n f (λ i low high. h i (omega arith) (omega arith)))
 
 members_opposite : (m q i : ℕ) (cone : Cone) → IsWideCone q cone → i < q → All (IsOpposite (m + i) (m + q + i)) (dual_members m q cone)
 members_opposite m q i Orthant wide inside =

@@ -8,8 +8,8 @@ use Rattle.exact_field.specs.Vector.{entry}
 use Rattle.exact_field.proofs.Rationals.{neg-neg_ℚ, neg-zero_ℚ}
 use Rattle.polyhedra.specs.Negatives.{negated}
 use Rattle.polyhedra.specs.Vectors.{AreWide, zeros}
-use Rattle.tableaux.specs.Table.{Table, column_of, list_from, row_of, unit}
-use Rattle.tableaux.proofs.Places.{row-wide}
+use Rattle.tableaux.specs.Table.{Table, column_of, row_of, unit}
+use Rattle.tableaux.proofs.Places.{row-wide, all_from}
 use Rattle.lp_form.specs.Programs.{dual_gaps, interior_of_dual}
 use Rattle.lp_form.proofs.Systems.{length-unit, length-zeros}
 
@@ -17,11 +17,6 @@ zeros_at : (n k : ℕ) → slice_index_or (zeros n) k zero_ℚ ≡ zero_ℚ
 zeros_at zero k = refl
 zeros_at (suc n) zero = refl
 zeros_at (suc n) (suc k) = zeros_at n k
-
-all_from : (P : List ℚ → Type 0) (k n : ℕ) (f : ℕ → List ℚ) → ((i : ℕ) → k ≤ i → i < k + n → P (f i)) → All P (list_from k n f)
-all_from P k zero f h = All-nil P
-all_from P k (suc n) f h =
-    All-cons P (f k) (list_from (suc k) n f) (h k (omega arith) (omega arith)) (all_from P (suc k) n f (λ i low high. h i (omega arith) (omega arith)))
 
 -- the entries at the places k and q + k, counted from 0, are opposite
 abbrev IsOpposite : ℕ → ℕ → List ℚ → Type 0

@@ -15,15 +15,12 @@ use Rattle.tableaux.proofs.Definition.{same_default}
 use Rattle.tableaux.proofs.Eliminated.{ray_orthogonal}
 use Rattle.tableaux.proofs.Inverse.{dot-append, dot-zero_right, list_from-append}
 use Rattle.tableaux.proofs.Places.{length-list_from, listed-place, row-wide, delta, same_or_other, if_false}
-use Rattle.tableaux.proofs.Products.{value-is}
+use Rattle.tableaux.proofs.Orthogonal.{not_named}
 use Rattle.overflow_rules.specs.Dictionaries.{IsElimTable}
 use Rattle.overflow_rules.specs.Laws.{OrthogonalVectors}
 
 next : (k : ℕ) → 1 + k - 1 ≡ k
 next k = omega arith
-
-not_named : (basis : List ℕ) (vs : List ℚ) (j : ℕ) → ((k : ℕ) → basic_column basis k ≢ j) → value_of_column basis vs j ≡ zero_ℚ
-not_named basis vs j h = value-is (λ q. q ≡ zero_ℚ) basis vs j refl (λ k l e. absurd (h (1 + k) (ap (λ i. slice_index_or basis i 0) (next k) ∙ e)))
 
 -- with the unit matrix beside the rows: after the rows' own columns the vector would be 0
 module _ (n c : ℕ) (a : Table) (basis : List ℕ) (d : Table) (a_long : length a ≡ n) (a_wide : AreWide n a)

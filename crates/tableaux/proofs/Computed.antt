@@ -9,13 +9,13 @@ use Rattle.polyhedra.proofs.Tests.{same_vector_is}
 use Rattle.tableaux.specs.Table.{Table}
 use Rattle.tableaux.specs.Examples.{SimplexExamples}
 
-same_table : Table → Table → Bool
+unfoldable pub same_table : Table → Table → Bool
 same_table [] [] = true
 same_table [] (y ∷ e) = false
 same_table (x ∷ d) [] = false
 same_table (x ∷ d) (y ∷ e) = same_vector x y && same_table d e
 
-same_table_is : (d e : Table) → same_table d e ≡ true → d ≡ e
+pub same_table_is : (d e : Table) → same_table d e ≡ true → d ≡ e
 unfolding same_table
 same_table_is [] [] h = refl
 same_table_is [] (y ∷ e) h = absurd (true≢false (sym h))
