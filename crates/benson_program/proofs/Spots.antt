@@ -11,17 +11,11 @@ use Rattle.polyhedra.proofs.Lists.{all_from_map, nonneg-head, nonneg-tail}
 use Rattle.polyhedra.proofs.Order.{zero_or_positive}
 use Rattle.polyhedra.proofs.Tests.{both_true}
 use Rattle.lin_rows.specs.Lines.{Rises}
-use Rattle.lin_rows.proofs.Merging.{not_same}
+use Rattle.lin_rows.proofs.Merging.{not_same, absent}
 use Rattle.upper_image.specs.Spots.{entry_of, dense, IsVector}
 use Rattle.lp_form.proofs.Held.{spots_rise}
 use Rattle.frac128.specs.Sparse.{is_zero, rises_above}
 use Rattle.frac128.specs.declared.vectors.Spot.{Spot}
-
-absent : (n low : ℕ) (es : List Entry) (k : ℕ) → Rises n low es → k ≤ low → value_at es k ≡ zero_ℚ
-absent n low [] k h l = refl
-absent n low (e ∷ es) k h l =
-    let above : low < e.place = h.0 in
-    ap (λ b. if b then e.value else value_at es k) (not_same e.place k (λ s. omega (arith, s, above, l))) ∙ absent n e.place es k h.2 (omega (arith, above, l))
 
 values_nonneg : (n low : ℕ) (es : List Entry) → Rises n low es → ((k : ℕ) → 1 ≤ k → k ≤ n → zero_ℚ ≤ℚ value_at es k) → All (λ e. zero_ℚ ≤ℚ e.value) es
 values_nonneg n low [] r h = All-nil (λ e. zero_ℚ ≤ℚ e.value)

@@ -14,23 +14,15 @@ use Rattle.tableaux.proofs.Places.{row-wide, delta-same, delta-other}
 use Rattle.tableaux.proofs.Reading.{slice-past}
 use Rattle.tableaux.proofs.Entries.{sign_of, table-long, table-wide, row-equation, equation-artificial, equation-right, first-unknown, first-artificial, first-right, second-unknown, second-artificial, second-right}
 use Rattle.lin_rows.specs.Clear.{Writes}
-use Rattle.lin_rows.specs.Lines.{Rises, last_place}
+use Rattle.lin_rows.specs.Lines.{last_place}
 use Rattle.lin_rows.specs.Read.{IsLineOf}
 use Rattle.lin_rows.proofs.Building.{line_pushed, last_pushed}
+use Rattle.lin_rows.proofs.Merging.{rises-wider, last_within}
 
 -- the sparse row stands for the first i entries of a row of at most n, and has no cell after them
 pub record IsLineTo (n i : ℕ) (xs : List ℚ) (es : List Entry) : Type 0 where
   pub line : IsLineOf n (take i xs) es
   pub last : last_place 0 es ≤ i
-
--- general; belongs in lin_rows
-rises-wider : (n m low : ℕ) (es : List Entry) → n ≤ m → Rises n low es → Rises m low es
-rises-wider n m low [] l h = tt
-rises-wider n m low (e ∷ es) l h = let first : e.place ≤ n = h.1 in (h.0, omega (arith, first, l), rises-wider n m e.place es l h.2)
-
-last_within : (n low : ℕ) (es : List Entry) → low ≤ n → Rises n low es → last_place low es ≤ n
-last_within n low [] l h = l
-last_within n low (e ∷ es) l h = last_within n e.place es h.1 h.2
 
 take_before : (xs : List ℚ) (i k : ℕ) → k < i → slice_index_or (take i xs) k zero_ℚ ≡ slice_index_or xs k zero_ℚ
 take_before xs i k l = get_or-take i xs k zero_ℚ l

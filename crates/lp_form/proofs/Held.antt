@@ -12,7 +12,7 @@ use Rattle.polyhedra.specs.Inequality.{Inequality}
 use Rattle.polyhedra.proofs.Lists.{all_from_map, all_front, all_back}
 use Rattle.polyhedra.proofs.Tests.{both_true}
 use Rattle.lin_rows.specs.Lines.{Rises}
-use Rattle.lin_rows.proofs.Merging.{not_same}
+use Rattle.lin_rows.proofs.Merging.{not_same, absent}
 use Rattle.upper_image.specs.Spots.{IsVector, entry_of}
 use Rattle.upper_image.specs.UpperImage.{signed, normals, objective, objectives}
 use Rattle.vlp_problem.specs.Cells.{coefficient}
@@ -168,12 +168,6 @@ module _ (holds : ℚ → Bool) (zero_held : IsTrue (holds zero_ℚ)) (one_held 
         (λ i. all_made Held _ (numbers_from 1 file.cols) (λ j. signed_held file.dir (coefficient file.o i j) (coefficient_held file.o i j (all_front Held (values_of file.o) _ after_a))))
 
   -- ---- sparse vectors
-  absent : (n low : ℕ) (es : List Entry) (k : ℕ) → Rises n low es → k ≤ low → value_at es k ≡ zero_ℚ
-  absent n low [] k h l = refl
-  absent n low (e ∷ es) k h l =
-      let above : low < e.place = h.0 in
-      ap (λ b. if b then e.value else value_at es k) (not_same e.place k (λ s. omega (arith, s, above, l))) ∙ absent n e.place es k h.2 (omega (arith, above, l))
-
   values_held : (n low : ℕ) (es : List Entry) → Rises n low es → ((k : ℕ) → 1 ≤ k → k ≤ n → Held (value_at es k)) → All (λ e. Held e.value) es
   values_held n low [] r h = All-nil (λ e. Held e.value)
   values_held n low (e ∷ es) r h =

@@ -10,31 +10,20 @@ use Rattle.exact_field.proofs.Rationals.{add-zero_ℚ, add_assoc_ℚ, neg-add_�
 use Rattle.polyhedra.specs.Negatives.{negated}
 use Rattle.polyhedra.specs.Sparse.{Entry}
 use Rattle.polyhedra.specs.Vectors.{zeros}
-use Rattle.polyhedra.proofs.Negatives.{negated_twice}
+use Rattle.polyhedra.proofs.Negatives.{negated_twice, negated-zeros}
 use Rattle.polyhedra.proofs.Tests.{both_true}
 use Rattle.tableaux.specs.Table.{artificial_sign}
 use Rattle.tableaux.proofs.Places.{same_or_other}
 use Rattle.lin_rows.specs.Clear.{Writes}
 use Rattle.lin_rows.specs.Lines.{Rises, entries, entry_of, last_place, sum_at}
 use Rattle.lin_rows.specs.declared.cells.Cell.{Cell}
-use Rattle.lin_rows.proofs.Merging.{not_same, shown, sum_at-below, written_last, written_rises, written_sum}
+use Rattle.lin_rows.proofs.Merging.{not_same, shown, sum_at-below, written_last, written_rises, written_sum, rises-wider, last_within}
 use Rattle.lp_form.specs.Programs.{on_parts}
 use Rattle.lp_form.specs.Shapes.{are_places}
 use Rattle.lp_form.proofs.Figures.{places_rise}
 use Rattle.shown_program.specs.Entries.{AreAppended, IsLineWith, IsLonger, across, negatives, placed, single, unit_entries}
 
 -- ---- places
-pub rises_wider : (n m low : ℕ) (es : List Entry) → n ≤ m → Rises n low es → Rises m low es
-rises_wider n m low [] l h = tt
-rises_wider n m low (e ∷ es) l h =
-    let inside : e.place ≤ n = h.1 in
-    (h.0, omega arith, rises_wider n m e.place es l h.2)
-
-pub last_within : (n low : ℕ) (es : List Entry) → low ≤ n → Rises n low es → last_place low es ≤ n
-last_within n low [] l h = l
-last_within n low (e ∷ es) l h =
-    let inside : e.place ≤ n = h.1 in last_within n e.place es inside h.2
-
 pub sum_at-above : (n low : ℕ) (es : List Entry) (k : ℕ) → Rises n low es → n < k →
     sum_at es k ≡ zero_ℚ
 sum_at-above n low [] k h l = refl
@@ -271,7 +260,7 @@ pub given_line : (cols q i : ℕ) (x y : ℚ) (own first last : List Entry) → 
 given_line cols q i x y own first last is low high same rises w =
     let first_rises : Rises (cols + q) 0 first =
     subst (λ (es : List Entry). Rises (cols + q) 0 es) (sym is)
-    (rises-negatives (cols + q) 0 own (rises_wider cols (cols + q) 0 own (omega arith) rises)) in
+    (rises-negatives (cols + q) 0 own (rises-wider cols (cols + q) 0 own (omega arith) rises)) in
     let first_ends : last_place 0 first ≤ cols =
     subst (λ (es : List Entry). last_place 0 es ≤ cols) (sym is)
     (last_within cols 0 (negatives own) (omega arith) (rises-negatives cols 0 own rises)) in
@@ -359,10 +348,6 @@ pub costs_appended : (l0 l1 l2 l3 a b d u w z : List ℚ) → l1 ≡ l0 ++ a →
 costs_appended l0 l1 l2 l3 a b d u w z e1 e2 e3 h0 ha hb hd =
     e3 ∙ ap₂ (λ x y. x ++ y)
     (e2 ∙ ap₂ (λ x y. x ++ y) (e1 ∙ ap₂ (λ x y. x ++ y) h0 ha) (hb ∙ sym (negated_twice w))) hd
-
-negated-zeros : (n : ℕ) → negated (zeros n) ≡ zeros n
-negated-zeros zero = refl
-negated-zeros (suc n) = ap₂ (λ a b. a ∷ b) neg-zero_ℚ (negated-zeros n)
 
 -- .. where those after the first cost nothing, and none are after w
 pub costs_given : (l0 l1 l2 a b u : List ℚ) (q : ℕ) → l1 ≡ l0 ++ a → l2 ≡ l1 ++ b → l0 ≡ u →

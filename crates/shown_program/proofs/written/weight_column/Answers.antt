@@ -5,12 +5,13 @@ use Rattle.exact_field.specs.Vector.{entry}
 use Rattle.polyhedra.specs.Sparse.{Entry}
 use Rattle.lin_rows.specs.Lines.{Rises, entries, last_place}
 use Rattle.lin_rows.specs.declared.cells.Cell.{Cell}
+use Rattle.lin_rows.proofs.Merging.{rises-wider, last_within}
 use Rattle.lp_form.specs.Data.{cone_of}
 use Rattle.lp_form.specs.Programs.{dual_equations}
 use Rattle.lp_form.specs.Shapes.{are_places}
 use Rattle.lp_form.proofs.Figures.{places_rise}
 use Rattle.shown_program.specs.Entries.{member, negatives}
-use Rattle.shown_program.proofs.Entered.{last_within, rises-negatives, rises_wider, weight_line}
+use Rattle.shown_program.proofs.Entered.{rises-negatives, weight_line}
 use Rattle.shown_program.proofs.Listed.{passes_at}
 use Rattle.shown_program.proofs.written.weight_column.Goals as goal
 
@@ -36,7 +37,7 @@ returns g c =
     c.in_ok-list.ensures ∙ ap (λ cs. negatives (entries value cs)) read in
     let first_rises : Rises (suc top) 0 first =
     subst (λ (es : List Entry). Rises (suc top) 0 es) (sym is)
-    (rises-negatives (suc top) 0 own (rises_wider cols (suc top) 0 own (omega arith) rises)) in
+    (rises-negatives (suc top) 0 own (rises-wider cols (suc top) 0 own (omega arith) rises)) in
     let first_ends : last_place 0 first ≤ cols =
     subst (λ (es : List Entry). last_place 0 es ≤ cols) (sym is)
     (last_within cols 0 (negatives own) (omega arith) (rises-negatives cols 0 own rises)) in
