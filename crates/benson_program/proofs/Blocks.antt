@@ -19,8 +19,9 @@ use Rattle.vlp_problem.specs.Sides.{side_column, numbers_from}
 use Rattle.vlp_problem.specs.declared.problem.Problem.{Problem}
 use Rattle.vlp_problem.specs.declared.problem.Cone.{Cone}
 use Rattle.vlp_problem.specs.declared.problem.Cone.TheVariants.{Orthant, Gens, Dual}
+use Rattle.vlp_problem.proofs.Numbers.{length-numbers}
 use Rattle.upper_image.specs.UpperImage.{normals, objectives, objective_column}
-use Rattle.upper_image.proofs.Widths.{length-numbers, wide_normals, wide_objectives, objective_columns, side_columns}
+use Rattle.upper_image.proofs.Widths.{wide_normals, wide_objectives, objective_columns, side_columns}
 use Rattle.lp_form.specs.Programs.{side_total, on_parts, balances, dual_members, dual_unknowns, dual_equations}
 use Rattle.lp_form.proofs.Systems.{IsWideCone, length-unit, length-negated, length-side_column}
 use Rattle.overflow_rules.proofs.Violated.{dot-negated, length-minus}

@@ -14,8 +14,8 @@ use Rattle.vlp_problem.specs.Sides.{side_column, numbers_from}
 use Rattle.vlp_problem.specs.declared.problem.Problem.{Problem}
 use Rattle.vlp_problem.specs.declared.problem.Cone.{Cone}
 use Rattle.vlp_problem.specs.declared.problem.Cone.TheVariants.{Orthant, Gens, Dual}
+use Rattle.vlp_problem.proofs.Numbers.{length-numbers}
 use Rattle.upper_image.specs.UpperImage.{objective_column}
-use Rattle.upper_image.proofs.Widths.{length-numbers}
 use Rattle.lp_form.specs.Programs.{side_total, on_parts, balances, dual_members, dual_unknowns}
 use Rattle.lp_form.proofs.Systems.{IsWideCone, cone_wide, length-unit, length-negated, length-zeros, length-side_column}
 use Rattle.benson_program.proofs.Blocks.{benson_equations}

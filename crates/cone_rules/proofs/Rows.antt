@@ -1,7 +1,7 @@
 -- The vectors of a cone that are not 0: numbers spread over all vectors, and tests of a vector by
 -- them.
 use Rattle.std.proofs.Common.{◌≡◌, ◌≢◌, ℕ, zero, suc, List, [], ◌∷◌, length, map, All, refl, sym, ap, ap₂, ◌∙◌, subst, arith, ◌<◌, ◌≤◌, ◌-◌, ◌+◌, ◌⊎◌, inl, inr, Bool, true, false, not, cond, nat_eq, nat_lt, slice_index_or}
-use Rattle.std.specs.Prelude.{◌&&◌, unsigned_abs, ℤ, pos, negsuc}
+use Rattle.std.specs.Prelude.{◌&&◌, unsigned_abs}
 use Rattle.std.specs.List.{filter, list_all}
 use Rattle.std.proofs.lemmas.Bool.{eqb-true, ltb-true, lt-ltb}
 use Rattle.std.proofs.lemmas.Bool.Decides.{eqb_tells}
@@ -24,15 +24,12 @@ use Rattle.tableaux.specs.Table.{row_of, list_from, unit}
 use Rattle.tableaux.proofs.Definition.{unit_value, delta_sym}
 use Rattle.tableaux.proofs.Places.{row-wide, delta}
 use Rattle.vlp_problem.specs.declared.problem.Cone.TheVariants.{Dual}
+use Rattle.vlp_problem.proofs.Zero.{abs_zero}
 use Rattle.upper_image.specs.Spots.{entry_of, dense, IsVector}
 use Rattle.cone_rules.specs.Faults.{ShowsOutside}
 use Rattle.cone_rules.specs.Laws.{RowTests, spread, IsSpread}
 
 -- ---- vectors that are 0
-abs_zero : (z : ℤ) → unsigned_abs z ≡ 0 → z ≡ pos 0
-abs_zero (pos n) h = ap pos h
-abs_zero (negsuc n) h = absurd (omega (arith, h))
-
 zero_number : (x : ℚ) → is_zero x ≡ true → x ≡ zero_ℚ
 zero_number x h = zero_from_num x (abs_zero x.num (eqb-true (unsigned_abs x.num) 0 h))
 

@@ -19,7 +19,7 @@ use Rattle.polyhedra.specs.Sparse.{value_at, values_from}
 use Rattle.polyhedra.specs.Vectors.{plus, values}
 use Rattle.upper_image.specs.Spots.{IsVector, dense, product, entry_of}
 use Rattle.upper_image.specs.UpperImage.{objective, objectives, objective_column, rest}
-use Rattle.upper_image.proofs.Widths.{wide_sides, length-objective, length-numbers, entry-made}
+use Rattle.upper_image.proofs.Widths.{wide_sides, length-objective, entry-made}
 use Rattle.log_rules.proofs.ByEntries.{same_entries, entry-suc}
 use Rattle.log_rules.specs.CutEvents.{balance, farkas_events, cut_events, follows_given}
 use Rattle.log_rules.specs.Events.{Event, dot_steps, product_steps}
@@ -36,6 +36,7 @@ use Rattle.polyhedra.proofs.Tests.{not_true}
 use Rattle.polyhedra.proofs.Laws.{le_refl}
 use Rattle.vlp_problem.specs.declared.problem.Cone.{Cone}
 use Rattle.vlp_problem.specs.declared.problem.Cone.TheVariants.{Orthant, Gens, Dual}
+use Rattle.vlp_problem.proofs.Numbers.{length-numbers}
 use Rattle.vlp_matrices.specs.Matrices.{AreMatricesOf}
 use Rattle.vlp_matrices.specs.declared.matrices.Matrices.{Matrices}
 

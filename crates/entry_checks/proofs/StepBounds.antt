@@ -19,12 +19,13 @@ use Rattle.std.specs.Prelude.{nat_le, nat_lt, ◌&&◌}
 use Rattle.upper_image.specs.OrderingCone.{dual_of}
 use Rattle.upper_image.specs.Spots.{column, pieces, dense, product}
 use Rattle.upper_image.specs.UpperImage.{objective, objective_column, rest}
-use Rattle.upper_image.proofs.Widths.{wide_sides, length-numbers, length-objective, length-rest}
+use Rattle.upper_image.proofs.Widths.{wide_sides, length-objective, length-rest}
 use Rattle.vlp_problem.specs.Cones.{cone_fits}
 use Rattle.vlp_problem.specs.Sides.{sides, side_column, side_bounds, numbers_from}
 use Rattle.vlp_problem.specs.declared.problem.Problem.{Problem}
 use Rattle.vlp_problem.specs.declared.problem.Cone.{Cone}
 use Rattle.vlp_problem.specs.declared.problem.Cone.TheVariants.{Orthant, Gens, Dual}
+use Rattle.vlp_problem.proofs.Numbers.{length-numbers}
 use Rattle.frac128.specs.Held.{is_held}
 use Rattle.entry_checks.proofs.Going.{places-passed}
 use Rattle.vlp_matrices.proofs.Cells.{few_sides}

@@ -14,8 +14,8 @@ use Rattle.vlp_problem.specs.Sides.{side_column, numbers_from}
 use Rattle.vlp_problem.specs.declared.problem.Problem.{Problem}
 use Rattle.vlp_problem.specs.declared.problem.Cone.{Cone}
 use Rattle.vlp_problem.specs.declared.problem.Cone.TheVariants.{Orthant, Gens, Dual}
+use Rattle.vlp_problem.proofs.Numbers.{length-numbers}
 use Rattle.upper_image.specs.UpperImage.{objective_column}
-use Rattle.upper_image.proofs.Widths.{length-numbers}
 use Rattle.lp_form.specs.Programs.{side_total, on_parts, balances, weight_members, weight_unknowns}
 use Rattle.lp_form.proofs.Systems.{length-unit, length-negated, length-zeros, length-side_column}
 use Rattle.lower_image.proofs.WeightEquations.{weight_rows}

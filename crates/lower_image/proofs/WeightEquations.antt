@@ -19,8 +19,9 @@ use Rattle.vlp_problem.specs.Sides.{side_column, side_bounds, numbers_from}
 use Rattle.vlp_problem.specs.declared.problem.Problem.{Problem}
 use Rattle.vlp_problem.specs.declared.problem.Cone.{Cone}
 use Rattle.vlp_problem.specs.declared.problem.Cone.TheVariants.{Orthant, Gens, Dual}
+use Rattle.vlp_problem.proofs.Numbers.{length-numbers}
 use Rattle.upper_image.specs.UpperImage.{normals, objectives, objective_column}
-use Rattle.upper_image.proofs.Widths.{length-numbers, wide_normals, wide_objectives, objective_columns, side_columns}
+use Rattle.upper_image.proofs.Widths.{wide_normals, wide_objectives, objective_columns, side_columns}
 use Rattle.lp_form.specs.Programs.{side_total, on_parts, balances, weight_members, weight_unknowns, weight_equations, u_of, w_of, after_w_of}
 use Rattle.lp_form.proofs.Systems.{IsWideCone, length-unit, length-negated, length-side_column, length-side_bounds}
 use Rattle.overflow_rules.proofs.Violated.{length-minus}

@@ -16,9 +16,10 @@ use Rattle.lin_rows.specs.declared.cells.Cell.{Cell}
 use Rattle.lin_rows.proofs.Pivoted.{dense_is}
 use Rattle.upper_image.specs.Spots.{column}
 use Rattle.upper_image.specs.UpperImage.{objective_column}
-use Rattle.upper_image.proofs.Widths.{objective_columns, side_columns, length-numbers}
+use Rattle.upper_image.proofs.Widths.{objective_columns, side_columns}
 use Rattle.vlp_problem.specs.Sides.{sides, side_column, numbers_from}
 use Rattle.vlp_problem.specs.declared.problem.Problem.{Problem}
+use Rattle.vlp_problem.proofs.Numbers.{length-numbers}
 use Rattle.lp_form.specs.declared.data.Data.{Data}
 use Rattle.lp_form.specs.declared.data.SideOf.{SideOf}
 use Rattle.lp_form.specs.Data.{IsDataOf, vector_of}

@@ -16,8 +16,9 @@ use Rattle.vlp_problem.specs.Cones.{cone_fits}
 use Rattle.vlp_problem.specs.declared.problem.Problem.{Problem}
 use Rattle.vlp_problem.specs.declared.problem.Cone.{Cone}
 use Rattle.vlp_problem.specs.declared.problem.Cone.TheVariants.{Orthant, Gens, Dual}
+use Rattle.vlp_problem.proofs.Numbers.{length-numbers}
 use Rattle.upper_image.specs.UpperImage.{objective_column}
-use Rattle.upper_image.proofs.Widths.{length-numbers, vectors_wide}
+use Rattle.upper_image.proofs.Widths.{vectors_wide}
 use Rattle.lp_form.specs.Programs.{on_parts, balances, dual_members, dual_unknowns, dual_equations, weight_members, weight_unknowns, weight_equations, side_total, feasible_system, benson_system, weight_system, generator_gaps, dual_gaps, interior_of_generators, interior_of_dual, zero_combination, empty_system}
 
 -- ---- tables

@@ -9,8 +9,8 @@ use Rattle.exact_field.proofs.Inequalities.{le_from_difference}
 use Rattle.polyhedra.proofs.Order.{le_or_lt, not_lt_of_le}
 use Rattle.vlp_problem.specs.declared.problem.Problem.{Problem}
 use Rattle.vlp_problem.specs.Sides.{numbers_from}
+use Rattle.vlp_problem.proofs.Numbers.{length-numbers}
 use Rattle.upper_image.specs.UpperImage.{objective, objectives}
-use Rattle.upper_image.proofs.Widths.{length-numbers}
 use Rattle.lp_form.specs.Programs.{weight_system, choice_of}
 use Rattle.overflow_rules.specs.Base.{AreMultipliersOff, AreFirstMultipliersOff, image_of, weight_of}
 use Rattle.overflow_rules.specs.Turns.{said_exchange, IsRowTurn, RowTurnsEnd}

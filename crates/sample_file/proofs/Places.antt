@@ -7,6 +7,7 @@ use Rattle.exact_field.specs.Rational.{ℚ}
 use Rattle.frac128.specs.Sparse.{is_zero}
 use Rattle.vlp_problem.specs.Cells.{place_before, is_within, cells_after, coefficient}
 use Rattle.vlp_problem.specs.declared.problem.Cell.{Cell}
+use Rattle.vlp_problem.proofs.CellPlaces.{before_twice}
 
 -- what the test of the first of some cells says
 record First (rows cols i j : ℕ) (c : Cell) (cells : List Cell) : Type 0 where
@@ -26,9 +27,6 @@ same_place i j = grind (arith, nat_tests)
 
 other_place : (m n i j : ℕ) → place_before m n i j ≡ true → (m == i && n == j) ≡ false
 other_place m n i j h = grind (arith, nat_tests)
-
-before_twice : (i j m n row col : ℕ) → place_before i j m n ≡ true → place_before m n row col ≡ true → place_before i j row col ≡ true
-before_twice i j m n row col h k = grind (arith, nat_tests)
 
 -- what holds of each entry after a place holds of the value of each cell
 pub each_value : (P : ℚ → Type 0) (rows cols i j : ℕ) (cells : List Cell) → cells_after rows cols i j cells ≡ true →

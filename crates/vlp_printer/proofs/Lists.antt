@@ -4,10 +4,7 @@ use Rattle.std.specs.List.{flat_map, find}
 use Rattle.std.proofs.lemmas.List.{append_assoc}
 use Rattle.vlp_problem.specs.Sides.{numbers_from}
 use Rattle.vlp_problem.proofs.Pieces.{flat_map-one, after_none}
-
-numbers-push : (k n : ℕ) → numbers_from k (suc n) ≡ numbers_from k n ++ (k + n) ∷ []
-numbers-push k zero = ap (λ (m : ℕ). m ∷ []) (omega arith)
-numbers-push k (suc n) = ap (λ (l : List ℕ). k ∷ l) (numbers-push (suc k) n ∙ ap (λ (m : ℕ). numbers_from (suc k) n ++ m ∷ []) (omega arith))
+use Rattle.vlp_problem.proofs.Numbers.{numbers-push}
 
 -- one number more
 pub flat_map_numbers : {A : Type 0} (f : ℕ → List A) (n : ℕ) → flat_map f (numbers_from 1 (n + 1)) ≡ flat_map f (numbers_from 1 n) ++ f (n + 1)

@@ -64,7 +64,7 @@ rises_from_cells rows cols i j (c ∷ cells) h =
     let third = and_parts (not (is_zero c.value)) (cells_after rows cols c.row c.col cells) second.1 in
     and_from _ _ first.0 (rises_from_cells rows cols c.row c.col cells third.1)
 
-before_twice : (i j m n row col : ℕ) → place_before i j m n ≡ true → place_before m n row col ≡ true → place_before i j row col ≡ true
+pub before_twice : (i j m n row col : ℕ) → place_before i j m n ≡ true → place_before m n row col ≡ true → place_before i j row col ≡ true
 before_twice i j m n row col h k = grind (arith, nat_tests)
 
 -- of rising cells those before a place come first

@@ -3,7 +3,7 @@ use Rattle.std.proofs.Common.{◌≡◌, refl, ℕ, zero, suc, ◌+◌, ◌<◌,
 use Rattle.std.proofs.lemmas.List.{map-append}
 use Rattle.vlp_problem.specs.Sides.{numbers_from}
 
-numbers-push : (k n : ℕ) → numbers_from k (suc n) ≡ numbers_from k n ++ (k + n) ∷ []
+pub numbers-push : (k n : ℕ) → numbers_from k (suc n) ≡ numbers_from k n ++ (k + n) ∷ []
 numbers-push k zero = ap (λ (m : ℕ). m ∷ []) (omega arith)
 numbers-push k (suc n) = ap (λ (l : List ℕ). k ∷ l) (numbers-push (suc k) n ∙ ap (λ (m : ℕ). numbers_from (suc k) n ++ m ∷ []) (omega arith))
 

@@ -7,7 +7,7 @@ use Rattle.std.proofs.lemmas.Nat.Gcd.{dvd-zero}
 use Rattle.exact_field.specs.Rational.{ℚ, whole, zero_ℚ, same_parts}
 use Rattle.frac128.specs.Sparse.{is_zero}
 
-abs_zero : (z : ℤ) → unsigned_abs z ≡ 0 → z ≡ pos 0
+pub abs_zero : (z : ℤ) → unsigned_abs z ≡ 0 → z ≡ pos 0
 abs_zero (pos n) h = ap pos h
 abs_zero (negsuc n) h = absurd (omega arith)
 

@@ -4,8 +4,8 @@ use Rattle.exact_field.specs.Vector.{entry}
 use Rattle.frac128.specs.Held.{is_held}
 use Rattle.log_rules.specs.Events.{Event}
 use Rattle.log_rules.specs.Runs.{Stops, steps}
-use Rattle.upper_image.proofs.Widths.{length-numbers}
 use Rattle.vlp_problem.specs.Sides.{numbers_from}
+use Rattle.vlp_problem.proofs.Numbers.{length-numbers}
 use Rattle.entry_checks.specs.Parts.{weight_events}
 use Rattle.entry_checks.proofs.Going.{Passed, next-entry, next-number, at-room, at-stop, at-more, at-end}
 use Rattle.entry_checks.proofs.duality.weighs.Goals as goal

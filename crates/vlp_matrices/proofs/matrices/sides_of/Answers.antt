@@ -3,7 +3,6 @@ use Rattle.std.specs.List.{flat_map}
 use Rattle.std.proofs.lemmas.List.{length-map}
 use Rattle.frac128.specs.declared.vectors.Spot.{Spot}
 use Rattle.upper_image.specs.Spots.{IsVector, dense}
-use Rattle.upper_image.proofs.Widths.{length-numbers}
 use Rattle.vlp_problem.specs.Sides.{numbers_from}
 use Rattle.vlp_matrices.specs.Matrices.{spots_in, unit_spots, side_values, all_side_spots}
 use Rattle.vlp_problem.specs.declared.problem.Bound.{Bound}
@@ -11,6 +10,7 @@ use Rattle.vlp_problem.specs.declared.problem.Cell.{Cell}
 use Rattle.vlp_matrices.proofs.Cells.{each_cell, sides-made, values-sides, sparse-sides}
 use Rattle.vlp_problem.specs.declared.problem.Dir.TheVariants.{Min}
 use Rattle.vlp_problem.specs.declared.problem.Axis.TheVariants.{Row}
+use Rattle.vlp_problem.proofs.Numbers.{length-numbers}
 use Rattle.vlp_matrices.proofs.matrices.sides_of.Goals as goal
 
 pub spots_by-requires-clause-from_one : goal.spots_by-requires-clause-from_one

@@ -1,13 +1,13 @@
 use Rattle.std.proofs.Common.{sym, subst, ap, ap₂, arith, ◌∙◌, ◌-◌, ◌≤◌, ℕ, List, [], ◌∷◌, ◌++◌, length, slice_index_or}
 use Rattle.std.proofs.lemmas.List.{length-map}
 use Rattle.frac128.specs.declared.vectors.Spot.{Spot}
-use Rattle.upper_image.proofs.Widths.{length-numbers}
 use Rattle.vlp_problem.specs.Sides.{numbers_from}
 use Rattle.std.proofs.Math.ListN.{set}
 use Rattle.vlp_matrices.proofs.Cells.{none-lists, spots_by-more}
 use Rattle.std.proofs.Common.{take}
 use Rattle.vlp_matrices.specs.Matrices.{key_of, spots_in}
 use Rattle.vlp_problem.specs.declared.problem.Cell.{Cell}
+use Rattle.vlp_problem.proofs.Numbers.{length-numbers}
 use Rattle.vlp_matrices.proofs.matrix.spots_by.Goals as goal
 
 pub from_vec-requires : goal.from_vec-requires

@@ -7,12 +7,13 @@ use Rattle.std.proofs.lemmas.List.{length-map}
 use Rattle.lp_form.proofs.Held.{lists_held, normals_held, side_bounds_held, objectives_held, cone_held, duality_held}
 use Rattle.lp_form.proofs.Shaped.{sides_places, rows_places, cone_shaped, duality_shaped, sides_kept, rows_kept}
 use Rattle.lp_form.proofs.Systems.{length-side_bounds}
-use Rattle.upper_image.proofs.Widths.{map-map, length-numbers}
+use Rattle.upper_image.proofs.Widths.{map-map}
 use Rattle.upper_image.specs.Spots.{dense}
 use Rattle.upper_image.specs.UpperImage.{objective}
 use Rattle.polyhedra.specs.Sparse as sparse
 use Rattle.vlp_problem.specs.Sides.{numbers_from}
 use Rattle.vlp_problem.specs.Cones.{duality_fits}
+use Rattle.vlp_problem.proofs.Numbers.{length-numbers}
 use Rattle.vlp_matrices.proofs.Cells.{few_sides}
 use Rattle.lp_form.proofs.data.Data.of.Goals as goal
 
