@@ -2,9 +2,9 @@
 use Rattle.std.proofs.Common.{◌≡◌, ◌-◌, ℕ, List, [], ◌∷◌, ◌++◌, map, length, refl, sym, ap, ap₂, ◌∙◌, arith}
 use Rattle.std.specs.Prelude.{codes, decimal, take}
 use Rattle.std.proofs.lemmas.List.{length-map}
+use Rattle.std.proofs.lemmas.Simd.{map-map}
 use Rattle.exact_field.specs.Rational.{ℚ}
 use Rattle.polyhedra.specs.Inequality.{Inequality}
-use Rattle.upper_image.proofs.Widths.{map-map}
 use Rattle.vlp_problem.specs.declared.problem.Problem.{Problem}
 use Rattle.log_rules.specs.Report.{dual_direction_line, dual_line, facet_line, head_lines, incidence_line, line_lines, section, vector_line}
 use Rattle.log_rules.specs.Right.{stated}

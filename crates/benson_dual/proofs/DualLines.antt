@@ -3,6 +3,7 @@ use Rattle.std.proofs.Common.{◌≡◌, ℕ, zero, suc, ◌-◌, List, [], ◌�
 use Rattle.std.specs.Fmt.{digits}
 use Rattle.std.specs.Prelude.{codes, replicate, take}
 use Rattle.std.proofs.lemmas.List.{length-take-le}
+use Rattle.std.proofs.lemmas.Simd.{map-map}
 use Rattle.exact_field.specs.Rational.{ℚ, zero_ℚ, one_ℚ, neg_ℚ, whole, ◌+ℚ◌, ◌*ℚ◌}
 use Rattle.exact_field.specs.Ring.{v0, v1, num, ◌⊕◌, ◌⊗◌, ◌⊝◌}
 use Rattle.exact_field.specs.Vector.{dot, entry, front}
@@ -22,7 +23,6 @@ use Rattle.vlp_problem.specs.declared.problem.Dir.TheVariants.{Min, Max}
 use Rattle.vlp_problem.specs.declared.problem.Problem.{Problem}
 use Rattle.upper_image.specs.UpperImage.{IsInLowerImageOf, IsInWorkingImage, LowerImage, signed, working}
 use Rattle.upper_image.proofs.ConvexCones.{ordering_cone_convex}
-use Rattle.upper_image.proofs.Widths.{map-map}
 use Rattle.log_rules.specs.Laws.{DescribeLowerImage}
 use Rattle.log_rules.specs.Report.{downward, vector_line}
 use Rattle.log_rules.specs.Right.{IsSolution, stated}

@@ -1,6 +1,7 @@
 -- What is found of an answer that a log proves is the projection.
 use Rattle.std.proofs.Common.{◌≡◌, ◌↔◌, ℕ, zero, suc, ◌≤◌, Bool, true, false, cond, List, [], ◌∷◌, map, length, take, filter, All, Contains, refl, sym, ap, ◌∙◌, subst}
 use Rattle.std.proofs.lemmas.List.Elements.{All-map}
+use Rattle.std.proofs.lemmas.Simd.{map-map}
 use Rattle.exact_field.specs.Order.{same_ℚ}
 use Rattle.exact_field.specs.Rational.{ℚ, zero_ℚ, one_ℚ, neg_ℚ, ◌≤ℚ◌, ◌<ℚ◌}
 use Rattle.exact_field.specs.Vector.{dot, sum_ℚ}
@@ -18,7 +19,6 @@ use Rattle.polyhedra.proofs.Members.{all_of_members, member_of, Contains-map, Co
 use Rattle.upper_image.specs.Spots.{dense, IsVector}
 use Rattle.upper_image.specs.UpperImage.{signed, working, normals, IsInWorkingImage, IsWorkingDirection}
 use Rattle.upper_image.specs.Witnesses.{HasPreimage, HasDirectionPreimage, IsInfeasible, IsShownLine}
-use Rattle.upper_image.proofs.Widths.{map-map}
 use Rattle.vlp_problem.specs.Sides.{sides, IsFeasible, IsRecession}
 use Rattle.vlp_problem.specs.declared.problem.Dir.{Dir}
 use Rattle.vlp_problem.specs.declared.problem.Problem.{Problem}

@@ -4,6 +4,7 @@ use Rattle.std.specs.Prelude.{◌&&◌}
 use Rattle.std.specs.List.{list_all}
 use Rattle.std.proofs.lemmas.Bool.{cases_lt, le-leb, lt-ltb}
 use Rattle.std.proofs.lemmas.List.{append-nil, get_or-append_right, get_or-map, get_or_append_left, length-append, length-map}
+use Rattle.std.proofs.lemmas.Simd.{map-map}
 use Rattle.exact_field.specs.Rational.{ℚ, zero_ℚ, ◌+ℚ◌}
 use Rattle.exact_field.specs.Vector.{entry}
 use Rattle.exact_field.proofs.Rationals.{add-zero_ℚ}
@@ -20,7 +21,6 @@ use Rattle.lin_rows.specs.Lines.{entries, entry_of, sum_at}
 use Rattle.lin_rows.specs.declared.cells.Cell.{Cell}
 use Rattle.lin_rows.proofs.Merging.{shown}
 use Rattle.lin_rows.proofs.Pivoted.{listed-same}
-use Rattle.upper_image.proofs.Widths.{map-map}
 use Rattle.vlp_problem.specs.Sides.{side_column}
 use Rattle.vlp_problem.specs.declared.problem.Problem.{Problem}
 use Rattle.lp_form.specs.Data.{IsDataOf}

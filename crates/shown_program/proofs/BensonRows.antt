@@ -4,6 +4,7 @@ use Rattle.std.specs.Prelude.{◌==◌, if◌then◌else◌}
 use Rattle.std.specs.List.{list_all}
 use Rattle.std.proofs.lemmas.Bool.{cases_lt}
 use Rattle.std.proofs.lemmas.List.{append_assoc, get_or-append_right, get_or-map, get_or_append_left, get_or_past, length-append, length-map, map-append}
+use Rattle.std.proofs.lemmas.Simd.{map-map}
 use Rattle.exact_field.specs.Rational.{ℚ, zero_ℚ, one_ℚ, ◌+ℚ◌, neg_ℚ}
 use Rattle.exact_field.specs.Vector.{entry}
 use Rattle.exact_field.proofs.Rationals.{add-zero_ℚ, neg-zero_ℚ, zero-add_ℚ}
@@ -17,7 +18,6 @@ use Rattle.lin_rows.specs.Lines.{Rises, entries, sum_at}
 use Rattle.lin_rows.specs.declared.cells.Cell.{Cell}
 use Rattle.lin_rows.proofs.Merging.{shown}
 use Rattle.upper_image.specs.UpperImage.{objective_column}
-use Rattle.upper_image.proofs.Widths.{map-map}
 use Rattle.vlp_problem.specs.Sides.{side_column}
 use Rattle.vlp_problem.specs.declared.problem.Problem.{Problem}
 use Rattle.vlp_problem.specs.declared.problem.Cone.{Cone}

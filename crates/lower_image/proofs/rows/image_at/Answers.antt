@@ -1,6 +1,7 @@
 use Rattle.std.proofs.Common.{◌<◌, ℕ, List, [], map, length, Contains, rules, ap, sym, ◌∙◌, subst, arith, slice_index_or}
 use Rattle.std.proofs.lemmas.List.{take_all}
 use Rattle.std.proofs.lemmas.List.Elements.{Contains-get_or}
+use Rattle.std.proofs.lemmas.Simd.{map-map}
 use Rattle.exact_field.specs.Rational.{ℚ}
 use Rattle.exact_field.specs.Vector.{dot}
 use Rattle.polyhedra.proofs.Members.{Contains-map}
@@ -8,7 +9,6 @@ use Rattle.lin_rows.specs.declared.cells.Cell.{Cell}
 use Rattle.lp_form.specs.Data.{vector_of}
 use Rattle.lp_form.proofs.Steps.{taken_more, value_pushed}
 use Rattle.upper_image.specs.UpperImage.{objectives}
-use Rattle.upper_image.proofs.Widths.{map-map}
 use Rattle.lower_image.proofs.rows.image_at.Goals as goal
 
 pub returns-in_err-value-clause-left : goal.returns-in_err-value-clause-left

@@ -1,7 +1,7 @@
 use Rattle.std.proofs.Common.{◌++◌, map, sym, ap, ◌∙◌, arith}
 use Rattle.exact_field.specs.Rational.{neg_ℚ}
 use Rattle.std.proofs.lemmas.List.{take_all}
-use Rattle.upper_image.proofs.Widths.{map-map}
+use Rattle.std.proofs.lemmas.Simd.{map-map}
 use Rattle.lp_form.proofs.pieces.push_negated.Goals as goal
 
 pub returns : goal.returns

@@ -4,10 +4,10 @@ use Rattle.upper_image.specs.Spots.{entry_of}
 use Rattle.lp_form.specs.Programs.{side_total}
 use Rattle.lp_form.specs.Shapes.{vectors_fit}
 use Rattle.std.proofs.lemmas.List.{length-map}
+use Rattle.std.proofs.lemmas.Simd.{map-map}
 use Rattle.lp_form.proofs.Held.{lists_held, normals_held, side_bounds_held, objectives_held, cone_held, duality_held}
 use Rattle.lp_form.proofs.Shaped.{sides_places, rows_places, cone_shaped, duality_shaped, sides_kept, rows_kept}
 use Rattle.lp_form.proofs.Systems.{length-side_bounds}
-use Rattle.upper_image.proofs.Widths.{map-map}
 use Rattle.upper_image.specs.Spots.{dense}
 use Rattle.upper_image.specs.UpperImage.{objective}
 use Rattle.polyhedra.specs.Sparse as sparse
