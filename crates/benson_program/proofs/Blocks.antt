@@ -10,6 +10,7 @@ use Rattle.polyhedra.proofs.Laws.{add_zero, add_assoc}
 use Rattle.polyhedra.proofs.Algebra.{zero_add}
 use Rattle.polyhedra.proofs.Linear.{dot_comm, dot-zeros, length-combination, length-plus, length-zeros}
 use Rattle.polyhedra.proofs.Entries.{entry-negated}
+use Rattle.polyhedra.proofs.Negatives.{dot-negated_left}
 use Rattle.tableaux.specs.Table.{Table, row_of, column_of, listed, unit, minus}
 use Rattle.tableaux.proofs.Definition.{value_at}
 use Rattle.tableaux.proofs.Found.{map-list_from}
@@ -24,7 +25,7 @@ use Rattle.upper_image.specs.UpperImage.{normals, objectives, objective_column}
 use Rattle.upper_image.proofs.Widths.{wide_normals, wide_objectives, objective_columns, side_columns}
 use Rattle.lp_form.specs.Programs.{side_total, on_parts, balances, dual_members, dual_unknowns, dual_equations}
 use Rattle.lp_form.proofs.Systems.{IsWideCone, length-unit, length-negated, length-side_column}
-use Rattle.overflow_rules.proofs.Violated.{dot-negated, length-minus}
+use Rattle.overflow_rules.proofs.Violated.{length-minus}
 use Rattle.benson_program.proofs.Vectors.{dot-parts, dot-minus}
 
 -- ---- one equation
@@ -33,7 +34,7 @@ pub on_parts-value : (p w k u a b h : List ℚ) → length p ≡ length u → le
 on_parts-value p w k u a b h i j l =
     dot-parts p w (negated w) k u a b h i j (length-map w neg_ℚ ∙ l)
     ∙ ap (λ x. x +ℚ dot k h)
-    (ap (λ x. dot p u +ℚ dot w a +ℚ x) (dot-negated w b) ∙ add_assoc (dot p u) (dot w a) (neg_ℚ (dot w b))
+    (ap (λ x. dot p u +ℚ dot w a +ℚ x) (dot-negated_left w b) ∙ add_assoc (dot p u) (dot w a) (neg_ℚ (dot w b))
     ∙ ap (λ x. dot p u +ℚ x) (sym (dot-minus w a b (sym j ∙ l))))
 
 none_left : (n : ℕ) (v : List ℚ) → dot (zeros n) v ≡ zero_ℚ
@@ -73,7 +74,7 @@ module _ (q : ℕ) (u a b h : List ℚ) (a_long : length a ≡ q) (b_long : leng
   member_row : (p k : List ℚ) → length p ≡ q → dot (on_parts (zeros (length u)) p (negated k)) (u ++ a ++ b ++ h) ≡ dot p w +ℚ neg_ℚ (dot k h)
   member_row p k l =
       on_parts-value (zeros (length u)) p (negated k) u a b h (length-zeros (length u)) (l ∙ sym a_long) (l ∙ sym b_long)
-      ∙ ap₂ (λ x y. x +ℚ y) (ap (λ x. x +ℚ dot p w) (none_left (length u) u) ∙ zero_add (dot p w)) (dot-negated k h)
+      ∙ ap₂ (λ x y. x +ℚ y) (ap (λ x. x +ℚ dot p w) (none_left (length u) u) ∙ zero_add (dot p w)) (dot-negated_left k h)
 
   pub members-value : (cone : Cone) → IsWideCone q cone → length h ≡ dual_unknowns q cone →
       values (dual_members (length u) q cone) (u ++ a ++ b ++ h) ≡ plus (asked cone w) (negated (given q cone h))
@@ -130,7 +131,7 @@ module _ (file : Problem) (c u a b h : List ℚ) (c_long : length c ≡ file.obj
       ∙ add_zero (dot (side_column file j) u +ℚ dot (negated (objective_column file j)) weight)
       ∙ ap₂ (λ x y. x +ℚ y)
       (dot_comm (side_column file j) u ∙ ap (λ k. dot u k) (sym (side_columns file j)) ∙ sym (entry-combination file.cols u (normals file) j))
-      (dot-negated (objective_column file j) weight
+      (dot-negated_left (objective_column file j) weight
       ∙ ap neg_ℚ (dot_comm (objective_column file j) weight ∙ ap (λ k. dot weight k) (sym (objective_columns file j low high))
       ∙ sym (entry-combination file.cols weight (objectives file) j))
       ∙ sym (entry-negated objectives_part j))

@@ -16,7 +16,7 @@ use Rattle.polyhedra.proofs.Laws.{le_of_lt, mul_comm, zero_lt_one}
 use Rattle.polyhedra.proofs.Linear.{dot-scaled, dot-combination_left}
 use Rattle.polyhedra.proofs.Lists.{HasWidth, values_nonneg}
 use Rattle.polyhedra.proofs.Members.{member_of}
-use Rattle.polyhedra.proofs.Negatives.{dot-negated}
+use Rattle.polyhedra.proofs.Negatives.{dot-negated, dot-negated_left}
 use Rattle.polyhedra.proofs.Order.{lt_irrefl, le_of_eq, mul_le, not_lt_of_le, inverse_positive}
 use Rattle.polyhedra.proofs.Support.{InSupport, support_listed, support_zero, support_positive, dot_nonneg}
 use Rattle.tableaux.specs.Table.{row_of, unit}
@@ -34,7 +34,7 @@ use Rattle.cone_rules.specs.Laws.{FaultsExclude}
 use Rattle.cone_rules.specs.declared.fault.ConeFault.{ConeFault}
 use Rattle.cone_rules.specs.declared.fault.ConeFault.TheVariants.{NotSolid, HasLine, NotInterior, LastNotPositive}
 use Rattle.cone_rules.proofs.Lineality.{negative_in, support_at}
-use Rattle.cone_rules.proofs.Parts.{all_rows, zero_of_both, dot-zeros_left, dot-negated_left, dot-unit_right}
+use Rattle.cone_rules.proofs.Parts.{all_rows, zero_of_both, dot-zeros_left, dot-unit_right}
 use Rattle.cone_rules.proofs.Rows.{dense-at, spots_of, IsSpotOf}
 
 -- ---- vectors across, and combinations to 0

@@ -19,7 +19,7 @@ use Rattle.polyhedra.proofs.Laws.{add_assoc, add_comm, add_neg, add_zero, le_ref
 use Rattle.polyhedra.proofs.Linear.{dot-plus, dot-scaled_left, dot-zeros, dot-combination_left, length-combination, length-plus, length-scaled, length-zeros}
 use Rattle.polyhedra.proofs.Lists.{HoldsAt, Nonneg, nonneg-nil, nonneg-cons}
 use Rattle.polyhedra.proofs.Members.{all_of_members}
-use Rattle.polyhedra.proofs.Negatives.{dot-negated}
+use Rattle.polyhedra.proofs.Negatives.{dot-negated, dot-negated_left}
 use Rattle.polyhedra.proofs.Order.{lt_irrefl, le_of_eq, le_or_lt, lt_of_le_of_lt, le_of_difference, not_lt_of_le, not_zero_of_negative, neg_positive, mul_positive, zero_or_positive, add_positive_right, add_zero_left, add_zero_right}
 use Rattle.polyhedra.proofs.Support.{support_zero}
 use Rattle.polyhedra.proofs.Entries.{entry-negated, slice-negated}
@@ -36,7 +36,7 @@ use Rattle.lp_form.specs.Programs.{dual_gaps, interior_of_dual}
 use Rattle.lp_form.proofs.Systems.{dual_ok, length-unit}
 use Rattle.cone_rules.specs.Faults.{CombinesToMinusLast}
 use Rattle.cone_rules.specs.Laws.{RowsProgram, IsSpread, interior_said}
-use Rattle.cone_rules.proofs.Parts.{ones, append_parts, two_left, slice-drop, zeros-append, all_entries, all_at, all_rows, zero_of_both, nonneg_at, dot_parts_at, dot-negated_left, dot-zeros_left, dot-unit_right, dot_three, values-append, values-listed, optimal_at, infeasible_at}
+use Rattle.cone_rules.proofs.Parts.{ones, append_parts, two_left, slice-drop, zeros-append, all_entries, all_at, all_rows, zero_of_both, nonneg_at, dot_parts_at, dot-zeros_left, dot-unit_right, dot_three, values-append, values-listed, optimal_at, infeasible_at}
 use Rattle.cone_rules.proofs.Gaps.{gap, gap_at, gap_long, gap_product, gap_none, no_number, on_last, on_sum, two_after, ones_right}
 use Rattle.cone_rules.proofs.Given.{nonneg_zeros}
 use Rattle.cone_rules.proofs.Lineality.{support_at}

@@ -10,14 +10,14 @@ use Rattle.polyhedra.specs.Vectors.{zeros, plus, scaled, values}
 use Rattle.polyhedra.proofs.Algebra.{zero_add, zero_mul, one_mul, neg_mul, neg_zero, cancel, add_cancel}
 use Rattle.polyhedra.proofs.Laws.{add_assoc, add_comm, add_zero, add_neg, mul_one, le_trans, zero_lt_one}
 use Rattle.polyhedra.proofs.Linear.{dot-plus, dot-scaled, dot-zeros, length-plus, length-scaled, length-zeros}
-use Rattle.polyhedra.proofs.Negatives.{dot-negated}
+use Rattle.polyhedra.proofs.Negatives.{dot-negated, dot-negated_left}
 use Rattle.polyhedra.proofs.Order.{le_of_difference, not_lt_of_le}
 use Rattle.polyhedra.proofs.Entries.{entry-negated}
 use Rattle.tableaux.specs.Table.{unit}
 use Rattle.tableaux.proofs.Places.{length-list_from, listed-is, entry-plus, entry-scaled}
 use Rattle.tableaux.proofs.Unique.{dot-unit, slice-zeros}
 use Rattle.lp_form.specs.Programs.{generator_gaps}
-use Rattle.cone_rules.proofs.Parts.{ones, entry-ones, dot-negated_left, dot-zeros_left, dot_three, values-listed, one_left, two_left, slice-drop, dot_parts_at}
+use Rattle.cone_rules.proofs.Parts.{ones, entry-ones, dot-zeros_left, dot_three, values-listed, one_left, two_left, slice-drop, dot_parts_at}
 
 -- a - b, less e in each entry
 abbrev pub gap : ℕ → List ℚ → List ℚ → ℚ → List ℚ

@@ -5,13 +5,11 @@ use Rattle.std.proofs.Math.ListN.{length-replicate}
 use Rattle.std.proofs.lemmas.List.Elements.{All-replicate}
 use Rattle.exact_field.specs.Rational.{ℚ, zero_ℚ, one_ℚ, ◌+ℚ◌, ◌*ℚ◌, neg_ℚ, ◌≤ℚ◌}
 use Rattle.exact_field.specs.Vector.{entry, dot}
-use Rattle.polyhedra.specs.Negatives.{negated}
 use Rattle.polyhedra.specs.Vectors.{AreWide, AtLeastZero, zeros, values, combination}
 use Rattle.polyhedra.proofs.Algebra.{zero_add}
 use Rattle.polyhedra.proofs.Laws.{add_assoc, add_comm, add_zero, add_neg, le_antisymm, mul_comm}
 use Rattle.polyhedra.proofs.Linear.{dot_comm, dot-nil, dot-zeros, dot-combination_left, length-combination, length-zeros}
 use Rattle.polyhedra.proofs.Lists.{nonneg-head, nonneg-tail}
-use Rattle.polyhedra.proofs.Negatives.{dot-negated}
 use Rattle.polyhedra.proofs.Order.{le_of_eq, le_of_difference, add_le_both, add_nonneg, mul_le}
 use Rattle.tableaux.specs.Table.{Table, System, IsSystem, row_of, column_of, listed, unit, unknown_count}
 use Rattle.tableaux.specs.Simplex.{IsOptimal, IsInfeasible}
@@ -101,9 +99,6 @@ nonneg_at a b h k =
     (add_nonneg (neg_ℚ a) (a +ℚ b) h k)
 
 -- ---- products
-pub dot-negated_left : (v z : List ℚ) → dot (negated v) z ≡ neg_ℚ (dot v z)
-dot-negated_left v z = dot_comm (negated v) z ∙ dot-negated z v ∙ ap neg_ℚ (dot_comm z v)
-
 pub dot-zeros_left : (n : ℕ) (z : List ℚ) → dot (zeros n) z ≡ zero_ℚ
 dot-zeros_left n z = dot_comm (zeros n) z ∙ dot-zeros z n
 

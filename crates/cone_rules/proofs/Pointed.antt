@@ -20,6 +20,7 @@ use Rattle.polyhedra.proofs.Members.{pairs-nil, pairs-cons}
 use Rattle.polyhedra.proofs.Order.{lt_irrefl, lt_of_lt_of_le, le_of_difference, neg_positive}
 use Rattle.polyhedra.proofs.Sparse.{product_of_sparse}
 use Rattle.polyhedra.proofs.Tests.{both_true}
+use Rattle.polyhedra.proofs.Negatives.{dot-negated_left}
 use Rattle.tableaux.specs.Table.{Table, row_of, column_of, listed, unit}
 use Rattle.tableaux.specs.Simplex.{IsOptimal, IsInfeasible, IsUnbounded}
 use Rattle.tableaux.proofs.Definition.{unit_value}
@@ -31,7 +32,7 @@ use Rattle.lp_form.specs.Programs.{zero_combination}
 use Rattle.lp_form.proofs.Systems.{combination_ok}
 use Rattle.cone_rules.specs.Faults.{HasNoLine, IsFirstOf, IsZeroCombination}
 use Rattle.cone_rules.specs.Laws.{PointedProgram, IsSpread}
-use Rattle.cone_rules.proofs.Parts.{ones, append_parts, one_left, all_rows, zero_of_both, dot_parts_at, dot-negated_left, dot-zeros_left, dot-unit_right, entry-ones, values-append, values_columns, infeasible_at}
+use Rattle.cone_rules.proofs.Parts.{ones, append_parts, one_left, all_rows, zero_of_both, dot_parts_at, dot-zeros_left, dot-unit_right, entry-ones, values-append, values_columns, infeasible_at}
 use Rattle.cone_rules.proofs.Ranks.{unit_nonneg}
 use Rattle.cone_rules.proofs.Rows.{kept, kept_wide, row_tests, spread_dot, spread_combination, spread_well, IsSpreadWell, spots_of, IsSpotOf}
 

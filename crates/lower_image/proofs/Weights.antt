@@ -7,6 +7,7 @@ use Rattle.polyhedra.specs.Hull.{IsValidAt}
 use Rattle.polyhedra.specs.Negatives.{negated}
 use Rattle.polyhedra.proofs.Laws.{mul_one}
 use Rattle.polyhedra.proofs.LiveSteps.{are_live}
+use Rattle.polyhedra.proofs.Negatives.{dot-negated_left}
 use Rattle.vlp_problem.specs.Sides.{side_bounds}
 use Rattle.upper_image.specs.OrderingCone.{Fits}
 use Rattle.upper_image.specs.UpperImage.{IsInWorkingImage}
@@ -21,7 +22,6 @@ use Rattle.geo_duality.specs.Rows.{exchange_row}
 use Rattle.overflow_rules.specs.Products.{AreMultiplied}
 use Rattle.overflow_rules.specs.Turns.{IsRowTurn, said_exchange}
 use Rattle.benson_program.specs.Ends.{IsOptimumAt, IsEmptyAt}
-use Rattle.cone_rules.proofs.Parts.{dot-negated_left}
 use Rattle.outer_approx.specs.Task.{Task, IsFitting, setting}
 use Rattle.lower_image.proofs.WeightEnds.{weight_choice, weight_ray}
 use Rattle.lower_image.specs.Laws.{IsWeighted}

@@ -12,11 +12,12 @@ use Rattle.polyhedra.proofs.Homogenised.{dot-homogenised}
 use Rattle.polyhedra.proofs.Laws.{add_assoc, add_comm, add_zero, mul_one}
 use Rattle.polyhedra.proofs.Algebra.{zero_add, one_mul, mul_zero, neg_mul, neg_neg, neg_add}
 use Rattle.polyhedra.proofs.Order.{negative_of_neg}
-use Rattle.polyhedra.proofs.Linear.{dot_comm, dot-plus, dot-scaled_left, dot-nil, dot-zeros, length-plus}
+use Rattle.polyhedra.proofs.Linear.{dot_comm, dot-plus, dot-nil, dot-zeros, length-plus}
 use Rattle.tableaux.specs.Table.{minus}
 use Rattle.vlp_problem.specs.Sides.{side_bounds}
 use Rattle.vlp_problem.specs.declared.problem.Problem.{Problem}
 use Rattle.polyhedra.specs.Negatives.{negated}
+use Rattle.polyhedra.proofs.Negatives.{dot-negated_left}
 use Rattle.lp_form.specs.Programs.{side_total, dual_unknowns, u_of, w_of}
 use Rattle.overflow_rules.specs.Turns.{said_row}
 use Rattle.overflow_rules.proofs.Cuts.{benson_cost, benson_unknowns, length-side_bounds, length-bounds_if}
@@ -34,9 +35,6 @@ dot-take (x ∷ v) (y ∷ z) = ap (λ q. x *ℚ y +ℚ q) (dot-take v z)
 pub negated-is : (v : List ℚ) → negated v ≡ scaled (neg_ℚ one_ℚ) v
 negated-is [] = refl
 negated-is (x ∷ v) = ap₂ (λ a b. a ∷ b) (sym (neg_mul one_ℚ x ∙ ap neg_ℚ (one_mul x))) (negated-is v)
-
-pub dot-negated : (v z : List ℚ) → dot (negated v) z ≡ neg_ℚ (dot v z)
-dot-negated v z = ap (λ u. dot u z) (negated-is v) ∙ dot-scaled_left (neg_ℚ one_ℚ) v z ∙ neg_mul one_ℚ (dot v z) ∙ ap neg_ℚ (one_mul (dot v z))
 
 pub minus-is : (x y : List ℚ) → length x ≡ length y → minus x y ≡ plus x (negated y)
 minus-is [] [] e = refl
@@ -87,11 +85,11 @@ module _ (file : Problem) (v : List ℚ) (t : Bool) (z : List ℚ) (v_long : len
       (dot-append front (negated v) z
       ∙ ap (λ a. dot front z +ℚ a)
       (ap (λ n. dot (negated v) (drop n z)) (length-bounds_if file t)
-      ∙ sym (ap (λ n. dot (negated v) (take n (drop total z))) (sym negated_long) ∙ dot-take (negated v) (drop total z)) ∙ dot-negated v up))
+      ∙ sym (ap (λ n. dot (negated v) (take n (drop total z))) (sym negated_long) ∙ dot-take (negated v) (drop total z)) ∙ dot-negated_left v up))
       (ap (λ n. dot (negated (negated v)) (drop n z)) (length-append front (negated v) ∙ ap₂ (λ a b. a + b) (length-bounds_if file t) negated_long)
       ∙ sym (ap (λ n. dot (negated (negated v)) (take n (drop (total + q) z))) (sym (length-map (negated v) neg_ℚ ∙ negated_long))
       ∙ dot-take (negated (negated v)) (drop (total + q) z))
-      ∙ dot-negated (negated v) down ∙ ap neg_ℚ (dot-negated v down) ∙ neg_neg (dot v down)))
+      ∙ dot-negated_left (negated v) down ∙ ap neg_ℚ (dot-negated_left v down) ∙ neg_neg (dot v down)))
       (dot_comm (zeros (dual_unknowns file.objs file.cone)) (drop (length (front ++ negated v ++ negated (negated v))) z)
       ∙ dot-zeros (drop (length (front ++ negated v ++ negated (negated v))) z) (dual_unknowns file.objs file.cone))
       ∙ add_zero (dot front z +ℚ neg_ℚ (dot v up) +ℚ dot v down)
@@ -102,7 +100,7 @@ module _ (file : Problem) (v : List ℚ) (t : Bool) (z : List ℚ) (v_long : len
       (length-minus q up down up_long down_long ∙ sym v_long)
       ∙ ap₂ (λ a b. a +ℚ b)
       (dot_comm (w_of file z) v ∙ ap (λ u. dot v u) (minus-is up down (up_long ∙ sym down_long)) ∙ dot-plus v up (negated down)
-      ∙ ap (λ a. dot v up +ℚ a) (dot_comm v (negated down) ∙ dot-negated down v ∙ ap neg_ℚ (dot_comm down v)))
+      ∙ ap (λ a. dot v up +ℚ a) (dot_comm v (negated down) ∙ dot-negated_left down v ∙ ap neg_ℚ (dot_comm down v)))
       (neg_mul (dot (side_bounds file) (u_of file z)) (if t then one_ℚ else zero_ℚ) ∙ ap neg_ℚ (sym (sides_value file t z)))
       ∙ turned (dot front z) (dot v up) (dot v down)
       ∙ ap neg_ℚ (sym cost_value)

@@ -13,6 +13,7 @@ use Rattle.polyhedra.specs.Vectors.{zeros}
 use Rattle.polyhedra.proofs.Algebra.{neg_neg}
 use Rattle.polyhedra.proofs.Lists.{Contains-here, Contains-there, Contains-cases, Contains-nil}
 use Rattle.polyhedra.proofs.Tests.{list_all-true, same_vector_is}
+use Rattle.polyhedra.proofs.Negatives.{dot-negated_left}
 use Rattle.tableaux.specs.Table.{Table, System, table_of, unknown_count, equation_count}
 use Rattle.tableaux.specs.Dictionary.{IsFullDictionaryOf, first_multipliers}
 use Rattle.tableaux.proofs.Places.{length-list_from}
@@ -34,7 +35,6 @@ use Rattle.overflow_rules.proofs.Given.{overflow_laws}
 use Rattle.overflow_rules.proofs.Making.{generator_laws}
 use Rattle.overflow_rules.proofs.Pivots.{Pivots, table_after}
 use Rattle.overflow_rules.proofs.Values.{apart}
-use Rattle.overflow_rules.proofs.Violated.{dot-negated}
 use Rattle.overflow_rules.proofs.Worked.{cone_rows}
 use Rattle.overflow_rules.proofs.WorkedBase.{full_after}
 use Rattle.overflow_rules.proofs.WorkedOrthogonal.{no_unit, no_rows}
@@ -137,7 +137,7 @@ negative = same_vector_is (minus 1 ∷ []) (negated (one_ℚ ∷ [])) refl
 value_falls : (r : List ℚ) → IsRecession narrow r → n 1 ≡ dot (minus 1 ∷ []) r → ⊥
 unfolding whole le_ℚ neg_ℚ
 value_falls r h e =
-    let turned : n 1 ≡ neg_ℚ (dot (one_ℚ ∷ []) r) = e ∙ ap (λ (v : List ℚ). dot v r) negative ∙ dot-negated (one_ℚ ∷ []) r in
+    let turned : n 1 ≡ neg_ℚ (dot (one_ℚ ∷ []) r) = e ∙ ap (λ (v : List ℚ). dot v r) negative ∙ dot-negated_left (one_ℚ ∷ []) r in
     let same : neg_ℚ (n 1) ≡ dot (one_ℚ ∷ []) r = ap neg_ℚ turned ∙ neg_neg (dot (one_ℚ ∷ []) r) in
     let up : zero_ℚ ≤ℚ dot (one_ℚ ∷ []) r = h.meets 0 (record { normal = []; bound = zero_ℚ }) (lit< tt) in
     true≢false (sym (subst (λ (q : ℚ). zero_ℚ ≤ℚ q) (sym same) up))

@@ -7,7 +7,8 @@ use Rattle.polyhedra.specs.Inequality.{Inequality}
 use Rattle.polyhedra.proofs.Algebra.{neg_zero}
 use Rattle.polyhedra.proofs.Order.{le_of_eq}
 use Rattle.polyhedra.proofs.Members.{all_of_members, member_of}
-use Rattle.representations.proofs.Pinned.{dot-negated, both_ways}
+use Rattle.polyhedra.proofs.Negatives.{dot-negated_left}
+use Rattle.representations.proofs.Pinned.{both_ways}
 use Rattle.vlp_problem.specs.Sides.{row_vector, unit, at_least, at_most, sides_of, sides_from, IsFeasible}
 use Rattle.vlp_problem.specs.declared.problem.Bound.{Bound}
 use Rattle.vlp_problem.specs.declared.problem.Bound.TheVariants.{Unsaid, Free, Lower, Upper, Double, Fixed}
@@ -102,10 +103,10 @@ rest_met : (u : List ℚ) (e : Inequality) (es : List Inequality) → AreMet u (
 rest_met u e es h = All-tail (λ (e : Inequality). e.bound ≤ℚ dot e.normal u) e es h
 
 turn : (v u : List ℚ) (high : ℚ) → neg_ℚ high ≤ℚ neg_ℚ (dot v u) → neg_ℚ high ≤ℚ dot (map neg_ℚ v) u
-turn v u high h = subst (λ (x : ℚ). neg_ℚ high ≤ℚ x) (sym (dot-negated v u)) h
+turn v u high h = subst (λ (x : ℚ). neg_ℚ high ≤ℚ x) (sym (dot-negated_left v u)) h
 
 back : (v u : List ℚ) (high : ℚ) → neg_ℚ high ≤ℚ dot (map neg_ℚ v) u → neg_ℚ high ≤ℚ neg_ℚ (dot v u)
-back v u high h = subst (λ (x : ℚ). neg_ℚ high ≤ℚ x) (dot-negated v u) h
+back v u high h = subst (λ (x : ℚ). neg_ℚ high ≤ℚ x) (dot-negated_left v u) h
 
 one_bound : (v u : List ℚ) (b : Bound) → IsWithin b (dot v u) → AreMet u (sides_of v b)
 one_bound v u Unsaid h = All-nil (λ (e : Inequality). e.bound ≤ℚ dot e.normal u)

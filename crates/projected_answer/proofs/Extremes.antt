@@ -26,9 +26,10 @@ use Rattle.polyhedra.proofs.Homogenised.{scaled-homogenised, homogenised-same, d
 use Rattle.polyhedra.proofs.Norming.{normed_same}
 use Rattle.polyhedra.proofs.Cones.{IsSplit, split_support}
 use Rattle.polyhedra.proofs.ConvexSets.{directions_sum}
+use Rattle.polyhedra.proofs.Negatives.{dot-negated_left}
 use Rattle.lineality.proofs.Lineality.{length-negated}
 use Rattle.representations.proofs.Faces.{hull_value}
-use Rattle.representations.proofs.Pinned.{dot-negated, values_none, both_ways}
+use Rattle.representations.proofs.Pinned.{values_none, both_ways}
 
 -- ---- the product with itself
 self_nonneg : (d : List ℚ) → zero_ℚ ≤ℚ dot d d
@@ -169,7 +170,7 @@ module _ (n : ℕ) (ps ds ls : List (List ℚ)) (ds_wide : AreWide n ds) (ls_wid
       (values_nonneg ds w (all_of_members (HoldsAt w) ds (λ v k. holds v (Contains-append_left ds (ls ++ map negated ls) v k)))) in
       let at_lines : dot h.slopes (values ls w) ≡ zero_ℚ = values_none h.slopes ls w (all_of_members (λ v. dot v w ≡ zero_ℚ) ls (λ v k.
       both_ways (dot v w) (holds v (Contains-append_right ds (ls ++ map negated ls) v (Contains-append_left ls (map negated ls) v k)))
-      (subst (λ (x : ℚ). zero_ℚ ≤ℚ x) (dot-negated v w) (holds (negated v) (Contains-append_right ds (ls ++ map negated ls) (negated v)
+      (subst (λ (x : ℚ). zero_ℚ ≤ℚ x) (dot-negated_left v w) (holds (negated v) (Contains-append_right ds (ls ++ map negated ls) (negated v)
       (Contains-append_right ls (map negated ls) (negated v) (Contains-map negated ls v k))))))) in
       let value : dot w y ≡ m +ℚ neg_ℚ one_ℚ =
       dot-plus w p (scaled t d) ∙ ap₂ (λ x z. x +ℚ z) (dot_comm w p) (dot-scaled w t d ∙ ap (λ x. t *ℚ x) (dot_comm w d))

@@ -19,11 +19,11 @@ use Rattle.polyhedra.proofs.Linear.{dot_comm, length-zeros}
 use Rattle.polyhedra.proofs.Lists.{Contains-here, Contains-there, Contains-cases}
 use Rattle.polyhedra.proofs.Members.{all_of_members, member_of, Contains-filter_source, pairs-head, pairs-tail, pairs-weaker, pairs-map}
 use Rattle.polyhedra.proofs.Tests.{both_hold, not_true, test_of_zero}
+use Rattle.polyhedra.proofs.Negatives.{dot-negated_left}
 use Rattle.representations.specs.Lined.{HoldsFor, EqualFor}
 use Rattle.representations.specs.Needed.{AreOthers, NoneIsTooMuch, NoSideIsTooMuch, held_by_all}
 use Rattle.representations.proofs.Needed.{hull_is_needed}
 use Rattle.representations.proofs.NeededSides.{sides_are_needed, held_value}
-use Rattle.representations.proofs.Pinned.{dot-negated}
 use Rattle.log_rules.specs.Right.{Rise, is_before}
 use Rattle.log_rules.proofs.Rising.{never_before}
 use Rattle.rep_text.specs.Fits.{row_fits, kind_fits, row_length}
@@ -195,7 +195,7 @@ down_at w Line row r f l c = go (two_cases (homogenised row.v zero_ℚ) (negated
     go : (homogenised row.v zero_ℚ ≡ r) ⊎ (negated (homogenised row.v zero_ℚ) ≡ r) → zero_ℚ ≤ℚ dot r (held_by_all w)
     go (inl e) = le_of_eq zero_ℚ (dot r (held_by_all w)) (sym (ap (λ v. dot v (held_by_all w)) (sym e) ∙ flat))
     go (inr e) = le_of_eq zero_ℚ (dot r (held_by_all w))
-        (sym (ap (λ v. dot v (held_by_all w)) (sym e) ∙ dot-negated (homogenised row.v zero_ℚ) (held_by_all w) ∙ ap neg_ℚ flat ∙ neg_zero))
+        (sym (ap (λ v. dot v (held_by_all w)) (sym e) ∙ dot-negated_left (homogenised row.v zero_ℚ) (held_by_all w) ∙ ap neg_ℚ flat ∙ neg_zero))
 down_at w Point row r f l c = subst (λ (v : List ℚ). zero_ℚ ≤ℚ dot v (held_by_all w)) (one_case (homogenised row.v (neg_ℚ one_ℚ)) r c)
     (subst (λ (x : ℚ). zero_ℚ ≤ℚ x) (sym (raised_held w row.v (neg_ℚ one_ℚ) l ∙ neg_neg one_ℚ)) (le_of_lt zero_ℚ one_ℚ zero_lt_one))
 down_at w Direction row r f l c = subst (λ (v : List ℚ). zero_ℚ ≤ℚ dot v (held_by_all w)) (one_case (homogenised row.v zero_ℚ) r c)

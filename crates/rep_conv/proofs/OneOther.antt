@@ -29,10 +29,11 @@ use Rattle.polyhedra.proofs.Lists.{HoldsAt, HasWidth, Contains-here}
 use Rattle.polyhedra.proofs.Members.{all_of_members, member_of, Contains-map, Contains-map_source, Contains-filter, Contains-filter_source}
 use Rattle.polyhedra.proofs.LeastQuotient.{less, less_value, less_back, less_width}
 use Rattle.polyhedra.proofs.Homogenised.{IsHomogenised, unhomogenised, length-homogenised, level_value, plus-homogenised, scaled-homogenised}
+use Rattle.polyhedra.proofs.Negatives.{dot-negated_left}
 use Rattle.representations.specs.Lined.{pinned, places_of, HoldsFor, EqualFor, AreLined}
 use Rattle.representations.proofs.LinedCones.{slopes_read, readers_many, hull_meets, gen_holds}
 use Rattle.representations.proofs.Needed.{one_list_of_generators}
-use Rattle.representations.proofs.Pinned.{dot-negated, tight_negated, values_none, both_ways, pinned_cases}
+use Rattle.representations.proofs.Pinned.{tight_negated, values_none, both_ways, pinned_cases}
 use Rattle.log_rules.specs.Proves.{IsSorting}
 use Rattle.log_rules.proofs.Rising.{sorted_same}
 use Rattle.rep_text.specs.Fits.{row_fits, kind_fits, row_length}
@@ -133,12 +134,12 @@ spanned rep entries done rows v width tight =
 -- where a vector and its negative are in the cone, all rows are tight
 tight_both : (rows : List (List ℚ)) (v : List ℚ) → All (HoldsAt v) rows → All (HoldsAt (negated v)) rows → All (λ r. IsTight r v) rows
 tight_both rows v h k = all_of_members (λ r. IsTight r v) rows (λ r c. both_ways (dot r v) (member_of (HoldsAt v) rows r h c)
-    (subst (λ (x : ℚ). zero_ℚ ≤ℚ x) (dot_comm r (negated v) ∙ dot-negated v r ∙ ap neg_ℚ (dot_comm v r)) (member_of (HoldsAt (negated v)) rows r k c)))
+    (subst (λ (x : ℚ). zero_ℚ ≤ℚ x) (dot_comm r (negated v) ∙ dot-negated_left v r ∙ ap neg_ℚ (dot_comm v r)) (member_of (HoldsAt (negated v)) rows r k c)))
 
 hold_both : (rows : List (List ℚ)) (v : List ℚ) → All (λ r. IsTight r v) rows → All (HoldsAt v) rows × All (HoldsAt (negated v)) rows
 hold_both rows v h = (
   all_of_members (HoldsAt v) rows (λ r c. le_of_eq zero_ℚ (dot r v) (sym (member_of (λ s. IsTight s v) rows r h c))),
-  all_of_members (HoldsAt (negated v)) rows (λ r c. le_of_eq zero_ℚ (dot r (negated v)) (sym (dot_comm r (negated v) ∙ dot-negated v r ∙ ap neg_ℚ (dot_comm v r ∙ member_of (λ s. IsTight s v) rows r h c)
+  all_of_members (HoldsAt (negated v)) rows (λ r c. le_of_eq zero_ℚ (dot r (negated v)) (sym (dot_comm r (negated v) ∙ dot-negated_left v r ∙ ap neg_ℚ (dot_comm v r ∙ member_of (λ s. IsTight s v) rows r h c)
       ∙ neg_zero))),
 )
 

@@ -30,10 +30,11 @@ use Rattle.polyhedra.proofs.Lists.{HoldsAt, HasWidth, wide-nil, wide-cons, Conta
 use Rattle.polyhedra.proofs.Members.{all_of_members, member_of, Contains-map, Contains-map_source, Contains-filter, Contains-filter_source}
 use Rattle.polyhedra.proofs.Tests.{both_true, zero_of_test, true_or_not, either_true, or_left, or_right}
 use Rattle.polyhedra.proofs.Homogenised.{level_value, dot-homogenised, points_or_directions, length-homogenised}
+use Rattle.polyhedra.proofs.Negatives.{dot-negated_left}
 use Rattle.representations.specs.Lined.{AreLined, AreSidesOf, generator_rows, HoldsFor, EqualFor}
 use Rattle.representations.proofs.Faces.{hull_width}
 use Rattle.representations.proofs.LinedCones.{sides_are_hull, hull_is_sides, gen_holds}
-use Rattle.representations.proofs.Pinned.{dot-negated, both_ways}
+use Rattle.representations.proofs.Pinned.{both_ways}
 use Rattle.log_rules.specs.Proves.{IsSorting}
 use Rattle.rep_text.specs.Fits.{row_fits, kind_fits, row_length}
 use Rattle.rep_conv.specs.Sets.{MeetsRow, MeetsAllRows, IsInSet, IsMember, normal_of, bound_of, is_kind, vectors_of}
@@ -95,13 +96,13 @@ row_meets w Equal row z fits h width = (
   λ m.
       let none : dot (side_row row) (homogenised z one_ℚ) ≡ zero_ℚ = row_is w row z h width ∙ (slack_zero (dot (normal_of row) z) (bound_of row)).0 m in
       pair_all (HoldsAt (homogenised z one_ℚ)) (side_row row) (negated (side_row row)) (le_of_eq zero_ℚ _ (sym none))
-      (le_of_eq zero_ℚ _ (sym (dot-negated (side_row row) (homogenised z one_ℚ) ∙ ap neg_ℚ none ∙ neg_zero))),
+      (le_of_eq zero_ℚ _ (sym (dot-negated_left (side_row row) (homogenised z one_ℚ) ∙ ap neg_ℚ none ∙ neg_zero))),
   λ m.
       let first : zero_ℚ ≤ℚ dot (side_row row) (homogenised z one_ℚ) = All-head (HoldsAt (homogenised z one_ℚ)) (side_row row) (negated (side_row row) ∷ []) m in
       let second : zero_ℚ ≤ℚ dot (negated (side_row row)) (homogenised z one_ℚ) =
       All-head (HoldsAt (homogenised z one_ℚ)) (negated (side_row row)) [] (All-tail (HoldsAt (homogenised z one_ℚ)) (side_row row) (negated (side_row row) ∷ []) m) in
       (slack_zero (dot (normal_of row) z) (bound_of row)).1 (sym (row_is w row z h width)
-      ∙ both_ways (dot (side_row row) (homogenised z one_ℚ)) first (subst (λ (x : ℚ). zero_ℚ ≤ℚ x) (dot-negated (side_row row) (homogenised z one_ℚ)) second)),
+      ∙ both_ways (dot (side_row row) (homogenised z one_ℚ)) first (subst (λ (x : ℚ). zero_ℚ ≤ℚ x) (dot-negated_left (side_row row) (homogenised z one_ℚ)) second)),
 )
 row_meets w Line row z fits h width = absurd (true≢false (sym fits))
 row_meets w Point row z fits h width = absurd (true≢false (sym fits))

@@ -20,6 +20,7 @@ use Rattle.polyhedra.proofs.Linear.{dot-plus, dot-plus_left, dot-combination}
 use Rattle.polyhedra.proofs.Lists.{nonneg-nil, nonneg-cons, nonneg-head, nonneg-tail, wide-nil, wide-cons, Contains-here, Contains-there, Contains-cases, Contains-nil}
 use Rattle.polyhedra.proofs.Support.{dot_nonneg}
 use Rattle.polyhedra.proofs.Tests.{same_vector_is, zero_of_test}
+use Rattle.polyhedra.proofs.Negatives.{dot-negated_left}
 use Rattle.representations.specs.Dropped.{IsReducedUnit}
 use Rattle.representations.specs.Faces.{IsBoundedBelow}
 use Rattle.representations.specs.Facets.{MeetsAll, IsLeastFor}
@@ -28,7 +29,7 @@ use Rattle.representations.specs.Needed.{AreOthers}
 use Rattle.representations.specs.Projection.{spread, IsProjection, AreAssociated}
 use Rattle.representations.specs.Scaled.{MeetsTimes, IsMultipleOf}
 use Rattle.representations.specs.Examples.{origin, right, upward, both, across, from_one, FaceExample, LinedExample, SidesExample, ProjectionExample}
-use Rattle.representations.proofs.Pinned.{dot-negated, values_none, pinned_start}
+use Rattle.representations.proofs.Pinned.{values_none, pinned_start}
 
 -- ---- hulls and facets
 bounded : IsBoundedBelow both zero_ℚ (origin ∷ []) (right ∷ []) (across ∷ [])
@@ -324,7 +325,7 @@ associated [] w = absurd (omega (arith, w))
 associated (a ∷ []) w = absurd (omega (arith, w))
 associated (a ∷ b ∷ c ∷ x) w = absurd (omega (arith, w))
 associated (a ∷ b ∷ []) w = ap₂ (λ p q. p ∷ q ∷ []) (right_value a b)
-    (ap (λ v. dot v (a ∷ b ∷ [])) left_negated ∙ dot-negated right (a ∷ b ∷ []) ∙ ap neg_ℚ (right_value a b ∙ sym (add_zero a)))
+    (ap (λ v. dot v (a ∷ b ∷ [])) left_negated ∙ dot-negated_left right (a ∷ b ∷ []) ∙ ap neg_ℚ (right_value a b ∙ sym (add_zero a)))
 
 below_at_upward : dot below upward <ℚ zero_ℚ
 unfolding whole fraction ◌+ℚ◌ ◌*ℚ◌ neg_ℚ le_ℚ gcd

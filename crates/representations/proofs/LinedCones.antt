@@ -25,11 +25,11 @@ use Rattle.polyhedra.proofs.Support.{dot_nonneg}
 use Rattle.polyhedra.proofs.Duality.{dual_cones}
 use Rattle.polyhedra.proofs.Homogenised.{length-homogenised, plus-homogenised, scaled-homogenised, zeros-homogenised, homogenised-same}
 use Rattle.polyhedra.proofs.Cones.{IsSumOf, generated_append, generated_through}
-use Rattle.polyhedra.proofs.Negatives.{negated_values}
+use Rattle.polyhedra.proofs.Negatives.{negated_values, dot-negated_left}
 use Rattle.lineality.proofs.Lineality.{length-negated}
 use Rattle.representations.specs.Lined.{pinned, AreReaders, IsSpanned, AreLined, LinedCone, AreSidesOf, SidesAreHull, generator_rows, HoldsFor, EqualFor, HullIsSides}
 use Rattle.representations.proofs.Faces.{hull_by_values}
-use Rattle.representations.proofs.Pinned.{dot-negated, values_none, tight_negated, both_ways, pinned_cases, pinned_row}
+use Rattle.representations.proofs.Pinned.{values_none, tight_negated, both_ways, pinned_cases, pinned_row}
 
 -- ---- sums of products
 -- the readers read off the slopes
@@ -294,7 +294,7 @@ module _ (n : ℕ) (points directions lines rows readers gens equations : List (
   -- a vector at which each row is at least 0 is 0 at each line
   line_value : (e y : List ℚ) → Contains lines y → ((r : List ℚ) → Contains rows r → zero_ℚ ≤ℚ dot r e) → dot (homogenised y zero_ℚ) e ≡ zero_ℚ
   line_value e y k h = both_ways (dot (homogenised y zero_ℚ) e) (h (homogenised y zero_ℚ) (forth_row y k))
-      (subst (λ (x : ℚ). zero_ℚ ≤ℚ x) (ap (λ v. dot v e) (negated_homogenised y) ∙ dot-negated (homogenised y zero_ℚ) e) (h (homogenised (negated y) zero_ℚ) (back_row y k)))
+      (subst (λ (x : ℚ). zero_ℚ ≤ℚ x) (ap (λ v. dot v e) (negated_homogenised y) ∙ dot-negated_left (homogenised y zero_ℚ) e) (h (homogenised (negated y) zero_ℚ) (back_row y k)))
 
   pub hull_meets : (z : List ℚ) → IsInHull n points directions lines z → (e : List ℚ) → ((r : List ℚ) → Contains rows r → zero_ℚ ≤ℚ dot r e) → HoldsFor z e
   hull_meets z h e k =

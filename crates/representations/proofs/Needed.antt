@@ -29,11 +29,11 @@ use Rattle.polyhedra.proofs.Farkas.{farkas}
 use Rattle.polyhedra.proofs.Homogenised.{length-homogenised, plus-homogenised, scaled-homogenised, homogenised-same}
 use Rattle.polyhedra.proofs.Cones.{IsSumOf, generated_append, gens_same}
 use Rattle.polyhedra.proofs.Generators.{described_are_extreme}
-use Rattle.polyhedra.proofs.Negatives.{negated_values}
+use Rattle.polyhedra.proofs.Negatives.{negated_values, dot-negated_left}
 use Rattle.lineality.proofs.Lineality.{length-negated}
 use Rattle.representations.specs.Lined.{pinned, AreReaders, IsSpanned, AreSidesOf}
 use Rattle.representations.specs.Needed.{AreOthers, GeneratorIsNeeded, SpannedIsNeeded, HullIsNeeded, OneListOfGenerators}
-use Rattle.representations.proofs.Pinned.{dot-negated, values_none, both_ways, pinned_reader, pinned_negative, pinned_row, pinned_cases}
+use Rattle.representations.proofs.Pinned.{values_none, both_ways, pinned_reader, pinned_negative, pinned_row, pinned_cases}
 use Rattle.representations.proofs.LinedCones.{sides_are_hull, raised_value, raised_wide}
 
 -- ---- generators
@@ -62,7 +62,7 @@ pub gens_reduced : (n : ℕ) (readers rows gens : List (List ℚ)) → IsDoubleD
 gens_reduced n readers rows gens d g r g_in r_in =
     let holds : All (HoldsAt g) (pinned readers rows) = (member_of (IsInCone n (pinned readers rows)) gens g d.inside g_in).within in
     both_ways (dot r g) (member_of (HoldsAt g) (pinned readers rows) r holds (pinned_reader readers rows r r_in))
-    (subst (λ (x : ℚ). zero_ℚ ≤ℚ x) (dot-negated r g) (member_of (HoldsAt g) (pinned readers rows) (negated r) holds (pinned_negative readers rows r r_in)))
+    (subst (λ (x : ℚ). zero_ℚ ≤ℚ x) (dot-negated_left r g) (member_of (HoldsAt g) (pinned readers rows) (negated r) holds (pinned_negative readers rows r r_in)))
 
 -- slopes that the readers do not see are 0
 no_slopes : (readers lines : List (List ℚ)) (ms : List ℚ) → AreReaders readers lines → length ms ≡ length lines →
@@ -319,7 +319,7 @@ module _ (n : ℕ) (readers rows gens points directions lines : List (List ℚ))
           holds v (Contains-append_left fewer ends v (Contains-append_right (map (λ u. homogenised u one_ℚ) points) (map (λ u. homogenised u zero_ℚ) others) v k))))))
           (le_of_eq zero_ℚ _ (sym (values_none far.slopes (map (λ v. homogenised v zero_ℚ) lines) w (all_of_members (λ v. dot v w ≡ zero_ℚ) (map (λ v. homogenised v zero_ℚ) lines) (λ v k.
           both_ways (dot v w) (holds v (Contains-append_right fewer ends v (Contains-append_left (map (λ u. homogenised u zero_ℚ) lines) (map negated (map (λ u. homogenised u zero_ℚ) lines)) v k)))
-          (subst (λ (x : ℚ). zero_ℚ ≤ℚ x) (dot-negated v w) (holds (negated v) (Contains-append_right fewer ends (negated v)
+          (subst (λ (x : ℚ). zero_ℚ ≤ℚ x) (dot-negated_left v w) (holds (negated v) (Contains-append_right fewer ends (negated v)
           (Contains-append_right (map (λ u. homogenised u zero_ℚ) lines) (map negated (map (λ u. homogenised u zero_ℚ) lines)) (negated v) (Contains-map negated (map (λ u. homogenised u zero_ℚ) lines) v k)))))))))))) in
           let value : dot w (homogenised y one_ℚ) ≡ neg_ℚ one_ℚ =
           ap (λ v. dot w v) (sym (ap (λ v. plus (homogenised p one_ℚ) v) (scaled-homogenised q d zero_ℚ)

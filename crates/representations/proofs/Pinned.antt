@@ -14,7 +14,7 @@ use Rattle.polyhedra.specs.DoubleDescription.{is_zero, covers, made}
 use Rattle.polyhedra.specs.Negatives.{negated}
 use Rattle.polyhedra.specs.LiveList.{Numbered, vectors, live_pairs, is_uncovered_live, staying, numbered, without_numbers}
 use Rattle.polyhedra.proofs.Laws.{add_zero}
-use Rattle.polyhedra.proofs.Algebra.{zero_add, neg_zero, neg_neg, neg_mul, neg_add, mul_zero}
+use Rattle.polyhedra.proofs.Algebra.{zero_add, neg_zero, neg_neg, mul_zero}
 use Rattle.polyhedra.proofs.Order.{le_of_eq}
 use Rattle.polyhedra.proofs.Linear.{dot_comm, dot-plus, dot-scaled, dot-zeros, length-zeros, same_wide}
 use Rattle.polyhedra.proofs.Lists.{HoldsAt, HasWidth}
@@ -24,18 +24,13 @@ use Rattle.polyhedra.proofs.Corners.{Corners, corners, start}
 use Rattle.polyhedra.proofs.Generated.{generated_value, generated_width}
 use Rattle.polyhedra.proofs.Support.{InSupport, support_listed, support_zero}
 use Rattle.polyhedra.proofs.Cones.{IsSumOf, generated_append, IsOnRay, one_ray}
+use Rattle.polyhedra.proofs.Negatives.{dot-negated_left}
 use Rattle.lineality.proofs.Lineality.{length-negated}
 use Rattle.representations.specs.Lined.{pinned, AreTightAt, PinnedStart, PinnedStep}
 
 -- ---- negatives
-pub dot-negated : (v z : List ℚ) → dot (negated v) z ≡ neg_ℚ (dot v z)
-dot-negated [] z = sym neg_zero
-dot-negated (x ∷ v) [] = sym neg_zero
-dot-negated (x ∷ v) (y ∷ z) = ap₂ (λ a b. a +ℚ b) (neg_mul x y) (dot-negated v z)
-    ∙ sym (neg_add _ _)
-
 pub tight_negated : (r z : List ℚ) → IsTight r z → IsTight (negated r) z
-tight_negated r z e = dot-negated r z ∙ ap neg_ℚ e ∙ neg_zero
+tight_negated r z e = dot-negated_left r z ∙ ap neg_ℚ e ∙ neg_zero
 
 -- a number that is at least 0 with its negative is 0
 pub both_ways : (q : ℚ) → zero_ℚ ≤ℚ q → zero_ℚ ≤ℚ neg_ℚ q → q ≡ zero_ℚ
@@ -139,7 +134,7 @@ module _ (n : ℕ) (rows readers gens lines : List (List ℚ)) (c : AreCorners n
 
     reader_zero : (r : List ℚ) → Contains readers r → dot r z ≡ zero_ℚ
     reader_zero r k = both_ways (dot r z) (holds r (pinned_reader readers rows r k))
-        (subst (λ (x : ℚ). zero_ℚ ≤ℚ x) (dot-negated r z) (holds (negated r) (pinned_negative readers rows r k)))
+        (subst (λ (x : ℚ). zero_ℚ ≤ℚ x) (dot-negated_left r z) (holds (negated r) (pinned_negative readers rows r k)))
 
     whole : IsGenerated n (gens ++ lines) z
     whole = pair.generates z (record {
