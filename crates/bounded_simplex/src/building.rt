@@ -11,9 +11,9 @@ pub(crate) fn is_zero<F: Field>(x: F) -> bool {
     x.sign() == 0
 }
 
-/// The place of an entry, from 0.
-pub(crate) fn place_of<F: Field>(cell: &At<F>) -> usize {
-    (cell.at as usize).saturating_sub(1)
+/// The place of a spot, from 0.
+pub(crate) fn place_of<F: Field>(spot: &At<F>) -> usize {
+    (spot.at as usize).saturating_sub(1)
 }
 
 /// Whether a vector is the negative of another.
@@ -31,13 +31,13 @@ fn are_opposite<F: Field>(one: &[At<F>], other: &[At<F>]) -> bool {
 
 /// The column that a side bounds alone, by its number from 0, and whether from below.
 fn bounded_column<F: Field>(g: &[At<F>]) -> Option<(usize, bool)> {
-    let [cell] = g else {
+    let [spot] = g else {
         return None;
     };
-    if cell.value == F::one() {
-        Some((place_of(cell), true))
-    } else if cell.value == F::one().neg() {
-        Some((place_of(cell), false))
+    if spot.value == F::one() {
+        Some((place_of(spot), true))
+    } else if spot.value == F::one().neg() {
+        Some((place_of(spot), false))
     } else {
         None
     }
@@ -45,10 +45,10 @@ fn bounded_column<F: Field>(g: &[At<F>]) -> Option<(usize, bool)> {
 
 /// Appends the terms of a vector on the columns.
 fn push_vector<F: Field>(terms: &mut Vec<Term<F>>, vector: &[At<F>]) -> Result<(), Stop> {
-    for cell in vector {
+    for spot in vector {
         terms.push(Term {
-            at: place_of(cell),
-            value: cell.value,
+            at: place_of(spot),
+            value: spot.value,
         })?;
     }
     Ok(())
@@ -332,9 +332,9 @@ fn product_sums<F: Field>(
 
 /// Adds a multiple of a vector on the columns.
 fn add_multiple<F: Field>(sums: &mut [F], factor: F, vector: &[At<F>]) -> Result<(), Stop> {
-    for cell in vector {
-        let j = place_of(cell);
-        let value = at(sums, j)?.add(factor.mul(cell.value)?)?;
+    for spot in vector {
+        let j = place_of(spot);
+        let value = at(sums, j)?.add(factor.mul(spot.value)?)?;
         put(sums, j, value)?;
     }
     Ok(())

@@ -240,10 +240,10 @@ fn push_products<F: Field>(
     for (i, objective) in form.p.as_slice().iter().enumerate() {
         let offset = at(v, i)?.add(share.mul(at(c, i)?)?)?;
         let mut sum = offset.neg();
-        for cell in objective.as_slice() {
-            let x = at(y.as_slice(), place_of(cell))?;
+        for spot in objective.as_slice() {
+            let x = at(y.as_slice(), place_of(spot))?;
             if !is_zero(x) {
-                sum = sum.add(cell.value.mul(x)?)?;
+                sum = sum.add(spot.value.mul(x)?)?;
             }
         }
         y.push(sum)?;

@@ -67,10 +67,10 @@ pub(crate) fn magnitude<F: Field>(x: F) -> F {
     if x.sign() < 0 { x.neg() } else { x }
 }
 
-/// Appends the places of a vector's entries.
+/// Appends the places of a vector's spots.
 fn push_places<F: Field>(lists: &mut Lists, vector: &[At<F>]) -> Result<(), Stop> {
-    for cell in vector {
-        lists.push(place_of(cell))?;
+    for spot in vector {
+        lists.push(place_of(spot))?;
     }
     Ok(())
 }

@@ -10,18 +10,18 @@ use Rattle.tableaux.specs.Table.{Table, System, IsSystem, at, pivoted, equation_
 use Rattle.tableaux.specs.Dictionary.{basic_column, IsDictionaryOf, IsExchanged}
 use Rattle.tableaux.specs.Simplex.{IsFeasibleAt}
 use Rattle.tableaux.proofs.Phases.{stays_at}
-use Rattle.lin_rows.specs.declared.cells.Cell.{Cell}
+use Rattle.lin_rows.specs.declared.spots.Spot.{Spot}
 use Rattle.lin_rows.specs.Lines.{entry_of, entries, sum_at}
 use Rattle.lin_rows.proofs.Merging.{shown, sum_at-append}
 use Rattle.exact_simplex.proofs.Untouched.{row_untouched, moved, many, system_dictionary_after}
 
 -- ---- the first entry that is not 0
-pub scanned_zero : {F : Type 0} (value : F → ℚ) (cells : List (Cell F)) (i : ℕ) (c : Cell F) (j : ℕ) → i < length cells → c ≡ slice_index_or cells i c →
-    sum_at (entries value (take i cells)) j ≡ zero_ℚ → shown (nat_eq c.at j) (value c.value) ≡ zero_ℚ → sum_at (entries value (take (i + 1) cells)) j ≡ zero_ℚ
-scanned_zero value cells i c j l is before here =
-    let more : entries value (take (i + 1) cells) ≡ entries value (take i cells) ++ entry_of value c ∷ [] =
-    ap (entries value) (take_more cells i c l ∙ ap (λ d. take i cells ++ d ∷ []) (sym is)) ∙ map_push (entry_of value) (take i cells) c in
-    ap (λ es. sum_at es j) more ∙ sum_at-append (entries value (take i cells)) (entry_of value c ∷ []) j
+pub scanned_zero : {F : Type 0} (value : F → ℚ) (spots : List (Spot F)) (i : ℕ) (c : Spot F) (j : ℕ) → i < length spots → c ≡ slice_index_or spots i c →
+    sum_at (entries value (take i spots)) j ≡ zero_ℚ → shown (nat_eq c.at j) (value c.value) ≡ zero_ℚ → sum_at (entries value (take (i + 1) spots)) j ≡ zero_ℚ
+scanned_zero value spots i c j l is before here =
+    let more : entries value (take (i + 1) spots) ≡ entries value (take i spots) ++ entry_of value c ∷ [] =
+    ap (entries value) (take_more spots i c l ∙ ap (λ d. take i spots ++ d ∷ []) (sym is)) ∙ map_push (entry_of value) (take i spots) c in
+    ap (λ es. sum_at es j) more ∙ sum_at-append (entries value (take i spots)) (entry_of value c ∷ []) j
     ∙ ap₂ (λ p q. p +ℚ q) before (ap (λ q. q +ℚ zero_ℚ) here ∙ add_zero zero_ℚ) ∙ add_zero zero_ℚ
 
 pub shown_zero : (b : Bool) (x : ℚ) → x ≡ zero_ℚ → shown b x ≡ zero_ℚ

@@ -8,7 +8,7 @@ use Rattle.tableaux.specs.Table.{Table, System, IsSystem, at, equation_count, un
 use Rattle.tableaux.specs.Dictionary.{basic_column}
 use Rattle.tableaux.specs.Simplex.{IsFeasibleAt}
 use Rattle.tableaux.proofs.Definition.{same_default}
-use Rattle.lin_rows.specs.declared.cells.Cell.{Cell}
+use Rattle.lin_rows.specs.declared.spots.Spot.{Spot}
 use Rattle.lin_rows.specs.declared.fault.RowFault.{RowFault}
 use Rattle.lin_rows.specs.declared.system.System.{System as Program}
 use Rattle.lin_rows.specs.Tableau.{Dictionary, exchange}
@@ -63,19 +63,19 @@ module _ {F : Type 0} (value : F → ℚ) (p : Program F) (lengths : HasLengths 
     pub unknown_named : (b : ℕ) → b ≡ slice_index_or t.basis i b → b ≤ p.cols → IsIdleTo s (i + 1) t
     unknown_named b is low = more_idle (λ j more a c. absurd (omega (arith, more, named b is, low, unknown_count_is value p lengths)))
 
-    module _ (rows : List (Vec (Cell F) Global)) (are : AreTableau t.width (lines value rows) t.basis) (table : table_of t.width (lines value rows) ≡ t.table)
-        (cells : List (Cell F)) (is : entries value cells ≡ slice_index_or (lines value rows) i []) where
+    module _ (rows : List (Vec (Spot F) Global)) (are : AreTableau t.width (lines value rows) t.basis) (table : table_of t.width (lines value rows) ≡ t.table)
+        (spots : List (Spot F)) (is : entries value spots ≡ slice_index_or (lines value rows) i []) where
       in_lines : i < length (lines value rows)
       in_lines = omega (arith, row_inside, sym (ap length table) ∙ length-table t.width (lines value rows) are.lines)
 
-      read : (j : ℕ) → 1 ≤ j → j ≤ t.width → at t.table (i + 1) j ≡ sum_at (entries value cells) j
+      read : (j : ℕ) → 1 ≤ j → j ≤ t.width → at t.table (i + 1) j ≡ sum_at (entries value spots) j
       read j a b = ap (λ (d : Table). at d (i + 1) j) (sym table) ∙ at_is t.width (lines value rows) are.lines i j in_lines a b ∙ ap (λ es. sum_at es j) (sym is)
 
-      pub row_zero : IsSupport (entries value cells) p.cols None → IsIdleTo s (i + 1) t
+      pub row_zero : IsSupport (entries value spots) p.cols None → IsIdleTo s (i + 1) t
       row_zero none =
           more_idle (λ j more a b. read j a (omega (arith, b, h.held.width)) ∙ none j a (omega (arith, b, unknown_count_is value p lengths)))
 
-      module _ (col : ℕ) (found : IsSupport (entries value cells) p.cols (Some col)) where
+      module _ (col : ℕ) (found : IsSupport (entries value spots) p.cols (Some col)) where
         col_high : col ≤ unknown_count s
         col_high = omega (arith, found.1, unknown_count_is value p lengths)
 

@@ -9,7 +9,7 @@ use Rattle.tableaux.specs.Dictionary.{IsDictionary}
 use Rattle.tableaux.specs.Lex.{entries_at}
 use Rattle.tableaux.proofs.Eliminated.{exchanged}
 use Rattle.tableaux.proofs.Remaining.{remaining, cost_at, all_lists}
-use Rattle.lin_rows.specs.declared.cells.Cell.{Cell}
+use Rattle.lin_rows.specs.declared.spots.Spot.{Spot}
 use Rattle.lin_rows.specs.declared.fault.RowFault.{RowFault}
 use Rattle.lin_rows.specs.Lines.{AreLines, Rises, entries, lines}
 use Rattle.lin_rows.specs.Pivot.{AreTableau, IsGivenUp, IsPivotFault, IsPivotStep, table_of}
@@ -31,7 +31,7 @@ module _ {F : Type 0} (value : F → ℚ) (equations cost unknowns : ℕ) (colum
   pub count_kept : length now.table ≡ length from.table
   count_kept = own_dictionary.one_each
 
-  module _ (rows : List (Vec (Cell F) Global)) (are : AreTableau now.width (lines value rows) now.basis) (table : table_of now.width (lines value rows) ≡ now.table) where
+  module _ (rows : List (Vec (Spot F) Global)) (are : AreTableau now.width (lines value rows) now.basis) (table : table_of now.width (lines value rows) ≡ now.table) where
     lines_rise : AreLines from.width (lines value rows)
     lines_rise = subst (λ (w : ℕ). AreLines w (lines value rows)) turn.width are.lines
 
@@ -42,24 +42,24 @@ module _ {F : Type 0} (value : F → ℚ) (equations cost unknowns : ℕ) (colum
     cost_there = omega (arith, cost_in, count_kept, rows_count value now rows are table)
 
     -- the cost row is read
-    module _ (cells : List (Cell F)) (v : Vec (Cell F) Global) (cells_are : cells ≡ v.items) (read : v ≡ slice_index_or rows cost v) where
-      line_is : entries value cells ≡ slice_index_or (lines value rows) cost []
-      line_is = own value rows from.width 0 columns lines_rise cost cost_there cells v cells_are read
+    module _ (spots : List (Spot F)) (v : Vec (Spot F) Global) (spots_are : spots ≡ v.items) (read : v ≡ slice_index_or rows cost v) where
+      line_is : entries value spots ≡ slice_index_or (lines value rows) cost []
+      line_is = own value rows from.width 0 columns lines_rise cost cost_there spots v spots_are read
 
-      pub line_rises : Rises from.width 0 (entries value cells)
-      line_rises = rises value rows from.width 0 columns lines_rise cost cost_there cells v cells_are read
+      pub line_rises : Rises from.width 0 (entries value spots)
+      line_rises = rises value rows from.width 0 columns lines_rise cost cost_there spots v spots_are read
 
       cost_in_lines : cost < length (lines value rows)
       cost_in_lines = omega (arith, cost_there, length-lines value rows)
 
-      pub no_column : IsEntering (entries value cells) unknowns None → IsPhaseEnd equations cost unknowns now.table None
+      pub no_column : IsEntering (entries value spots) unknowns None → IsPhaseEnd equations cost unknowns now.table None
       no_column none =
           subst (λ (t : Table). IsPhaseEnd equations cost unknowns t None) table_here
-          (entering_none from.width (lines value rows) lines_rise equations cost unknowns (entries value cells) cost_in_lines fits line_is none)
+          (entering_none from.width (lines value rows) lines_rise equations cost unknowns (entries value spots) cost_in_lines fits line_is none)
 
-      pub column_betters : (col : ℕ) → IsEntering (entries value cells) unknowns (Some col) → (1 ≤ col) × (col ≤ unknowns) × (at now.table (cost + 1) col <ℚ zero_ℚ)
+      pub column_betters : (col : ℕ) → IsEntering (entries value spots) unknowns (Some col) → (1 ≤ col) × (col ≤ unknowns) × (at now.table (cost + 1) col <ℚ zero_ℚ)
       column_betters col found =
-          let betters = entering_betters from.width (lines value rows) lines_rise cost unknowns col (entries value cells) cost_in_lines fits line_is found in
+          let betters = entering_betters from.width (lines value rows) lines_rise cost unknowns col (entries value spots) cost_in_lines fits line_is found in
           (betters.0, betters.1, subst (λ (t : Table). at t (cost + 1) col <ℚ zero_ℚ) table_here betters.2)
 
     -- the rows are compared

@@ -5,12 +5,12 @@ use Rattle.exact_field.specs.Rational.{ℚ, zero_ℚ, one_ℚ, neg_ℚ}
 use Rattle.exact_field.specs.Vector.{entry}
 use Rattle.polyhedra.specs.Sparse.{Entry}
 use Rattle.tableaux.specs.Table.{System, IsSystem, row_of, table_of, artificial_sign, equation_count, unknown_count, right_column, first_cost, second_cost}
-use Rattle.lin_rows.specs.declared.cells.Cell.{Cell}
+use Rattle.lin_rows.specs.declared.spots.Spot.{Spot}
 use Rattle.lin_rows.specs.declared.system.System.{System as Program}
 use Rattle.lin_rows.specs.Clear.{Writes}
 use Rattle.lin_rows.specs.Lines.{entries}
 use Rattle.lin_rows.specs.Read.{IsLineOf}
-use Rattle.lin_rows.proofs.CellLists.{entries_push}
+use Rattle.lin_rows.proofs.SpotLists.{entries_push}
 use Rattle.lin_rows.specs.System.{HasLengths, coefficients_of, system_of}
 use Rattle.exact_simplex.proofs.Programs.{system_ok, equation_count_is, unknown_count_is, right_column_is, length-coefficients, equation-row}
 use Rattle.exact_simplex.proofs.SystemLines.{IsLineTo, line_none, line_after, line_whole, line_front, row_long, equation_front, equation_none, equation_sign, equation_last, first_none, first_one, first_last, second_cost_at, second_none}
@@ -42,7 +42,7 @@ module _ {F : Type 0} (value : F → ℚ) (p : Program F) (lengths : HasLengths 
     long : length xs ≡ right_column s
     long = row_long s ok (i + 1) (omega arith) (omega (arith, i_inside))
 
-    pub equation_is : (row : List F) (line more : List (Cell F)) (c : Cell F) (b : F) (es : List Entry) → row ≡ coefficients_of p (i + 1) →
+    pub equation_is : (row : List F) (line more : List (Spot F)) (c : Spot F) (b : F) (es : List Entry) → row ≡ coefficients_of p (i + 1) →
         IsLineOf (length row) (map value row) (entries value line) → more ≡ line ++ c ∷ [] → c.at ≡ p.cols + i + 1 → value c.value ≡ artificial_sign (value b) →
         b ≡ slice_index_or p.b i b → Writes (p.cols + p.rows + 1) (value b) (entries value more) es → IsLineOf (right_column s) xs es
     equation_is row line more c b es row_is front pushed place sign b_is written =

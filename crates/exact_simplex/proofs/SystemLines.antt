@@ -1,4 +1,4 @@
--- The sparse rows of the table of a system, cell by cell.
+-- The sparse rows of the table of a system, spot by spot.
 use Rattle.std.proofs.Common.{◌≡◌, ◌≢◌, ℕ, suc, List, [], ◌∷◌, ◌++◌, length, map, take, sym, refl, ap, ◌∙◌, subst, arith, ◌<◌, ◌≤◌, ◌+◌, ◌-◌, inl, inr, slice_index_or}
 use Rattle.std.proofs.Math.ListN.{length-append}
 use Rattle.std.proofs.lemmas.Bool.{cases_lt}
@@ -19,7 +19,7 @@ use Rattle.lin_rows.specs.Read.{IsLineOf}
 use Rattle.lin_rows.proofs.Building.{line_pushed, last_pushed}
 use Rattle.lin_rows.proofs.Merging.{rises-wider, last_within}
 
--- the sparse row stands for the first i entries of a row of at most n, and has no cell after them
+-- the sparse row stands for the first i entries of a row of at most n, and has no spot after them
 pub record IsLineTo (n i : ℕ) (xs : List ℚ) (es : List Entry) : Type 0 where
   pub line : IsLineOf n (take i xs) es
   pub last : last_place 0 es ≤ i

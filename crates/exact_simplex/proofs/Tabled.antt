@@ -7,7 +7,7 @@ use Rattle.tableaux.specs.Table.{Table, System, IsSystem, row_of, table_of, righ
 use Rattle.tableaux.specs.Dictionary.{basic_column, IsDictionary}
 use Rattle.tableaux.proofs.Eliminated.{starts}
 use Rattle.tableaux.proofs.Entries.{table-long, table-wide}
-use Rattle.lin_rows.specs.declared.cells.Cell.{Cell}
+use Rattle.lin_rows.specs.declared.spots.Spot.{Spot}
 use Rattle.lin_rows.specs.declared.system.System.{System as Program}
 use Rattle.lin_rows.specs.Tableau.{Dictionary}
 use Rattle.lin_rows.specs.Lines.{Rises, lines}
@@ -28,7 +28,7 @@ module _ {F : Type 0} (value : F → ℚ) (p : Program F) (lengths : HasLengths 
   ok = system_ok value p lengths
 
   -- the tableau of such lines
-  module _ (rows : List (Vec (Cell F) Global)) (basis : List ℕ) (many : length rows ≡ p.rows + 2) (basis_many : length basis ≡ p.rows + 2) (small : p.cols + p.rows < 4294967293)
+  module _ (rows : List (Vec (Spot F) Global)) (basis : List ℕ) (many : length rows ≡ p.rows + 2) (basis_many : length basis ≡ p.rows + 2) (small : p.cols + p.rows < 4294967293)
       (none : (i : ℕ) → slice_index_or basis i 0 ≡ 0)
       (each : (i : ℕ) → i < p.rows + 2 → IsLineOf (right_column s) (row_of (table_of s) (i + 1)) (slice_index_or (lines value rows) i [])) where
     pub unopened_rows : AreTableau (p.cols + p.rows + 1) (lines value rows) basis

@@ -8,18 +8,18 @@ ghost use Rattle.exact_simplex.specs.Program.{IsFeasible, IsIdle};
 ghost use Rattle.lin_rows.specs.System.{HasLengths, system_of};
 
 use exact_field::{Field, is_zero};
-use lin_rows::cells::Cell;
+use lin_rows::spots::Spot;
 use lin_rows::tableau::Tableau;
 use lin_rows::{RowFault, System};
 
 /// A column among the first `count` at which the row is not 0: the first.
-fn support<F: Field>(row: &[Cell<F>], count: u32) -> Option<u32>
+fn support<F: Field>(row: &[Spot<F>], count: u32) -> Option<u32>
     ensures { (n : ℕ) → Rises n 0 (entries F.value row.now)
         → IsSupport (entries F.value row.now) count result }
 {
-    for cell in row {
-        if cell.at <= count && !is_zero(cell.value) {
-            return Some(cell.at);
+    for spot in row {
+        if spot.at <= count && !is_zero(spot.value) {
+            return Some(spot.at);
         }
     }
     None

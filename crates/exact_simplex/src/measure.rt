@@ -4,7 +4,7 @@
 ghost use Rattle.std.specs.Prelude.{◌≡◌, ◌≤◌, length};
 
 use exact_field::Field;
-use lin_rows::cells::Cell;
+use lin_rows::spots::Spot;
 use src_sink::NoMemory;
 use std::alloc::Global;
 
@@ -31,10 +31,10 @@ pub fn magnitudes(alloc: Global, columns: u32) -> Result<Vec<u32>, NoMemory> {
 }
 
 /// Raises the magnitudes of columns to those of the entries of a row.
-fn measure_row<F: Field>(row: &[Cell<F>], greatest: &mut [u32]) {
-    for cell in row {
-        let place = cell.at as usize;
-        let size = magnitude(cell.value);
+fn measure_row<F: Field>(row: &[Spot<F>], greatest: &mut [u32]) {
+    for spot in row {
+        let place = spot.at as usize;
+        let size = magnitude(spot.value);
         if place < greatest.len() && greatest[place] < size {
             greatest[place] = size;
         }
@@ -42,7 +42,7 @@ fn measure_row<F: Field>(row: &[Cell<F>], greatest: &mut [u32]) {
 }
 
 /// The greatest magnitude that each column has in the first `count` rows.
-pub fn measure<F: Field>(rows: &[Vec<Cell<F>>], count: usize, greatest: &mut [u32])
+pub fn measure<F: Field>(rows: &[Vec<Spot<F>>], count: usize, greatest: &mut [u32])
     requires { count ≤ length rows.now }
 {
     for slot in greatest.iter_mut() {

@@ -11,7 +11,7 @@ ghost use Rattle.lin_rows.specs.System.{HasLengths, coefficients_of, system_of};
 
 use exact_field::{Field, is_negative};
 use lin_rows::build::{line_of, push_kept};
-use lin_rows::cells::Cell;
+use lin_rows::spots::Spot;
 use lin_rows::tableau::Tableau;
 use lin_rows::{RowFault, System};
 use src_sink::{MOST_ITEMS, NoMemory};
@@ -43,7 +43,7 @@ fn equation_line<F: Field>(
     alloc: Global,
     system: &System<F>,
     i: u32,
-) -> Result<Vec<Cell<F>>, NoMemory>
+) -> Result<Vec<Spot<F>>, NoMemory>
     requires lengths { HasLengths system.now }
     requires inside { i < system.now.rows }
     requires fits { system.now.cols + system.now.rows < 4294967293 }
@@ -54,13 +54,13 @@ fn equation_line<F: Field>(
     let mut line = line_of(alloc, coefficients(system, i))?;
     let value = artificial(right);
     let at = system.cols + i + 1;
-    line.push(Cell { at, value })?;
+    line.push(Spot { at, value })?;
     push_kept(&mut line, system.cols + system.rows + 1, right)?;
     Ok(line)
 }
 
 /// The cost row of phase one: 1 at each artificial column.
-fn first_cost_line<F: Field>(alloc: Global, system: &System<F>) -> Result<Vec<Cell<F>>, NoMemory>
+fn first_cost_line<F: Field>(alloc: Global, system: &System<F>) -> Result<Vec<Spot<F>>, NoMemory>
     requires lengths { HasLengths system.now }
     requires fits { system.now.cols + system.now.rows < 4294967293 }
     ensures { IfOk result (λ line. IsLineOf (right_column (system_of F.value system.now)) (row_of
@@ -78,7 +78,7 @@ fn first_cost_line<F: Field>(alloc: Global, system: &System<F>) -> Result<Vec<Ce
 pub fn second_cost_line<F: Field>(
     alloc: Global,
     system: &System<F>,
-) -> Result<Vec<Cell<F>>, NoMemory>
+) -> Result<Vec<Spot<F>>, NoMemory>
     requires { HasLengths system.now }
     ensures { IfOk result (λ line. IsLineOf (right_column (system_of F.value system.now)) (row_of
         (table_of (system_of F.value system.now)) (second_cost (system_of F.value system.now)))

@@ -11,7 +11,7 @@ ghost use Rattle.tableaux.specs.Lex.{lex_less};
 
 use crate::measure::{magnitude, measure};
 use exact_field::{Field, Left, is_negative, is_positive};
-use lin_rows::cells::{Cell, entry_at};
+use lin_rows::spots::{Spot, entry_at};
 use std::cmp::Ordering;
 
 /// Which of two rows an overflow concerns.
@@ -24,9 +24,9 @@ pub enum Either<F> {
 
 /// How the quotients of two rows compare at one column.
 fn compare_at<F: Field>(
-    u: &[Cell<F>],
+    u: &[Spot<F>],
     p: F,
-    v: &[Cell<F>],
+    v: &[Spot<F>],
     r: F,
     col: u32,
 ) -> Result<Ordering, Either<F>>
@@ -53,9 +53,9 @@ fn compare_at<F: Field>(
 
 /// Whether the quotients of one row by `p`, at these columns, stand before those of another by `r`.
 fn is_before<F: Field>(
-    u: &[Cell<F>],
+    u: &[Spot<F>],
     p: F,
-    v: &[Cell<F>],
+    v: &[Spot<F>],
     r: F,
     columns: &[u32],
 ) -> Result<bool, Either<F>>
@@ -100,7 +100,7 @@ fn test_left<F: Field>(first: usize, second: usize, either: Either<F>) -> TestLe
 
 /// The least row of the first `i + 1`, where `best` is that of the first `i`.
 fn take_better<F: Field>(
-    rows: &[Vec<Cell<F>>],
+    rows: &[Vec<Spot<F>>],
     i: usize,
     best: Option<usize>,
     col: u32,
@@ -139,7 +139,7 @@ fn take_better<F: Field>(
 /// The ratio test over the first `count` rows: the row with the lexicographically least quotients,
 /// if any has a positive entry.
 pub fn find_leaving<F: Field>(
-    rows: &[Vec<Cell<F>>],
+    rows: &[Vec<Spot<F>>],
     count: usize,
     col: u32,
     columns: &[u32],
@@ -167,13 +167,13 @@ struct Candidate {
 
 /// The better of a column and the best so far: that whose cost is the greater in magnitude beside
 /// its greatest entry.
-fn better_column<F: Field>(cell: Cell<F>, greatest: &[u32], best: Option<Candidate>) -> Candidate
-    ensures { IsBetterColumn cell.at best result }
+fn better_column<F: Field>(spot: Spot<F>, greatest: &[u32], best: Option<Candidate>) -> Candidate
+    ensures { IsBetterColumn spot.at best result }
 {
-    let entries = greatest.get(cell.at as usize).copied().unwrap_or(0);
-    let score = (512 + magnitude(cell.value)).saturating_sub(entries);
+    let entries = greatest.get(spot.at as usize).copied().unwrap_or(0);
+    let score = (512 + magnitude(spot.value)).saturating_sub(entries);
     let own = Candidate {
-        col: cell.at,
+        col: spot.at,
         score,
     };
     match best {
@@ -184,14 +184,14 @@ fn better_column<F: Field>(cell: Cell<F>, greatest: &[u32], best: Option<Candida
 
 /// A column among the first `count` at which the row is negative: of those that serve best the
 /// first.
-fn best_column<F: Field>(row: &[Cell<F>], count: u32, greatest: &[u32]) -> Option<Candidate>
+fn best_column<F: Field>(row: &[Spot<F>], count: u32, greatest: &[u32]) -> Option<Candidate>
     ensures { (n : ℕ) → Rises n 0 (entries F.value row.now)
         → IsEnteringCandidate (entries F.value row.now) count result }
 {
     let mut best = None;
-    for cell in row {
-        if cell.at <= count && is_negative(cell.value) {
-            best = Some(better_column(*cell, greatest, best));
+    for spot in row {
+        if spot.at <= count && is_negative(spot.value) {
+            best = Some(better_column(*spot, greatest, best));
         }
     }
     best
@@ -200,9 +200,9 @@ fn best_column<F: Field>(row: &[Cell<F>], count: u32, greatest: &[u32]) -> Optio
 /// A column among the first `count` at which the cost row is negative. `greatest` has the memory
 /// for the magnitudes of the columns in the first `equations` rows.
 pub fn find_entering<F: Field>(
-    row: &[Cell<F>],
+    row: &[Spot<F>],
     count: u32,
-    rows: &[Vec<Cell<F>>],
+    rows: &[Vec<Spot<F>>],
     equations: usize,
     greatest: &mut [u32],
 ) -> Option<u32>

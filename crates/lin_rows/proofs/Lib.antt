@@ -1,5 +1,4 @@
 pub mod Building
-pub mod CellLists
 mod ComplementExample
 pub mod Complements
 pub mod Eliminating
@@ -11,6 +10,7 @@ pub mod Merging
 pub mod PivotRows
 pub mod Pivoted
 pub mod Places
+pub mod SpotLists
 pub mod Summing
 pub mod Sweeping
 pub mod Views

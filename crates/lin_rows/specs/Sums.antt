@@ -6,8 +6,8 @@ use Rattle.exact_field.specs.Vector.{entry, dot}
 use Rattle.exact_field.specs.declared.op.Op.TheVariants.{Add, Mul}
 use Rattle.exact_field.specs.declared.op.Left.{Left}
 use Rattle.lin_rows.specs.Clear.{IfStep}
-use Rattle.lin_rows.specs.declared.cells.Stop.{Stop}
-use Rattle.lin_rows.specs.declared.cells.Stop.TheVariants.{Step, NoMemory as Want}
+use Rattle.lin_rows.specs.declared.spots.Stop.{Stop}
+use Rattle.lin_rows.specs.declared.spots.Stop.TheVariants.{Step, NoMemory as Want}
 use Rattle.lin_rows.specs.declared.fault.RowFault.{RowFault}
 use Rattle.lin_rows.specs.declared.fault.RowFault.TheVariants.{Left as Stuck, NoMemory}
 

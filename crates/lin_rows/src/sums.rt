@@ -7,8 +7,8 @@ ghost use Rattle.exact_field.specs.declared.op.Op.TheVariants.{Mul};
 ghost use Rattle.polyhedra.specs.Vectors.{plus, scaled};
 ghost use Rattle.lin_rows.specs.Sums.{AreHeld, AreProductsHeld, IsCombinationHeld, IsCombineFault, IsDotLeft, IsFaultAt, IsScaleFault, IsTermLeft, PlusStops, ProductStops};
 
-use crate::cells::Stop;
 use crate::fault::RowFault;
+use crate::spots::Stop;
 use exact_field::{Field, Left, is_zero};
 use src_sink::Items;
 use std::alloc::Global;

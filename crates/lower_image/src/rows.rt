@@ -17,14 +17,14 @@ ghost use Rattle.vlp_problem.specs.declared.problem.Problem.{Problem as File};
 use deriv_log::{Licence, Place};
 use exact_field::{Field, Left};
 use geo_duality::{ExchangeFault, exchange};
-use lin_rows::cells::{Cell, entry_at};
+use lin_rows::spots::{Spot, entry_at};
 use lp_form::Data;
 use overflows::{SolveFault, fractions, operation, sum_of_products, term_fault};
 use src_sink::{Items, NoMemory};
 use std::alloc::Global;
 
 /// The numbers of a sparse row at all places.
-fn numbers_of<F: Field>(alloc: Global, line: &[Cell<F>], cols: u32) -> Result<Items<F>, NoMemory>
+fn numbers_of<F: Field>(alloc: Global, line: &[Spot<F>], cols: u32) -> Result<Items<F>, NoMemory>
     requires { IsTrue (are_places cols 0 line.now) }
     ensures { IfOk result (λ list. map F.value list ≡ vector_of F.value cols line.now) }
 {
@@ -36,7 +36,7 @@ fn numbers_of<F: Field>(alloc: Global, line: &[Cell<F>], cols: u32) -> Result<It
 }
 
 /// The value of an objective at x.
-fn objective_at<F: Field>(alloc: Global, line: &[Cell<F>], x: &[F]) -> Result<F, SolveFault>
+fn objective_at<F: Field>(alloc: Global, line: &[Spot<F>], x: &[F]) -> Result<F, SolveFault>
     requires short { length x.now ≤ 4294967294 }
     requires places { IsTrue (are_places (length x.now) 0 line.now) }
     ensures ok { IfOk result

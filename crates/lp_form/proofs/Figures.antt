@@ -12,7 +12,7 @@ use Rattle.polyhedra.specs.Negatives.{negated}
 use Rattle.polyhedra.proofs.Tests.{both_true}
 use Rattle.tableaux.proofs.Places.{listed-place}
 use Rattle.lin_rows.specs.Lines.{Rises, entries, sum_at}
-use Rattle.lin_rows.specs.declared.cells.Cell.{Cell}
+use Rattle.lin_rows.specs.declared.spots.Spot.{Spot}
 use Rattle.lin_rows.proofs.Pivoted.{dense_is}
 use Rattle.upper_image.specs.Spots.{column}
 use Rattle.upper_image.specs.UpperImage.{objective_column}
@@ -27,12 +27,12 @@ use Rattle.lp_form.specs.Programs.{side_total}
 use Rattle.lp_form.specs.Shapes.{are_places}
 
 module _ {F : Type 0} (value : F → ℚ) where
-  pub places_rise : (n low : ℕ) (cells : List (Cell F)) → are_places n low cells ≡ true → Rises n low (entries value cells)
+  pub places_rise : (n low : ℕ) (spots : List (Spot F)) → are_places n low spots ≡ true → Rises n low (entries value spots)
   places_rise n low [] h = tt
-  places_rise n low (c ∷ cells) h =
-      let first = both_true (nat_lt low c.at) (nat_le c.at n && are_places n c.at cells) h in
-      let second = both_true (nat_le c.at n) (are_places n c.at cells) first.1 in
-      (ltb-true low c.at first.0, leb-true c.at n second.0, places_rise n c.at cells second.1)
+  places_rise n low (c ∷ spots) h =
+      let first = both_true (nat_lt low c.at) (nat_le c.at n && are_places n c.at spots) h in
+      let second = both_true (nat_le c.at n) (are_places n c.at spots) first.1 in
+      (ltb-true low c.at first.0, leb-true c.at n second.0, places_rise n c.at spots second.1)
 
   -- vectors of q entries have an entry i
   pub wide_enough : (q i : ℕ) (vectors : List (List F)) → AreWide q (numbers value vectors) → i ≤ q → All (λ v. i ≤ length v) vectors
@@ -42,9 +42,9 @@ module _ {F : Type 0} (value : F → ℚ) where
       omega (arith, l, long, ap length same, length-map (slice_index_or vectors k d) value)
 
   -- the entry of a line
-  entry_of_line : (n j : ℕ) (cells : List (Cell F)) → are_places n 0 cells ≡ true → 1 ≤ j → j ≤ n → entry (vector_of value n cells) j ≡ sum_at (entries value cells) j
-  entry_of_line n j cells h low high =
-      ap (λ v. entry v j) (dense_is n (entries value cells) (places_rise n 0 cells h)) ∙ listed-place n (sum_at (entries value cells)) j zero_ℚ low high
+  entry_of_line : (n j : ℕ) (spots : List (Spot F)) → are_places n 0 spots ≡ true → 1 ≤ j → j ≤ n → entry (vector_of value n spots) j ≡ sum_at (entries value spots) j
+  entry_of_line n j spots h low high =
+      ap (λ v. entry v j) (dense_is n (entries value spots) (places_rise n 0 spots h)) ∙ listed-place n (sum_at (entries value spots)) j zero_ℚ low high
 
   sides_at : (n j : ℕ) (all : List (SideOf F)) → list_all (λ s. are_places n 0 s.g) all ≡ true → 1 ≤ j → j ≤ n →
       map (λ s. sum_at (entries value s.g) j) all ≡ column (map (λ s. vector_of value n s.g) all) j
@@ -53,7 +53,7 @@ module _ {F : Type 0} (value : F → ℚ) where
       let b = both_true (are_places n 0 s.g) (list_all (λ s. are_places n 0 s.g) rest) h in
       ap₂ (λ x y. x ∷ y) (sym (entry_of_line n j s.g b.0 low high)) (sides_at n j rest b.1 low high)
 
-  rows_at : (n j : ℕ) (all : List (List (Cell F))) → list_all (are_places n 0) all ≡ true → 1 ≤ j → j ≤ n →
+  rows_at : (n j : ℕ) (all : List (List (Spot F))) → list_all (are_places n 0) all ≡ true → 1 ≤ j → j ≤ n →
       map (λ r. neg_ℚ (sum_at (entries value r) j)) all ≡ negated (column (map (vector_of value n) all) j)
   rows_at n j [] h low high = refl
   rows_at n j (r ∷ rest) h low high =

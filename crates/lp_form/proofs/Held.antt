@@ -20,7 +20,7 @@ use Rattle.vlp_problem.specs.Sides.{sides, sides_of, sides_from, side_bounds, nu
 use Rattle.vlp_problem.specs.declared.problem.Problem.{Problem}
 use Rattle.vlp_problem.specs.declared.problem.Bound.{Bound}
 use Rattle.vlp_problem.specs.declared.problem.Bound.TheVariants.{Unsaid, Free, Lower, Upper, Double, Fixed}
-use Rattle.vlp_problem.specs.declared.problem.Cell.{Cell as FileCell}
+use Rattle.vlp_problem.specs.declared.problem.Cell.{Cell}
 use Rattle.vlp_problem.specs.declared.problem.Dir.{Dir}
 use Rattle.vlp_problem.specs.declared.problem.Dir.TheVariants.{Min, Max}
 use Rattle.vlp_problem.specs.Values.{bound_numbers, printed_numbers, cone_vectors, duality_entries}
@@ -74,7 +74,7 @@ module _ (holds : ℚ → Bool) (zero_held : IsTrue (holds zero_ℚ)) (one_held 
   abbrev Held : ℚ → Type 0
   Held q = IsTrue (holds q)
 
-  coefficient_held : (cells : List FileCell) (i j : ℕ) → All Held (map (λ c. c.value) cells) → Held (coefficient cells i j)
+  coefficient_held : (cells : List Cell) (i j : ℕ) → All Held (map (λ c. c.value) cells) → Held (coefficient cells i j)
   coefficient_held [] i j h = zero_held
   coefficient_held (c ∷ cells) i j h =
       by_place ((c.row == i) && (c.col == j)) (All-head Held c.value (map (λ d. d.value) cells) h) (coefficient_held cells i j (All-tail Held c.value (map (λ d. d.value) cells) h))
@@ -118,7 +118,7 @@ module _ (holds : ℚ → Bool) (zero_held : IsTrue (holds zero_ℚ)) (one_held 
       (some_sides v (suc k) bounds h (all_back Held (bound_numbers b) (flat_map bound_numbers bounds) n))
 
   module _ (file : Problem) (h : All Held (printed_numbers file)) where
-    abbrev values_of : List FileCell → List ℚ
+    abbrev values_of : List Cell → List ℚ
     values_of cells = map (λ c. c.value) cells
 
     abbrev vectors : List ℚ

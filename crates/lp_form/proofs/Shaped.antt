@@ -16,7 +16,7 @@ use Rattle.lin_rows.specs.Lines as lines
 use Rattle.lin_rows.specs.Read.{numbers}
 use Rattle.polyhedra.specs.Vectors.{AreWide}
 use Rattle.lin_rows.proofs.EliminationEnds.{numbers-wide}
-use Rattle.lin_rows.specs.declared.cells.Cell.{Cell}
+use Rattle.lin_rows.specs.declared.spots.Spot.{Spot as RowSpot}
 use Rattle.upper_image.specs.Spots.{IsVector, entry_of}
 use Rattle.vlp_problem.specs.Cones.{cone_fits, are_vectors, duality_fits}
 use Rattle.vlp_problem.specs.declared.problem.Cone.{Cone}
@@ -36,17 +36,17 @@ filter_few p (x ∷ xs) = by_test (p x) (filter_few p xs)
     by_test false h = omega (arith, h)
 
 module _ {F : Type 0} (value : F → ℚ) where
-  places_of : (n low : ℕ) (cells : List (Cell F)) → Rises n low (entries value cells) → are_places n low cells ≡ true
+  places_of : (n low : ℕ) (row : List (RowSpot F)) → Rises n low (entries value row) → are_places n low row ≡ true
   places_of n low [] h = refl
-  places_of n low (c ∷ cells) h =
+  places_of n low (c ∷ row) h =
       let above : low < c.at = h.0 in
       let inside : c.at ≤ n = h.1 in
-      ap₂ (λ a b. a && b) (lt-ltb low c.at above) (ap₂ (λ a b. a && b) (le-leb c.at n inside) (places_of n c.at cells h.2))
+      ap₂ (λ a b. a && b) (lt-ltb low c.at above) (ap₂ (λ a b. a && b) (le-leb c.at n inside) (places_of n c.at row h.2))
 
-  pub row_places : (n : ℕ) (cells : List (Cell F)) (spots : List Spot) → entries value cells ≡ map entry_of spots → IsVector n spots → are_places n 0 cells ≡ true
-  row_places n cells spots e v = places_of n 0 cells (subst (λ es. Rises n 0 es) (sym e) (spots_rise n 0 spots v.sparse v.places))
+  pub row_places : (n : ℕ) (row : List (RowSpot F)) (spots : List Spot) → entries value row ≡ map entry_of spots → IsVector n spots → are_places n 0 row ≡ true
+  row_places n row spots e v = places_of n 0 row (subst (λ es. Rises n 0 es) (sym e) (spots_rise n 0 spots v.sparse v.places))
 
-  pub rows_places : (n : ℕ) (all : List (List (Cell F))) (lists : List (List Spot)) → map (entries value) all ≡ map (map entry_of) lists → All (IsVector n) lists →
+  pub rows_places : (n : ℕ) (all : List (List (RowSpot F))) (lists : List (List Spot)) → map (entries value) all ≡ map (map entry_of) lists → All (IsVector n) lists →
       list_all (are_places n 0) all ≡ true
   rows_places n [] lists e v = refl
   rows_places n (r ∷ all) [] e v = absurd (cc)
@@ -65,21 +65,21 @@ module _ {F : Type 0} (value : F → ℚ) where
       ap₂ (λ a b. a && b) (row_places n s.g l own (All-head (IsVector n) l lists v)) (sides_places n all lists rest (All-tail (IsVector n) l lists v))
 
   -- no value is 0
-  abbrev IsKept : Cell F → Type 0
+  abbrev IsKept : RowSpot F → Type 0
   IsKept c = IsTrue (not (is_zero (value c.value)))
 
-  row_kept : (low : ℕ) (cells : List (Cell F)) (spots : List Spot) → entries value cells ≡ map entry_of spots → rises_above low spots ≡ true → All IsKept cells
+  row_kept : (low : ℕ) (row : List (RowSpot F)) (spots : List Spot) → entries value row ≡ map entry_of spots → rises_above low spots ≡ true → All IsKept row
   row_kept low [] spots e h = All-nil IsKept
-  row_kept low (c ∷ cells) [] e h = absurd (cc)
-  row_kept low (c ∷ cells) (s ∷ spots) e h =
+  row_kept low (c ∷ row) [] e h = absurd (cc)
+  row_kept low (c ∷ row) (s ∷ spots) e h =
       let same : lines.entry_of value c ≡ entry_of s = cc in
       let own : value c.value ≡ s.value = ap (λ d. d.value) same in
-      let rest : entries value cells ≡ map entry_of spots = cc in
+      let rest : entries value row ≡ map entry_of spots = cc in
       let first = both_true (nat_lt low s.at) (not (is_zero s.value) && rises_above s.at spots) h in
       let second = both_true (not (is_zero s.value)) (rises_above s.at spots) first.1 in
-      All-cons IsKept c cells (ap (λ q. not (is_zero q)) own ∙ second.0) (row_kept s.at cells spots rest second.1)
+      All-cons IsKept c row (ap (λ q. not (is_zero q)) own ∙ second.0) (row_kept s.at row spots rest second.1)
 
-  pub rows_kept : (n : ℕ) (all : List (List (Cell F))) (lists : List (List Spot)) → map (entries value) all ≡ map (map entry_of) lists → All (IsVector n) lists → All (λ r. All IsKept r) all
+  pub rows_kept : (n : ℕ) (all : List (List (RowSpot F))) (lists : List (List Spot)) → map (entries value) all ≡ map (map entry_of) lists → All (IsVector n) lists → All (λ r. All IsKept r) all
   rows_kept n [] lists e v = All-nil (λ r. All IsKept r)
   rows_kept n (r ∷ all) [] e v = absurd (cc)
   rows_kept n (r ∷ all) (l ∷ lists) e v =

@@ -5,7 +5,7 @@ use Rattle.frac128.specs.Sparse.{is_zero}
 use Rattle.polyhedra.specs.Sparse.{dense}
 use Rattle.lin_rows.specs.Lines.{entries}
 use Rattle.lin_rows.specs.Read.{numbers}
-use Rattle.lin_rows.specs.declared.cells.Cell.{Cell}
+use Rattle.lin_rows.specs.declared.spots.Spot.{Spot}
 use Rattle.upper_image.specs.UpperImage.{normals, objectives}
 use Rattle.vlp_problem.specs.Sides.{side_bounds}
 use Rattle.vlp_problem.specs.declared.problem.Problem.{Problem}
@@ -18,9 +18,9 @@ use Rattle.lp_form.specs.declared.data.Data.{Data}
 use Rattle.lp_form.specs.declared.data.DataFault.{DataFault}
 use Rattle.lp_form.specs.declared.data.DataFault.TheVariants.{NotHeld, NoMemory}
 
--- the vector of n entries that cells stand for
-abbrev pub vector_of : {F : Type 0} → (F → ℚ) → ℕ → List (Cell F) → List ℚ
-vector_of value n cells = dense n (entries value cells)
+-- the vector of n entries that spots stand for
+abbrev pub vector_of : {F : Type 0} → (F → ℚ) → ℕ → List (Spot F) → List ℚ
+vector_of value n spots = dense n (entries value spots)
 
 -- a cone, and a duality vector, in numbers
 abbrev pub cone_of : {F : Type 0} → (F → ℚ) → ConeOf F → Cone

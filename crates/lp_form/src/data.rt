@@ -8,14 +8,14 @@ use crate::field::{cone_in, duality_in, lines_in, sides_in};
 use crate::numbers::test_numbers;
 use exact_field::Field;
 use frac128::Frac;
-use lin_rows::cells::Cell;
+use lin_rows::spots::Spot;
 use src_sink::{Items, NoMemory};
 use std::alloc::Global;
 use vlp_matrices::Matrices;
 use vlp_problem::Problem;
 
 /// An entry that is not 0, with its place, from 1. In a list of these the places rise.
-pub type At<F> = Cell<F>;
+pub type At<F> = Spot<F>;
 
 /// An inequality `g . x >= beta`.
 #[derive(Debug, Drop)]

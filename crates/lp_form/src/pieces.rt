@@ -12,7 +12,7 @@ ghost use Rattle.lp_form.specs.Shapes.{are_places};
 
 use crate::data::{At, SideOf};
 use exact_field::Field;
-use lin_rows::cells::entry_at;
+use lin_rows::spots::entry_at;
 use src_sink::{Items, NoMemory};
 use std::alloc::Global;
 

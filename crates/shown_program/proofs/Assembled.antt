@@ -18,7 +18,7 @@ use Rattle.tableaux.proofs.Places.{listed-is, listed-place}
 use Rattle.tableaux.proofs.Ties.{column_entry}
 use Rattle.tableaux.proofs.Unique.{column-long}
 use Rattle.lin_rows.specs.Lines.{entries, entry_of, sum_at}
-use Rattle.lin_rows.specs.declared.cells.Cell.{Cell}
+use Rattle.lin_rows.specs.declared.spots.Spot.{Spot}
 use Rattle.lin_rows.proofs.Merging.{shown}
 use Rattle.lin_rows.proofs.Pivoted.{listed-same}
 use Rattle.vlp_problem.specs.Sides.{side_column}
@@ -31,7 +31,7 @@ use Rattle.lp_form.specs.declared.data.SideOf.{SideOf}
 use Rattle.lp_form.proofs.Figures.{side_column_is}
 use Rattle.shown_program.specs.Columns.{all_columns, filled}
 use Rattle.shown_program.specs.Entries.{across, unit_entries}
-use Rattle.shown_program.specs.Program.{IsProgramOf, cells_at, column_in}
+use Rattle.shown_program.specs.Program.{IsProgramOf, spots_at, column_in}
 use Rattle.shown_program.specs.Written.{IsAssembled}
 use Rattle.shown_program.specs.declared.columns.Columns.{Columns}
 use Rattle.shown_program.proofs.Entered.{length-units, places_wider, unit_at}
@@ -54,7 +54,7 @@ module _ {F : Type 0} where
       let b = both_true (are_places n 0 s.g) (list_all (λ s. are_places n 0 s.g) sides) h in
       ap₂ (λ a c. a && c) (places_wider n m 0 s.g l b.0) (sides_fit n m sides l b.1)
 
-  units_fit : (value : F → ℚ) (n k : ℕ) (units : List (Cell F)) (right : List ℚ) →
+  units_fit : (value : F → ℚ) (n k : ℕ) (units : List (Spot F)) (right : List ℚ) →
       entries value units ≡ unit_entries k right → k + length right ≤ n →
       list_all (are_places n 0) (map (λ u. u ∷ []) units) ≡ true
   units_fit value n k [] right e l = refl
@@ -68,8 +68,8 @@ module _ {F : Type 0} where
       (ap₂ (λ a c. a && c) (le-leb u.at n (omega arith)) refl))
       (units_fit value n (suc k) units right rest (omega arith))
 
-  pub all_fit : (value : F → ℚ) (cols : ℕ) (sides : List (SideOf F)) (others : List (List (Cell F)))
-      (units : List (Cell F)) (right : List F) → cols ≤ length right →
+  pub all_fit : (value : F → ℚ) (cols : ℕ) (sides : List (SideOf F)) (others : List (List (Spot F)))
+      (units : List (Spot F)) (right : List F) → cols ≤ length right →
       list_all (λ s. are_places cols 0 s.g) sides ≡ true →
       list_all (are_places (length right) 0) others ≡ true →
       entries value units ≡ unit_entries 0 (map value right) →
@@ -82,14 +82,14 @@ module _ {F : Type 0} where
       (units_fit value (length right) 0 units (map value right) e
       (omega (arith, length-map right value)))
 
-  pub units_many : (value : F → ℚ) (units : List (Cell F)) (right : List F) →
+  pub units_many : (value : F → ℚ) (units : List (Spot F)) (right : List F) →
       entries value units ≡ unit_entries 0 (map value right) → length units ≡ length right
   units_many value units right e =
       sym (length-map units (entry_of value)) ∙ ap length e
       ∙ length-units 0 (map value right) ∙ length-map right value
 
   -- one entry is one of the entries
-  single_entry : (value : F → ℚ) (units : List (Cell F)) (j : ℕ) →
+  single_entry : (value : F → ℚ) (units : List (Spot F)) (j : ℕ) →
       entries value (slice_index_or (map (λ u. u ∷ []) units) j [])
       ≡ slice_index_or (map (λ e. e ∷ []) (entries value units)) j []
   single_entry value [] j = refl
@@ -97,13 +97,13 @@ module _ {F : Type 0} where
   single_entry value (u ∷ units) (suc j) = single_entry value units j
 
 -- ---- what it stands for
-module _ {F : Type 0} (value : F → ℚ) (form : Data F) (others : List (List (Cell F)))
+module _ {F : Type 0} (value : F → ℚ) (form : Data F) (others : List (List (Spot F)))
     (right cost : List F) (p : Columns F) (h : IsAssembled value form others right cost p)
     (s : System) (ok : IsSystem s) (right_same : map value right ≡ s.right)
     (cost_same : map value cost ≡ s.cost)
     (rows : (k : ℕ) → 1 ≤ k → k ≤ equation_count s →
     across value k (map (λ t. t.g) form.sides ++ others) ≡ row_of s.equations k) where
-  abbrev unknowns : List (List (Cell F))
+  abbrev unknowns : List (List (Spot F))
   unknowns = map (λ t. t.g) form.sides ++ others
 
   m_is : length p.right ≡ equation_count s
@@ -124,18 +124,18 @@ module _ {F : Type 0} (value : F → ℚ) (form : Data F) (others : List (List (
         ap length cost_same,
       )
 
-  cells_are : (k : ℕ) → cells_at p k
+  spots_are : (k : ℕ) → spots_at p k
       ≡ slice_index_or (unknowns ++ map (λ u. u ∷ []) p.units) (k - 1) []
-  cells_are k =
+  spots_are k =
       ap₂ (λ a b. slice_index_or (all_columns a b p.units) (k - 1) []) h.sides h.others_are
 
   unknown_column : (k : ℕ) → 1 ≤ k → k ≤ unknown_count s → column_in value p k ≡ equations_at s k
   unknown_column k low high =
-      let cells : List (Cell F) = slice_index_or unknowns (k - 1) [] in
+      let spots : List (Spot F) = slice_index_or unknowns (k - 1) [] in
       ap₂ (filled value) m_is
-      (cells_are k
+      (spots_are k
       ∙ get_or_append_left unknowns (map (λ u. u ∷ []) p.units) [] (k - 1) (omega (arith, n_is)))
-      ∙ listed-is (equation_count s) (sum_at (entries value cells)) (column_of s.equations k)
+      ∙ listed-is (equation_count s) (sum_at (entries value spots)) (column_of s.equations k)
       (column-long s.equations k)
       (λ i from_one to_end.
       sym (column_entry s.equations k (i - 1) (omega arith)
@@ -152,9 +152,9 @@ module _ {F : Type 0} (value : F → ℚ) (form : Data F) (others : List (List (
       let none : Entry = record { place = 0; value = zero_ℚ } in
       let place : 0 + suc (i - 1) ≡ i = omega arith in
       let right_long : length s.right ≡ m = ok.right_each in
-      let cells : entries value (cells_at p k) ≡ record { place = i; value = σ } ∷ [] =
+      let spots : entries value (spots_at p k) ≡ record { place = i; value = σ } ∷ [] =
       ap (entries value)
-      (cells_are k
+      (spots_are k
       ∙ get_or-append_right unknowns (map (λ u. u ∷ []) p.units) (unknown_count s) (k - 1) []
       n_is (omega arith)
       ∙ ap (λ j. slice_index_or (map (λ u. u ∷ []) p.units) j [])
@@ -166,7 +166,7 @@ module _ {F : Type 0} (value : F → ℚ) (form : Data F) (others : List (List (
       (omega (arith, length-units 0 s.right))
       ∙ ap (λ e. e ∷ []) (unit_at 0 s.right (i - 1) none (omega arith)
       ∙ ap (λ a. record { place = a; value = σ }) place) in
-      ap₂ (λ n es. listed n (sum_at es)) m_is cells
+      ap₂ (λ n es. listed n (sum_at es)) m_is spots
       ∙ listed-same m (sum_at (record { place = i; value = σ } ∷ [])) (λ j. shown (nat_eq i j) σ)
       (λ j a b. add-zero_ℚ (shown (nat_eq i j) σ))
       ∙ one_place m i σ ∙ sym (column-artificial s ok i low high)
@@ -195,7 +195,7 @@ pub feasible_row : {F : Type 0} (value : F → ℚ) (file : Problem) (form : Dat
     across value k (map (λ s. s.g) form.sides ++ []) ≡ row_of (feasible_system file).equations k
 feasible_row value file form k stands low high inside =
     ap (across value k) (append-nil (map (λ s. s.g) form.sides))
-    ∙ map-map (λ cells. sum_at (entries value cells) k) (λ s. s.g) form.sides
+    ∙ map-map (λ spots. sum_at (entries value spots) k) (λ s. s.g) form.sides
     ∙ side_column_is value file form stands k low inside
     ∙ sym (listed-place file.cols (side_column file) k [] low
     (subst (λ (n : ℕ). k ≤ n) stands.cols inside))

@@ -15,7 +15,7 @@ use Rattle.tableaux.proofs.Found.{list_from-same}
 use Rattle.tableaux.proofs.Places.{length-list_from, listed-is, listed-place, row-wide, same_or_other}
 use Rattle.tableaux.proofs.Ties.{column_entry}
 use Rattle.lin_rows.specs.Lines.{Rises, entries, sum_at}
-use Rattle.lin_rows.specs.declared.cells.Cell.{Cell}
+use Rattle.lin_rows.specs.declared.spots.Spot.{Spot}
 use Rattle.lin_rows.proofs.Merging.{shown}
 use Rattle.upper_image.specs.UpperImage.{objective_column}
 use Rattle.vlp_problem.specs.Sides.{side_column}
@@ -354,23 +354,23 @@ module _ {F : Type 0} (value : F → ℚ) (file : Problem) (form : Data F) (c : 
       (ap₂ (λ n k. on_parts (zeros n) (map value c) (zeros k) ∷ []) m_is more_is)
 
   -- the numbers of the columns in equation k
-  pub benson_row : (others : List (List (Cell F))) (v : List ℚ) (t : _) (k : ℕ) →
+  pub benson_row : (others : List (List (Spot F))) (v : List ℚ) (t : _) (k : ℕ) →
       ((j : ℕ) → across value j others
       ≡ (weight_row value form c j ++ negated (weight_row value form c j)) ++ row_after_w value form j) →
       1 ≤ k → k ≤ benson_equations value form →
       across value k (map (λ s. s.g) form.sides ++ others)
       ≡ row_of (benson_system file (map value c) v t).equations k
   benson_row others v t k numbers low high =
-      map-append (λ cells. sum_at (entries value cells) k) (map (λ s. s.g) form.sides) others
+      map-append (λ spots. sum_at (entries value spots) k) (map (λ s. s.g) form.sides) others
       ∙ ap₂ (λ a b. a ++ b)
-      (map-map (λ cells. sum_at (entries value cells) k) (λ s. s.g) form.sides) (numbers k)
+      (map-map (λ spots. sum_at (entries value spots) k) (λ s. s.g) form.sides) (numbers k)
       ∙ parts (side_row k) (weight_row value form c k) (negated (weight_row value form c k))
       (row_after_w value form k)
       ∙ row_is k low high ∙ ap (λ rows. row_of rows k) (equations_are v t)
 
 -- how many columns there are
 pub others_long : {F : Type 0} (value : F → ℚ) (form : Data F) (c : List F)
-    (others : List (List (Cell F))) → AreOthers value form c others → length others
+    (others : List (List (Spot F))) → AreOthers value form c others → length others
     ≡ length form.p + length form.p + dual_unknowns (length form.p) (cone_of value form.cone)
 others_long value form c others h =
     let w : List ℚ = weight_row value form c 0 in
@@ -380,7 +380,7 @@ others_long value form c others h =
     let b_long : length b ≡ dual_unknowns (length form.p) (cone_of value form.cone) =
     length-list_from 1 (dual_unknowns (length form.p) (cone_of value form.cone))
     (λ d. after_w form.cols (cone_of value form.cone) d 0) in
-    sym (length-map others (λ cells. sum_at (entries value cells) 0)) ∙ ap length (h.numbers 0)
+    sym (length-map others (λ spots. sum_at (entries value spots) 0)) ∙ ap length (h.numbers 0)
     ∙ omega (
       arith,
       length-append (w ++ negated w) b,

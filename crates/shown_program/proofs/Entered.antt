@@ -16,7 +16,7 @@ use Rattle.tableaux.specs.Table.{artificial_sign}
 use Rattle.tableaux.proofs.Places.{same_or_other}
 use Rattle.lin_rows.specs.Clear.{Writes}
 use Rattle.lin_rows.specs.Lines.{Rises, entries, entry_of, last_place, sum_at}
-use Rattle.lin_rows.specs.declared.cells.Cell.{Cell}
+use Rattle.lin_rows.specs.declared.spots.Spot.{Spot}
 use Rattle.lin_rows.proofs.Merging.{not_same, shown, sum_at-below, written_last, written_rises, written_sum, rises-wider, last_within}
 use Rattle.lp_form.specs.Programs.{on_parts}
 use Rattle.lp_form.specs.Shapes.{are_places}
@@ -34,24 +34,24 @@ sum_at-above n low (e ∷ es) k h l =
     (sum_at-above n e.place es k h.2 l) ∙ add-zero_ℚ zero_ℚ
 
 module _ {F : Type 0} (value : F → ℚ) where
-  pub places_of : (n low : ℕ) (cells : List (Cell F)) → Rises n low (entries value cells) →
-      are_places n low cells ≡ true
+  pub places_of : (n low : ℕ) (spots : List (Spot F)) → Rises n low (entries value spots) →
+      are_places n low spots ≡ true
   places_of n low [] h = refl
-  places_of n low (c ∷ cells) h =
+  places_of n low (c ∷ spots) h =
       let above : low < c.at = h.0 in
       let inside : c.at ≤ n = h.1 in
       ap₂ (λ a b. a && b) (lt-ltb low c.at above)
-      (ap₂ (λ a b. a && b) (le-leb c.at n inside) (places_of n c.at cells h.2))
+      (ap₂ (λ a b. a && b) (le-leb c.at n inside) (places_of n c.at spots h.2))
 
-pub places_wider : {F : Type 0} (n m low : ℕ) (cells : List (Cell F)) → n ≤ m →
-    are_places n low cells ≡ true → are_places m low cells ≡ true
+pub places_wider : {F : Type 0} (n m low : ℕ) (spots : List (Spot F)) → n ≤ m →
+    are_places n low spots ≡ true → are_places m low spots ≡ true
 places_wider n m low [] l h = refl
-places_wider n m low (c ∷ cells) l h =
-    let first = both_true (nat_lt low c.at) (nat_le c.at n && are_places n c.at cells) h in
-    let second = both_true (nat_le c.at n) (are_places n c.at cells) first.1 in
+places_wider n m low (c ∷ spots) l h =
+    let first = both_true (nat_lt low c.at) (nat_le c.at n && are_places n c.at spots) h in
+    let second = both_true (nat_le c.at n) (are_places n c.at spots) first.1 in
     let inside : c.at ≤ n = leb-true c.at n second.0 in
     ap₂ (λ a b. a && b) first.0
-    (ap₂ (λ a b. a && b) (le-leb c.at m (omega arith)) (places_wider n m c.at cells l second.1))
+    (ap₂ (λ a b. a && b) (le-leb c.at m (omega arith)) (places_wider n m c.at spots l second.1))
 
 -- ---- negatives
 pub sum_at-negatives : (es : List Entry) (k : ℕ) → sum_at (negatives es) k ≡ neg_ℚ (sum_at es k)
@@ -161,27 +161,27 @@ module _ {F : Type 0} (value : F → ℚ) where
       let b = both_true (p y) (list_all p xs) h in
       ap₂ (λ a c. a && c) b.0 (all-push p xs x b.1 own)
 
-  pub appended_none : (n : ℕ) (list : List (List (Cell F))) → AreAppended value n (λ k. []) list list
+  pub appended_none : (n : ℕ) (list : List (List (Spot F))) → AreAppended value n (λ k. []) list list
   appended_none n list =
       record { numbers = λ k. sym (append-nil (across value k list)); places = λ h. h }
 
   -- one column more
   pub appended_more : (n : ℕ) (more after : ℕ → List ℚ) (f : ℕ → ℚ)
-      (first old new : List (List (Cell F))) (cells : List (Cell F)) → new ≡ old ++ cells ∷ [] →
-      ((k : ℕ) → sum_at (entries value cells) k ≡ f k) →
-      (list_all (are_places n 0) first ≡ true → Rises n 0 (entries value cells)) →
+      (first old new : List (List (Spot F))) (spots : List (Spot F)) → new ≡ old ++ spots ∷ [] →
+      ((k : ℕ) → sum_at (entries value spots) k ≡ f k) →
+      (list_all (are_places n 0) first ≡ true → Rises n 0 (entries value spots)) →
       ((k : ℕ) → after k ≡ more k ++ f k ∷ []) →
       AreAppended value n more first old → AreAppended value n after first new
-  appended_more n more after f first old new cells pushed own rises next h = record {
+  appended_more n more after f first old new spots pushed own rises next h = record {
     numbers = λ k.
         ap (across value k) pushed
-        ∙ map_push (λ cs. sum_at (entries value cs) k) old cells
+        ∙ map_push (λ cs. sum_at (entries value cs) k) old spots
         ∙ ap₂ (λ a b. a ++ b ∷ []) (h.numbers k) (own k)
         ∙ append_assoc (across value k first) (more k) (f k ∷ [])
         ∙ ap (λ l. across value k first ++ l) (sym (next k));
     places = λ ok.
-        subst (λ (l : List (List (Cell F))). list_all (are_places n 0) l ≡ true) (sym pushed)
-        (all-push (are_places n 0) old cells (h.places ok) (places_of value n 0 cells (rises ok)));
+        subst (λ (l : List (List (Spot F))). list_all (are_places n 0) l ≡ true) (sym pushed)
+        (all-push (are_places n 0) old spots (h.places ok) (places_of value n 0 spots (rises ok)));
   }
 
 -- ---- artificial columns
@@ -294,7 +294,7 @@ front_kept old new first x pushed h =
 
 module _ {F : Type 0} (value : F → ℚ) where
   -- one artificial column more
-  pub units_more : (right : List F) (i at : ℕ) (r v : F) (old new : List (Cell F)) →
+  pub units_more : (right : List F) (i at : ℕ) (r v : F) (old new : List (Spot F)) →
       i < length right → r ≡ slice_index_or right i r →
       new ≡ old ++ record { at = at; value = v } ∷ [] → at ≡ i + 1 →
       value v ≡ artificial_sign (value r) →
@@ -319,7 +319,7 @@ module _ {F : Type 0} (value : F → ℚ) where
 
 -- ---- appended one after the other
 pub appended_two : {F : Type 0} (value : F → ℚ) (n : ℕ) (w : ℕ → List ℚ)
-    (l0 l1 l2 : List (List (Cell F))) → l0 ≡ [] → AreAppended value n w l0 l1 →
+    (l0 l1 l2 : List (List (Spot F))) → l0 ≡ [] → AreAppended value n w l0 l1 →
     AreAppended value n (λ k. negated (across value k l1)) l1 l2 →
     (k : ℕ) → across value k l2 ≡ w k ++ negated (w k)
 appended_two value n w l0 l1 l2 none h1 h2 k =
@@ -328,14 +328,14 @@ appended_two value n w l0 l1 l2 none h1 h2 k =
     h2.numbers k ∙ ap₂ (λ x y. x ++ negated y) first first
 
 pub appended_three : {F : Type 0} (value : F → ℚ) (n : ℕ) (w b : ℕ → List ℚ)
-    (l0 l1 l2 l3 : List (List (Cell F))) → l0 ≡ [] → AreAppended value n w l0 l1 →
+    (l0 l1 l2 l3 : List (List (Spot F))) → l0 ≡ [] → AreAppended value n w l0 l1 →
     AreAppended value n (λ k. negated (across value k l1)) l1 l2 → AreAppended value n b l2 l3 →
     (k : ℕ) → across value k l3 ≡ (w k ++ negated (w k)) ++ b k
 appended_three value n w b l0 l1 l2 l3 none h1 h2 h3 k =
     h3.numbers k ∙ ap (λ l. l ++ b k) (appended_two value n w l0 l1 l2 none h1 h2 k)
 
 pub appended_same : {F : Type 0} (value : F → ℚ) (n : ℕ) (more after : ℕ → List ℚ)
-    (old new : List (List (Cell F))) → ((k : ℕ) → after k ≡ more k) →
+    (old new : List (List (Spot F))) → ((k : ℕ) → after k ≡ more k) →
     AreAppended value n more old new → AreAppended value n after old new
 appended_same value n more after old new same h = record {
   numbers = λ k. h.numbers k ∙ ap (λ l. across value k old ++ l) (sym (same k));

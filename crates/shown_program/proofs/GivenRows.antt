@@ -10,7 +10,7 @@ use Rattle.polyhedra.specs.Vectors.{zeros}
 use Rattle.tableaux.specs.Table.{Table, listed, row_of, unit}
 use Rattle.tableaux.proofs.Places.{length-list_from, listed-place}
 use Rattle.lin_rows.specs.Lines.{entries, sum_at}
-use Rattle.lin_rows.specs.declared.cells.Cell.{Cell}
+use Rattle.lin_rows.specs.declared.spots.Spot.{Spot}
 use Rattle.upper_image.specs.UpperImage.{objective_column}
 use Rattle.vlp_problem.specs.Sides.{side_column}
 use Rattle.vlp_problem.specs.declared.problem.Problem.{Problem}
@@ -133,25 +133,25 @@ module _ {F : Type 0} (value : F → ℚ) (file : Problem) (form : Data F) (w : 
       (sym (no_members (side_total file) file.objs file.cone direct))
 
   -- the numbers of the columns in equation k
-  pub given_row_is : (others : List (List (Cell F))) (v : List ℚ) (k : ℕ) →
+  pub given_row_is : (others : List (List (Spot F))) (v : List ℚ) (k : ℕ) →
       ((j : ℕ) → across value j others ≡ given_row value form j ++ negated (given_row value form j)) →
       1 ≤ k → k ≤ given_equations form →
       across value k (map (λ s. s.g) form.sides ++ others)
       ≡ row_of (weight_system file v).equations k
   given_row_is others v k numbers low high =
-      map-append (λ cells. sum_at (entries value cells) k) (map (λ s. s.g) form.sides) others
+      map-append (λ spots. sum_at (entries value spots) k) (map (λ s. s.g) form.sides) others
       ∙ ap₂ (λ a b. a ++ b)
-      (map-map (λ cells. sum_at (entries value cells) k) (λ s. s.g) form.sides) (numbers k)
+      (map-map (λ spots. sum_at (entries value spots) k) (λ s. s.g) form.sides) (numbers k)
       ∙ sym (append_assoc (side_row k) (given_row value form k) (negated (given_row value form k)))
       ∙ sym (append-nil ((side_row k ++ given_row value form k) ++ negated (given_row value form k)))
       ∙ row_is k low high ∙ ap (λ rows. row_of rows k) (equations_are v)
 
 -- how many columns there are
-pub given_long : {F : Type 0} (value : F → ℚ) (form : Data F) (others : List (List (Cell F))) →
+pub given_long : {F : Type 0} (value : F → ℚ) (form : Data F) (others : List (List (Spot F))) →
     AreGiven value form others → length others ≡ length form.p + length form.p
 given_long value form others h =
     let v : List ℚ = given_row value form 0 in
     let v_long : length v ≡ length form.p =
     length-list_from 1 (length form.p) (λ i. given_entry value form i 0) in
-    sym (length-map others (λ cells. sum_at (entries value cells) 0)) ∙ ap length (h.numbers 0)
+    sym (length-map others (λ spots. sum_at (entries value spots) 0)) ∙ ap length (h.numbers 0)
     ∙ omega (arith, length-append v (negated v), length-map v neg_ℚ, v_long)

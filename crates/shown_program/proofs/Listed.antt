@@ -7,7 +7,7 @@ use Rattle.std.specs.List.{list_all}
 use Rattle.std.proofs.lemmas.List.{get_or-append_right, get_or-map, get_or_append_left, get_or_default, length-append, length-map}
 use Rattle.std.proofs.lemmas.List.Elements.{All-head, All-tail}
 use Rattle.polyhedra.proofs.Tests.{both_true}
-use Rattle.lin_rows.specs.declared.cells.Cell.{Cell}
+use Rattle.lin_rows.specs.declared.spots.Spot.{Spot}
 use Rattle.lp_form.specs.Shapes.{are_places}
 use Rattle.lp_form.specs.declared.data.SideOf.{SideOf}
 use Rattle.lp_form.proofs.Steps.{each_passes}
@@ -31,23 +31,23 @@ same_lists E h (x ∷ xs) (y ∷ ys) e =
     let b = both_true (E x y) (pointwise E xs ys) e in
     ap₂ (λ a c. a ∷ c) (h x y b.0) (same_lists E h xs ys b.1)
 
--- the place of a cell
-pub place_in : {F : Type 0} (n low : ℕ) (cells : List (Cell F)) (i : ℕ) (c : Cell F) →
-    are_places n low cells ≡ true → i < length cells → c ≡ slice_index_or cells i c →
+-- the place of a spot
+pub place_in : {F : Type 0} (n low : ℕ) (spots : List (Spot F)) (i : ℕ) (c : Spot F) →
+    are_places n low spots ≡ true → i < length spots → c ≡ slice_index_or spots i c →
     (low < c.at) × (c.at ≤ n)
 place_in n low [] i c h l is = absurd (omega arith)
-place_in n low (x ∷ cells) zero c h l is =
-    let first = both_true (nat_lt low x.at) (nat_le x.at n && are_places n x.at cells) h in
-    let second = both_true (nat_le x.at n) (are_places n x.at cells) first.1 in
+place_in n low (x ∷ spots) zero c h l is =
+    let first = both_true (nat_lt low x.at) (nat_le x.at n && are_places n x.at spots) h in
+    let second = both_true (nat_le x.at n) (are_places n x.at spots) first.1 in
     let above : low < x.at = ltb-true low x.at first.0 in
     let inside : x.at ≤ n = leb-true x.at n second.0 in
     let same : c.at ≡ x.at = ap (λ d. d.at) is in
     (omega arith, omega arith)
-place_in n low (x ∷ cells) (suc i) c h l is =
-    let first = both_true (nat_lt low x.at) (nat_le x.at n && are_places n x.at cells) h in
-    let second = both_true (nat_le x.at n) (are_places n x.at cells) first.1 in
+place_in n low (x ∷ spots) (suc i) c h l is =
+    let first = both_true (nat_lt low x.at) (nat_le x.at n && are_places n x.at spots) h in
+    let second = both_true (nat_le x.at n) (are_places n x.at spots) first.1 in
     let above : low < x.at = ltb-true low x.at first.0 in
-    let later = place_in n x.at cells i c second.1 (omega arith) is in
+    let later = place_in n x.at spots i c second.1 (omega arith) is in
     (omega (arith, above, later.0), later.1)
 
 pub passes_at : {X : Type 0} (p : X → Bool) (xs : List X) (i : ℕ) (d : X) → list_all p xs ≡ true →
@@ -62,8 +62,8 @@ one_unit [] j l = absurd (omega arith)
 one_unit (u ∷ units) zero l = refl
 one_unit (u ∷ units) (suc j) l = one_unit units j (omega arith)
 
-module _ {F : Type 0} (sides : List (SideOf F)) (others : List (List (Cell F)))
-    (units : List (Cell F)) where
+module _ {F : Type 0} (sides : List (SideOf F)) (others : List (List (Spot F)))
+    (units : List (Spot F)) where
   pub length-all : length (all_columns sides others units)
       ≡ length sides + length others + length units
   length-all =

@@ -14,7 +14,7 @@ use Rattle.tableaux.proofs.Definition.{slice_eq, unit_entry}
 use Rattle.tableaux.proofs.Places.{delta, delta-other, delta-same, entry-plus, entry-scaled, length-list_from, listed-is, listed-place, same_or_other}
 use Rattle.tableaux.proofs.Unique.{dot-unit}
 use Rattle.lin_rows.specs.Lines.{Rises, entries, entry_of, sum_at}
-use Rattle.lin_rows.specs.declared.cells.Cell.{Cell}
+use Rattle.lin_rows.specs.declared.spots.Spot.{Spot}
 use Rattle.lin_rows.proofs.Merging.{not_same, shown}
 use Rattle.lp_form.specs.Shapes.{are_places}
 use Rattle.lp_form.proofs.Figures.{places_rise}
@@ -69,32 +69,32 @@ weighed_is n low (e ∷ es) y l h =
     ∙ dot-plus y own (listed n (sum_at es)))
 
 module _ {F : Type 0} (value : F → ℚ) where
-  -- one cell more
-  pub weighed_more : (cells : List (Cell F)) (i : ℕ) (cell : Cell F) (y : List ℚ)
-      (all old new : ℚ) → i < length cells → cell ≡ slice_index_or cells i cell →
-      new ≡ old +ℚ value cell.value *ℚ entry y cell.at →
-      old +ℚ weighed (entries value (drop i cells)) y ≡ all →
-      new +ℚ weighed (entries value (drop (i + 1) cells)) y ≡ all
-  weighed_more cells i cell y all old new l is step kept =
-      let rest : ℚ = weighed (entries value (drop (i + 1) cells)) y in
+  -- one spot more
+  pub weighed_more : (spots : List (Spot F)) (i : ℕ) (spot : Spot F) (y : List ℚ)
+      (all old new : ℚ) → i < length spots → spot ≡ slice_index_or spots i spot →
+      new ≡ old +ℚ value spot.value *ℚ entry y spot.at →
+      old +ℚ weighed (entries value (drop i spots)) y ≡ all →
+      new +ℚ weighed (entries value (drop (i + 1) spots)) y ≡ all
+  weighed_more spots i spot y all old new l is step kept =
+      let rest : ℚ = weighed (entries value (drop (i + 1) spots)) y in
       ap (λ q. q +ℚ rest) step
-      ∙ add_assoc_ℚ old (value cell.value *ℚ entry y cell.at) rest
+      ∙ add_assoc_ℚ old (value spot.value *ℚ entry y spot.at) rest
       ∙ ap (λ cs. old +ℚ weighed (entries value cs) y)
-      (sym (drop_more cells i cell l ∙ ap (λ c. c ∷ drop (i + 1) cells) (sym is)))
+      (sym (drop_more spots i spot l ∙ ap (λ c. c ∷ drop (i + 1) spots) (sym is)))
       ∙ kept
 
-  -- all cells are taken
-  pub weighed_end : (cells : List (Cell F)) (i : ℕ) (y : List F) (total : ℚ) →
-      length cells ≤ i → are_places (length y) 0 cells ≡ true →
-      total +ℚ weighed (entries value (drop i cells)) (map value y)
-      ≡ weighed (entries value cells) (map value y) →
-      total ≡ dot (map value y) (filled value (length y) cells)
-  weighed_end cells i y total l places kept =
+  -- all spots are taken
+  pub weighed_end : (spots : List (Spot F)) (i : ℕ) (y : List F) (total : ℚ) →
+      length spots ≤ i → are_places (length y) 0 spots ≡ true →
+      total +ℚ weighed (entries value (drop i spots)) (map value y)
+      ≡ weighed (entries value spots) (map value y) →
+      total ≡ dot (map value y) (filled value (length y) spots)
+  weighed_end spots i y total l places kept =
       sym (add-zero_ℚ total)
-      ∙ ap (λ cs. total +ℚ weighed (entries value cs) (map value y)) (sym (drop_all i cells l))
+      ∙ ap (λ cs. total +ℚ weighed (entries value cs) (map value y)) (sym (drop_all i spots l))
       ∙ kept
-      ∙ weighed_is (length y) 0 (entries value cells) (map value y) (length-map y value)
-      (places_rise value (length y) 0 cells places)
+      ∙ weighed_is (length y) 0 (entries value spots) (map value y) (length-map y value)
+      (places_rise value (length y) 0 spots places)
 
   -- ---- multiples
   -- what is still to be added makes the new numbers x times the column more than the first ones
@@ -106,68 +106,68 @@ module _ {F : Type 0} (value : F → ℚ) where
   added_at : (a x v t : ℚ) → (a +ℚ x *ℚ v) +ℚ x *ℚ t ≡ a +ℚ x *ℚ (v +ℚ t)
   added_at a x v t = add_assoc_ℚ a (x *ℚ v) (x *ℚ t) ∙ ap (λ q. a +ℚ q) (sym (mul-add_ℚ x v t))
 
-  pub added_more : (x : ℚ) (cells : List (Cell F)) (i : ℕ) (cell : Cell F) (first : List ℚ)
-      (ts : List F) (old new : F) → i < length cells → cell ≡ slice_index_or cells i cell →
-      1 ≤ cell.at → cell.at ≤ length ts → value old ≡ entry (map value ts) cell.at →
-      value new ≡ value old +ℚ x *ℚ value cell.value →
-      AreAdded x (entries value cells) (entries value (drop i cells)) first (map value ts) →
-      AreAdded x (entries value cells) (entries value (drop (i + 1) cells)) first
-      (map value (slice_set ts (cell.at - 1) new))
-  added_more x cells i cell first ts old new l is low high at_old step kept =
-      let rest : List Entry = entries value (drop (i + 1) cells) in
-      let now : List ℚ = map value (slice_set ts (cell.at - 1) new) in
-      let split : entries value (drop i cells) ≡ entry_of value cell ∷ rest =
-      ap (entries value) (drop_more cells i cell l ∙ ap (λ c. c ∷ drop (i + 1) cells) (sym is)) in
-      let sets : now ≡ slice_set (map value ts) (cell.at - 1) (value new) =
-      map-set value ts (cell.at - 1) new in
-      let inside : cell.at - 1 < length (map value ts) = omega (arith, length-map ts value) in
+  pub added_more : (x : ℚ) (spots : List (Spot F)) (i : ℕ) (spot : Spot F) (first : List ℚ)
+      (ts : List F) (old new : F) → i < length spots → spot ≡ slice_index_or spots i spot →
+      1 ≤ spot.at → spot.at ≤ length ts → value old ≡ entry (map value ts) spot.at →
+      value new ≡ value old +ℚ x *ℚ value spot.value →
+      AreAdded x (entries value spots) (entries value (drop i spots)) first (map value ts) →
+      AreAdded x (entries value spots) (entries value (drop (i + 1) spots)) first
+      (map value (slice_set ts (spot.at - 1) new))
+  added_more x spots i spot first ts old new l is low high at_old step kept =
+      let rest : List Entry = entries value (drop (i + 1) spots) in
+      let now : List ℚ = map value (slice_set ts (spot.at - 1) new) in
+      let split : entries value (drop i spots) ≡ entry_of value spot ∷ rest =
+      ap (entries value) (drop_more spots i spot l ∙ ap (λ c. c ∷ drop (i + 1) spots) (sym is)) in
+      let sets : now ≡ slice_set (map value ts) (spot.at - 1) (value new) =
+      map-set value ts (spot.at - 1) new in
+      let inside : spot.at - 1 < length (map value ts) = omega (arith, length-map ts value) in
       record {
-        long = length-map (slice_set ts (cell.at - 1) new) value
-            ∙ length-set ts (cell.at - 1) new ∙ sym (length-map ts value) ∙ kept.long;
+        long = length-map (slice_set ts (spot.at - 1) new) value
+            ∙ length-set ts (spot.at - 1) new ∙ sym (length-map ts value) ∙ kept.long;
         sums = λ j from_one.
-            by_place j from_one rest now sets inside (cases_eq cell.at j)
+            by_place j from_one rest now sets inside (cases_eq spot.at j)
             ∙ ap (λ es. entry (map value ts) j +ℚ x *ℚ sum_at es j) (sym split)
             ∙ kept.sums j from_one;
       }
     where
       by_place : (j : ℕ) → 1 ≤ j → (rest : List Entry) (now : List ℚ) →
-          now ≡ slice_set (map value ts) (cell.at - 1) (value new) →
-          cell.at - 1 < length (map value ts) → (cell.at ≡ j) ⊎ (cell.at ≡ j → ⊥) →
+          now ≡ slice_set (map value ts) (spot.at - 1) (value new) →
+          spot.at - 1 < length (map value ts) → (spot.at ≡ j) ⊎ (spot.at ≡ j → ⊥) →
           entry now j +ℚ x *ℚ sum_at rest j
-          ≡ entry (map value ts) j +ℚ x *ℚ sum_at (entry_of value cell ∷ rest) j
+          ≡ entry (map value ts) j +ℚ x *ℚ sum_at (entry_of value spot ∷ rest) j
       by_place j from_one rest now sets inside (inl same) =
-          let here : entry now j ≡ entry (map value ts) j +ℚ x *ℚ value cell.value =
+          let here : entry now j ≡ entry (map value ts) j +ℚ x *ℚ value spot.value =
           ap (λ v. entry v j) sets ∙ ap (λ k. slice_index_or (slice_set (map value ts) k (value new)) (j - 1) zero_ℚ) (ap (λ a. a - 1) same)
           ∙ get_or-set_same (map value ts) (j - 1) (value new) zero_ℚ (omega (arith, inside, same))
-          ∙ step ∙ ap (λ q. q +ℚ x *ℚ value cell.value)
+          ∙ step ∙ ap (λ q. q +ℚ x *ℚ value spot.value)
           (at_old ∙ ap (entry (map value ts)) same) in
           ap (λ q. q +ℚ x *ℚ sum_at rest j) here
-          ∙ added_at (entry (map value ts) j) x (value cell.value) (sum_at rest j)
-          ∙ ap (λ b. entry (map value ts) j +ℚ x *ℚ (shown b (value cell.value) +ℚ sum_at rest j))
-          (sym (same_true cell.at j same))
+          ∙ added_at (entry (map value ts) j) x (value spot.value) (sum_at rest j)
+          ∙ ap (λ b. entry (map value ts) j +ℚ x *ℚ (shown b (value spot.value) +ℚ sum_at rest j))
+          (sym (same_true spot.at j same))
       by_place j from_one rest now sets inside (inr other) =
           ap₂ (λ a b. a +ℚ x *ℚ b)
           (ap (λ v. entry v j) sets
-          ∙ get_or-set_other (map value ts) (cell.at - 1) (j - 1) (value new) zero_ℚ (λ e. other (omega (arith, e))))
-          (sym (ap (λ b. shown b (value cell.value) +ℚ sum_at rest j) (not_same cell.at j other)
+          ∙ get_or-set_other (map value ts) (spot.at - 1) (j - 1) (value new) zero_ℚ (λ e. other (omega (arith, e))))
+          (sym (ap (λ b. shown b (value spot.value) +ℚ sum_at rest j) (not_same spot.at j other)
           ∙ zero-add_ℚ (sum_at rest j)))
 
   pub added_none : (x : ℚ) (es : List Entry) (first : List ℚ) → AreAdded x es es first first
   added_none x es first = record { long = refl; sums = λ j l. refl }
 
   -- nothing is left to be added
-  pub added_end : (x : ℚ) (cells : List (Cell F)) (rest : List Entry) (ts : List F)
+  pub added_end : (x : ℚ) (spots : List (Spot F)) (rest : List Entry) (ts : List F)
       (now : List ℚ) → ((j : ℕ) → x *ℚ sum_at rest j ≡ zero_ℚ) →
-      AreAdded x (entries value cells) rest (map value ts) now →
-      now ≡ plus (map value ts) (scaled x (filled value (length ts) cells))
-  added_end x cells rest ts now none kept =
+      AreAdded x (entries value spots) rest (map value ts) now →
+      now ≡ plus (map value ts) (scaled x (filled value (length ts) spots))
+  added_end x spots rest ts now none kept =
       let n : ℕ = length ts in
       let first : List ℚ = map value ts in
-      let column : List ℚ = filled value n cells in
+      let column : List ℚ = filled value n spots in
       let total : List ℚ = plus first (scaled x column) in
       let first_long : length first ≡ n = length-map ts value in
       let long : length (scaled x column) ≡ n =
-      length-scaled x column ∙ length-list_from 1 n (sum_at (entries value cells)) in
+      length-scaled x column ∙ length-list_from 1 n (sum_at (entries value spots)) in
       slice_eq now total
       (kept.long ∙ first_long ∙ sym (length-plus n first (scaled x column) first_long long))
       (λ k l.
@@ -177,7 +177,7 @@ module _ {F : Type 0} (value : F → ℚ) where
       ∙ ap (λ q. entry now (1 + k) +ℚ q) (sym (none (1 + k)))
       ∙ kept.sums (1 + k) (omega arith)
       ∙ ap (λ q. entry first (1 + k) +ℚ x *ℚ q)
-      (sym (listed-place n (sum_at (entries value cells)) (1 + k) zero_ℚ (omega arith) inside))
+      (sym (listed-place n (sum_at (entries value spots)) (1 + k) zero_ℚ (omega arith) inside))
       ∙ ap (λ q. entry first (1 + k) +ℚ q) (sym (entry-scaled x column (1 + k)))
       ∙ sym (entry-plus first (scaled x column) (1 + k))
       ∙ ap (λ i. slice_index_or total i zero_ℚ) (next k))

@@ -7,7 +7,7 @@ use Rattle.polyhedra.specs.Negatives.{negated}
 use Rattle.polyhedra.specs.Sparse.{Entry}
 use Rattle.tableaux.specs.Table.{artificial_sign, column_of, listed, row_of}
 use Rattle.lin_rows.specs.Lines.{Rises, entries, last_place, sum_at}
-use Rattle.lin_rows.specs.declared.cells.Cell.{Cell}
+use Rattle.lin_rows.specs.declared.spots.Spot.{Spot}
 use Rattle.vlp_problem.specs.declared.problem.Cone.{Cone}
 use Rattle.vlp_problem.specs.declared.problem.Cone.TheVariants.{Orthant, Gens, Dual}
 use Rattle.lp_form.specs.Data.{cone_of}
@@ -82,8 +82,8 @@ given_entry value form i k =
     +ℚ single (form.cols + i) one_ℚ k
 
 -- the numbers of columns in equation k
-abbrev pub across : {F : Type 0} → (F → ℚ) → ℕ → List (List (Cell F)) → List ℚ
-across value k columns = map (λ cells. sum_at (entries value cells) k) columns
+abbrev pub across : {F : Type 0} → (F → ℚ) → ℕ → List (List (Spot F)) → List ℚ
+across value k columns = map (λ spots. sum_at (entries value spots) k) columns
 
 -- what the unknowns of w have in equation k, and those after it
 abbrev pub weight_row : {F : Type 0} → (F → ℚ) → Data F → List F → ℕ → List ℚ
@@ -100,6 +100,6 @@ given_row value form k = listed (length form.p) (λ i. given_entry value form i 
 
 -- more columns of n places, which have these numbers in equation k
 pub record AreAppended {F : Type 0} (value : F → ℚ) (n : ℕ) (more : ℕ → List ℚ)
-    (old new : List (List (Cell F))) : Type 0 where
+    (old new : List (List (Spot F))) : Type 0 where
   pub numbers : (k : ℕ) → across value k new ≡ across value k old ++ more k
   pub places : IsTrue (list_all (are_places n 0) old) → IsTrue (list_all (are_places n 0) new)

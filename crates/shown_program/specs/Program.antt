@@ -3,17 +3,17 @@ use Rattle.std.specs.Prelude.{ℕ, ◌+◌, ◌-◌, ◌≤◌, ◌≡◌, List,
 use Rattle.exact_field.specs.Rational.{ℚ}
 use Rattle.tableaux.specs.Table.{Table, System, IsSystem, equation_count, unknown_count}
 use Rattle.tableaux.specs.Optimum.{equations_at}
-use Rattle.lin_rows.specs.declared.cells.Cell.{Cell}
+use Rattle.lin_rows.specs.declared.spots.Spot.{Spot}
 use Rattle.shown_program.specs.Columns.{all_columns, filled}
 use Rattle.shown_program.specs.declared.columns.Columns.{Columns}
 
--- the cells of column k
-abbrev pub cells_at : {F : Type 0} → Columns F → ℕ → List (Cell F)
-cells_at p k = slice_index_or (all_columns p.sides.now p.others p.units) (k - 1) []
+-- the spots of column k
+abbrev pub spots_at : {F : Type 0} → Columns F → ℕ → List (Spot F)
+spots_at p k = slice_index_or (all_columns p.sides.now p.others p.units) (k - 1) []
 
 -- its numbers, one for each equation
 abbrev pub column_in : {F : Type 0} → (F → ℚ) → Columns F → ℕ → List ℚ
-column_in value p k = filled value (length p.right) (cells_at p k)
+column_in value p k = filled value (length p.right) (spots_at p k)
 
 -- those of some columns
 abbrev pub vectors_in : {F : Type 0} → (F → ℚ) → Columns F → List ℕ → Table

@@ -5,7 +5,7 @@ ghost use Rattle.lp_form.specs.Shapes.{are_places};
 ghost use Rattle.shown_program.specs.Columns.{all_columns};
 
 use exact_field::Field;
-use lin_rows::cells::Cell;
+use lin_rows::spots::Spot;
 use lp_form::SideOf;
 use src_sink::Items;
 
@@ -16,9 +16,9 @@ pub(crate) struct Columns<'a, F: Drop> {
     /// The first unknowns have the vectors of these sides.
     pub(crate) sides: &'a [SideOf<F>],
     /// The columns of the other unknowns.
-    pub(crate) others: Items<Items<Cell<F>>>,
+    pub(crate) others: Items<Items<Spot<F>>>,
     /// The artificial columns, of one entry each.
-    pub(crate) units: Items<Cell<F>>,
+    pub(crate) units: Items<Spot<F>>,
     /// The right side of each equation.
     pub(crate) right: Items<F>,
     /// The cost of each unknown.
@@ -50,10 +50,10 @@ impl<'a, F: Field> Columns<'a, F> {
     }
 
     /// Column `k`: those of the unknowns, and after them the artificial ones.
-    pub(crate) fn column(&self, k: usize) -> &[Cell<F>]
+    pub(crate) fn column(&self, k: usize) -> &[Spot<F>]
         requires low { 1 ≤ k }
         requires high { k ≤ length self.now.cost + length self.now.right }
-        ensures cells { result.now
+        ensures spots { result.now
             ≡ slice_index_or (all_columns self.now.sides.now self.now.others self.now.units) (k - 1)
             [] }
         ensures places { IsTrue (are_places (length self.now.right) 0 result.now) }
@@ -71,14 +71,14 @@ impl<'a, F: Field> Columns<'a, F> {
     }
 
     /// The column that stands at place `k` of a list, from 1: none where no column stands there.
-    pub(crate) fn find_listed(&self, columns: &[u32], k: u32) -> Option<&[Cell<F>]>
+    pub(crate) fn find_listed(&self, columns: &[u32], k: u32) -> Option<&[Spot<F>]>
         requires { AreInRange self.now columns.now }
-        ensures place { IfSome result (λ cells. (1 ≤ k) × (k ≤ length columns.now)) }
+        ensures place { IfSome result (λ spots. (1 ≤ k) × (k ≤ length columns.now)) }
         ensures places { IfSome result
-            (λ cells. IsTrue (are_places (length self.now.right) 0 cells.now)) }
-        ensures entries { IfSome result (λ cells. (j : ℕ) → 1 ≤ j → j ≤ length self.now.right
+            (λ spots. IsTrue (are_places (length self.now.right) 0 spots.now)) }
+        ensures entries { IfSome result (λ spots. (j : ℕ) → 1 ≤ j → j ≤ length self.now.right
             → at (vectors_in F.value self.now columns.now) k j
-            ≡ sum_at (entries F.value cells.now) j) }
+            ≡ sum_at (entries F.value spots.now) j) }
     {
         if k == 0 {
             return None;

@@ -7,7 +7,7 @@ ghost use Rattle.shown_program.specs.Columns.{filled};
 
 use exact_field::{Field, is_zero};
 use lin_rows::add_product;
-use lin_rows::cells::Cell;
+use lin_rows::spots::Spot;
 
 /// The number at a place, from 1.
 pub(crate) fn number_at<F: Field>(list: &[F], place: u32) -> F
@@ -28,14 +28,14 @@ pub(crate) fn put<F: Field>(list: &mut [F], place: u32, value: F)
 }
 
 /// The product of a column with a multiplier for each equation; none where a number is not held.
-pub(crate) fn product<F: Field>(cells: &[Cell<F>], y: &[F]) -> Option<F>
-    requires { IsTrue (are_places (length y.now) 0 cells.now) }
+pub(crate) fn product<F: Field>(spots: &[Spot<F>], y: &[F]) -> Option<F>
+    requires { IsTrue (are_places (length y.now) 0 spots.now) }
     ensures { IfSome result
-        (λ r. F.value r ≡ dot (map F.value y.now) (filled F.value (length y.now) cells.now)) }
+        (λ r. F.value r ≡ dot (map F.value y.now) (filled F.value (length y.now) spots.now)) }
 {
     let mut total = F::zero();
-    for cell in cells {
-        match add_product(total, cell.value, number_at(y, cell.at)) {
+    for spot in spots {
+        match add_product(total, spot.value, number_at(y, spot.at)) {
             Err(_) => return None,
             Ok(sum) => total = sum,
         }
@@ -44,20 +44,20 @@ pub(crate) fn product<F: Field>(cells: &[Cell<F>], y: &[F]) -> Option<F>
 }
 
 /// Adds `x` times a column. Answers whether each number is held: if not, the sum is of no use.
-pub(crate) fn add_multiple<F: Field>(total: &mut [F], x: F, cells: &[Cell<F>]) -> bool
-    requires { IsTrue (are_places (length total.old) 0 cells.now) }
+pub(crate) fn add_multiple<F: Field>(total: &mut [F], x: F, spots: &[Spot<F>]) -> bool
+    requires { IsTrue (are_places (length total.old) 0 spots.now) }
     ensures { IsTrue result
         → map F.value total.new
         ≡ plus (map F.value total.old)
-        (scaled (F.value x) (filled F.value (length total.old) cells.now)) }
+        (scaled (F.value x) (filled F.value (length total.old) spots.now)) }
 {
     if is_zero(x) {
         return true;
     }
-    for cell in cells {
-        match add_product(number_at(total, cell.at), x, cell.value) {
+    for spot in spots {
+        match add_product(number_at(total, spot.at), x, spot.value) {
             Err(_) => return false,
-            Ok(sum) => put(total, cell.at, sum),
+            Ok(sum) => put(total, spot.at, sum),
         }
     }
     true

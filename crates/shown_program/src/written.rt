@@ -19,37 +19,37 @@ ghost use Rattle.shown_program.specs.Written.{AreGiven, AreOthers, IsAssembled, 
 
 use crate::columns::Columns;
 use exact_field::{Field, is_negative, is_zero};
-use lin_rows::cells::Cell;
+use lin_rows::spots::Spot;
 use lp_form::{ConeOf, Data, LpName, column, negative, zeros};
 use src_sink::{Items, NoMemory};
 use std::alloc::Global;
 
 /// The negative of a column.
-fn negative_of<F: Field>(alloc: Global, cells: &[Cell<F>]) -> Result<Items<Cell<F>>, NoMemory>
-    ensures { IfOk result (λ list. entries F.value list ≡ negatives (entries F.value cells.now)) }
+fn negative_of<F: Field>(alloc: Global, spots: &[Spot<F>]) -> Result<Items<Spot<F>>, NoMemory>
+    ensures { IfOk result (λ list. entries F.value list ≡ negatives (entries F.value spots.now)) }
 {
     let mut list = Items::new(alloc);
-    for cell in cells {
-        let at = cell.at;
-        let value = cell.value.neg();
-        list.push(Cell { at, value })?;
+    for spot in spots {
+        let at = spot.at;
+        let value = spot.value.neg();
+        list.push(Spot { at, value })?;
     }
     Ok(list)
 }
 
 /// Appends a number at a place, unless it is 0.
-fn push_kept<F: Field>(list: &mut Items<Cell<F>>, at: u32, value: F) -> Result<(), NoMemory>
+fn push_kept<F: Field>(list: &mut Items<Spot<F>>, at: u32, value: F) -> Result<(), NoMemory>
     ensures { OnOk result
         (Writes at (F.value value) (entries F.value list.old) (entries F.value list.new)) }
 {
     if is_zero(value) {
         return Ok(());
     }
-    list.push(Cell { at, value })
+    list.push(Spot { at, value })
 }
 
 /// Appends the numbers of a list at the places after `base`.
-fn push_list<F: Field>(list: &mut Items<Cell<F>>, base: u32, numbers: &[F]) -> Result<(), NoMemory>
+fn push_list<F: Field>(list: &mut Items<Spot<F>>, base: u32, numbers: &[F]) -> Result<(), NoMemory>
     requires { base + length numbers.now < 4294967296 }
     ensures { (n : ℕ) → Rises n 0 (entries F.value list.old)
         → last_place 0 (entries F.value list.old) ≤ base → base + length numbers.now ≤ n
@@ -88,7 +88,7 @@ fn cone_unknowns<F: Field>(form: &Data<F>) -> u32
 /// Appends what unknown `i` of w has in the equations of the cone.
 fn push_member<F: Field>(
     alloc: Global,
-    list: &mut Items<Cell<F>>,
+    list: &mut Items<Spot<F>>,
     form: &Data<F>,
     i: u32,
 ) -> Result<(), NoMemory>
@@ -118,7 +118,7 @@ fn weight_column<F: Field>(
     form: &Data<F>,
     c: &[F],
     i: u32,
-) -> Result<Items<Cell<F>>, NoMemory>
+) -> Result<Items<Spot<F>>, NoMemory>
     requires low { 1 ≤ i }
     requires high { i ≤ length form.now.p }
     requires c { length c.now ≡ length form.now.p }
@@ -135,7 +135,7 @@ fn weight_column<F: Field>(
 /// Appends the columns of the unknowns of w.
 fn push_weights<F: Field>(
     alloc: Global,
-    list: &mut Items<Items<Cell<F>>>,
+    list: &mut Items<Items<Spot<F>>>,
     form: &Data<F>,
     c: &[F],
 ) -> Result<(), NoMemory>
@@ -144,27 +144,27 @@ fn push_weights<F: Field>(
         (weight_row F.value form.now c.now) list.old list.new) }
 {
     for i in 0..form.p.len() as u32 {
-        let cells = weight_column(alloc, form, c, i + 1)?;
-        list.push(cells)?;
+        let spots = weight_column(alloc, form, c, i + 1)?;
+        list.push(spots)?;
     }
     Ok(())
 }
 
 /// Appends the negative of each column.
-fn push_negatives<F: Field>(alloc: Global, list: &mut Items<Items<Cell<F>>>) -> Result<(), NoMemory>
+fn push_negatives<F: Field>(alloc: Global, list: &mut Items<Items<Spot<F>>>) -> Result<(), NoMemory>
     ensures { (n : ℕ)
         → OnOk result
         (AreAppended F.value n (λ k. negated (across F.value k list.old)) list.old list.new) }
 {
     for i in 0..list.len() {
-        let cells = negative_of(alloc, list.as_slice()[i].as_slice())?;
-        list.push(cells)?;
+        let spots = negative_of(alloc, list.as_slice()[i].as_slice())?;
+        list.push(spots)?;
     }
     Ok(())
 }
 
 /// A column of one entry.
-fn single_column<F: Field>(alloc: Global, place: u32, value: F) -> Result<Items<Cell<F>>, NoMemory>
+fn single_column<F: Field>(alloc: Global, place: u32, value: F) -> Result<Items<Spot<F>>, NoMemory>
     requires { 1 ≤ place }
     ensures { IfOk result (λ list. (n : ℕ) → place ≤ n
         → IsLineWith n (single place (F.value value)) (entries F.value list)) }
@@ -179,7 +179,7 @@ fn list_column<F: Field>(
     alloc: Global,
     base: u32,
     numbers: &[F],
-) -> Result<Items<Cell<F>>, NoMemory>
+) -> Result<Items<Spot<F>>, NoMemory>
     requires { base + length numbers.now < 4294967296 }
     ensures { IfOk result (λ list. (n : ℕ) → base + length numbers.now ≤ n
         → IsLineWith n (placed base (map F.value numbers.now)) (entries F.value list)) }
@@ -194,7 +194,7 @@ fn column_after_w<F: Field>(
     alloc: Global,
     form: &Data<F>,
     d: u32,
-) -> Result<Items<Cell<F>>, NoMemory>
+) -> Result<Items<Spot<F>>, NoMemory>
     requires low { 1 ≤ d }
     requires high { d ≤ dual_unknowns (length form.now.p) (cone_of F.value form.now.cone) }
     ensures { IfOk result (λ list. IsLineWith (benson_equations F.value form.now)
@@ -212,15 +212,15 @@ fn column_after_w<F: Field>(
 /// Appends the columns of the unknowns after w.
 fn push_after_w<F: Field>(
     alloc: Global,
-    list: &mut Items<Items<Cell<F>>>,
+    list: &mut Items<Items<Spot<F>>>,
     form: &Data<F>,
 ) -> Result<(), NoMemory>
     ensures { OnOk result (AreAppended F.value (benson_equations F.value form.now)
         (row_after_w F.value form.now) list.old list.new) }
 {
     for d in 0..cone_unknowns(form) {
-        let cells = column_after_w(alloc, form, d + 1)?;
-        list.push(cells)?;
+        let spots = column_after_w(alloc, form, d + 1)?;
+        list.push(spots)?;
     }
     Ok(())
 }
@@ -230,7 +230,7 @@ fn list_others<F: Field>(
     alloc: Global,
     form: &Data<F>,
     c: &[F],
-) -> Result<Items<Items<Cell<F>>>, NoMemory>
+) -> Result<Items<Items<Spot<F>>>, NoMemory>
     requires { length c.now ≡ length form.now.p }
     ensures { IfOk result (AreOthers F.value form.now c.now) }
 {
@@ -253,7 +253,7 @@ fn signed_one<F: Field>(right: F) -> F
 }
 
 /// The artificial columns, of one entry each.
-fn units<F: Field>(alloc: Global, right: &[F]) -> Result<Items<Cell<F>>, NoMemory>
+fn units<F: Field>(alloc: Global, right: &[F]) -> Result<Items<Spot<F>>, NoMemory>
     requires { length right.now < 4294967296 }
     ensures { IfOk result
         (λ units. entries F.value units ≡ unit_entries 0 (map F.value right.now)) }
@@ -262,7 +262,7 @@ fn units<F: Field>(alloc: Global, right: &[F]) -> Result<Items<Cell<F>>, NoMemor
     for i in 0..right.len() {
         let at = i as u32 + 1;
         let value = signed_one(right[i]);
-        units.push(Cell { at, value })?;
+        units.push(Spot { at, value })?;
     }
     Ok(units)
 }
@@ -271,7 +271,7 @@ fn units<F: Field>(alloc: Global, right: &[F]) -> Result<Items<Cell<F>>, NoMemor
 fn assemble<'a, F: Field>(
     alloc: Global,
     form: &'a Data<F>,
-    others: Items<Items<Cell<F>>>,
+    others: Items<Items<Spot<F>>>,
     right: Items<F>,
     cost: Items<F>,
 ) -> Result<Columns<'a, F>, NoMemory>
@@ -378,7 +378,7 @@ fn benson_columns<'a, F: Field>(
 
 /// The column of unknown `i` of w in the program of a weight: the negative of its objective, and 1
 /// in the equation that gives its entry.
-fn given_column<F: Field>(alloc: Global, form: &Data<F>, i: u32) -> Result<Items<Cell<F>>, NoMemory>
+fn given_column<F: Field>(alloc: Global, form: &Data<F>, i: u32) -> Result<Items<Spot<F>>, NoMemory>
     requires low { 1 ≤ i }
     requires high { i ≤ length form.now.p }
     ensures { IfOk result (λ list. IsLineWith (given_equations form.now)
@@ -392,21 +392,21 @@ fn given_column<F: Field>(alloc: Global, form: &Data<F>, i: u32) -> Result<Items
 /// Appends the columns of the unknowns of w in the program of a weight.
 fn push_given<F: Field>(
     alloc: Global,
-    list: &mut Items<Items<Cell<F>>>,
+    list: &mut Items<Items<Spot<F>>>,
     form: &Data<F>,
 ) -> Result<(), NoMemory>
     ensures { OnOk result (AreAppended F.value (given_equations form.now)
         (given_row F.value form.now) list.old list.new) }
 {
     for i in 0..form.p.len() as u32 {
-        let cells = given_column(alloc, form, i + 1)?;
-        list.push(cells)?;
+        let spots = given_column(alloc, form, i + 1)?;
+        list.push(spots)?;
     }
     Ok(())
 }
 
 /// The columns of the program of a weight that are not those of the sides.
-fn list_given<F: Field>(alloc: Global, form: &Data<F>) -> Result<Items<Items<Cell<F>>>, NoMemory>
+fn list_given<F: Field>(alloc: Global, form: &Data<F>) -> Result<Items<Items<Spot<F>>>, NoMemory>
     ensures { IfOk result (AreGiven F.value form.now) }
 {
     let mut list = Items::new(alloc);

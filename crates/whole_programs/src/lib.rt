@@ -15,7 +15,7 @@ mod whole;
 pub use limits::{Limits, boxes_of};
 pub use line::Line;
 pub use lists::{at, item, put};
-pub use program::{Entry, Program, Row, Term};
+pub use program::{Program, Row, Spot, Term};
 pub use stop::Stop;
 pub use whole::{
     Divisor, Ratio, StepLength, difference, keep, less_product, negative, plus_product, product,

@@ -15,18 +15,18 @@ pub struct Term<F> {
 
 /// A whole number at a place, from 0.
 #[derive(Clone, Copy, Debug)]
-pub struct Entry {
+pub struct Spot {
     pub at: usize,
     pub value: i128,
 }
 
-/// A row: its own variable is the product of the entries with the variables at their places.
+/// A row: its own variable is the product of the spots' values with the variables at their places.
 #[derive(Debug, Drop)]
 pub struct Row {
     pub variable: usize,
-    /// What makes the entries whole.
+    /// What makes the values whole.
     pub scale: i128,
-    pub entries: Vec<Entry>,
+    pub spots: Vec<Spot>,
 }
 
 /// The rows of a program, and its variables. Each is the value of a row, or has a column.
@@ -35,8 +35,8 @@ pub struct Program {
     alloc: Global,
     /// For each variable the row that it is the value of.
     own_rows: Vec<Option<usize>>,
-    /// For each variable its entries in the rows, if it is not the value of one.
-    columns: Vec<Vec<Entry>>,
+    /// For each variable its spots in the rows, if it is not the value of one.
+    columns: Vec<Vec<Spot>>,
     rows: Vec<Row>,
 }
 
@@ -49,10 +49,10 @@ fn scale_of<F: Field>(terms: &[Term<F>]) -> Result<i128, Stop> {
     Ok(scale)
 }
 
-/// Appends an entry to a column.
-fn push_at(columns: &mut [Vec<Entry>], at: usize, entry: Entry) -> Result<(), Stop> {
+/// Appends a spot to a column.
+fn push_at(columns: &mut [Vec<Spot>], at: usize, spot: Spot) -> Result<(), Stop> {
     if at < columns.len() {
-        columns[at].push(entry)?;
+        columns[at].push(spot)?;
         Ok(())
     } else {
         Err(Stop::Declined)
@@ -85,8 +85,8 @@ impl Program {
         self.own_rows.as_slice()
     }
 
-    /// The entries of a variable that is not the value of a row.
-    pub fn column(&self, variable: usize) -> Result<&[Entry], Stop> {
+    /// The spots of a variable that is not the value of a row.
+    pub fn column(&self, variable: usize) -> Result<&[Spot], Stop> {
         Ok(item(&self.columns, variable)?.as_slice())
     }
 
@@ -107,23 +107,23 @@ impl Program {
         Ok(variable)
     }
 
-    /// Appends a row with its variable, and answers the variable. It declines where an entry is too
+    /// Appends a row with its variable, and answers the variable. It declines where a value is too
     /// long once the row's are whole.
     pub fn push_row<F: Field>(&mut self, terms: &[Term<F>]) -> Result<usize, Stop> {
         let scale = scale_of(terms)?;
         let row = self.rows.len();
-        let mut entries = Vec::new(self.alloc);
+        let mut spots = Vec::new(self.alloc);
         for term in terms {
             let at = term.at;
             let value = entry(Ratio::times(term.value, scale)?.at_unit(1)?)?;
-            entries.push(Entry { at, value })?;
-            push_at(&mut self.columns, at, Entry { at: row, value })?;
+            spots.push(Spot { at, value })?;
+            push_at(&mut self.columns, at, Spot { at: row, value })?;
         }
         let variable = self.push_own(Some(row))?;
         self.rows.push(Row {
             variable,
             scale,
-            entries,
+            spots,
         })?;
         Ok(variable)
     }

@@ -78,8 +78,8 @@ fn take_product(
 /// Adds a multiple of a row of the program, outside the basis.
 fn add_row(line: &mut Line, variables: &[Variable], row: &Row, factor: i128) -> Result<(), Stop> {
     take_product(line, variables, row.variable, factor, -1)?;
-    for entry in &row.entries {
-        take_product(line, variables, entry.at, factor, entry.value)?;
+    for spot in &row.spots {
+        take_product(line, variables, spot.at, factor, spot.value)?;
     }
     Ok(())
 }
@@ -201,8 +201,8 @@ impl Solver {
             return at(line, k);
         }
         let mut sum = 0;
-        for entry in self.program.column(variable)? {
-            sum = less_product(sum, at(line, entry.at)?, entry.value);
+        for spot in self.program.column(variable)? {
+            sum = less_product(sum, at(line, spot.at)?, spot.value);
         }
         Ok(sum)
     }

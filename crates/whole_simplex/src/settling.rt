@@ -2,9 +2,7 @@
 use crate::solver::Solver;
 use crate::variable::{Place, Variable};
 use std::alloc::Global;
-use whole_programs::{
-    Entry, Limits, Program, Ratio, Stop, at, difference, item, plus_product, put,
-};
+use whole_programs::{Limits, Program, Ratio, Spot, Stop, at, difference, item, plus_product, put};
 
 /// A multiple of a unit that is one of a bound's denominator too.
 fn unit_with(unit: i128, limit: Option<Ratio>) -> Result<i128, Stop> {
@@ -77,10 +75,10 @@ fn right_sides(
 }
 
 /// Adds a multiple of a column.
-fn add_column(right: &mut [i128], column: &[Entry], value: i128) -> Result<(), Stop> {
-    for entry in column {
-        let old = at(right, entry.at)?;
-        put(right, entry.at, plus_product(old, entry.value, value))?;
+fn add_column(right: &mut [i128], column: &[Spot], value: i128) -> Result<(), Stop> {
+    for spot in column {
+        let old = at(right, spot.at)?;
+        put(right, spot.at, plus_product(old, spot.value, value))?;
     }
     Ok(())
 }

@@ -5,8 +5,8 @@ use Rattle.lin_rows.specs.Lines.{Rises, entries, sum_at}
 use Rattle.exact_simplex.specs.declared.ratio.Candidate.{Candidate}
 use Rattle.exact_simplex.proofs.ratio.best_column.Given as goal
 
-abbrev pub invariant-loop-cell : goal.invariant-loop-cell
-invariant-loop-cell g l =
+abbrev pub invariant-loop-spot : goal.invariant-loop-spot
+invariant-loop-spot g l =
     let value = g.F.Field.value in
-    MatchOption l.best ((j : ℕ) → j ≤ l.count → zero_ℚ ≤ℚ sum_at (entries value (take l.cell-index l.row)) j)
+    MatchOption l.best ((j : ℕ) → j ≤ l.count → zero_ℚ ≤ℚ sum_at (entries value (take l.spot-index l.row)) j)
     (λ (b : Candidate). (n : ℕ) → Rises n 0 (entries value l.row) → (1 ≤ b.col) × (b.col ≤ l.count) × (sum_at (entries value l.row) b.col <ℚ zero_ℚ))

@@ -5,7 +5,7 @@ use Rattle.polyhedra.specs.Negatives.{negated}
 use Rattle.polyhedra.specs.Vectors.{zeros}
 use Rattle.tableaux.specs.Table.{listed}
 use Rattle.lin_rows.specs.Lines.{entries, sum_at}
-use Rattle.lin_rows.specs.declared.cells.Cell.{Cell}
+use Rattle.lin_rows.specs.declared.spots.Spot.{Spot}
 use Rattle.lp_form.specs.declared.data.SideOf.{SideOf}
 use Rattle.upper_image.specs.UpperImage.{objective_column}
 use Rattle.vlp_problem.specs.Sides.{side_column}
@@ -22,7 +22,7 @@ loop-j-preserved g c =
     let value = g.F.Field.value in
     let form = c.args.form.now in
     let h : SideOf _ → ℚ = λ s. sum_at (entries value s.g) (c.loop-j.j + 1) in
-    let k : List (Cell _) → ℚ = λ r. neg_ℚ (sum_at (entries value r) (c.loop-j.j + 1)) in
+    let k : List (Spot _) → ℚ = λ r. neg_ℚ (sum_at (entries value r) (c.loop-j.j + 1)) in
     λ file stands.
     let same_p = c.as_slice.ensures.items in
     let same_s = c.as_slice-in-loop-j.ensures.items in

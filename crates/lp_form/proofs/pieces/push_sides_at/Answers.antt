@@ -1,6 +1,6 @@
 use Rattle.std.proofs.Common.{◌≡◌, List, ◌++◌, map, true, sym, ap, ◌∙◌, subst, arith}
 use Rattle.lin_rows.specs.Lines.{entries, sum_at}
-use Rattle.lin_rows.specs.declared.cells.Cell.{Cell}
+use Rattle.lin_rows.specs.declared.spots.Spot.{Spot}
 use Rattle.lp_form.specs.Shapes.{are_places}
 use Rattle.lp_form.proofs.Figures.{places_rise}
 use Rattle.std.proofs.lemmas.List.{take_all}
@@ -15,8 +15,8 @@ loop-side-preserved g c =
     λ n h.
     let item = c.side-item.result in
     let places : are_places n 0 item.g ≡ true = each_passes (λ s. are_places n 0 s.g) sides c.loop-side.side-index item h c.loop-side-test.true c.side-item.is in
-    let own = c.entry_at.ensures n (subst (λ (cells : List (Cell _)). Rises n 0 (entries value cells)) (sym c.as_slice.ensures.items) (places_rise value n 0 item.g places))
-    ∙ ap (λ cells. sum_at (entries value cells) c.args.place) c.as_slice.ensures.items in
+    let own = c.entry_at.ensures n (subst (λ (spots : List (Spot _)). Rises n 0 (entries value spots)) (sym c.as_slice.ensures.items) (places_rise value n 0 item.g places))
+    ∙ ap (λ spots. sum_at (entries value spots) c.args.place) c.as_slice.ensures.items in
     taken_more (λ s. sum_at (entries value s.g) c.args.place) (map value c.args.list.now) (map value c.loop-side.list) (map value c.push.new.self) sides c.loop-side.side-index item c.loop-side-test.true
     c.side-item.is (c.loop-side.invariant n h) (value_pushed value c.loop-side.list c.push.new.self c.entry_at.result _ c.in_ok-push.ensures.ok own)
 

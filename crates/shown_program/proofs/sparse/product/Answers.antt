@@ -6,31 +6,31 @@ use Rattle.shown_program.proofs.Listed.{place_in}
 use Rattle.shown_program.proofs.Multiples.{weighed, weighed_end, weighed_more}
 use Rattle.shown_program.proofs.sparse.product.Goals as goal
 
-pub loop-cell-init : goal.loop-cell-init
-loop-cell-init g c =
+pub loop-spot-init : goal.loop-spot-init
+loop-spot-init g c =
     let value = g.F.Field.value in
-    let rest = weighed (entries value c.args.cells.now) (map value c.args.y.now) in
+    let rest = weighed (entries value c.args.spots.now) (map value c.args.y.now) in
     ap (λ q. q +ℚ rest) c.zero-total.ensures ∙ zero-add_ℚ rest
 
 pub number_at-requires : goal.number_at-requires
 number_at-requires g c =
-    let place = place_in (length c.args.y.now) 0 c.args.cells.now c.loop-cell.cell-index
-    c.cell-item.result c.requires c.loop-cell-test.true c.cell-item.is in
+    let place = place_in (length c.args.y.now) 0 c.args.spots.now c.loop-spot.spot-index
+    c.spot-item.result c.requires c.loop-spot-test.true c.spot-item.is in
     record { low = omega (arith, place.0); high = place.1 }
 
-pub loop-cell-preserved : goal.loop-cell-preserved
-loop-cell-preserved g c =
+pub loop-spot-preserved : goal.loop-spot-preserved
+loop-spot-preserved g c =
     let value = g.F.Field.value in
-    let cell = c.cell-item.result in
-    weighed_more value c.args.cells.now c.loop-cell.cell-index cell (map value c.args.y.now)
-    (weighed (entries value c.args.cells.now) (map value c.args.y.now)) (value c.loop-cell.total)
-    (value c.in-Ok.sum) c.loop-cell-test.true c.cell-item.is
-    (c.in-Ok.ensures.ok ∙ ap (λ q. value c.loop-cell.total +ℚ value cell.value *ℚ q)
+    let spot = c.spot-item.result in
+    weighed_more value c.args.spots.now c.loop-spot.spot-index spot (map value c.args.y.now)
+    (weighed (entries value c.args.spots.now) (map value c.args.y.now)) (value c.loop-spot.total)
+    (value c.in-Ok.sum) c.loop-spot-test.true c.spot-item.is
+    (c.in-Ok.ensures.ok ∙ ap (λ q. value c.loop-spot.total +ℚ value spot.value *ℚ q)
     c.number_at.ensures)
-    c.loop-cell.invariant
+    c.loop-spot.invariant
 
 pub returns : goal.returns
 returns g c =
     let value = g.F.Field.value in
-    weighed_end value c.args.cells.now c.loop-cell.cell-index c.args.y.now
-    (value c.loop-cell.total) (omega arith) c.requires c.loop-cell.invariant
+    weighed_end value c.args.spots.now c.loop-spot.spot-index c.args.y.now
+    (value c.loop-spot.total) (omega arith) c.requires c.loop-spot.invariant

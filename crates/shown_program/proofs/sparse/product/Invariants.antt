@@ -4,8 +4,8 @@ use Rattle.lin_rows.specs.Lines.{entries}
 use Rattle.shown_program.proofs.Multiples.{weighed}
 use Rattle.shown_program.proofs.sparse.product.Given as goal
 
-abbrev pub invariant-loop-cell : goal.invariant-loop-cell
-invariant-loop-cell g l =
+abbrev pub invariant-loop-spot : goal.invariant-loop-spot
+invariant-loop-spot g l =
     let value = g.F.Field.value in
-    value l.total +ℚ weighed (entries value (drop l.cell-index l.cells)) (map value l.y)
-    ≡ weighed (entries value l.cells) (map value l.y)
+    value l.total +ℚ weighed (entries value (drop l.spot-index l.spots)) (map value l.y)
+    ≡ weighed (entries value l.spots) (map value l.y)

@@ -7,7 +7,7 @@ use Rattle.tableaux.specs.Table.{row_of}
 use Rattle.vlp_problem.specs.declared.problem.Cone.{Cone}
 use Rattle.lin_rows.specs.Lines.{entries}
 use Rattle.lin_rows.specs.Read.{numbers}
-use Rattle.lin_rows.specs.declared.cells.Cell.{Cell}
+use Rattle.lin_rows.specs.declared.spots.Spot.{Spot}
 use Rattle.lp_form.specs.Data.{cone_of}
 use Rattle.lp_form.specs.Programs.{dual_equations, dual_unknowns}
 use Rattle.lp_form.proofs.Shaped.{dual_wide}

@@ -2,7 +2,7 @@ use Rattle.std.proofs.Common.{◌≡◌, ◌-◌, ◌∙◌, [], List, ap, arith
 use Rattle.std.proofs.lemmas.List.{get_or_default}
 use Rattle.exact_field.specs.Rational.{one_ℚ}
 use Rattle.lin_rows.specs.Lines.{Rises, entries}
-use Rattle.lin_rows.specs.declared.cells.Cell.{Cell}
+use Rattle.lin_rows.specs.declared.spots.Spot.{Spot}
 use Rattle.lp_form.specs.Shapes.{are_places}
 use Rattle.lp_form.proofs.Figures.{places_rise}
 use Rattle.shown_program.specs.Entries.{negatives}
@@ -16,14 +16,14 @@ returns g c =
     let form = c.args.form.now in
     let i = c.args.i in
     let cols = form.cols in
-    let cells : List (Cell _) = slice_index_or form.p (i - 1) [] in
-    let own = entries value cells in
-    let read : c.as_slice-2.result.now ≡ cells =
+    let spots : List (Spot _) = slice_index_or form.p (i - 1) [] in
+    let own = entries value spots in
+    let read : c.as_slice-2.result.now ≡ spots =
     c.as_slice-2.ensures.items ∙ c.index-as_slice-i.is
     ∙ ap (λ l. slice_index_or l (i - 1) c.index-as_slice-i.result) c.as_slice.ensures.items
     ∙ get_or_default form.p (i - 1) c.index-as_slice-i.result [] (omega arith) in
     let rises : Rises cols 0 own =
-    places_rise value cols 0 cells
+    places_rise value cols 0 spots
     (passes_at (are_places cols 0) form.p (i - 1) [] form.objective_places (omega arith)) in
     let first = entries value c.in_ok-list.list in
     let is : first ≡ negatives own =

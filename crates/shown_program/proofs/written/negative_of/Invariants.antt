@@ -3,7 +3,7 @@ use Rattle.lin_rows.specs.Lines.{entries}
 use Rattle.shown_program.specs.Entries.{negatives}
 use Rattle.shown_program.proofs.written.negative_of.Given as goal
 
-abbrev pub invariant-loop-cell : goal.invariant-loop-cell
-invariant-loop-cell g l =
+abbrev pub invariant-loop-spot : goal.invariant-loop-spot
+invariant-loop-spot g l =
     let value = g.F.Field.value in
-    entries value l.list ≡ negatives (entries value (take l.cell-index l.cells))
+    entries value l.list ≡ negatives (entries value (take l.spot-index l.spots))

@@ -15,5 +15,5 @@ loop-d-preserved g c =
     let f : ℕ → ℕ → ℚ = λ j k. after_w form.cols (cone_of value form.cone) j k in
     appended_more value (benson_equations value form) (λ k. listed d (λ j. f j k))
     (λ k. listed (d + 1) (λ j. f j k)) (f (d + 1)) c.args.list.now c.loop-d.list c.push.new.self
-    c.in_ok-cells.cells c.in_ok-push.ensures.ok c.in_ok-cells.ensures.sums
-    (λ ok. c.in_ok-cells.ensures.rises) (λ k. listed-push d (λ j. f j k)) c.loop-d.invariant
+    c.in_ok-spots.spots c.in_ok-push.ensures.ok c.in_ok-spots.ensures.sums
+    (λ ok. c.in_ok-spots.ensures.rises) (λ k. listed-push d (λ j. f j k)) c.loop-d.invariant

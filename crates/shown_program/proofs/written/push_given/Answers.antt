@@ -14,5 +14,5 @@ loop-i-preserved g c =
     let f : ℕ → ℕ → ℚ = λ j k. given_entry value form j k in
     appended_more value (given_equations form) (λ k. listed i (λ j. f j k))
     (λ k. listed (i + 1) (λ j. f j k)) (f (i + 1)) c.args.list.now c.loop-i.list c.push.new.self
-    c.in_ok-cells.cells c.in_ok-push.ensures.ok c.in_ok-cells.ensures.sums
-    (λ ok. c.in_ok-cells.ensures.rises) (λ k. listed-push i (λ j. f j k)) c.loop-i.invariant
+    c.in_ok-spots.spots c.in_ok-push.ensures.ok c.in_ok-spots.ensures.sums
+    (λ ok. c.in_ok-spots.ensures.rises) (λ k. listed-push i (λ j. f j k)) c.loop-i.invariant

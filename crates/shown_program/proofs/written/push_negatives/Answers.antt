@@ -4,7 +4,7 @@ use Rattle.exact_field.specs.Rational.{ℚ, zero_ℚ, neg_ℚ}
 use Rattle.polyhedra.specs.Negatives.{negated}
 use Rattle.polyhedra.specs.Sparse.{Entry}
 use Rattle.lin_rows.specs.Lines.{Rises, entries, sum_at}
-use Rattle.lin_rows.specs.declared.cells.Cell.{Cell}
+use Rattle.lin_rows.specs.declared.spots.Spot.{Spot}
 use Rattle.lp_form.specs.Shapes.{are_places}
 use Rattle.lp_form.proofs.Figures.{places_rise}
 use Rattle.shown_program.specs.Entries.{across, negatives}
@@ -20,27 +20,27 @@ loop-i-preserved g c =
     let kept = c.loop-i.invariant in
     let inside : i < length all = omega (arith, c.len-i-end.ensures.value) in
     let res = c.index-as_slice-i.result in
-    let cells : List (Cell _) = slice_index_or all i [] in
-    let own = entries value cells in
-    let read : c.as_slice-in-loop-i.result.now ≡ cells =
+    let spots : List (Spot _) = slice_index_or all i [] in
+    let own = entries value spots in
+    let read : c.as_slice-in-loop-i.result.now ≡ spots =
     c.as_slice-in-loop-i.ensures.items ∙ c.index-as_slice-i.is
     ∙ ap (λ l. slice_index_or l i res) c.as_slice.ensures.items
     ∙ sym (get_or-take (length all) c.loop-i.list i res inside)
     ∙ ap (λ l. slice_index_or l i res) kept.first ∙ get_or_default all i res [] inside in
-    let is : entries value c.in_ok-cells.cells ≡ negatives own =
-    c.in_ok-cells.ensures ∙ ap (λ cs. negatives (entries value cs)) read in
+    let is : entries value c.in_ok-spots.spots ≡ negatives own =
+    c.in_ok-spots.ensures ∙ ap (λ cs. negatives (entries value cs)) read in
     let row = λ (k : ℕ). negated (across value k all) in
     let number = λ (k : ℕ). neg_ℚ (sum_at own k) in
     record {
-      first = front_kept c.loop-i.list c.push.new.self all c.in_ok-cells.cells
+      first = front_kept c.loop-i.list c.push.new.self all c.in_ok-spots.spots
           c.in_ok-push.ensures.ok kept.first;
       appended = λ n.
           appended_more value n (λ k. take i (row k)) (λ k. take (i + 1) (row k)) number all
-          c.loop-i.list c.push.new.self c.in_ok-cells.cells c.in_ok-push.ensures.ok
+          c.loop-i.list c.push.new.self c.in_ok-spots.spots c.in_ok-push.ensures.ok
           (λ k. ap (λ es. sum_at es k) is ∙ sum_at-negatives own k)
           (λ ok. subst (λ (es : List Entry). Rises n 0 es) (sym is)
           (rises-negatives n 0 own
-          (places_rise value n 0 cells (passes_at (are_places n 0) all i [] ok inside))))
+          (places_rise value n 0 spots (passes_at (are_places n 0) all i [] ok inside))))
           (λ k.
           take_more (row k) i zero_ℚ
           (omega (

@@ -4,7 +4,7 @@ use Rattle.exact_field.specs.Rational.{zero_ℚ}
 use Rattle.exact_field.specs.Vector.{entry}
 use Rattle.polyhedra.specs.Sparse.{Entry}
 use Rattle.lin_rows.specs.Lines.{Rises, entries, last_place}
-use Rattle.lin_rows.specs.declared.cells.Cell.{Cell}
+use Rattle.lin_rows.specs.declared.spots.Spot.{Spot}
 use Rattle.lin_rows.proofs.Merging.{rises-wider, last_within}
 use Rattle.lp_form.specs.Data.{cone_of}
 use Rattle.lp_form.specs.Programs.{dual_equations}
@@ -23,14 +23,14 @@ returns g c =
     let cols = form.cols in
     let cone = cone_of value form.cone in
     let top : ℕ = cols + dual_equations (length form.p) cone in
-    let cells : List (Cell _) = slice_index_or form.p (i - 1) [] in
-    let own = entries value cells in
-    let read : c.as_slice-2.result.now ≡ cells =
+    let spots : List (Spot _) = slice_index_or form.p (i - 1) [] in
+    let own = entries value spots in
+    let read : c.as_slice-2.result.now ≡ spots =
     c.as_slice-2.ensures.items ∙ c.index-as_slice-i.is
     ∙ ap (λ l. slice_index_or l (i - 1) c.index-as_slice-i.result) c.as_slice.ensures.items
     ∙ get_or_default form.p (i - 1) c.index-as_slice-i.result [] (omega arith) in
     let rises : Rises cols 0 own =
-    places_rise value cols 0 cells
+    places_rise value cols 0 spots
     (passes_at (are_places cols 0) form.p (i - 1) [] form.objective_places (omega arith)) in
     let first = entries value c.in_ok-list.list in
     let is : first ≡ negatives own =

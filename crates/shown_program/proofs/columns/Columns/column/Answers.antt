@@ -12,8 +12,8 @@ returns-then-k-self-clause-places g c =
     ∙ column_fits p.sides.now p.others p.units (length p.right) (c.args.k - 1) p.places
     (omega arith)
 
-pub returns-clause-cells : goal.returns-clause-cells
-returns-clause-cells g c =
+pub returns-clause-spots : goal.returns-clause-spots
+returns-clause-spots g c =
     let p = c.args.self.now in
     let j : ℕ = c.args.k - 1 - length p.sides.now - c.len-2.result in
     let place : c.args.k - 1 ≡ length p.sides.now + length p.others + j = omega arith in
@@ -25,6 +25,6 @@ returns-clause-cells g c =
 pub returns-clause-places : goal.returns-clause-places
 returns-clause-places g c =
     let p = c.args.self.now in
-    ap (are_places (length p.right) 0) (returns-clause-cells g c)
+    ap (are_places (length p.right) 0) (returns-clause-spots g c)
     ∙ column_fits p.sides.now p.others p.units (length p.right) (c.args.k - 1) p.places
     (omega arith)

@@ -4,7 +4,7 @@ use Rattle.exact_field.specs.Rational.{zero_ℚ}
 use Rattle.exact_field.specs.Vector.{entry}
 use Rattle.tableaux.proofs.Places.{listed-place}
 use Rattle.lin_rows.specs.Lines.{entries, sum_at}
-use Rattle.shown_program.specs.Program.{cells_at, column_in}
+use Rattle.shown_program.specs.Program.{spots_at, column_in}
 use Rattle.shown_program.proofs.columns.Columns.find_listed.Goals as goal
 use Rattle.std.proofs.Common.{length}
 
@@ -16,5 +16,5 @@ returns-clause-entries g c = λ j low high.
     let k = c.args.k in
     ap (λ v. entry v j) (get_or-map (column_in value p) columns (k - 1) 0 [] (omega arith))
     ∙ listed-place (length p.right)
-    (sum_at (entries value (cells_at p (slice_index_or columns (k - 1) 0)))) j zero_ℚ low high
-    ∙ ap (λ cells. sum_at (entries value cells) j) (sym c.column.ensures.cells)
+    (sum_at (entries value (spots_at p (slice_index_or columns (k - 1) 0)))) j zero_ℚ low high
+    ∙ ap (λ spots. sum_at (entries value spots) j) (sym c.column.ensures.spots)
