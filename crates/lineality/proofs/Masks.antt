@@ -45,6 +45,12 @@ length-filled (true ∷ bs) z h = ap suc (length-filled bs z h)
 length-filled (false ∷ bs) [] h = absurd (omega (arith, h))
 length-filled (false ∷ bs) (x ∷ z) h = ap suc (length-filled bs z (omega (arith, h)))
 
+pub length-unfilled : (bs : List Bool) (z : List ℚ) → length (with_zeros bs z) ≡ suc (length bs) → length z ≡ suc (open_count bs)
+length-unfilled [] z h = h
+length-unfilled (true ∷ bs) z h = length-unfilled bs z (omega (arith, h))
+length-unfilled (false ∷ bs) [] h = absurd (omega (arith, h))
+length-unfilled (false ∷ bs) (x ∷ z) h = ap suc (length-unfilled bs z (omega (arith, h)))
+
 pub without-nil : (bs : List Bool) → without bs [] ≡ []
 without-nil [] = refl
 without-nil (b ∷ bs) = refl
