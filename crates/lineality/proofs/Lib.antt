@@ -12,5 +12,6 @@ pub mod OpenPlaces
 pub mod SameAlong
 pub mod NegativesAlong
 pub mod MeetingsWithout
+pub mod Reading
 mod FormExample
 mod HalfPlaneExample

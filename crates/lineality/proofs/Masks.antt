@@ -1,6 +1,6 @@
 -- Vectors without the entries at marked places, and with zeros there: lengths, products, sums, and
 -- that each undoes the other.
-use Rattle.std.proofs.Common.{◌≡◌, suc, List, [], ◌∷◌, map, length, Bool, true, false, cond, refl, sym, ap, ap₂, ◌∙◌, arith}
+use Rattle.std.proofs.Common.{◌≡◌, ◌≤◌, suc, List, [], ◌∷◌, map, length, Bool, true, false, cond, refl, sym, ap, ap₂, ◌∙◌, arith}
 use Rattle.exact_field.specs.Rational.{ℚ, zero_ℚ, one_ℚ, ◌+ℚ◌, ◌*ℚ◌, neg_ℚ}
 use Rattle.exact_field.specs.Vector.{dot}
 use Rattle.polyhedra.specs.Vectors.{AreWide, zeros, plus, scaled, combination}
@@ -26,6 +26,34 @@ length-with [] z h = h
 length-with (true ∷ bs) z h = ap suc (length-with bs z h)
 length-with (false ∷ bs) [] h = absurd (omega arith)
 length-with (false ∷ bs) (x ∷ z) h = ap suc (length-with bs z (omega arith))
+
+pub open_bound : (bs : List Bool) → open_count bs ≤ length bs
+open_bound [] = omega arith
+open_bound (true ∷ bs) = let h = open_bound bs in omega (arith, h)
+open_bound (false ∷ bs) = let h = open_bound bs in omega (arith, h)
+
+-- with one entry more than there are places
+pub length-short : (bs : List Bool) (v : List ℚ) → length v ≡ suc (length bs) → length (without bs v) ≡ suc (open_count bs)
+length-short [] v h = h
+length-short (b ∷ bs) [] h = absurd (omega (arith, h))
+length-short (true ∷ bs) (x ∷ v) h = length-short bs v (omega (arith, h))
+length-short (false ∷ bs) (x ∷ v) h = ap suc (length-short bs v (omega (arith, h)))
+
+pub length-filled : (bs : List Bool) (z : List ℚ) → length z ≡ suc (open_count bs) → length (with_zeros bs z) ≡ suc (length bs)
+length-filled [] z h = h
+length-filled (true ∷ bs) z h = ap suc (length-filled bs z h)
+length-filled (false ∷ bs) [] h = absurd (omega (arith, h))
+length-filled (false ∷ bs) (x ∷ z) h = ap suc (length-filled bs z (omega (arith, h)))
+
+pub length-unfilled : (bs : List Bool) (z : List ℚ) → length (with_zeros bs z) ≡ suc (length bs) → length z ≡ suc (open_count bs)
+length-unfilled [] z h = h
+length-unfilled (true ∷ bs) z h = length-unfilled bs z (omega (arith, h))
+length-unfilled (false ∷ bs) [] h = absurd (omega (arith, h))
+length-unfilled (false ∷ bs) (x ∷ z) h = ap suc (length-unfilled bs z (omega (arith, h)))
+
+pub without-nil : (bs : List Bool) → without bs [] ≡ []
+without-nil [] = refl
+without-nil (b ∷ bs) = refl
 
 -- ---- each undoes the other
 pub without-with : (bs : List Bool) (z : List ℚ) → without bs (with_zeros bs z) ≡ z

@@ -1,6 +1,8 @@
-//! The lines of a convex set, and exactness for sets that have lines. Each function is a law: it
-//! does nothing, and its contract is the statement.
+//! The lines of a convex set, and exactness for sets that have lines. Each function here is a law:
+//! it does nothing, and its contract is the statement. The calls are those of `line_places`.
 #![tactic(auto)]
+
+pub mod line_places;
 
 ghost use Rattle.lineality.specs.Examples.{FormExample, HalfPlaneExample};
 ghost use Rattle.lineality.specs.Exactness.{ExactnessAlong, PartsAlongLines};

@@ -1,0 +1,11 @@
+use Rattle.std.proofs.Common.{map}
+use Rattle.lineality.proofs.Reading.{marks_end, marks_more}
+use Rattle.lineality.proofs.line_places.places_of.Goals as goal
+
+pub loop-k-preserved : goal.loop-k-preserved
+loop-k-preserved g c =
+    marks_more (map (map g.F.Field.value) c.args.lines.now) c.args.width c.loop-k.k c.loop-k.places c.push.new.self c.is_line_place.result c.loop-k-test.true
+    c.in_ok-push.ensures.ok c.is_line_place.ensures c.loop-k.invariant
+
+pub returns : goal.returns
+returns g c = marks_end (map (map g.F.Field.value) c.args.lines.now) c.args.width c.loop-k.k c.loop-k.places c.loop-k-test.false c.loop-k.invariant
