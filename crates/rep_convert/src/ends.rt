@@ -34,7 +34,13 @@ pub(crate) fn finish(
     ensures left { IfErr result (IsConvLeft is_held rep.now) }
 {
     let count = rows.len() as u32;
-    let order = order_of(alloc, count, rows.as_slice(), begun.picks.as_slice())?;
+    let order = order_of(
+        alloc,
+        rep.gens,
+        count,
+        rows.as_slice(),
+        begun.picks.as_slice(),
+    )?;
     let places = begun.places.as_slice();
     take_all(
         alloc,

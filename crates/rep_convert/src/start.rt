@@ -288,7 +288,7 @@ pub(crate) fn start(
     ensures left { IfErr result (IsConvLeft is_held rep.now) }
 {
     let short = short_rows(alloc, places, rows)?;
-    let order = order_of(alloc, short.count(), rows, &[])?;
+    let order = order_of(alloc, rep.gens, short.count(), rows, &[])?;
     let picks = start_numbers(alloc, rep, lines, &short, order.as_slice())?;
     let dd = describe(alloc, rep, lines, &short, picks.as_slice())?;
     let gens = tried_generators(alloc, rep, lines, places, rows, picks.as_slice(), &dd)?;

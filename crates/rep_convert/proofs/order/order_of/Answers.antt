@@ -7,5 +7,5 @@ pub returns : goal.returns
 returns c =
     let is = IsOrder c.args.count c.args.used.now in
     subst is (sym c.from_vec.ensures)
-    (order_permuted c.args.count c.args.used.now c.into_vec-order.result.items c.sort_by_cached_key.new.self.items c.in_ok-sort_by_cached_key.ensures.permutation
+    (order_permuted c.args.count c.args.used.now c.into_vec-order.result.items c.sort_rows.new.order.items c.in_ok-sort_rows.ensures
     (subst is (sym c.into_vec-order.ensures.items) c.in_ok-order.ensures))
