@@ -214,6 +214,9 @@ def families():
         yield f"cyclic {count} {n}", cyclic(count, n)
     for count, n in ((80, 9), (36, 10)):
         yield f"zero_one {count} {n} 1", zero_one(count, n, 1)
+    for name, of in (("covering", reps.covering), ("packing", reps.packing), ("upper", reps.upper)):
+        for count, n in ((80, 4), (40, 5), (30, 6), (20, 7), (16, 8)):
+            yield f"{name} {count} {n} 1", of(count, n, 1)
     for count, n, most in ((20, 4, 99999), (20, 4, 10**7), (16, 5, 9999), (16, 6, 999), (16, 6, 9999), (16, 8, 99), (16, 8, 999), (14, 10, 99), (14, 10, 999)):
         yield f"drawn {count} {n} 1 {most}", drawn(count, n, 1, most)
     for name, rep in (("permutahedron 5", reps.permutahedron(5)), ("cut 5", reps.cut(5)), ("cut 6", reps.cut(6)), ("birkhoff 4", reps.birkhoff(4)),

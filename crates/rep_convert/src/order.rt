@@ -163,9 +163,7 @@ fn cosines(alloc: Global, rows: &[Vector]) -> Result<Vec<Option<i128>>, NoMemory
 
 /// Whether all rows are points.
 fn are_points(gens: bool, rows: &[Vector]) -> bool {
-    gens && rows
-        .iter()
-        .all(|row| row.as_slice().last().is_some_and(|last| !is_zero(*last)))
+    gens && rows.iter().all(|row| row.as_slice().last().is_some_and(|last| !is_zero(*last)))
 }
 
 /// For each number below the bound in which eighth of an order it stands.
@@ -193,9 +191,14 @@ fn sort_far_first(order: &mut Vec<u32>, rows: &[Vector]) -> Result<(), NoMemory>
     Ok(())
 }
 
+/// How many entries are not 0.
+fn count_entries(row: &[Frac]) -> usize {
+    row.iter().filter(|x| !is_zero(**x)).count()
+}
+
 /// Sorts rows: those of equations and lines first, then those at the widest angles with the mean
-/// of all. Rows within one eighth of these stand by rising numbers, since in a text neighbours
-/// mostly stand together.
+/// of all. Within an eighth of these the rows of fewest entries come first, on which most
+/// generators lie where numbers are small; rows that are alike in this stand by rising numbers.
 fn sort_wide_first(
     alloc: Global,
     order: &mut Vec<u32>,
@@ -209,7 +212,11 @@ fn sort_wide_first(
     let eighths = eighths(alloc, count, order)?;
     order.sort_by_cached_key(|k| {
         let goes_one_way = keys.get(*k as usize).copied().flatten().is_some();
-        (goes_one_way, eighths.get(*k as usize).copied(), *k)
+        let eighth = eighths.get(*k as usize).copied();
+        let entries = rows
+            .get(*k as usize)
+            .map(|row| count_entries(row.as_slice()));
+        ((goes_one_way, eighth), (entries, *k))
     })?;
     Ok(())
 }
