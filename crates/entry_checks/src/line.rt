@@ -15,6 +15,7 @@ use crate::image::{in_feasible, in_recession, is_above};
 use crate::steps::{Steps, append, pass};
 use exact_field::Field;
 use frac128::{Frac, Spot, Vector, is_zero};
+use lineality::line_places;
 use log_rules::{Rule, Stop};
 use src_sink::Items;
 use std::alloc::Global;
@@ -48,12 +49,7 @@ pub fn leading_entry(v: &[Frac]) -> Frac
 fn leading_place(v: &[Frac]) -> usize
     ensures { result ≡ leading_place v.now }
 {
-    for (k, x) in v.iter().enumerate() {
-        if !is_zero(*x) {
-            return k + 1;
-        }
-    }
-    v.len() + 1
+    line_places::leading_place(v)
 }
 
 /// Whether a vector is 0 at a place.
