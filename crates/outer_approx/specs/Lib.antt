@@ -4,7 +4,6 @@ pub mod Cuts
 pub mod First
 pub mod Lined
 pub mod Lines
-pub mod Pairs
 pub mod Preimages
 pub mod Standing
 pub mod Task
