@@ -1,5 +1,5 @@
 -- The subject: Task, Standing, Cuts, Preimages, Lines (the log as it grows), Unstarted (the logs
--- that need no start). For the code's own steps: First, Pairs, Lined, LiveVectors.
+-- that need no start). For the code's own steps: First, Lined, LiveVectors.
 pub mod Cuts
 pub mod First
 pub mod Lined
