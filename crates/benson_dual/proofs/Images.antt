@@ -9,11 +9,11 @@ use Rattle.polyhedra.specs.LiveList.{Numbered, numbers}
 use Rattle.polyhedra.proofs.Members.{pairs-map}
 use Rattle.deriv_log.specs.declared.entry.Entry.{Entry}
 use Rattle.log_rules.specs.Live.{State, inequality, preimages}
-use Rattle.benson_dual.specs.Images.{IsLiveVector}
 use Rattle.outer_approx.specs.Standing.{HasPreimageMore, IsOpening, IsOpenTrail}
 use Rattle.outer_approx.specs.Task.{IsFitting, Task}
 use Rattle.outer_approx.proofs.Growing.{outer_reached}
-use Rattle.benson_dual.proofs.LiveVectors.{live_vector}
+use Rattle.outer_approx.specs.LiveVectors.{IsLiveVector}
+use Rattle.outer_approx.proofs.LiveVectors.{live_vector}
 use Rattle.lower_image.specs.Lower.{AreAllFacets}
 use Rattle.recession.specs.Logs.{task_of}
 use Rattle.vlp_problem.specs.declared.problem.Problem.{Problem}

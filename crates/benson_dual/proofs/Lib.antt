@@ -5,6 +5,5 @@ pub mod Counted
 pub mod DualLines
 pub mod Images
 pub mod Listed
-pub mod LiveVectors
 pub mod Permuted
 pub mod Picked

@@ -1,16 +1,13 @@
 -- What is known of an image whose facets come into use, and its log in which they are.
-use Rattle.std.specs.Prelude.{◌≡◌, ℕ, Bool, List, [], map, length, All}
-use Rattle.exact_field.specs.Rational.{ℚ, zero_ℚ, ◌≤ℚ◌}
-use Rattle.exact_field.specs.Vector.{dot}
-use Rattle.polyhedra.specs.Exactness.{homogenised}
+use Rattle.std.specs.Prelude.{◌≡◌, ℕ, Bool, List, [], map}
+use Rattle.exact_field.specs.Rational.{ℚ}
 use Rattle.lineality.specs.Without.{marks}
 use Rattle.deriv_log.specs.declared.entry.Entry.{Entry}
 use Rattle.log_rules.specs.Live.{preimages}
-use Rattle.overflow_rules.specs.Base.{IsLiveAfter, last_of}
 use Rattle.lp_form.specs.declared.shown.Cut.{Cut}
 use Rattle.lower_image.specs.Lower.{AreAllFacets}
 use Rattle.outer_approx.specs.Lines.{line_places, told_by}
-use Rattle.outer_approx.specs.Standing.{IsOpening, IsOuter, cuts_of, rows_of_trail}
+use Rattle.outer_approx.specs.Standing.{IsOpening, IsOuter, cuts_of}
 use Rattle.outer_approx.specs.Task.{Task}
 use Rattle.recession.specs.Asking.{IsKnown}
 use Rattle.recession.specs.First.{AreFirstCuts}
@@ -40,13 +37,3 @@ pub record IsApproximation {F : Type 0} (task : Task) (image : Image F) (a : App
 -- no generator has a pre-image yet
 abbrev pub IsUnreached : {F : Type 0} → Approximation F → Type 0
 IsUnreached a = (k : ℕ) → preimages a.trail k ≡ []
-
--- the live generator of this number, as the trail has it: a point or a direction at which each row in use
--- is at least 0
-pub record IsLiveVector (task : Task) (trail : List Entry) (g : ℕ) (full : List ℚ) : Type 0 where
-  pub v : List ℚ
-  pub t : Bool
-  pub is : full ≡ homogenised v (last_of t)
-  pub wide : length v ≡ task.file.objs
-  pub live : IsLiveAfter task.file.objs trail (record { number = g; vector = full })
-  pub within : All (λ row. zero_ℚ ≤ℚ dot row full) (rows_of_trail task trail)

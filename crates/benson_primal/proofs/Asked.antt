@@ -1,57 +1,28 @@
 -- What is asked at a live generator.
-use Rattle.std.proofs.Common.{◌≡◌, ◌≢◌, ◌↔◌, ℕ, zero, suc, Bool, true, false, List, [], ◌∷◌, map, take, length, All, Contains, IsTrue, refl, sym, ap, ◌∙◌, subst, arith, true≢false}
+use Rattle.std.proofs.Common.{◌≡◌, ◌≢◌, ◌↔◌, ℕ, suc, Bool, true, false, List, [], ◌∷◌, map, take, length, All, IsTrue, sym, ap, ◌∙◌, subst, arith}
 use Rattle.std.proofs.lemmas.List.{length-map}
 use Rattle.exact_field.specs.Rational.{ℚ, zero_ℚ, neg_ℚ, ◌≤ℚ◌, ◌<ℚ◌}
 use Rattle.exact_field.specs.Vector.{dot, entry}
-use Rattle.polyhedra.specs.Exactness.{homogenised, row_of}
-use Rattle.lineality.specs.Without.{open_count, with_zeros, without}
-use Rattle.lineality.proofs.Marks.{length-marks}
+use Rattle.polyhedra.specs.Exactness.{row_of}
+use Rattle.lineality.specs.Without.{open_count, without}
 use Rattle.deriv_log.specs.declared.entry.Entry.{Entry}
-use Rattle.double_descr.specs.State.{State as Description}
-use Rattle.log_rules.specs.Live.{lines, preimages}
-use Rattle.log_rules.proofs.NormedMembers.{front-homogenised, last-homogenised, one_not_zero}
-use Rattle.overflow_rules.specs.Base.{IsBaseStart, IsLiveAfter, last_of}
 use Rattle.overflow_rules.proofs.CutTurns.{optimum_turns, read_at_origin}
-use Rattle.overflow_rules.specs.Preimages.{IsPreimageOf}
 use Rattle.lp_form.specs.declared.shown.Cut.{Cut}
-use Rattle.lp_form.specs.declared.shown.Preimage.{Preimage}
 use Rattle.outer_approx.specs.Cuts.{said_by}
-use Rattle.outer_approx.specs.Lines.{line_places}
-use Rattle.outer_approx.specs.Preimages.{IsReached}
-use Rattle.outer_approx.specs.Standing.{IsOuter, rows_of_trail}
+use Rattle.outer_approx.specs.Standing.{rows_of_trail}
 use Rattle.outer_approx.specs.Task.{Task, IsFitting}
-use Rattle.outer_approx.proofs.Growing.{live_generator}
+use Rattle.outer_approx.specs.LiveVectors.{IsLiveVector}
+use Rattle.outer_approx.proofs.LiveVectors.{length-homogenised, start_long, vector_is}
 use Rattle.recession.specs.Asking.{IsAskedCut, IsKnown}
 use Rattle.lp_form.specs.declared.data.Data.{Data}
-use Rattle.benson_primal.specs.Search.{IsLiveVector, IsNextCut}
-
--- the front of a mapped list
-pub map-take : {F : Type 0} (value : F → ℚ) (n : ℕ) (xs : List F) → map value (take n xs) ≡ take n (map value xs)
-map-take value zero xs = refl
-map-take value (suc n) [] = refl
-map-take value (suc n) (x ∷ xs) = ap (λ ys. value x ∷ ys) (map-take value n xs)
+use Rattle.benson_primal.specs.Search.{IsNextCut}
 
 -- the duality vector has an entry for each objective
 pub width_known : {F : Type 0} (value : F → ℚ) (holds : ℚ → Bool) (task : Task) (form : Data F) (c weights : List F) → IsKnown value holds task form c weights →
     length c ≡ task.file.objs
 width_known value holds task form c weights k = sym (length-map c value) ∙ ap length k.c_is ∙ k.fitting.fits.lengths
 
--- ---- without the entries at the places of lines, and with zeros there
-length-homogenised : (v : List ℚ) (t : ℚ) → length (homogenised v t) ≡ suc (length v)
-length-homogenised [] t = refl
-length-homogenised (x ∷ v) t = ap suc (length-homogenised v t)
-
--- there is a place for each objective
-pub places_many : (task : Task) (trail : List Entry) → length (line_places task trail) ≡ task.file.objs
-places_many task trail = length-marks task.file.objs (lines trail)
-
--- what is one longer than the places with zeros at the marked ones, is one longer than the open ones without
-short_long : (bs : List Bool) (z : List ℚ) → length (with_zeros bs z) ≡ suc (length bs) → length z ≡ suc (open_count bs)
-short_long [] z h = h
-short_long (true ∷ bs) z h = short_long bs z (omega arith)
-short_long (false ∷ bs) [] h = absurd (omega arith)
-short_long (false ∷ bs) (x ∷ z) h = ap suc (short_long bs z (omega arith))
-
+-- ---- without the entries at the places of lines
 without_long : (bs : List Bool) (v : List ℚ) → length v ≡ suc (length bs) → length (without bs v) ≡ suc (open_count bs)
 without_long [] v h = h
 without_long (b ∷ bs) [] h = absurd (omega arith)
@@ -65,75 +36,19 @@ row_long value cut bs same =
     without_long bs (row_of (said_by value cut))
     (length-homogenised (map value cut.w) (neg_ℚ (value cut.gamma)) ∙ ap suc (length-map cut.w value ∙ sym same))
 
-module _ (task : Task) (trail : List Entry) (dd : Description) (outer : IsOuter task trail dd) (g : ℕ) (short : List ℚ)
-    (listed : Contains dd.list.live (record { number = g; vector = short })) where
-  pub live_vector : IsLiveVector task trail g (with_zeros (line_places task trail) short)
-  live_vector =
-      let parts = live_generator task trail dd outer (record { number = g; vector = short }) listed in
-      record { v = parts.0; t = parts.1; is = parts.2; wide = parts.3; live = parts.4; within = parts.5 }
-
-  pub short_wide : length short ≡ suc (open_count (line_places task trail))
-  short_wide =
-      let h = live_vector in
-      short_long (line_places task trail) short
-      (ap length h.is ∙ length-homogenised h.v (last_of h.t) ∙ ap suc (h.wide ∙ sym (places_many task trail)))
-
 -- ---- at the vector of a live generator
-pub live_at : {F : Type 0} (value : F → ℚ) (task : Task) (trail : List Entry) (g : ℕ) (full seen : List F) → seen ≡ full →
-    IsLiveVector task trail g (map value full) → IsLiveVector task trail g (map value seen)
-live_at value task trail g full seen same h = subst (λ xs. IsLiveVector task trail g (map value xs)) (sym same) h
-
 module _ {F : Type 0} (value : F → ℚ) (task : Task) (trail : List Entry) (g : ℕ) (full : List F) (h : IsLiveVector task trail g (map value full)) where
-  -- it has one entry more than there are objectives
-  pub long : length full ≡ suc task.file.objs
-  long = sym (length-map full value) ∙ ap length h.is ∙ length-homogenised h.v (last_of h.t) ∙ ap suc h.wide
-
-  last_is : entry (map value full) (length full) ≡ last_of h.t
-  last_is = ap (entry (map value full)) long ∙ ap (λ v. entry v (suc task.file.objs)) h.is ∙ last-homogenised task.file.objs h.v (last_of h.t) h.wide
-
-  module _ (t : Bool) (point : IsTrue t ↔ (entry (map value full) (length full) ≢ zero_ℚ)) where
-    -- it is a point where its last entry is not 0
-    same_kind : t ≡ h.t
-    same_kind = go t h.t point last_is
-      where
-        go : (t s : Bool) → IsTrue t ↔ (entry (map value full) (length full) ≢ zero_ℚ) → entry (map value full) (length full) ≡ last_of s → t ≡ s
-        go true true p e = refl
-        go false false p e = refl
-        go true false p e = absurd (p.0 refl e)
-        go false true p e = absurd (true≢false (sym (p.1 (λ z. one_not_zero (sym e ∙ z)))))
-
-    module _ (n : ℕ) (n_is : n ≡ task.file.objs) (seen : List F) (seen_is : seen ≡ take n full) where
-      start_is : map value seen ≡ h.v
-      start_is = ap (map value) seen_is ∙ map-take value n full ∙ ap (λ k. take k (map value full)) n_is
-          ∙ ap (take task.file.objs) h.is ∙ front-homogenised task.file.objs h.v (last_of h.t) h.wide
-
-      vector_is : map value full ≡ homogenised (map value seen) (last_of t)
-      vector_is = h.is ∙ ap (λ v. homogenised v (last_of h.t)) (sym start_is) ∙ ap (λ s. homogenised (map value seen) (last_of s)) (sym same_kind)
-
-      pub start_long : length seen ≡ task.file.objs
-      start_long = sym (length-map seen value) ∙ ap length start_is ∙ h.wide
-
-      pub base_start : IsBaseStart task.file.objs trail (map value seen) t
-      base_start = IsBaseStart.live (record { number = g; vector = map value full }) h.live vector_is
-
-      pub is_reached : (preimage : Preimage F) → preimages trail g ≡ [] → IsPreimageOf value task.file task.c task.weights (map value seen) t preimage →
-          IsReached value task trail g t preimage
-      is_reached preimage fresh is = record {
-        v = map value seen;
-        live = subst (λ (v : List ℚ). IsLiveAfter task.file.objs trail (record { number = g; vector = v })) vector_is h.live;
-        fresh = fresh;
-        parts_are = is;
-      }
-
-      pub next_cut_is : (holds : ℚ → Bool) → IsFitting holds task → (cut : Cut F) → IsAskedCut value task (map value seen) t cut → IsNextCut value task trail cut
-      next_cut_is holds fitting cut a = record {
-        z = a.z;
-        turn = optimum_turns task.file task.c (map value seen) t a.z a.multipliers a.basis a.optimum.dictionary (rows_of_trail task trail) fitting.fits.lengths
-            (length-map seen value ∙ start_long) a.optimum.optimal a.optimum.read a.positive
-            (subst (λ (v : List ℚ). All (λ (row : List ℚ). zero_ℚ ≤ℚ dot row v) (rows_of_trail task trail)) vector_is h.within);
-        says = a.says;
-        is = a.is;
-      }
+  module _ (t : Bool) (point : IsTrue t ↔ (entry (map value full) (length full) ≢ zero_ℚ)) (n : ℕ) (n_is : n ≡ task.file.objs) (seen : List F)
+      (seen_is : seen ≡ take n full) where
+    pub next_cut_is : (holds : ℚ → Bool) → IsFitting holds task → (cut : Cut F) → IsAskedCut value task (map value seen) t cut → IsNextCut value task trail cut
+    next_cut_is holds fitting cut a = record {
+      z = a.z;
+      turn = optimum_turns task.file task.c (map value seen) t a.z a.multipliers a.basis a.optimum.dictionary (rows_of_trail task trail) fitting.fits.lengths
+          (length-map seen value ∙ start_long value task trail g full h t point n n_is seen seen_is) a.optimum.optimal a.optimum.read a.positive
+          (subst (λ (v : List ℚ). All (λ (row : List ℚ). zero_ℚ ≤ℚ dot row v) (rows_of_trail task trail)) (vector_is value task trail g full h t point n n_is seen seen_is) h.within);
+      says = a.says;
+      is = a.is;
+    }
 
   -- a cut that was asked at another vector, and that the generator violates
   pub near_cut_is : (holds : ℚ → Bool) → IsFitting holds task → (near : List F) (t : Bool) → length near ≡ task.file.objs → (cut : Cut F) →

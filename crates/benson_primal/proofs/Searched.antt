@@ -118,13 +118,6 @@ pub kept_stays : {F : Type 0} (value : F → ℚ) (task : Task) (s t u : Search 
 kept_stays value task s t u first found h k old new =
     kept_holds (IsFound value task u) first found (any_stays value task s u first (rows_on task s t u h k) old) (found_stays value task t u found k new)
 
--- something is not nothing
-pub some_not_none : {X : Type 0} (o : Option X) (x : X) → o ≡ Some x → o ≡ None → ⊥
-some_not_none o x is none = none_is_not (sym is ∙ none)
-  where
-    none_is_not : Some x ≡ None → ⊥
-    none_is_not e = cc
-
 -- what two facts of a result that is no error say together
 pub ok_both : {T E : Type 0} (r : Result T E) (A B C : Type 0) → OnOk r A → OnOk r B → (A → B → C) → OnOk r C
 ok_both (Ok x) A B C a b f = f a b

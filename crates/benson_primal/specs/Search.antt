@@ -1,13 +1,12 @@
 -- The search for the cuts of an image.
 use Rattle.std.specs.Prelude.{◌≡◌, ◌≢◌, ⊤, ℕ, Bool, List, [], ◌∷◌, ◌++◌, map, length, All, Contains}
-use Rattle.exact_field.specs.Rational.{ℚ, zero_ℚ, ◌≤ℚ◌}
-use Rattle.exact_field.specs.Vector.{dot, entry}
-use Rattle.polyhedra.specs.Exactness.{homogenised, row_of}
+use Rattle.exact_field.specs.Rational.{ℚ, zero_ℚ}
+use Rattle.exact_field.specs.Vector.{entry}
+use Rattle.polyhedra.specs.Exactness.{row_of}
 use Rattle.polyhedra.specs.LiveList.{numbers}
 use Rattle.deriv_log.specs.declared.entry.Entry.{Entry}
 use Rattle.double_descr.specs.State.{State as Description}
 use Rattle.log_rules.specs.Live.{preimages}
-use Rattle.overflow_rules.specs.Base.{IsLiveAfter, last_of}
 use Rattle.overflow_rules.specs.Turns.{IsCutTurn, said_row}
 use Rattle.lp_form.specs.declared.shown.Cut.{Cut}
 use Rattle.outer_approx.specs.Cuts.{IsCutFor, said_by}
@@ -40,16 +39,6 @@ pub record Stopped {F : Type 0} (holds : ℚ → Bool) (task : Task) (s : Search
   pub trail : IsOpenTrail task s.trail
   pub same : OnLicence fault (λ licence. StandForSame task s.trail s.dd)
   pub left : Overflows holds (setting task s.trail) [] fault
-
--- the live generator of this number, as the trail has it: a point or a direction at which each row
--- in use is at least 0
-pub record IsLiveVector (task : Task) (trail : List Entry) (g : ℕ) (full : List ℚ) : Type 0 where
-  pub v : List ℚ
-  pub t : Bool
-  pub is : full ≡ homogenised v (last_of t)
-  pub wide : length v ≡ task.file.objs
-  pub live : IsLiveAfter task.file.objs trail (record { number = g; vector = full })
-  pub within : All (λ row. zero_ℚ ≤ℚ dot row full) (rows_of_trail task trail)
 
 -- a base cut that some point violates at which each row in use is at least 0: so no row says it yet
 pub record IsNextCut {F : Type 0} (value : F → ℚ) (task : Task) (trail : List Entry) (cut : Cut F) : Type 0 where

@@ -4,11 +4,12 @@ ghost use Rattle.std.specs.Prelude.{◌≡◌, ◌≢◌, ◌≤◌, ◌||◌, [
 ghost use Rattle.incid_sets.specs.Marks.{has};
 ghost use Rattle.log_rules.specs.Live.{preimages};
 ghost use Rattle.polyhedra.specs.LiveList.{numbers};
+ghost use Rattle.outer_approx.specs.LiveVectors.{IsLiveVector};
 ghost use Rattle.outer_approx.specs.Standing.{IsOpenTrail};
 ghost use Rattle.outer_approx.specs.Task.{Task};
 ghost use Rattle.exact_field.specs.Rational.{ℚ};
 ghost use Rattle.lineality.specs.Without.{with_zeros};
-ghost use Rattle.benson_primal.specs.Search.{AreDirectionsReached, AreReached, HasGrown, HasSameRows, IsDone, IsFound, IsInScope, IsLiveVector, IsNextCut, IsRound, IsSearching, Stopped};
+ghost use Rattle.benson_primal.specs.Search.{AreDirectionsReached, AreReached, HasGrown, HasSameRows, IsDone, IsFound, IsInScope, IsNextCut, IsRound, IsSearching, Stopped};
 
 use crate::nearby::{is_point, vector_nearby, violates};
 use deriv_log::Entries;

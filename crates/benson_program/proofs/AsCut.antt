@@ -30,8 +30,9 @@ use Rattle.overflow_rules.proofs.Violated.{said_value}
 use Rattle.benson_program.specs.Laws.{BensonCut}
 use Rattle.benson_program.proofs.Blocks.{asked, given}
 use Rattle.benson_program.proofs.Shown.{IsHeld, shows}
-use Rattle.benson_program.proofs.Solved.{after_long, after_positive, balanced, member, scaled_at, u_positive, w_long}
+use Rattle.benson_program.proofs.Solved.{balanced, member, scaled_at}
 use Rattle.benson_program.proofs.Spots.{positive_values}
+use Rattle.benson_program.proofs.SolutionParts.{after_long, after_positive, u_positive, w_long}
 
 dual_wide : (q : ℕ) (cone : Cone) → IsWideCone q cone → IsWideCone q (dual_of cone)
 dual_wide q Orthant h = h
@@ -63,15 +64,15 @@ module _ (file : Problem) (c v : List ℚ) (t : Bool) (z y : List ℚ) (gamma : 
   cut : IsVector (side_total file) u → IsVector (length (v_of file file.cone z)) m → AreCutParts file z u m → product (side_bounds file) u ≡ gamma →
       ShowsCut file c (w_of file z) gamma u m
   cut u_vector m_vector parts bound =
-      let held = dual_held file file.objs file.cone (w_of file z) z m (after_long file z z_long) (after_positive file z z_long h.solves.at_least_zero)
+      let held = dual_held file file.objs file.cone (w_of file z) z m (after_long file (dual_unknowns file.objs file.cone) z z_long) (after_positive file (dual_unknowns file.objs file.cone) z z_long h.solves.at_least_zero)
       (member file z z_long c c_long one_ℚ h.solves.equal) m_vector parts.cone in
       record {
-        lengths = w_long file z z_long;
+        lengths = w_long file (dual_unknowns file.objs file.cone) z z_long;
         index = u_vector.places;
-        sign = positive_values (side_total file) u u_vector (subst AtLeastZero (sym parts.dual) (u_positive file z z_long h.solves.at_least_zero));
+        sign = positive_values (side_total file) u u_vector (subst AtLeastZero (sym parts.dual) (u_positive file (dual_unknowns file.objs file.cone) z z_long h.solves.at_least_zero));
         balance = ap (λ d. combination file.cols d (normals file)) parts.dual ∙ balanced file z z_long c c_long one_ℚ h.solves.equal;
         cone = shows file.objs (dual_of file.cone) (w_of file z) m (dual_wide file.objs file.cone (cone_wide file.objs file.cone file.cone_vectors))
-            (w_long file z z_long) held.0 held.1;
+            (w_long file (dual_unknowns file.objs file.cone) z z_long) held.0 held.1;
         scaled = scaled_at file z z_long c c_long one_ℚ h.solves.equal;
         bound = bound;
       }
@@ -79,7 +80,7 @@ module _ (file : Problem) (c v : List ℚ) (t : Bool) (z y : List ℚ) (gamma : 
   value : AreCutParts file z u m → product (side_bounds file) u ≡ gamma → dot (w_of file z) v -ℚ (if t then gamma else zero_ℚ) ≡ neg_ℚ (value_of y)
   value parts bound =
       ap (λ s. dot (w_of file z) v +ℚ s) (sym (level t))
-      ∙ sym (row_value said v (if t then one_ℚ else zero_ℚ) (w_long file z z_long ∙ sym v_long))
+      ∙ sym (row_value said v (if t then one_ℚ else zero_ℚ) (w_long file (dual_unknowns file.objs file.cone) z z_long ∙ sym v_long))
       ∙ said_value file v t z v_long z_long ∙ ap neg_ℚ (optimal_value file c v t z y (benson_ok file c v t c_long v_long) h)
     where
       said : Inequality

@@ -100,7 +100,7 @@ module _ (q : ℕ) (u a b h : List ℚ) (a_long : length a ≡ q) (b_long : leng
       ∙ sym (entry-plus w (negated (combination q h vectors)) j ∙ ap (λ y. entry w j +ℚ y) (entry-negated (combination q h vectors) j)))
 
 -- ---- all equations
-length-objective_column : (file : Problem) (j : ℕ) → length (objective_column file j) ≡ file.objs
+pub length-objective_column : (file : Problem) (j : ℕ) → length (objective_column file j) ≡ file.objs
 length-objective_column file j = length-map (numbers_from 1 file.objs) _ ∙ length-numbers 1 file.objs
 
 -- those of Benson's program, at whatever v

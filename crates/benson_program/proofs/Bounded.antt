@@ -21,13 +21,14 @@ use Rattle.upper_image.proofs.Absorbing.{zero_at_interior}
 use Rattle.upper_image.proofs.ConvexCones.{ordering_cone_convex}
 use Rattle.upper_image.proofs.Widths.{wide_objectives}
 use Rattle.upper_image.proofs.WorkingImage.{feasible_meets}
-use Rattle.lp_form.specs.Programs.{dual_equations, benson_system, u_of, w_of, after_w_of}
+use Rattle.lp_form.specs.Programs.{dual_equations, benson_system, u_of, w_of, after_w_of, dual_unknowns}
 use Rattle.lp_form.proofs.Systems.{benson_ok}
 use Rattle.overflow_rules.proofs.Cuts.{benson_cost, benson_unknowns, length-benson_cost}
 use Rattle.overflow_rules.proofs.Violated.{said_value}
 use Rattle.benson_program.specs.Laws.{BensonBounded}
 use Rattle.benson_program.proofs.Blocks.{benson_equations}
-use Rattle.benson_program.proofs.Solved.{after_long, after_positive, balanced, in_dual, member, scaled_at, u_long, u_positive, w_long}
+use Rattle.benson_program.proofs.Solved.{balanced, in_dual, member, scaled_at}
+use Rattle.benson_program.proofs.SolutionParts.{after_long, after_positive, u_long, u_positive, w_long}
 
 module _ (file : Problem) (c v : List ℚ) (t : Bool) (z r : List ℚ) (inner : IsInteriorToCone file c) (v_long : length v ≡ file.objs)
     (h : IsUnbounded (benson_system file c v t) z r) where
@@ -49,8 +50,8 @@ module _ (file : Problem) (c v : List ℚ) (t : Bool) (z r : List ℚ) (inner : 
   no_weight : w_of file r ≡ zeros file.objs
   no_weight =
       zero_at_interior file.objs (IsInOrderingCone file) c (w_of file r) inner
-      (in_dual file.objs file.cone (w_of file r) (after_w_of file r) file.cone_vectors (w_long file r r_long) (after_long file r r_long)
-      (after_positive file r r_long h.along.at_least_zero) (member file r r_long c c_long zero_ℚ solves))
+      (in_dual file.objs file.cone (w_of file r) (after_w_of file r) file.cone_vectors (w_long file (dual_unknowns file.objs file.cone) r r_long) (after_long file (dual_unknowns file.objs file.cone) r r_long)
+      (after_positive file (dual_unknowns file.objs file.cone) r r_long h.along.at_least_zero) (member file r r_long c c_long zero_ℚ solves))
       (scaled_at file r r_long c c_long zero_ℚ solves)
 
   -- the cost along the ray is that of the sides alone
@@ -59,7 +60,7 @@ module _ (file : Problem) (c v : List ℚ) (t : Bool) (z r : List ℚ) (inner : 
       sym (neg_neg (dot (benson_cost file v t) r))
       ∙ ap neg_ℚ
       (sym (said_value file v t r v_long r_long)
-      ∙ row_value said v (if t then one_ℚ else zero_ℚ) (w_long file r r_long ∙ sym v_long)
+      ∙ row_value said v (if t then one_ℚ else zero_ℚ) (w_long file (dual_unknowns file.objs file.cone) r r_long ∙ sym v_long)
       ∙ ap₂ (λ a b. a +ℚ b) (ap (λ w. dot w v) no_weight ∙ dot_comm (zeros file.objs) v ∙ dot-zeros v file.objs)
       (neg_mul (dot (side_bounds file) (u_of file r)) (if t then one_ℚ else zero_ℚ))
       ∙ zero_add (neg_ℚ (dot (side_bounds file) (u_of file r) *ℚ (if t then one_ℚ else zero_ℚ))))
@@ -83,8 +84,8 @@ module _ (file : Problem) (c v : List ℚ) (t : Bool) (z r : List ℚ) (inner : 
   no_point x f p =
       no_solution file.cols (normals file) (side_bounds file) (u_of file r)
       record {
-        one_each = u_long file r r_long ∙ sym (length-map (sides file) (λ s. s.normal));
-        at_least_zero = u_positive file r r_long h.along.at_least_zero;
+        one_each = u_long file (dual_unknowns file.objs file.cone) r r_long ∙ sym (length-map (sides file) (λ s. s.normal));
+        at_least_zero = u_positive file (dual_unknowns file.objs file.cone) r r_long h.along.at_least_zero;
         balanced = balanced file r r_long c c_long zero_ℚ solves ∙ nothing;
       } p x (feasible_meets file x f)
 

@@ -16,6 +16,7 @@ pub mod Renewed
 pub mod Said
 pub mod Shared
 pub mod Shown
+pub mod SolutionParts
 pub mod Solved
 pub mod Spots
 pub mod Spread

@@ -21,10 +21,10 @@ use Rattle.lp_form.proofs.Systems.{IsWideCone, cone_wide, length-unit, length-ne
 use Rattle.benson_program.proofs.Blocks.{benson_equations}
 
 -- the entries at two places, counted from 0, are opposite
-abbrev IsOpposite : ℕ → ℕ → List ℚ → Type 0
+abbrev pub IsOpposite : ℕ → ℕ → List ℚ → Type 0
 IsOpposite j k r = slice_index_or r j zero_ℚ ≡ neg_ℚ (slice_index_or r k zero_ℚ)
 
-parts_opposite : (m q i : ℕ) (u w after : List ℚ) → length u ≡ m → length w ≡ q → i < q → IsOpposite (m + i) (m + q + i) (on_parts u w after)
+pub parts_opposite : (m q i : ℕ) (u w after : List ℚ) → length u ≡ m → length w ≡ q → i < q → IsOpposite (m + i) (m + q + i) (on_parts u w after)
 parts_opposite m q i u w after u_long w_long inside =
     let two : length (u ++ w) ≡ m + q = length-append u w ∙ ap₂ (λ a b. a + b) u_long w_long in
     let three : length (u ++ w ++ negated w) ≡ m + q + q = length-append (u ++ w) (negated w) ∙ ap₂ (λ a b. a + b) two (length-map w neg_ℚ ∙ w_long) in
@@ -70,7 +70,7 @@ opposite_rows file c i c_long inside =
     (members_opposite m q i file.cone (cone_wide q file.cone file.cone_vectors) inside))
     (All-cons P last [] (parts_opposite m q i (zeros m) c (zeros more) (length-zeros m) c_long inside) (All-nil P))
 
-opposite_column : (j k : ℕ) (t : Table) → All (IsOpposite j k) t → column_of t (j + 1) ≡ negated (column_of t (k + 1))
+pub opposite_column : (j k : ℕ) (t : Table) → All (IsOpposite j k) t → column_of t (j + 1) ≡ negated (column_of t (k + 1))
 opposite_column j k [] h = refl
 opposite_column j k (r ∷ t) h =
     let first : j + 1 - 1 ≡ j = omega arith in

@@ -16,12 +16,10 @@ use Rattle.polyhedra.proofs.Entries.{last_one}
 use Rattle.tableaux.specs.Table.{column_of, minus}
 use Rattle.tableaux.proofs.Inverse.{dot-append}
 use Rattle.tableaux.proofs.Unique.{entry-combination}
-use Rattle.vlp_problem.specs.Sides.{sides}
 use Rattle.vlp_problem.specs.declared.problem.Problem.{Problem}
 use Rattle.vlp_problem.specs.declared.problem.Cone.{Cone}
 use Rattle.vlp_problem.specs.declared.problem.Cone.TheVariants.{Orthant, Gens, Dual}
 use Rattle.upper_image.specs.UpperImage.{normals, objectives, rest}
-use Rattle.upper_image.proofs.Widths.{wide_normals, wide_objectives}
 use Rattle.upper_image.proofs.WorkingImage.{value_wide}
 use Rattle.log_rules.proofs.ByEntries.{entry-suc}
 use Rattle.lp_form.specs.Programs.{side_total, on_parts, dual_unknowns, dual_equations, choice_of, value_of}
@@ -29,8 +27,8 @@ use Rattle.lp_form.proofs.Systems.{IsWideCone, cone_wide, benson_ok, length-nega
 use Rattle.overflow_rules.proofs.Cuts.{benson_unknowns, length-benson_cost, length-on_parts}
 use Rattle.overflow_rules.proofs.Violated.{length-minus}
 use Rattle.benson_program.proofs.Blocks.{asked, given, length-asked, length-given, benson_equations, equations-value}
-use Rattle.benson_program.proofs.Solved.{u_long, a_long, b_long, after_long}
-use Rattle.benson_program.proofs.Vectors.{AreAtMost, at_most_each, at_most_parts, at_most_both, at_least_zero, dot-minus, dot-parts, parts_of, same_on}
+use Rattle.benson_program.proofs.Vectors.{AreAtMost, at_most_each, at_most_parts, at_most_both, at_least_zero, dot-minus_left, dot-parts, parts_of, same_on}
+use Rattle.benson_program.proofs.SolutionParts.{u_long, a_long, b_long, after_long, columns_part, columns_part-long, columns_part-value, normals-long}
 
 -- ---- the cone's equations, priced with p
 -- what they give at the places of w, and at those after them
@@ -131,9 +129,6 @@ module _ (file : Problem) (c y : List ℚ) (c_long : length c ≡ file.objs) (y_
   abbrev priced : List ℚ
   priced = values (normals file) x ++ at_weights ++ negated at_weights ++ negated (pushed file.cone p)
 
-  normals-long : length (values (normals file) x) ≡ side_total file
-  normals-long = length-map (normals file) (λ v. dot v x) ∙ length-map (sides file) (λ s. s.normal)
-
   pushed-long : length (negated (pushed file.cone p)) ≡ dual_unknowns file.objs file.cone
   pushed-long = length-negated (pushed file.cone p) (dual_unknowns file.objs file.cone) (length-pushed file.objs file.cone p p_long)
 
@@ -141,7 +136,7 @@ module _ (file : Problem) (c y : List ℚ) (c_long : length c ≡ file.objs) (y_
   priced-long =
       omega (
         arith,
-        normals-long,
+        normals-long file x,
         at_weights-long,
         pushed-long,
         length-negated at_weights file.objs at_weights-long,
@@ -150,19 +145,8 @@ module _ (file : Problem) (c y : List ℚ) (c_long : length c ≡ file.objs) (y_
         length-append (values (normals file) x ++ at_weights ++ negated at_weights) (negated (pushed file.cone p)),
       )
 
-  columns_part : (u a b : List ℚ) → List ℚ
-  columns_part u a b = plus (combination file.cols u (normals file)) (negated (combination file.cols (minus a b) (objectives file)))
-
   members_part : (a b h : List ℚ) → List ℚ
   members_part a b h = plus (asked file.cone (minus a b)) (negated (given file.objs file.cone h))
-
-  columns_part-long : (u a b : List ℚ) → length (columns_part u a b) ≡ file.cols
-  unfolding columns_part
-  columns_part-long u a b =
-      length-plus file.cols (combination file.cols u (normals file)) (negated (combination file.cols (minus a b) (objectives file)))
-      (length-combination file.cols u (normals file) (wide_normals file))
-      (length-negated (combination file.cols (minus a b) (objectives file)) file.cols
-      (length-combination file.cols (minus a b) (objectives file) (wide_objectives file)))
 
   members_part-long : (a b h : List ℚ) → length a ≡ file.objs → length b ≡ file.objs → length h ≡ dual_unknowns file.objs file.cone →
       length (members_part a b h) ≡ members
@@ -171,14 +155,6 @@ module _ (file : Problem) (c y : List ℚ) (c_long : length c ≡ file.objs) (y_
       length-plus members (asked file.cone (minus a b)) (negated (given file.objs file.cone h))
       (length-asked file.objs file.cone (minus a b) (length-minus file.objs a b j k))
       (length-negated (given file.objs file.cone h) members (length-given file.objs file.cone h wide l))
-
-  columns_part-value : (u a b : List ℚ) → dot x (columns_part u a b) ≡
-      dot u (values (normals file) x) +ℚ neg_ℚ (dot (minus a b) (values (objectives file) x))
-  unfolding columns_part
-  columns_part-value u a b =
-      dot-plus x (combination file.cols u (normals file)) (negated (combination file.cols (minus a b) (objectives file)))
-      ∙ ap₂ (λ s t. s +ℚ t) (dot-combination file.cols x u (normals file))
-      (dot-negated x (combination file.cols (minus a b) (objectives file)) ∙ ap neg_ℚ (dot-combination file.cols x (minus a b) (objectives file)))
 
   members_part-value : (a b h : List ℚ) → dot p (members_part a b h) ≡
       dot (minus a b) (pulled file.objs file.cone p) +ℚ neg_ℚ (dot h (pushed file.cone p))
@@ -198,27 +174,22 @@ module _ (file : Problem) (c y : List ℚ) (c_long : length c ≡ file.objs) (y_
     by_equations =
         ap (λ v. dot v (values (benson_equations file c) (u ++ a ++ b ++ h))) (sym y_parts)
         ∙ ap (λ v. dot (x ++ p ++ value_of y ∷ []) v) (equations-value file c u a b h c_long u_is a_is b_is wide h_is)
-        ∙ dot-append (x ++ p) (value_of y ∷ []) (columns_part u a b ++ members_part a b h) (dot c (minus a b) ∷ [])
-        (omega (arith, length-append x p, length-append (columns_part u a b) (members_part a b h), x_long, p_long, columns_part-long u a b, members_part-long a b h a_is b_is h_is))
+        ∙ dot-append (x ++ p) (value_of y ∷ []) (columns_part file u (minus a b) ++ members_part a b h) (dot c (minus a b) ∷ [])
+        (omega (arith, length-append x p, length-append (columns_part file u (minus a b)) (members_part a b h), x_long, p_long, columns_part-long file u (minus a b), members_part-long a b h a_is b_is h_is))
         ∙ ap₂ (λ s t. s +ℚ t)
-        (dot-append x p (columns_part u a b) (members_part a b h) (x_long ∙ sym (columns_part-long u a b))
-        ∙ ap₂ (λ s t. s +ℚ t) (columns_part-value u a b) (members_part-value a b h))
+        (dot-append x p (columns_part file u (minus a b)) (members_part a b h) (x_long ∙ sym (columns_part-long file u (minus a b)))
+        ∙ ap₂ (λ s t. s +ℚ t) (columns_part-value file u (minus a b) x) (members_part-value a b h))
         (ap (λ s. value_of y *ℚ s +ℚ zero_ℚ) (dot_comm c (minus a b)))
-
-    weights-difference : dot a at_weights +ℚ neg_ℚ (dot b at_weights) ≡ dot (minus a b) at_weights
-    weights-difference =
-        ap₂ (λ s t. s +ℚ neg_ℚ t) (dot_comm a at_weights) (dot_comm b at_weights) ∙ sym (dot-minus at_weights a b (a_is ∙ sym b_is))
-        ∙ dot_comm at_weights (minus a b)
 
     -- the product with parts of a solution, by the columns and by the equations
     priced_at : dot (u ++ a ++ b ++ h) priced ≡ dot y (values (benson_equations file c) (u ++ a ++ b ++ h))
     priced_at =
-        dot-parts u a b h (values (normals file) x) at_weights (negated at_weights) (negated (pushed file.cone p)) (u_is ∙ sym normals-long)
+        dot-parts u a b h (values (normals file) x) at_weights (negated at_weights) (negated (pushed file.cone p)) (u_is ∙ sym (normals-long file x))
         (a_is ∙ sym at_weights-long) (b_is ∙ sym (length-negated at_weights file.objs at_weights-long))
         ∙ ap₂ (λ s t. dot u (values (normals file) x) +ℚ dot a at_weights +ℚ s +ℚ t) (dot-negated b at_weights) (dot-negated h (pushed file.cone p))
         ∙ same_sums (dot u (values (normals file) x)) (dot (minus a b) (values (objectives file) x)) (dot (minus a b) (pulled file.objs file.cone p))
         (dot h (pushed file.cone p)) (value_of y *ℚ dot (minus a b) c) (dot a at_weights) (dot b at_weights)
-        (weights-difference ∙ at_weights-value (minus a b))
+        (sym (dot-minus_left a b at_weights (a_is ∙ sym b_is)) ∙ at_weights-value (minus a b))
         ∙ sym by_equations
       where
         same_sums : (n o s d t e f : ℚ) → e +ℚ neg_ℚ f ≡ neg_ℚ o +ℚ s +ℚ t →
@@ -243,7 +214,7 @@ module _ (file : Problem) (c y : List ℚ) (c_long : length c ≡ file.objs) (y_
       by_parts : (r : List ℚ) → length r ≡ benson_unknowns file → dot y (values (benson_equations file c) r) ≡ dot r priced
       by_parts r l =
           subst (λ (v : List ℚ). dot y (values (benson_equations file c) v) ≡ dot v priced) (parts_of (side_total file) file.objs r)
-          (sym (priced_at _ _ _ _ (u_long file r l) (a_long file r l) (b_long file r l) (after_long file r l)))
+          (sym (priced_at _ _ _ _ (u_long file (dual_unknowns file.objs file.cone) r l) (a_long file (dual_unknowns file.objs file.cone) r l) (b_long file (dual_unknowns file.objs file.cone) r l) (after_long file (dual_unknowns file.objs file.cone) r l)))
 
   -- what is at most the products with the columns is at most the priced columns
   at_most : (f : List ℚ) → length f ≡ benson_unknowns file →
@@ -280,7 +251,7 @@ module _ (file : Problem) (c y : List ℚ) (c_long : length c ≡ file.objs) (y_
           front_long,
           negated_long,
           twice_long,
-          normals-long,
+          normals-long file x,
           at_weights-long,
           length-negated at_weights file.objs at_weights-long,
           length-append front (negated v),
@@ -291,11 +262,11 @@ module _ (file : Problem) (c y : List ℚ) (c_long : length c ≡ file.objs) (y_
 
     two : AreAtMost (front ++ negated v) (values (normals file) x ++ at_weights) × AreAtMost (negated (negated v)) (negated at_weights)
     two = at_most_parts (front ++ negated v) (negated (negated v)) (values (normals file) x ++ at_weights) (negated at_weights)
-        (omega (arith, front_long, negated_long, normals-long, at_weights-long, length-append front (negated v), length-append (values (normals file) x) at_weights))
+        (omega (arith, front_long, negated_long, normals-long file x, at_weights-long, length-append front (negated v), length-append (values (normals file) x) at_weights))
         three.0
 
     one : AreAtMost front (values (normals file) x) × AreAtMost (negated v) at_weights
-    one = at_most_parts front (negated v) (values (normals file) x) at_weights (front_long ∙ sym normals-long) two.0
+    one = at_most_parts front (negated v) (values (normals file) x) at_weights (front_long ∙ sym (normals-long file x)) two.0
 
     pub normals_at_least : AreAtMost front (values (normals file) (choice_of file y))
     normals_at_least = one.0

@@ -22,10 +22,10 @@ use Rattle.overflow_rules.specs.Settings.{Setting, Knows}
 use Rattle.overflow_rules.proofs.Cuts.{benson_unknowns, length-benson_cost}
 use Rattle.overflow_rules.proofs.CutTurns.{cuts_are_base}
 use Rattle.cone_rules.proofs.Opposite.{opposite_columns}
-use Rattle.benson_program.proofs.Solved.{u_long}
 use Rattle.benson_program.proofs.Opposite.{opposite_entries}
 use Rattle.benson_program.proofs.Spread.{spots, spots-dense}
 use Rattle.benson_program.specs.Ends.{IsOptimumAt}
+use Rattle.benson_program.proofs.SolutionParts.{u_long}
 
 -- ---- in numbers
 module _ (file : Problem) (c v : List ℚ) (t : Bool) (basis : List ℕ) (z y : List ℚ) (c_long : length c ≡ file.objs) (v_long : length v ≡ file.objs)
@@ -55,7 +55,7 @@ module _ (file : Problem) (c v : List ℚ) (t : Bool) (basis : List ℕ) (z y : 
   -- some sparse vectors are the parts of z
   pub parts_there : AreCutParts file z (spots (u_of file z)) (spots (v_of file file.cone z))
   parts_there = record {
-    dual = subst (λ (n : ℕ). dense n (spots (u_of file z)) ≡ u_of file z) (u_long file z z_long) (spots-dense (u_of file z));
+    dual = subst (λ (n : ℕ). dense n (spots (u_of file z)) ≡ u_of file z) (u_long file (dual_unknowns file.objs file.cone) z z_long) (spots-dense (u_of file z));
     cone = spots-dense (v_of file file.cone z);
   }
 
@@ -107,7 +107,7 @@ module _ {F : Type 0} (value : F → ℚ) (form : Data F) (file : Problem) (stan
     pub sides_in : (u : List F) → map value u ≡ u_of file (map value z) → length u ≡ length form.sides
     sides_in u e =
         sym (length-map u value) ∙ ap length e
-        ∙ u_long file (map value z) (z_long file (map value c) (map value v) t basis (map value z) y (wide_in c c_long) (wide_in v v_long) h)
+        ∙ u_long file (dual_unknowns file.objs file.cone) (map value z) (z_long file (map value c) (map value v) t basis (map value z) y (wide_in c c_long) (wide_in v v_long) h)
         ∙ sym (side_number value file form stands)
 
 module _ {F : Type 0} (value : F → ℚ) (form : Data F) (s : Setting) (stands : IsDataOf value s.file form) where

@@ -59,6 +59,9 @@ same_on (x ∷ f) (y ∷ g) l e =
 pub dot-minus : (r a b : List ℚ) → length a ≡ length b → dot r (minus a b) ≡ dot r a +ℚ neg_ℚ (dot r b)
 dot-minus r a b l = ap (λ v. dot r v) (minus-is a b l) ∙ dot-plus r a (negated b) ∙ ap (λ x. dot r a +ℚ x) (dot-negated r b)
 
+pub dot-minus_left : (a b v : List ℚ) → length a ≡ length b → dot (minus a b) v ≡ dot a v +ℚ neg_ℚ (dot b v)
+dot-minus_left a b v l = dot_comm (minus a b) v ∙ dot-minus v a b l ∙ ap₂ (λ s t. s +ℚ neg_ℚ t) (dot_comm v a) (dot_comm v b)
+
 -- ---- entry by entry
 -- each entry of the first is at most that of the second
 abbrev pub AreAtMost : List ℚ → List ℚ → Type 0

@@ -1,5 +1,5 @@
 -- The named cuts with their places are the facets of the log, and no two have one key.
-use Rattle.std.proofs.Common.{◌≡◌, ◌≢◌, ℕ, zero, suc, ◌<◌, ◌-◌, ◌==◌, List, [], ◌∷◌, ◌++◌, sym, ap, ap₂, ◌∙◌, subst, refl, arith, map, filter, length, get_or, slice_index, slice_index_or, Bool, true, false, true≢false, not, All, AllPairs, Contains}
+use Rattle.std.proofs.Common.{◌≡◌, ◌≢◌, ℕ, zero, suc, ◌<◌, ◌-◌, ◌==◌, List, [], ◌∷◌, ◌++◌, sym, ap, ap₂, ◌∙◌, subst, refl, arith, map, filter, length, get_or, slice_index, slice_index_or, Bool, true, true≢false, not, All, AllPairs, Contains}
 use Rattle.std.specs.List.{zip}
 use Rattle.std.proofs.lemmas.Bool.{ne_eqb}
 use Rattle.std.proofs.lemmas.List.{same_from_push, get_or-map, map-append, length-map}
@@ -35,6 +35,7 @@ use Rattle.std.proofs.lemmas.List.{get_or_default}
 use Rattle.log_live.specs.Live.{HasTightSet}
 use Rattle.log_live.specs.Tight.{row_at}
 use Rattle.log_live.specs.declared.generator.Generator.{Generator}
+use Rattle.log_live.proofs.Columns.{tight_test}
 use Rattle.log_answer.specs.Facets.{numbers_at, facet_at, facets_at}
 use Rattle.log_answer.specs.Members.{is_point, member, shown_of, points_of, directions_of}
 use Rattle.log_answer.specs.Places.{IsFacetPlace, AreFacetPlaces}
@@ -57,11 +58,6 @@ map_through f g y [] h = refl
 map_through f g y (x ∷ xs) h =
     ap₂ (λ z zs. z ∷ zs) (h x (Contains-here x xs x refl))
     (map_through f g y xs (λ w c. h w (Contains-there x xs w c)))
-
--- whether a generator's set has a place is the test of the row there
-tight_test : (rows : List (List ℚ)) (g : Generator) (place : ℕ) → HasTightSet rows g → place < length rows →
-    has g.tight place ≡ is_zero (dot (row_at rows place) g.vector)
-tight_test rows g place h l = ap (λ (s : List Bool). has s place) h ∙ get_or-map (λ r. is_zero (dot r g.vector)) rows place [] false l
 
 -- whether a pair of a cut and a place has a place other than 0
 abbrev has_place : Cut × ℕ → Bool

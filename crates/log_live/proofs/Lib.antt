@@ -10,6 +10,7 @@ pub mod LivePairs
 pub mod Preimages
 pub mod Bridges
 pub mod FirstGenerators
+pub mod PairSides
 pub mod Between
 pub mod Standing
 pub mod Added

@@ -78,7 +78,7 @@ file_says p h = record {
   duality = refl;
 }
 
-small_kept : IsProblem small
+unfoldable pub small_kept : IsProblem small
 unfolding whole fraction gcd
 small_kept = record {
   rows_bounded = omega arith;

@@ -4,24 +4,10 @@ use Rattle.exact_field.specs.Gcd.{gcd}
 use Rattle.exact_field.specs.Rational.{whole, fraction, ◌+ℚ◌, ◌*ℚ◌, neg_ℚ, inverse_ℚ, le_ℚ}
 use Rattle.deriv_log.specs.declared.entry.Entry.TheVariants as entry
 use Rattle.log_rules.specs.Examples.{n, at, pair, small, small_front, last_ray, solved_end, bounded_log}
-use Rattle.log_rules.proofs.Examples.{IsProblem, file_of, file_says}
+use Rattle.log_rules.proofs.Examples.{IsProblem, file_of, file_says, small_kept}
 use Rattle.log_versions.specs.Examples.{Upgrades, FailsWritten, PassesWritten, hinted_log, corner, corner_log, corner_hints, first_pairs, second_pairs, half_line, one_duality, unit, own_cut, shared_cut, shared_front, half_line_end, WorkedVersions}
 
 -- ---- the files
-small_kept : IsProblem small
-unfolding whole fraction gcd
-small_kept = record {
-  rows_bounded = omega arith;
-  some_column = omega arith;
-  cols_bounded = omega arith;
-  some_objective = omega arith;
-  objs_bounded = omega arith;
-  a_cells = refl;
-  o_cells = refl;
-  cone_vectors = refl;
-  duality_entries = refl;
-}
-
 corner_kept : IsProblem corner
 unfolding whole fraction gcd
 corner_kept = record {

@@ -1,5 +1,5 @@
 -- The upgrade of a whole log.
-use Rattle.std.proofs.Common.{◌≡◌, ℕ, zero, suc, List, [], ◌∷◌, ◌++◌, refl, sym, ap, ◌∙◌, subst, append_assoc, append-nil, Bool, true, false, true≢false, not, length, Option, None, Some, if◌then◌else◌}
+use Rattle.std.proofs.Common.{◌≡◌, ℕ, zero, suc, List, [], ◌∷◌, ◌++◌, refl, sym, ap, ◌∙◌, subst, append_assoc, append-nil, Bool, true, false, true≢false, not, length, None, if◌then◌else◌}
 use Rattle.std.specs.List.{list_all}
 use Rattle.std.proofs.lemmas.Bool.{and_parts, and_from}
 use Rattle.exact_field.specs.Rational.{ℚ}
@@ -13,7 +13,7 @@ use Rattle.log_rules.specs.LogEvents.{first_failing, events, plain_failure}
 use Rattle.log_rules.specs.Meets.{Meets}
 use Rattle.log_rules.specs.Order as order
 use Rattle.log_rules.specs.Proves.{AllMeet, Gives}
-use Rattle.log_rules.proofs.LogMeets.{events_give_meets}
+use Rattle.log_rules.proofs.LogMeets.{events_give_meets, both_none}
 use Rattle.log_versions.specs.Plain.{shares, plain, is_plain, is_version_2}
 use Rattle.log_versions.specs.WrittenEvents.{log_failure, first_written_failing}
 use Rattle.log_versions.specs.Upgrade.{is_repeated, number_from, naming, sharing, upgraded_entry, more_shared, upgraded_after, upgraded}
@@ -21,10 +21,6 @@ use Rattle.log_versions.specs.Laws.{IsUpgrade, UpgradesSayTheSame}
 use Rattle.log_versions.proofs.PlainStay.{plain_logs_stay, is_plain_of, all_push, first_of}
 use Rattle.log_versions.proofs.Upgraded.{IsStep, begins, step}
 use Rattle.log_versions.proofs.WrittenMeets.{written_events_give_meets}
-
-both_none : {X Y : Type 0} (o : Option X) (f : X → Y) (r : Option Y) → ◌≡◌ {A = Option Y} (elim o [ Some x ↦ Some (f x) | None ↦ r ]) None → (o ≡ None) × (r ≡ None)
-both_none None f r h = (refl, h)
-both_none (Some x) f r h = absurd cc
 
 module _ (holds : ℚ → Bool) (file : Problem) (all : List Entry) where
   -- the upgrade of the entries that are left after what is written of those before

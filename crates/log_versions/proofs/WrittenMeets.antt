@@ -1,5 +1,5 @@
 -- A log on which no event fails meets every rule of every kind, whatever its version; and where all numbers are held, back.
-use Rattle.std.proofs.Common.{◌≡◌, ℕ, suc, ◌⊎◌, inl, inr, List, [], ◌∷◌, ◌++◌, refl, sym, ap, ◌∙◌, subst, append_assoc, append-nil, arith, Bool, true, not, ◌&&◌, ◌||◌, ◌==◌, nat_le, IsTrue, length, flat_map, AllPairs, Contains, Option, None, Some}
+use Rattle.std.proofs.Common.{◌≡◌, ℕ, suc, ◌⊎◌, inl, inr, List, [], ◌∷◌, ◌++◌, refl, sym, ap, ◌∙◌, subst, append_assoc, append-nil, arith, Bool, true, not, ◌&&◌, ◌||◌, ◌==◌, nat_le, IsTrue, length, flat_map, AllPairs, Contains, None, Some}
 use Rattle.std.specs.List.{list_all}
 use Rattle.std.proofs.lemmas.Bool.{eqb-true, eq-eqb}
 use Rattle.std.proofs.lemmas.List.Elements.{All-nil}
@@ -17,7 +17,7 @@ use Rattle.log_rules.specs.LiveEvents.{value_steps, pair_of}
 use Rattle.log_rules.specs.declared.rule.Rule.TheVariants as rule
 use Rattle.log_rules.proofs.HeldTests.{none_fails, pass_both, pass_steps, within_passes, not_contains_passes}
 use Rattle.log_rules.proofs.LogHeld.{kind-passes}
-use Rattle.log_rules.proofs.LogMeets.{IsWide, kind-meets, next_wide}
+use Rattle.log_rules.proofs.LogMeets.{IsWide, kind-meets, next_wide, both_none}
 use Rattle.log_rules.proofs.PassedTests.{Passed, passed_of, both_pass, is_within, not_contained}
 use Rattle.log_rules.proofs.TightHeld.{value_passes, pair-passes}
 use Rattle.log_versions.specs.Hints.{lists, unlisted, pair_before, pairs_rise, are_hints, MeetsAddHints}
@@ -145,10 +145,6 @@ entry-written holds file before e w h =
     let p = passed_of holds 1 (written_events file before e) h in record { order = p.0; rules = written-meets file before e w p.1 }
 
 -- ---- the log
-both_none : {X Y : Type 0} (o : Option X) (f : X → Y) (r : Option Y) → ◌≡◌ {A = Option Y} (elim o [ Some x ↦ Some (f x) | None ↦ r ]) None → (o ≡ None) × (r ≡ None)
-both_none None f r h = (refl, h)
-both_none (Some x) f r h = absurd cc
-
 splits : (holds : ℚ → Bool) (file : Problem) (before entries : List Entry) → IsWide file (plain before) → first_written_failing holds file before entries ≡ None →
     (mid : List Entry) (e : Entry) (later : List Entry) → entries ≡ mid ++ e ∷ later → WrittenMeets file (before ++ mid) e
 splits holds file before [] w h [] e later same = absurd cc

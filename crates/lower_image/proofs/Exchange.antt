@@ -180,3 +180,9 @@ dual_parts q g some long =
     two zero (x ∷ y ∷ []) h = refl
     two zero (x ∷ y ∷ z ∷ v) h = absurd (omega arith)
     two (suc n) (x ∷ v) h = two n v (omega arith)
+
+-- where a weight is 0, so are its entries before the last
+pub front_zero : (c f : List ℚ) (s : ℚ) (q : ℕ) → length f ≡ q - 1 → weight_at c f s ≡ zeros q → f ≡ zeros (q - 1)
+front_zero c f s q long none =
+    sym (ap (λ (n : ℕ). take n (weight_at c f s)) (sym long) ∙ take-append_seam f ((s -ℚ dot (front c) f) ∷ []))
+    ∙ ap (λ (v : List ℚ). take (q - 1) v) none ∙ take-zeros (q - 1) q (omega arith)

@@ -36,13 +36,14 @@ use Rattle.log_rules.proofs.CutsStay.{Exists}
 use Rattle.log_rules.proofs.NamedCuts.{named_stand}
 use Rattle.log_rules.proofs.SolutionIsRight.{are_sound}
 use Rattle.log_rules.proofs.SolvedIsSolved.{solved, solved_met}
-use Rattle.lp_form.specs.Programs.{benson_system, u_of, w_of, after_w_of, value_of}
+use Rattle.lp_form.specs.Programs.{benson_system, u_of, w_of, after_w_of, value_of, dual_unknowns}
 use Rattle.lp_form.proofs.Systems.{benson_ok, length-negated}
 use Rattle.overflow_rules.specs.Base.{last_of}
 use Rattle.overflow_rules.proofs.Cuts.{length-benson_cost, benson_unknowns}
 use Rattle.overflow_rules.proofs.CutTurns.{optimal_value}
 use Rattle.overflow_rules.proofs.Violated.{said_value}
-use Rattle.benson_program.proofs.Solved.{after_long, after_positive, balanced, in_dual, member, scaled_at, u_long, u_positive, w_long}
+use Rattle.benson_program.proofs.Solved.{balanced, in_dual, member, scaled_at}
+use Rattle.benson_program.proofs.SolutionParts.{after_long, after_positive, u_long, u_positive, w_long}
 use Rattle.lower_image.specs.Lower.{AreAllFacets}
 use Rattle.lower_image.specs.Laws.{AllFacetsLaws}
 use Rattle.lower_image.proofs.LowerRows.{c_long}
@@ -129,16 +130,16 @@ module _ (file : Problem) (c v : List ℚ) (t : Bool) (facets : List Inequality)
   unfolding said
   valid = record {
     valid = record {
-      wide = w_long file z z_long;
+      wide = w_long file (dual_unknowns file.objs file.cone) z z_long;
       holds = λ p k.
           cut_holds file.cols (normals file) (side_bounds file) (objectives file) (w_of file z) (u_of file z) k.solution p k.beyond
           record {
-            one_each = u_long file z z_long ∙ sym (length-map (sides file) (λ s. s.normal));
-            at_least_zero = u_positive file z z_long h.solves.at_least_zero;
+            one_each = u_long file (dual_unknowns file.objs file.cone) z z_long ∙ sym (length-map (sides file) (λ s. s.normal));
+            at_least_zero = u_positive file (dual_unknowns file.objs file.cone) z z_long h.solves.at_least_zero;
             balanced = balanced file z z_long c long one_ℚ h.solves.equal;
           } k.meets k.same
-          ((in_dual file.objs file.cone (w_of file z) (after_w_of file z) file.cone_vectors (w_long file z z_long) (after_long file z z_long)
-          (after_positive file z z_long h.solves.at_least_zero) (member file z z_long c long one_ℚ h.solves.equal)).within k.beyond k.in_cone);
+          ((in_dual file.objs file.cone (w_of file z) (after_w_of file z) file.cone_vectors (w_long file (dual_unknowns file.objs file.cone) z z_long) (after_long file (dual_unknowns file.objs file.cone) z z_long)
+          (after_positive file (dual_unknowns file.objs file.cone) z z_long h.solves.at_least_zero) (member file z z_long c long one_ℚ h.solves.equal)).within k.beyond k.in_cone);
     };
     normed = scaled_at file z z_long c long one_ℚ h.solves.equal;
   }

@@ -1,6 +1,6 @@
 -- What a live generator of the cone of dual vectors stands for.
 use Rattle.std.proofs.Common.{◌≡◌, ◌≢◌, ℕ, zero, suc, List, [], ◌∷◌, ◌++◌, length, take, All, Contains, refl, sym, ap, ap₂, ◌∙◌, subst, arith, ◌≤◌, ◌-◌, ◌+◌, Bool, true, false, ◌⊎◌, inl, inr, length-append, true≢false}
-use Rattle.std.specs.Prelude.{if◌then◌else◌, pos, negsuc, not}
+use Rattle.std.specs.Prelude.{if◌then◌else◌, not}
 use Rattle.std.proofs.Math.Seq.{take-append_seam}
 use Rattle.std.proofs.lemmas.List.{length-take-le}
 use Rattle.exact_field.specs.Rational.{ℚ, zero_ℚ, one_ℚ, ◌-ℚ◌, neg_ℚ, le_ℚ, ◌≤ℚ◌, ◌<ℚ◌}
@@ -23,7 +23,7 @@ use Rattle.overflow_rules.specs.Base.{image_of, weight_of}
 use Rattle.geo_duality.specs.Rows.{exchange_row}
 use Rattle.lower_image.specs.Lower.{IsLower, dual_at, weight_at}
 use Rattle.lower_image.specs.Laws.{IsWeighted, LowerGeneratorLaws}
-use Rattle.lower_image.proofs.Exchange.{exchange_at, take-zeros, two_more, weight_long, weight_normed, dual_parts}
+use Rattle.lower_image.proofs.Exchange.{exchange_at, two_more, weight_long, weight_normed, dual_parts, front_zero}
 use Rattle.lower_image.proofs.LowerRows.{c_long, c_last, some, image_wide}
 
 -- ---- signs
@@ -117,13 +117,8 @@ module _ (file : Problem) (c : List ℚ) (rows : List (List ℚ)) (list : LiveLi
     weight_zero : weight_at c f s ≡ zeros file.objs
     weight_zero = zero_at_interior file.objs (IsInOrderingCone file) c (weight_at c f s) fits.interior inside (level ∙ none)
 
-    f_zero : f ≡ zeros (file.objs - 1)
-    f_zero =
-        sym (ap (λ (n : ℕ). take n (weight_at c f s)) (sym f_long) ∙ take-append_seam f ((s -ℚ dot (front c) f) ∷ []))
-        ∙ ap (λ (v : List ℚ). take (file.objs - 1) v) weight_zero ∙ take-zeros (file.objs - 1) file.objs (omega arith)
-
     g_is : g ≡ dual_at (zeros (file.objs - 1)) gamma zero_ℚ
-    g_is = parts ∙ ap₂ (λ (v : List ℚ) (a : ℚ). v ++ gamma ∷ a ∷ []) f_zero none
+    g_is = parts ∙ ap₂ (λ (v : List ℚ) (a : ℚ). v ++ gamma ∷ a ∷ []) (front_zero c f s file.objs f_long weight_zero) none
 
     -- the row of the feasible point says that the bound is at most 0
     down : zero_ℚ ≤ℚ neg_ℚ gamma

@@ -44,8 +44,7 @@ use Rattle.overflow_rules.proofs.Making.{generator_laws}
 use Rattle.overflow_rules.proofs.Violated.{length-minus}
 use Rattle.lower_image.specs.Lower.{AreLowerRows, IsLower, dual_at, weight_at, dual_vector}
 use Rattle.lower_image.specs.Laws.{LowerRowLaws}
-use Rattle.lower_image.proofs.Exchange.{exchange_at, take-zeros, two_more, weight_again, weight_normed, dual_parts}
-use Rattle.std.proofs.Math.Seq.{take-append_seam}
+use Rattle.lower_image.proofs.Exchange.{exchange_at, two_more, weight_again, weight_normed, dual_parts, front_zero}
 
 -- ---- what base rows are made of
 -- a direction of the ordering cone is in it
@@ -219,11 +218,6 @@ module _ (file : Problem) (c : List ℚ) (fits : Fits file c) (rows : List (List
   weight_zero = zero_at_interior file.objs (IsInOrderingCone file) c (weight_at c f s) fits.interior inside
       (weight_normed c f s (some file c fits) f_again (c_last file c fits) ∙ s_zero)
 
-  f_zero : f ≡ zeros (file.objs - 1)
-  f_zero =
-      sym (ap (λ (n : ℕ). take n (weight_at c f s)) (sym f_long) ∙ take-append_seam f ((s -ℚ dot (front c) f) ∷ []))
-      ∙ ap (λ (v : List ℚ). take (file.objs - 1) v) weight_zero ∙ take-zeros (file.objs - 1) file.objs (omega arith)
-
   gamma_zero : gamma ≡ zero_ℚ
   gamma_zero = out gamma
       (ap (λ (a : ℚ). a -ℚ gamma) (sym (ap (λ (v : List ℚ). dot v (image_of file h.point)) weight_zero ∙ dot_comm (zeros file.objs) _ ∙ dot-zeros _ file.objs))
@@ -237,7 +231,7 @@ module _ (file : Problem) (c : List ℚ) (fits : Fits file c) (rows : List (List
   pub nothing_tight : z ≡ zeros (suc file.objs)
   nothing_tight =
       let whole : suc (suc (file.objs - 1)) ≡ suc file.objs = omega (arith, file.some_objective) in
-      parts ∙ ap₂ (λ (v : List ℚ) (a : ℚ). v ++ a ∷ s ∷ []) f_zero gamma_zero ∙ ap (λ (a : ℚ). zeros (file.objs - 1) ++ zero_ℚ ∷ a ∷ []) s_zero
+      parts ∙ ap₂ (λ (v : List ℚ) (a : ℚ). v ++ a ∷ s ∷ []) (front_zero c f s file.objs f_long weight_zero) gamma_zero ∙ ap (λ (a : ℚ). zeros (file.objs - 1) ++ zero_ℚ ∷ a ∷ []) s_zero
       ∙ two_more (file.objs - 1) ∙ ap (λ (n : ℕ). zeros n) whole
 
 -- ---- growing

@@ -1,13 +1,10 @@
 -- In the program of a weight the two columns of an entry of w are opposite.
-use Rattle.std.proofs.Common.{◌≡◌, ℕ, List, [], ◌∷◌, ◌++◌, length, refl, sym, ap, ap₂, ◌∙◌, arith, ◌<◌, ◌+◌, ◌-◌, All, slice_index_or, length-append}
-use Rattle.std.proofs.lemmas.List.{get_or_append_left, get_or-append_right, length-map}
-use Rattle.std.proofs.lemmas.List.Elements.{All-nil, All-head, All-tail, All-append}
-use Rattle.exact_field.specs.Rational.{ℚ, zero_ℚ, neg_ℚ}
-use Rattle.exact_field.specs.Vector.{entry}
+use Rattle.std.proofs.Common.{◌≡◌, ℕ, List, ◌++◌, ◌∙◌, ◌<◌, ◌+◌, ◌-◌, All}
+use Rattle.std.proofs.lemmas.List.{length-map}
+use Rattle.std.proofs.lemmas.List.Elements.{All-nil, All-append}
+use Rattle.exact_field.specs.Rational.{ℚ}
 use Rattle.polyhedra.specs.Negatives.{negated}
 use Rattle.polyhedra.specs.Vectors.{zeros}
-use Rattle.polyhedra.proofs.Algebra.{neg_neg}
-use Rattle.polyhedra.proofs.Entries.{slice-negated}
 use Rattle.tableaux.specs.Table.{Table, column_of, listed, unit}
 use Rattle.tableaux.proofs.Places.{all_from}
 use Rattle.vlp_problem.specs.Sides.{side_column, numbers_from}
@@ -18,29 +15,8 @@ use Rattle.vlp_problem.proofs.Numbers.{length-numbers}
 use Rattle.upper_image.specs.UpperImage.{objective_column}
 use Rattle.lp_form.specs.Programs.{side_total, on_parts, balances, weight_members, weight_unknowns}
 use Rattle.lp_form.proofs.Systems.{length-unit, length-negated, length-zeros, length-side_column}
+use Rattle.benson_program.proofs.Opposite.{IsOpposite, parts_opposite, opposite_column}
 use Rattle.lower_image.proofs.WeightEquations.{weight_rows}
-
--- the entries at two places, counted from 0, are opposite
-abbrev IsOpposite : ℕ → ℕ → List ℚ → Type 0
-IsOpposite j k r = slice_index_or r j zero_ℚ ≡ neg_ℚ (slice_index_or r k zero_ℚ)
-
-parts_opposite : (m q i : ℕ) (u w after : List ℚ) → length u ≡ m → length w ≡ q → i < q → IsOpposite (m + i) (m + q + i) (on_parts u w after)
-parts_opposite m q i u w after u_long w_long inside =
-    let two : length (u ++ w) ≡ m + q = length-append u w ∙ ap₂ (λ a b. a + b) u_long w_long in
-    let three : length (u ++ w ++ negated w) ≡ m + q + q = length-append (u ++ w) (negated w) ∙ ap₂ (λ a b. a + b) two (length-map w neg_ℚ ∙ w_long) in
-    let low : m + i - m ≡ i = omega arith in
-    let high : m + q + i - (m + q) ≡ i = omega arith in
-    get_or_append_left (u ++ w ++ negated w) after zero_ℚ (m + i) (omega (arith, three, inside))
-    ∙ get_or_append_left (u ++ w) (negated w) zero_ℚ (m + i) (omega (arith, two, inside))
-    ∙ get_or-append_right u w m (m + i) zero_ℚ u_long (omega arith)
-    ∙ ap (λ (k : ℕ). slice_index_or w k zero_ℚ) low
-    ∙ sym (neg_neg (slice_index_or w i zero_ℚ))
-    ∙ ap neg_ℚ
-    (sym
-    (get_or_append_left (u ++ w ++ negated w) after zero_ℚ (m + q + i) (omega (arith, three, inside))
-    ∙ get_or-append_right (u ++ w) (negated w) (m + q) (m + q + i) zero_ℚ two (omega arith)
-    ∙ ap (λ (k : ℕ). slice_index_or (negated w) k zero_ℚ) high
-    ∙ slice-negated w i))
 
 members_opposite : (m q i : ℕ) (cone : Cone) → i < q → All (IsOpposite (m + i) (m + q + i)) (weight_members m q cone)
 members_opposite m q i Orthant inside = All-nil (IsOpposite (m + i) (m + q + i))
@@ -63,15 +39,6 @@ opposite_rows file i inside =
     (length-negated (objective_column file j) q (length-map (numbers_from 1 q) _ ∙ length-numbers 1 q)) inside))
     (all_from P 1 q _ (λ j low high. parts_opposite m q i (zeros m) (unit q j) (zeros more) (length-zeros m) (length-unit q j) inside)))
     (members_opposite m q i file.cone inside)
-
-opposite_column : (j k : ℕ) (t : Table) → All (IsOpposite j k) t → column_of t (j + 1) ≡ negated (column_of t (k + 1))
-opposite_column j k [] h = refl
-opposite_column j k (r ∷ t) h =
-    let first : j + 1 - 1 ≡ j = omega arith in
-    let second : k + 1 - 1 ≡ k = omega arith in
-    let here : entry r (j + 1) ≡ neg_ℚ (entry r (k + 1)) =
-    ap (λ (i : ℕ). slice_index_or r i zero_ℚ) first ∙ All-head (IsOpposite j k) r t h ∙ ap (λ (i : ℕ). neg_ℚ (slice_index_or r i zero_ℚ)) (sym second) in
-    ap₂ (λ (a : ℚ) (b : List ℚ). a ∷ b) here (opposite_column j k t (All-tail (IsOpposite j k) r t h))
 
 pub opposite_entries : (file : Problem) (i : ℕ) → i < file.objs →
     column_of (weight_rows file) (side_total file + i + 1) ≡ negated (column_of (weight_rows file) (side_total file + file.objs + i + 1))

@@ -10,15 +10,14 @@ use Rattle.vlp_problem.specs.Sides.{side_bounds}
 use Rattle.vlp_problem.specs.declared.problem.Problem.{Problem}
 use Rattle.upper_image.specs.OrderingCone.{IsInDualCone}
 use Rattle.upper_image.specs.Shows.{ShowsCut}
-use Rattle.upper_image.specs.Spots.{dense, product, IsVector}
-use Rattle.upper_image.proofs.Widths.{product_is}
+use Rattle.upper_image.specs.Spots.{dense, IsVector}
 use Rattle.lp_form.specs.declared.data.Data.{Data}
 use Rattle.lp_form.specs.declared.name.LpName.TheVariants.{Weight}
 use Rattle.lp_form.specs.Data.{IsDataOf, cone_of}
 use Rattle.lp_form.specs.Programs.{side_total, weight_system, weight_unknowns, u_of, w_of, v_of}
 use Rattle.lp_form.specs.Reading.{HasColumns, IsSplit}
 use Rattle.lp_form.proofs.Figures.{side_number, objective_number}
-use Rattle.lp_form.proofs.Systems.{weight_ok, length-side_bounds}
+use Rattle.lp_form.proofs.Systems.{weight_ok}
 use Rattle.overflow_rules.specs.Base.{AreCutParts, IsBaseCut, IsBaseWeight}
 use Rattle.overflow_rules.specs.Products.{IsBaseU}
 use Rattle.overflow_rules.specs.Settings.{Setting, Knows}
@@ -26,10 +25,12 @@ use Rattle.cone_rules.proofs.Opposite.{opposite_columns}
 use Rattle.benson_program.proofs.Spread.{spots, spots-dense}
 use Rattle.benson_program.specs.Cuts.{IsCutOf}
 use Rattle.benson_program.specs.Ends.{IsOptimumAt}
-use Rattle.lp_form.specs.Sparse.{IsSparseOf}
+use Rattle.benson_program.proofs.SolutionParts.{u_long}
+use Rattle.benson_program.proofs.Read.{wide_in}
+use Rattle.benson_program.proofs.Made.{parts, proves, v_many}
 use Rattle.lp_form.specs.declared.shown.Cut.{Cut}
 use Rattle.lower_image.proofs.WeightEnds.{weight_cut}
-use Rattle.lower_image.proofs.WeightEquations.{u_long, weight_total, length-weight_cost}
+use Rattle.lower_image.proofs.WeightEquations.{weight_total, length-weight_cost}
 use Rattle.lower_image.proofs.Opposite.{opposite_entries}
 
 -- ---- in numbers
@@ -59,7 +60,7 @@ module _ (file : Problem) (w : List ℚ) (basis : List ℕ) (z y : List ℚ) (w_
   -- some sparse vectors are the parts of z
   parts_there : AreCutParts file z (spots (u_of file z)) (spots (v_of file file.cone z))
   parts_there = record {
-    dual = subst (λ (n : ℕ). dense n (spots (u_of file z)) ≡ u_of file z) (u_long file z z_long) (spots-dense (u_of file z));
+    dual = subst (λ (n : ℕ). dense n (spots (u_of file z)) ≡ u_of file z) (u_long file (weight_unknowns file.cone) z z_long) (spots-dense (u_of file z));
     cone = spots-dense (v_of file file.cone z);
   }
 
@@ -76,13 +77,11 @@ module _ (file : Problem) (w : List ℚ) (basis : List ℕ) (z y : List ℚ) (w_
 
 -- ---- in a field
 module _ {F : Type 0} (value : F → ℚ) (form : Data F) (file : Problem) (stands : IsDataOf value file form) where
-  pub wide_in : (v : List F) → length v ≡ length form.p → length (map value v) ≡ file.objs
-  wide_in v long = length-map v value ∙ long ∙ objective_number value file form stands
 
   module _ (w z : List F) (basis : List ℕ) (y : List ℚ) (w_long : length w ≡ length form.p)
       (h : IsOptimumAt (weight_system file (map value w)) basis (map value z) y) where
     unknowns_long : length z ≡ weight_total file
-    unknowns_long = sym (length-map z value) ∙ z_long file (map value w) basis (map value z) y (wide_in w w_long) h
+    unknowns_long = sym (length-map z value) ∙ z_long file (map value w) basis (map value z) y (wide_in value form file stands w w_long) h
 
     unknowns_are : length form.sides + length form.p + length form.p + weight_unknowns (cone_of value form.cone) ≡ weight_total file
     unknowns_are =
@@ -97,7 +96,7 @@ module _ {F : Type 0} (value : F → ℚ) (form : Data F) (file : Problem) (stan
         let second : length form.sides + length form.p + i < length z = omega (arith, unknowns_long, m_is, q_is, inside) in
         let P : ℕ → ℕ → Type 0 = λ a b. (slice_index_or (map value z) a zero_ℚ ≡ zero_ℚ) ⊎ (slice_index_or (map value z) b zero_ℚ ≡ zero_ℚ) in
         let there : P (side_total file + i) (side_total file + file.objs + i) =
-        split file (map value w) basis (map value z) y (wide_in w w_long) h i (subst (λ (q : ℕ). i < q) q_is inside) in
+        split file (map value w) basis (map value z) y (wide_in value form file stands w w_long) h i (subst (λ (q : ℕ). i < q) q_is inside) in
         let here : P (length form.sides + i) (length form.sides + length form.p + i) =
         subst (λ (a : ℕ). P a (length form.sides + length form.p + i)) (ap (λ a. a + i) (sym m_is))
         (subst (λ (b : ℕ). P (side_total file + i) b) (ap₂ (λ a b. a + b + i) (sym m_is) (sym q_is)) there) in
@@ -112,7 +111,7 @@ module _ {F : Type 0} (value : F → ℚ) (form : Data F) (file : Problem) (stan
     pub sides_in : (u : List F) → map value u ≡ u_of file (map value z) → length u ≡ length form.sides
     sides_in u e =
         sym (length-map u value) ∙ ap length e
-        ∙ u_long file (map value z) (z_long file (map value w) basis (map value z) y (wide_in w w_long) h)
+        ∙ u_long file (weight_unknowns file.cone) (map value z) (z_long file (map value w) basis (map value z) y (wide_in value form file stands w w_long) h)
         ∙ sym (side_number value file form stands)
 
 -- ---- the cut
@@ -120,22 +119,7 @@ module _ {F : Type 0} (value : F → ℚ) (file : Problem) (c w : List ℚ) (bas
     (h : IsOptimumAt (weight_system file w) basis z y) (weight : IsBaseWeight file c w) (inside : IsInDualCone file w) (normed : dot w c ≡ one_ℚ)
     (cut : Cut F) (u_read : map value cut.u ≡ u_of file z) (w_read : map value cut.w ≡ w_of file z) (v_read : map value cut.v ≡ v_of file file.cone z) where
   u_many : length cut.u ≡ side_total file
-  u_many = sym (length-map cut.u value) ∙ ap length u_read ∙ u_long file z (z_long file w basis z y w_long h)
-
-  v_many : length cut.v ≡ length (v_of file file.cone z)
-  v_many = sym (length-map cut.v value) ∙ ap length v_read
-
-  parts : (u m : List Spot) → IsSparseOf value cut.u u → IsSparseOf value cut.v m → AreCutParts file z u m
-  parts u m left right = record {
-    dual = subst (λ (n : ℕ). dense n u ≡ u_of file z) u_many (left.same ∙ u_read);
-    cone = subst (λ (n : ℕ). dense n m ≡ v_of file file.cone z) v_many (right.same ∙ v_read);
-  }
-
-  proves : (u m : List Spot) → IsSparseOf value cut.u u → IsSparseOf value cut.v m → value cut.gamma ≡ dot (side_bounds file) (map value cut.u) →
-      product (side_bounds file) u ≡ value cut.gamma
-  proves u m left right bound =
-      product_is (side_total file) (side_bounds file) u (length-side_bounds file)
-      ∙ ap (λ d. dot (side_bounds file) d) ((parts u m left right).dual ∙ sym u_read) ∙ sym bound
+  u_many = sym (length-map cut.u value) ∙ ap length u_read ∙ u_long file (weight_unknowns file.cone) z (z_long file w basis z y w_long h)
 
   pub normal_is : map value cut.w ≡ w
   normal_is = w_read ∙ weight_cut.normal file w z y w_long h.optimal
@@ -148,7 +132,8 @@ module _ {F : Type 0} (value : F → ℚ) (file : Problem) (c w : List ℚ) (bas
     bound = bound;
     shown = λ u m left right. subst (λ (v : List ℚ). ShowsCut file c v (value cut.gamma) u m) (sym normal_is)
         (weight_cut.cut file c w z y (value cut.gamma) u m w_long normed inside h.optimal (subst (λ (n : ℕ). IsVector n u) u_many left.vector)
-        (subst (λ (n : ℕ). IsVector n m) v_many right.vector) (parts u m left right) (proves u m left right bound));
+        (subst (λ (n : ℕ). IsVector n m) (v_many value file z cut u_many u_read v_read) right.vector) (parts value file z cut u_many u_read v_read u m left right)
+        (proves value file z cut u_many u_read v_read u m left right bound));
     base = λ u m left right. subst (λ (v : List ℚ). IsBaseCut file c v u m) (sym normal_is)
-        (base file w basis z y w_long h c u m weight (parts u m left right));
+        (base file w basis z y w_long h c u m weight (parts value file z cut u_many u_read v_read u m left right));
   }

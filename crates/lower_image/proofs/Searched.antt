@@ -148,13 +148,6 @@ pub kept_holds : {X : Type 0} (P : X → Type 0) (first : Option X) (found : X) 
 kept_holds P None found h k = k
 kept_holds P (Some x) found h k = h
 
--- something is not nothing
-pub some_not_none : {X : Type 0} (o : Option X) (x : X) → o ≡ Some x → o ≡ None → ⊥
-some_not_none o x is none = none_is_not (sym is ∙ none)
-  where
-    none_is_not : Some x ≡ None → ⊥
-    none_is_not e = cc
-
 -- a turn brings the search nearer to its end
 pub turn_falls : (task : Task) (old new : Description) → HasRowMore task old new →
     (row_turns_end task.file task.c).0 new.rows < (row_turns_end task.file task.c).0 old.rows

@@ -26,9 +26,9 @@ use Rattle.lp_form.specs.Programs.{weight_unknowns, weight_equations, v_of, afte
 use Rattle.lp_form.proofs.Systems.{cone_wide, length-negated}
 use Rattle.benson_program.proofs.Shown.{shows}
 use Rattle.benson_program.proofs.Spots.{without_places}
+use Rattle.benson_program.proofs.SolutionParts.{same_from_difference}
 use Rattle.lower_image.proofs.WeightEquations.{tied}
 use Rattle.lower_image.proofs.WeightPriced.{pulled, pushed}
-use Rattle.lower_image.proofs.WeightSolved.{same_from_difference}
 
 zeros_nonneg : (n : ℕ) → AtLeastZero (zeros n)
 zeros_nonneg n = (cone_convex n Orthant refl).zero.entries

@@ -31,9 +31,10 @@ use Rattle.benson_program.proofs.Blocks.{on_parts-value}
 use Rattle.benson_program.proofs.AsPreimage.{sides_rise}
 use Rattle.benson_program.proofs.Spots.{positive_values}
 use Rattle.benson_program.proofs.Vectors.{parts_of, sides_hold}
+use Rattle.benson_program.proofs.SolutionParts.{u_long, a_long, b_long, after_long, u_positive, after_positive}
 use Rattle.lower_image.specs.Weights.{WeightBounded, WeightChoice, WeightCut, WeightRay}
 use Rattle.lower_image.proofs.WeightCone.{dual_shown, slack_nonneg}
-use Rattle.lower_image.proofs.WeightEquations.{tied, weight_rows, weight_total, weight_cost, length-weight_cost, u_long, a_long, b_long, after_long, u_positive, after_positive}
+use Rattle.lower_image.proofs.WeightEquations.{tied, weight_rows, weight_total, weight_cost, length-weight_cost}
 use Rattle.lower_image.proofs.WeightPriced.{pulled, prices_of, ties_of, x_long, p_long, f_long, y_parts, normals_at_least, after_at_least, price_value}
 use Rattle.lower_image.proofs.WeightSolved.{after_is, balanced, weight_is}
 
@@ -56,7 +57,7 @@ module _ (file : Problem) (z : List ℚ) (z_long : length z ≡ weight_total fil
   cost_is =
       ap (λ v. dot (weight_cost file) v) (sym (parts_of (side_total file) file.objs z))
       ∙ on_parts-value (side_bounds file) (zeros file.objs) (zeros (weight_unknowns file.cone)) (u_of file z) _ _ (after_w_of file z)
-      (length-side_bounds file ∙ sym (u_long file z z_long)) (length-zeros file.objs ∙ sym (a_long file z z_long)) (length-zeros file.objs ∙ sym (b_long file z z_long))
+      (length-side_bounds file ∙ sym (u_long file (weight_unknowns file.cone) z z_long)) (length-zeros file.objs ∙ sym (a_long file (weight_unknowns file.cone) z z_long)) (length-zeros file.objs ∙ sym (b_long file (weight_unknowns file.cone) z z_long))
       ∙ ap₂ (λ s t. dot (side_bounds file) (u_of file z) +ℚ s +ℚ t) (dot_comm (zeros file.objs) (w_of file z) ∙ dot-zeros (w_of file z) file.objs)
       (dot_comm (zeros (weight_unknowns file.cone)) (after_w_of file z) ∙ dot-zeros (after_w_of file z) (weight_unknowns file.cone))
       ∙ add_zero _ ∙ add_zero _
@@ -117,8 +118,8 @@ module _ (file : Problem) (w z y : List ℚ) (w_long : length w ≡ file.objs) (
       subst (λ (s : ℚ). dot (side_bounds file) (u_of file z) ≤ℚ s) (dot-combination_left file.cols w (objectives file) (choice_of file y))
       (weak_duality file.cols (normals file) (side_bounds file) (combination file.cols w (objectives file)) (u_of file z) (choice_of file y)
       record {
-        one_each = u_long file z z_long ∙ sym (length-map (sides file) (λ s. s.normal));
-        at_least_zero = u_positive file z z_long h.solves.at_least_zero;
+        one_each = u_long file (weight_unknowns file.cone) z z_long ∙ sym (length-map (sides file) (λ s. s.normal));
+        at_least_zero = u_positive file (weight_unknowns file.cone) z z_long h.solves.at_least_zero;
         balanced = balance;
       } (feasible_meets file (choice_of file y) feasible))
 
@@ -133,12 +134,12 @@ module _ (file : Problem) (w z y : List ℚ) (w_long : length w ≡ file.objs) (
   cut c gamma u m scaled inside u_vector m_vector parts bound = record {
     lengths = w_long;
     index = u_vector.places;
-    sign = positive_values (side_total file) u u_vector (subst AtLeastZero (sym parts.dual) (u_positive file z z_long h.solves.at_least_zero));
+    sign = positive_values (side_total file) u u_vector (subst AtLeastZero (sym parts.dual) (u_positive file (weight_unknowns file.cone) z z_long h.solves.at_least_zero));
     balance = ap (λ d. combination file.cols d (normals file)) parts.dual ∙ balance;
-    cone = dual_shown file file.objs file.cone w z m file.cone_vectors w_long inside (after_positive file z z_long h.solves.at_least_zero)
+    cone = dual_shown file file.objs file.cone w z m file.cone_vectors w_long inside (after_positive file (weight_unknowns file.cone) z z_long h.solves.at_least_zero)
         (subst (λ (v : List ℚ). tied file.objs file.cone v (after_w_of file z) ≡ zeros (weight_equations file.objs file.cone)) normal
         (after_is file z w (zeros (weight_equations file.objs file.cone)) z_long w_long h.solves.equal))
-        m_vector parts.cone (after_long file z z_long);
+        m_vector parts.cone (after_long file (weight_unknowns file.cone) z z_long);
     scaled = scaled;
     bound = bound;
   }
@@ -151,8 +152,8 @@ module _ (file : Problem) (w z y : List ℚ) (w_long : length w ≡ file.objs) (
       holds = λ v k.
           cut_holds file.cols (normals file) (side_bounds file) (objectives file) w (u_of file z) k.solution v k.beyond
           record {
-            one_each = u_long file z z_long ∙ sym (length-map (sides file) (λ s. s.normal));
-            at_least_zero = u_positive file z z_long h.solves.at_least_zero;
+            one_each = u_long file (weight_unknowns file.cone) z z_long ∙ sym (length-map (sides file) (λ s. s.normal));
+            at_least_zero = u_positive file (weight_unknowns file.cone) z z_long h.solves.at_least_zero;
             balanced = balance;
           } k.meets k.same (inside.within k.beyond k.in_cone);
     };
@@ -235,8 +236,8 @@ module _ (file : Problem) (w z r : List ℚ) (w_long : length w ≡ file.objs) (
   unbounded x f =
       no_solution file.cols (normals file) (side_bounds file) (u_of file r)
       record {
-        one_each = u_long file r r_long ∙ sym (length-map (sides file) (λ s. s.normal));
-        at_least_zero = u_positive file r r_long h.along.at_least_zero;
+        one_each = u_long file (weight_unknowns file.cone) r r_long ∙ sym (length-map (sides file) (λ s. s.normal));
+        at_least_zero = u_positive file (weight_unknowns file.cone) r r_long h.along.at_least_zero;
         balanced = balanced file r (zeros file.objs) (zeros k) r_long (length-zeros file.objs) solves ∙ nothing;
       } (subst (λ (s : ℚ). zero_ℚ <ℚ s) (cost_is file r r_long) h.rises) x (feasible_meets file x f)
 

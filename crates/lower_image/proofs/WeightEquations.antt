@@ -1,12 +1,11 @@
 -- The equations of the program of a weight at a solution u, a, b, h: the sides times u less the objectives times a - b, a - b itself, and
 -- in the dual form a - b less the combination of the vectors by h.
-use Rattle.std.proofs.Common.{◌≡◌, ℕ, List, [], ◌++◌, length, take, drop, refl, sym, ap, ap₂, ◌∙◌, arith, ◌+◌, ◌-◌, length-append}
-use Rattle.std.proofs.lemmas.List.{map-append, length-map, length-take-le, length-drop}
-use Rattle.std.proofs.lemmas.List.Elements.{All-take, All-drop}
-use Rattle.exact_field.specs.Rational.{ℚ, zero_ℚ, ◌+ℚ◌, neg_ℚ, ◌≤ℚ◌}
+use Rattle.std.proofs.Common.{◌≡◌, ℕ, List, [], ◌++◌, length, refl, sym, ap, ap₂, ◌∙◌, arith, ◌+◌, ◌-◌, length-append}
+use Rattle.std.proofs.lemmas.List.{map-append}
+use Rattle.exact_field.specs.Rational.{ℚ, zero_ℚ, ◌+ℚ◌, neg_ℚ}
 use Rattle.exact_field.specs.Vector.{dot}
 use Rattle.polyhedra.specs.Negatives.{negated}
-use Rattle.polyhedra.specs.Vectors.{AtLeastZero, zeros, plus, combination, values}
+use Rattle.polyhedra.specs.Vectors.{zeros, plus, combination, values}
 use Rattle.polyhedra.proofs.Laws.{add_zero}
 use Rattle.polyhedra.proofs.Algebra.{zero_add}
 use Rattle.polyhedra.proofs.Linear.{dot_comm, dot-zeros, length-combination, length-plus, length-zeros}
@@ -15,23 +14,19 @@ use Rattle.polyhedra.proofs.Entries.{entry-negated}
 use Rattle.tableaux.specs.Table.{Table, listed, unit, minus}
 use Rattle.tableaux.proofs.Places.{entry-plus}
 use Rattle.tableaux.proofs.Unique.{dot-unit, entry-combination}
-use Rattle.vlp_problem.specs.Sides.{side_column, side_bounds, numbers_from}
+use Rattle.vlp_problem.specs.Sides.{side_column, side_bounds}
 use Rattle.vlp_problem.specs.declared.problem.Problem.{Problem}
 use Rattle.vlp_problem.specs.declared.problem.Cone.{Cone}
 use Rattle.vlp_problem.specs.declared.problem.Cone.TheVariants.{Orthant, Gens, Dual}
-use Rattle.vlp_problem.proofs.Numbers.{length-numbers}
 use Rattle.upper_image.specs.UpperImage.{normals, objectives, objective_column}
 use Rattle.upper_image.proofs.Widths.{wide_normals, wide_objectives, objective_columns, side_columns}
-use Rattle.lp_form.specs.Programs.{side_total, on_parts, balances, weight_members, weight_unknowns, weight_equations, u_of, w_of, after_w_of}
+use Rattle.lp_form.specs.Programs.{side_total, on_parts, balances, weight_members, weight_unknowns, weight_equations}
 use Rattle.lp_form.proofs.Systems.{IsWideCone, length-unit, length-negated, length-side_column, length-side_bounds}
 use Rattle.overflow_rules.proofs.Violated.{length-minus}
-use Rattle.benson_program.proofs.Blocks.{on_parts-value, values_listed, members-value}
+use Rattle.benson_program.proofs.Blocks.{on_parts-value, values_listed, members-value, length-objective_column}
 
 none_left : (n : ℕ) (v : List ℚ) → dot (zeros n) v ≡ zero_ℚ
 none_left n v = dot_comm (zeros n) v ∙ dot-zeros v n
-
-length-objective_column : (file : Problem) (j : ℕ) → length (objective_column file j) ≡ file.objs
-length-objective_column file j = length-map (numbers_from 1 file.objs) _ ∙ length-numbers 1 file.objs
 
 -- the balances, with any number of unknowns after them
 module _ (file : Problem) (more : ℕ) (u a b h : List ℚ) (u_long : length u ≡ side_total file) (a_long : length a ≡ file.objs)
@@ -134,25 +129,3 @@ length-weight_cost file =
       length-negated (zeros file.objs) file.objs (length-zeros file.objs),
       length-zeros (weight_unknowns file.cone),
     )
-
-module _ (file : Problem) (z : List ℚ) (z_long : length z ≡ weight_total file) where
-  pub u_long : length (u_of file z) ≡ side_total file
-  u_long = length-take-le (side_total file) z (omega (arith, z_long))
-
-  pub a_long : length (take file.objs (drop (side_total file) z)) ≡ file.objs
-  a_long = length-take-le file.objs (drop (side_total file) z) (omega (arith, length-drop (side_total file) z, z_long))
-
-  pub b_long : length (take file.objs (drop (side_total file + file.objs) z)) ≡ file.objs
-  b_long = length-take-le file.objs (drop (side_total file + file.objs) z) (omega (arith, length-drop (side_total file + file.objs) z, z_long))
-
-  pub after_long : length (after_w_of file z) ≡ weight_unknowns file.cone
-  after_long = omega (arith, length-drop (side_total file + file.objs + file.objs) z, z_long)
-
-  pub w_long : length (w_of file z) ≡ file.objs
-  w_long = length-minus file.objs _ _ a_long b_long
-
-  pub u_positive : AtLeastZero z → AtLeastZero (u_of file z)
-  u_positive h = All-take (λ x. zero_ℚ ≤ℚ x) (side_total file) z h
-
-  pub after_positive : AtLeastZero z → AtLeastZero (after_w_of file z)
-  after_positive h = All-drop (λ x. zero_ℚ ≤ℚ x) (side_total file + file.objs + file.objs) z h

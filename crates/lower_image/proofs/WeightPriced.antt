@@ -1,6 +1,6 @@
 -- The columns of the program of a weight priced with multipliers x, p, f of its equations: the normals at x; at each place of w, and of its
 -- negative, minus the objectives at x plus p plus, in the dual form, f; and minus the products of its vectors with f after it.
-use Rattle.std.proofs.Common.{◌≡◌, ℕ, zero, suc, List, [], ◌∷◌, ◌++◌, length, take, drop, refl, sym, ap, ap₂, ◌∙◌, subst, arith, ◌≤◌, ◌+◌, ◌-◌, slice_index_or, append_assoc, length-append}
+use Rattle.std.proofs.Common.{◌≡◌, ℕ, suc, List, [], ◌∷◌, ◌++◌, length, take, drop, refl, sym, ap, ap₂, ◌∙◌, subst, arith, ◌≤◌, ◌+◌, ◌-◌, slice_index_or, append_assoc, length-append}
 use Rattle.std.specs.Prelude.{pos}
 use Rattle.std.proofs.lemmas.List.{length-take-le, length-drop, length-map, take-append-drop}
 use Rattle.exact_field.specs.Rational.{ℚ, zero_ℚ, ◌+ℚ◌, neg_ℚ, ◌≤ℚ◌}
@@ -17,7 +17,6 @@ use Rattle.polyhedra.proofs.Negatives.{dot-negated}
 use Rattle.tableaux.specs.Table.{column_of, minus}
 use Rattle.tableaux.proofs.Inverse.{dot-append}
 use Rattle.tableaux.proofs.Unique.{entry-combination}
-use Rattle.vlp_problem.specs.Sides.{sides}
 use Rattle.vlp_problem.specs.declared.problem.Problem.{Problem}
 use Rattle.vlp_problem.specs.declared.problem.Cone.{Cone}
 use Rattle.vlp_problem.specs.declared.problem.Cone.TheVariants.{Orthant, Gens, Dual}
@@ -27,9 +26,9 @@ use Rattle.log_rules.proofs.ByEntries.{entry-suc}
 use Rattle.lp_form.specs.Programs.{side_total, on_parts, weight_unknowns, weight_equations, choice_of}
 use Rattle.lp_form.proofs.Systems.{IsWideCone, cone_wide, weight_ok, length-negated}
 use Rattle.overflow_rules.proofs.Violated.{length-minus}
-use Rattle.benson_program.proofs.Vectors.{AreAtMost, at_most_each, at_most_parts, at_most_both, at_least_zero, dot-minus, dot-parts, parts_of, same_on}
-use Rattle.lower_image.proofs.WeightEquations.{tied, rows-value, weight_rows, weight_total, length-weight_cost, u_long, a_long, b_long, after_long}
-use Rattle.upper_image.proofs.Widths.{wide_normals, wide_objectives}
+use Rattle.benson_program.proofs.Vectors.{AreAtMost, at_most_each, at_most_parts, at_most_both, at_least_zero, dot-minus_left, dot-parts, parts_of, same_on}
+use Rattle.benson_program.proofs.SolutionParts.{u_long, a_long, b_long, after_long, columns_part, columns_part-long, columns_part-value, normals-long}
+use Rattle.lower_image.proofs.WeightEquations.{tied, rows-value, weight_rows, weight_total, length-weight_cost}
 
 -- ---- what the cone's equations, priced with f, give at the places of w, and after them
 abbrev pub pulled : ℕ → Cone → List ℚ → List ℚ
@@ -117,9 +116,6 @@ module _ (file : Problem) (y : List ℚ) (y_long : length y ≡ file.cols + file
   abbrev priced : List ℚ
   priced = values (normals file) x ++ at_weights ++ negated at_weights ++ negated (pushed file.cone f)
 
-  normals-long : length (values (normals file) x) ≡ side_total file
-  normals-long = length-map (normals file) (λ v. dot v x) ∙ length-map (sides file) (λ s. s.normal)
-
   pushed-long : length (negated (pushed file.cone f)) ≡ more
   pushed-long = length-negated (pushed file.cone f) more (length-pushed file.cone f)
 
@@ -127,7 +123,7 @@ module _ (file : Problem) (y : List ℚ) (y_long : length y ≡ file.cols + file
   priced-long =
       omega (
         arith,
-        normals-long,
+        normals-long file x,
         at_weights-long,
         pushed-long,
         length-negated at_weights file.objs at_weights-long,
@@ -135,25 +131,6 @@ module _ (file : Problem) (y : List ℚ) (y_long : length y ≡ file.cols + file
         length-append (values (normals file) x ++ at_weights) (negated at_weights),
         length-append (values (normals file) x ++ at_weights ++ negated at_weights) (negated (pushed file.cone f)),
       )
-
-  columns_part : (u a b : List ℚ) → List ℚ
-  columns_part u a b = plus (combination file.cols u (normals file)) (negated (combination file.cols (minus a b) (objectives file)))
-
-  columns_part-long : (u a b : List ℚ) → length (columns_part u a b) ≡ file.cols
-  unfolding columns_part
-  columns_part-long u a b =
-      length-plus file.cols (combination file.cols u (normals file)) (negated (combination file.cols (minus a b) (objectives file)))
-      (length-combination file.cols u (normals file) (wide_normals file))
-      (length-negated (combination file.cols (minus a b) (objectives file)) file.cols
-      (length-combination file.cols (minus a b) (objectives file) (wide_objectives file)))
-
-  columns_part-value : (u a b : List ℚ) → dot x (columns_part u a b) ≡
-      dot u (values (normals file) x) +ℚ neg_ℚ (dot (minus a b) (values (objectives file) x))
-  unfolding columns_part
-  columns_part-value u a b =
-      dot-plus x (combination file.cols u (normals file)) (negated (combination file.cols (minus a b) (objectives file)))
-      ∙ ap₂ (λ s t. s +ℚ t) (dot-combination file.cols x u (normals file))
-      (dot-negated x (combination file.cols (minus a b) (objectives file)) ∙ ap neg_ℚ (dot-combination file.cols x (minus a b) (objectives file)))
 
   module _ (u a b h : List ℚ) (u_is : length u ≡ side_total file) (a_is : length a ≡ file.objs) (b_is : length b ≡ file.objs)
       (h_is : length h ≡ weight_unknowns file.cone) where
@@ -164,27 +141,22 @@ module _ (file : Problem) (y : List ℚ) (y_long : length y ≡ file.cols + file
     by_equations =
         ap (λ v. dot v (values (weight_rows file) (u ++ a ++ b ++ h))) (sym y_parts)
         ∙ ap (λ v. dot (x ++ p ++ f) v) (rows-value file u a b h u_is a_is b_is wide h_is)
-        ∙ dot-append (x ++ p) f (columns_part u a b ++ minus a b) (tied file.objs file.cone (minus a b) h)
-        (omega (arith, length-append x p, length-append (columns_part u a b) (minus a b), x_long, p_long, columns_part-long u a b, length-minus file.objs a b a_is b_is))
+        ∙ dot-append (x ++ p) f (columns_part file u (minus a b) ++ minus a b) (tied file.objs file.cone (minus a b) h)
+        (omega (arith, length-append x p, length-append (columns_part file u (minus a b)) (minus a b), x_long, p_long, columns_part-long file u (minus a b), length-minus file.objs a b a_is b_is))
         ∙ ap₂ (λ s t. s +ℚ t)
-        (dot-append x p (columns_part u a b) (minus a b) (x_long ∙ sym (columns_part-long u a b))
-        ∙ ap₂ (λ s t. s +ℚ t) (columns_part-value u a b) (dot_comm p (minus a b)))
+        (dot-append x p (columns_part file u (minus a b)) (minus a b) (x_long ∙ sym (columns_part-long file u (minus a b)))
+        ∙ ap₂ (λ s t. s +ℚ t) (columns_part-value file u (minus a b) x) (dot_comm p (minus a b)))
         (tied-priced file.objs file.cone f (minus a b) h)
-
-    weights-difference : dot a at_weights +ℚ neg_ℚ (dot b at_weights) ≡ dot (minus a b) at_weights
-    weights-difference =
-        ap₂ (λ s t. s +ℚ neg_ℚ t) (dot_comm a at_weights) (dot_comm b at_weights) ∙ sym (dot-minus at_weights a b (a_is ∙ sym b_is))
-        ∙ dot_comm at_weights (minus a b)
 
     -- the product with parts of a solution, by the columns and by the equations
     priced_at : dot (u ++ a ++ b ++ h) priced ≡ dot y (values (weight_rows file) (u ++ a ++ b ++ h))
     priced_at =
-        dot-parts u a b h (values (normals file) x) at_weights (negated at_weights) (negated (pushed file.cone f)) (u_is ∙ sym normals-long)
+        dot-parts u a b h (values (normals file) x) at_weights (negated at_weights) (negated (pushed file.cone f)) (u_is ∙ sym (normals-long file x))
         (a_is ∙ sym at_weights-long) (b_is ∙ sym (length-negated at_weights file.objs at_weights-long))
         ∙ ap₂ (λ s t. dot u (values (normals file) x) +ℚ dot a at_weights +ℚ s +ℚ t) (dot-negated b at_weights) (dot-negated h (pushed file.cone f))
         ∙ same_sums (dot u (values (normals file) x)) (dot (minus a b) (values (objectives file) x)) (dot (minus a b) p)
         (dot h (pushed file.cone f)) (dot (minus a b) (pulled file.objs file.cone f)) (dot a at_weights) (dot b at_weights)
-        (weights-difference ∙ at_weights-value (minus a b))
+        (sym (dot-minus_left a b at_weights (a_is ∙ sym b_is)) ∙ at_weights-value (minus a b))
         ∙ sym by_equations
       where
         same_sums : (n o s d t e g : ℚ) → e +ℚ neg_ℚ g ≡ neg_ℚ o +ℚ s +ℚ t →
@@ -208,7 +180,7 @@ module _ (file : Problem) (y : List ℚ) (y_long : length y ≡ file.cols + file
       by_parts : (r : List ℚ) → length r ≡ weight_total file → dot y (values (weight_rows file) r) ≡ dot r priced
       by_parts r l =
           subst (λ (v : List ℚ). dot y (values (weight_rows file) v) ≡ dot v priced) (parts_of (side_total file) file.objs r)
-          (sym (priced_at _ _ _ _ (u_long file r l) (a_long file r l) (b_long file r l) (after_long file r l)))
+          (sym (priced_at _ _ _ _ (u_long file (weight_unknowns file.cone) r l) (a_long file (weight_unknowns file.cone) r l) (b_long file (weight_unknowns file.cone) r l) (after_long file (weight_unknowns file.cone) r l)))
 
   -- what is at most the products with the columns is at most the priced columns
   at_most : (k : List ℚ) → length k ≡ weight_total file →
@@ -251,7 +223,7 @@ module _ (file : Problem) (y : List ℚ) (y_long : length y ≡ file.cols + file
           front_long,
           length-zeros file.objs,
           negated_long,
-          normals-long,
+          normals-long file x,
           at_weights-long,
           length-negated at_weights file.objs at_weights-long,
           length-append front (zeros file.objs),
@@ -262,11 +234,11 @@ module _ (file : Problem) (y : List ℚ) (y_long : length y ≡ file.cols + file
 
     two : AreAtMost (front ++ zeros file.objs) (values (normals file) x ++ at_weights) × AreAtMost (negated (zeros file.objs)) (negated at_weights)
     two = at_most_parts (front ++ zeros file.objs) (negated (zeros file.objs)) (values (normals file) x ++ at_weights) (negated at_weights)
-        (omega (arith, front_long, length-zeros file.objs, normals-long, at_weights-long, length-append front (zeros file.objs), length-append (values (normals file) x) at_weights))
+        (omega (arith, front_long, length-zeros file.objs, normals-long file x, at_weights-long, length-append front (zeros file.objs), length-append (values (normals file) x) at_weights))
         three.0
 
     one : AreAtMost front (values (normals file) x) × AreAtMost (zeros file.objs) at_weights
-    one = at_most_parts front (zeros file.objs) (values (normals file) x) at_weights (front_long ∙ sym normals-long) two.0
+    one = at_most_parts front (zeros file.objs) (values (normals file) x) at_weights (front_long ∙ sym (normals-long file x)) two.0
 
     pub normals_at_least : AreAtMost front (values (normals file) (choice_of file y))
     normals_at_least = one.0

@@ -8,6 +8,7 @@ pub mod Fronts
 pub mod Growing
 pub mod Lifted
 pub mod LineEntries
+pub mod LiveVectors
 pub mod NamedFacets
 pub mod Numbers
 pub mod Outer

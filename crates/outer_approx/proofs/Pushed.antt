@@ -28,7 +28,7 @@ use Rattle.log_rules.proofs.NormedMembers.{front-homogenised, last-homogenised}
 use Rattle.overflow_rules.specs.Base.{last_of}
 use Rattle.overflow_rules.specs.Trails.{IsBaseDuality, IsBasePoint, IsBaseDirection, IsLiveAt}
 use Rattle.overflow_rules.specs.Licence.{opening as first_two}
-use Rattle.overflow_rules.proofs.Growing.{trail_laws}
+use Rattle.overflow_rules.proofs.Growing.{trail_laws, cut_in_order}
 use Rattle.lp_form.specs.Sparse.{IsSparseOf}
 use Rattle.lp_form.specs.declared.shown.Cut.{Cut as CutOf}
 use Rattle.lp_form.specs.declared.shown.Preimage.{Preimage}
@@ -63,11 +63,6 @@ says_cut value cut w gamma u v w_is gamma_is u_is v_is written =
     record { u = u; v = v; is = ap₂ (λ (x : List ℚ) (y : ℚ). Cut x y u v) w_is gamma_is; u_is = u_is; v_is = v_is; written = written }
 
 -- ---- a cut
--- a cut may stand after a duality entry
-cut_in_order : (trail : List Entry) → IsTrue (has order.duality trail) → IsTrue (in_order trail order.cut)
-cut_in_order [] h = absurd (true≢false (sym h))
-cut_in_order (t ∷ trail) h = both_hold _ _ (both_hold _ _ (both_hold _ _ h refl) refl) refl
-
 module _ {F : Type 0} (value : F → ℚ) (task : Task) (cut : CutOf F) (trail : List Entry) (e : Entry) (o : IsOpenTrail task trail)
     (says : SaysCut value cut e) where
   abbrev said : Entry

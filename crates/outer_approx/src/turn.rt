@@ -3,7 +3,7 @@ ghost use Rattle.std.specs.Prelude.{◌≡◌, IfOk, IsTrue, map, ◌++◌, ◌�
 ghost use Rattle.deriv_log.specs.Formed.{is_formed};
 ghost use Rattle.word_lines.specs.Parts.{is_formed_pair, is_formed_part};
 ghost use Rattle.word_lines.specs.Parts.{pairs as pairs_part};
-ghost use Rattle.outer_approx.specs.Pairs.{named};
+ghost use Rattle.overflows.specs.Pairs.{named};
 ghost use Rattle.deriv_log.specs.declared.entry.Entry.TheVariants as entry_of;
 ghost use Rattle.log_rules.specs.Live.{lines, preimages};
 ghost use Rattle.outer_approx.specs.Cuts.{IsCutFor, said_by};

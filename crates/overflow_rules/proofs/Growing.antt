@@ -89,7 +89,7 @@ vector_is file c weights before (Duality d w p i ∷ rest) all h = (all before (
 vector_is file c weights before (e ∷ rest) all h =
     vector_is file c weights (before ++ e ∷ []) rest (subst (λ (es : List Entry). AllBase file c weights es) (sym (append_assoc before (e ∷ []) rest)) all) h
 
-cut_in_order : (trail : List Entry) → IsTrue (has order.duality trail) → IsTrue (in_order trail order.cut)
+pub cut_in_order : (trail : List Entry) → IsTrue (has order.duality trail) → IsTrue (in_order trail order.cut)
 cut_in_order [] h = absurd (true≢false (sym h))
 cut_in_order (t ∷ trail) h = both_hold _ _ (both_hold _ _ (both_hold _ _ h refl) refl) refl
 

@@ -2,7 +2,7 @@
 use Rattle.std.proofs.Common.{refl, ◌≡◌, ◌≢◌, ℕ, suc, ◌*◌, ◌<◌, ◌≤◌, List, [], ◌∷◌, ◌++◌, sym, ap, ap₂, ◌∙◌, subst, arith, length, map, Bool, true, All, Contains, Option, Some, None, slice_index_or}
 use Rattle.std.specs.List.{flat_map}
 use Rattle.std.proofs.lemmas.List.{length-map}
-use Rattle.exact_field.specs.Rational.{ℚ, zero_ℚ, neg_ℚ, inverse_ℚ, ◌/ℚ◌, ◌<ℚ◌}
+use Rattle.exact_field.specs.Rational.{ℚ, zero_ℚ, neg_ℚ, inverse_ℚ, ◌/ℚ◌}
 use Rattle.exact_field.specs.Vector.{dot}
 use Rattle.exact_field.specs.declared.op.Op.TheVariants as op
 use Rattle.incid_sets.specs.Marks.{IsMeet}
@@ -12,8 +12,7 @@ use Rattle.polyhedra.specs.DoubleDescription.{magnitude, normed, meeting, normin
 use Rattle.polyhedra.specs.LiveList.{Numbered, LivePair, tight_set, vectors, live_pairs}
 use Rattle.polyhedra.specs.Vectors.{scaled}
 use Rattle.polyhedra.proofs.Laws.{mul_comm}
-use Rattle.polyhedra.proofs.Members.{all_of_members, member_of, Contains-map, pairs-map}
-use Rattle.polyhedra.proofs.Order.{neg_positive, not_zero_of_positive}
+use Rattle.polyhedra.proofs.Members.{all_of_members, member_of, Contains-map}
 use Rattle.word_lines.specs.declared.part.LogPair.{LogPair}
 use Rattle.log_rules.specs.Events.{Event, dot_steps, first_failure}
 use Rattle.log_rules.specs.Events.Event.{step, test}
@@ -27,20 +26,17 @@ use Rattle.entry_checks.proofs.Going.{Passed, Stopped, test-passed}
 use Rattle.frac128.specs.Held.{is_held}
 use Rattle.log_rules.specs.Runs.{steps}
 use Rattle.log_rules.proofs.Failures.{steps-append}
-use Rattle.log_rules.proofs.Kept.{Earlier, find_is}
 use Rattle.entry_checks.proofs.StepBounds.{steps-dot, steps-all}
 use Rattle.log_live.specs.Adding.{IsBetween, pair_named}
 use Rattle.log_live.specs.Live.{numbered_of, live_of, HasTightSet}
 use Rattle.log_live.specs.declared.generator.Generator.{Generator}
-use Rattle.log_live.proofs.LivePairs.{IsParted, parted}
 use Rattle.log_live.proofs.NewSets.{between_tight}
 use Rattle.log_live.proofs.NewVectors.{meets}
 use Rattle.log_live.proofs.PairMatches.{mapped-at}
+use Rattle.log_live.proofs.PairSides.{negative_is_not, vector_listed, two, find_plus, find_minus, AreSides, sides}
+use Rattle.log_live.proofs.Bridges.{steps-meeting}
 use Rattle.rep_conv.specs.Adding.{AreAtRow, between_steps, quotients, values_at}
 use Rattle.rep_conv.specs.Events.{added_events, pair_of, pair_steps, quotient_steps}
-
-some_same : {X : Type 0} (x y : X) → Some x ≡ Some y → x ≡ y
-some_same x y e = ap (λ (o : Option _). elim o [ Some z ↦ z | None ↦ x ]) e
 
 divided_by : (d : ℚ) (y : List ℚ) → map (λ x. x /ℚ d) y ≡ scaled (inverse_ℚ d) y
 divided_by d [] = refl
@@ -51,11 +47,6 @@ quotients_norm : (z : List ℚ) → quotients z ≡ normed z
 quotients_norm z = divided_by (magnitude (norming z)) z
 
 -- ---- steps
-steps-meeting : (k : ℚ) (plus minus : List ℚ) → steps (meeting_steps k plus minus) ≤ length plus * 2
-steps-meeting k [] minus = omega arith
-steps-meeting k (x ∷ plus) [] = omega arith
-steps-meeting k (x ∷ plus) (y ∷ minus) = let h = steps-meeting k plus minus in omega (arith, h)
-
 steps-quotients : (d : ℚ) (y : List ℚ) → steps (map (λ x. step op.Div x d) y) ≡ length y
 steps-quotients d [] = refl
 steps-quotients d (x ∷ y) = ap suc (steps-quotients d y)
@@ -112,10 +103,6 @@ pub as_added_stop : (rows : List (List ℚ)) (row : List ℚ) (gens : List Gener
 as_added_stop rows row gens pairs stop h = subst (λ (es : List Event). Stops is_held es 0 stop) (parts_are rows row gens pairs) h.at
 
 module _ (w : ℕ) (rows : List (List ℚ)) (row : List ℚ) (gens : List Generator) (values : List ℚ) (a : AreAtRow w rows row gens) (at_row : values ≡ values_at row gens) where
-  -- a live generator is found
-  pub is_found : (g : Numbered) (k : ℕ) → Contains (live_of gens) g → k ≡ g.number → find (live_of gens) k ≡ Some g
-  is_found g k c e = find_is (live_of gens) k g (pairs-map Earlier numbered_of gens a.rises) c (sym e)
-
   pub value_read : (i : ℕ) (g : Generator) (x : ℚ) → i < length gens → g ≡ slice_index_or gens i g → x ≡ slice_index_or values i x → x ≡ dot row g.vector
   value_read i g x l p r = mapped-at (λ (h : Generator). dot row h.vector) gens values i g x at_row l p r
 
@@ -126,22 +113,10 @@ module _ (w : ℕ) (rows : List (List ℚ)) (row : List ℚ) (gens : List Genera
   pub vector_wide : (v : List ℚ) → Contains (vectors (live_of gens)) v → length v ≡ suc w
   vector_wide v c = member_of (λ u. length u ≡ suc (length a.described.marks)) (vectors (live_of gens)) v a.described.wide.wide c ∙ ap suc a.described.many
 
-  vector_listed : (h : Generator) → Contains gens h → Contains (vectors (live_of gens)) h.vector
-  vector_listed h c = Contains-map (λ (n : Numbered). n.vector) (live_of gens) (numbered_of h) (Contains-map numbered_of gens h c)
-
   pub gen_wide : (h : Generator) → Contains gens h → length h.vector ≡ suc w
-  gen_wide h c = vector_wide h.vector (vector_listed h c)
+  gen_wide h c = vector_wide h.vector (vector_listed gens h c)
 
   module _ (named : LivePair) (listed : Contains (live_pairs rows (live_of gens) row) named) (pair : LogPair) (named_is : pair ≡ pair_named named) where
-    two : IsParted (live_of gens) row named
-    two = parted rows (live_of gens) row named listed
-
-    pub find_plus : find (live_of gens) pair.plus ≡ Some named.plus_side
-    find_plus = is_found named.plus_side pair.plus two.plus (ap (λ (p : LogPair). p.plus) named_is)
-
-    pub find_minus : find (live_of gens) pair.minus ≡ Some named.minus_side
-    find_minus = is_found named.minus_side pair.minus two.minus (ap (λ (p : LogPair). p.minus) named_is)
-
     steps_are : (p m : Numbered) → find (live_of gens) pair.plus ≡ Some p → find (live_of gens) pair.minus ≡ Some m →
         pair_of row (live_of gens) pair ≡ between_steps (dot row p.vector) (dot row m.vector) p.vector m.vector
     steps_are p m e f =
@@ -151,39 +126,30 @@ module _ (w : ℕ) (rows : List (List ℚ)) (row : List ℚ) (gens : List Genera
     -- its steps are few
     pub few_of_pair : steps (pair_of row (live_of gens) pair) ≤ 400000
     few_of_pair =
-        let e = ap steps (steps_are named.plus_side named.minus_side find_plus find_minus) in
-        let wide = vector_wide named.plus_side.vector (Contains-map (λ (n : Numbered). n.vector) (live_of gens) named.plus_side two.plus) in
+        let e = ap steps (steps_are named.plus_side named.minus_side (find_plus rows row gens a.rises named listed pair named_is) (find_minus rows row gens a.rises named listed pair named_is)) in
+        let wide = vector_wide named.plus_side.vector (Contains-map (λ (n : Numbered). n.vector) (live_of gens) named.plus_side (two rows row gens a.rises named listed pair named_is).plus) in
         let f = few_steps w (dot row named.plus_side.vector) (dot row named.minus_side.vector) named.plus_side.vector named.minus_side.vector wide a.few in
         omega (arith, e, f)
 
     -- the generators that were read at the places that were found
     module _ (g m : Generator) (gc : Contains gens g) (mc : Contains gens m) (g_is : find (live_of gens) pair.plus ≡ Some (numbered_of g)) (m_is : find (live_of gens) pair.minus ≡ Some (numbered_of m))
         (x y : ℚ) (x_is : x ≡ dot row g.vector) (y_is : y ≡ dot row m.vector) where
-      plus_is : numbered_of g ≡ named.plus_side
-      plus_is = some_same (numbered_of g) named.plus_side (sym g_is ∙ find_plus)
-
-      minus_is : numbered_of m ≡ named.minus_side
-      minus_is = some_same (numbered_of m) named.minus_side (sym m_is ∙ find_minus)
-
-      up : zero_ℚ <ℚ dot row g.vector
-      up = subst (λ (h : Numbered). zero_ℚ <ℚ dot row h.vector) (sym plus_is) two.up
-
-      down : dot row m.vector <ℚ zero_ℚ
-      down = subst (λ (h : Numbered). dot row h.vector <ℚ zero_ℚ) (sym minus_is) two.down
+      sides_are : AreSides row named g m
+      sides_are = sides rows row gens a.rises named listed pair named_is g m g_is m_is
 
       pub same_width : length g.vector ≡ length m.vector
       same_width = gen_wide g gc ∙ sym (gen_wide m mc)
 
       meets_there : IsMeetingWithout rows row g.vector m.vector
       meets_there = meetings_without a.described.open_places a.described.marks rows (vectors (live_of gens)) row g.vector m.vector a.described.wide a.described.clear a.described.described
-          (vector_listed g gc) (vector_listed m mc) up down
+          (vector_listed gens g gc) (vector_listed gens m mc) sides_are.up sides_are.down
 
       met : meeting_point (x /ℚ neg_ℚ y) g.vector m.vector ≡ meeting row g.vector m.vector
       met = ap₂ (λ (s t : ℚ). meeting_point (s /ℚ neg_ℚ t) g.vector m.vector) x_is y_is
           ∙ meets (dot row g.vector /ℚ neg_ℚ (dot row m.vector)) g.vector m.vector same_width
 
       pub below : neg_ℚ y ≢ zero_ℚ
-      below e = not_zero_of_positive (neg_ℚ (dot row m.vector)) (neg_positive (dot row m.vector) down) (sym (ap neg_ℚ y_is) ∙ e)
+      below = negative_is_not (dot row m.vector) y sides_are.down y_is
 
       pub divides : norming (meeting_point (x /ℚ neg_ℚ y) g.vector m.vector) ≢ zero_ℚ
       divides e = meets_there.not_zero (sym (ap norming met) ∙ e)
@@ -200,7 +166,7 @@ module _ (w : ℕ) (rows : List (List ℚ)) (row : List ℚ) (gens : List Genera
           (λ i. (member_of (HasTightSet rows) gens g a.tight gc i, member_of (HasTightSet rows) gens m a.tight mc i)) meet in
           record {
             is = ap₂ (λ (k : ℕ) (u : List ℚ). record { number = k; vector = u }) n
-                (entries ∙ ap₂ (λ (s u : Numbered). normed (meeting row s.vector u.vector)) plus_is minus_is);
+                (entries ∙ ap₂ (λ (s u : Numbered). normed (meeting row s.vector u.vector)) sides_are.plus_is sides_are.minus_is);
             tight = between_tight rows row g.vector m.vector common new.tight
                 meets_there.both sets t
                 ∙ ap (tight_set (rows ++ row ∷ [])) (sym entries);

@@ -12,6 +12,7 @@ use Rattle.polyhedra.proofs.Lists.{Contains-here, Contains-there, Contains-cases
 use Rattle.polyhedra.proofs.Members.{Contains-map, Contains-map_source, Contains-filter, Contains-filter_source}
 use Rattle.polyhedra.proofs.Homogenised.{IsHomogenised, unhomogenised}
 use Rattle.rep_conv.specs.Sets.{is_kind, normal_of, bound_of}
+use Rattle.rep_conv.specs.Converted.{as_rows}
 use Rattle.rep_text.specs.declared.rep.RepKind.{RepKind}
 use Rattle.rep_text.specs.declared.rep.RepRow.{RepRow}
 
@@ -95,9 +96,6 @@ pub vector_member : (kind : RepKind) (rows : List RepRow) (row : RepRow) → Con
 vector_member kind rows row c e = Contains-map (λ r. r.v) (filter (λ r. is_kind kind r.kind) rows) row (Contains-filter (λ r. is_kind kind r.kind) rows row c e)
 
 -- ---- rows of one kind
-abbrev pub as_rows : RepKind → List (List ℚ) → List RepRow
-as_rows kind vs = map (λ v. record { kind = kind; v = v }) vs
-
 pub vectors-append : (kind : RepKind) (xs ys : List RepRow) → vectors_in kind (xs ++ ys) ≡ vectors_in kind xs ++ vectors_in kind ys
 vectors-append kind [] ys = refl
 vectors-append kind (x ∷ xs) ys = go (is_kind kind x.kind) (vectors-append kind xs ys)

@@ -32,6 +32,7 @@ use Rattle.log_rules.proofs.PassedTests.{Passed, passed_of, both_pass, last_pass
 use Rattle.log_rules.proofs.HeldTests.{pass_both, pass_last, pass_each, pass_steps, pass_tests, pass_sum, same_passes, all_pass, rising_passes, contains_passes, not_contains_passes, all_numbered, place_cases}
 use Rattle.log_rules.proofs.TightTests.{pairs_are}
 use Rattle.log_rules.proofs.TightHeld.{pairs_pass}
+use Rattle.log_rules.proofs.LogMeets.{both_none}
 use Rattle.entry_checks.specs.Parts.{corner_events}
 use Rattle.word_lines.specs.declared.part.LogPair.{LogPair}
 use Rattle.rep_conv.specs.Rows.{text_rows, row_at}
@@ -301,10 +302,6 @@ entry_passes holds rep before e h k = none_fails holds 1 (events rep before e) (
 abbrev NoneAfter : (ℚ → Bool) → Rep → List ConvEntry → List ConvEntry → Type 0
 NoneAfter holds rep before entries = (mid : List ConvEntry) (e : ConvEntry) (later : List ConvEntry) → entries ≡ mid ++ e ∷ later →
     first_failure holds 1 (events rep (before ++ mid) e) ≡ None
-
-both_none : {X Y : Type 0} (o : Option X) (f : X → Y) (r : Option Y) → ◌≡◌ {A = Option Y} (elim o [ Some x ↦ Some (f x) | None ↦ r ]) None → (o ≡ None) × (r ≡ None)
-both_none None f r h = (refl, h)
-both_none (Some x) f r h = absurd cc
 
 splits : (holds : ℚ → Bool) (rep : Rep) (before entries : List ConvEntry) → first_failing holds rep before entries ≡ None → NoneAfter holds rep before entries
 splits holds rep before [] h [] e later same = absurd cc

@@ -32,7 +32,7 @@ use Rattle.rep_conv.specs.Rows.{rows_of_kind}
 use Rattle.rep_conv.specs.Live.{state, rows_in_use}
 use Rattle.rep_conv.specs.Rows.{has_rows}
 use Rattle.lineality.specs.Lines.{leading_place}
-use Rattle.rep_conv.specs.Converted.{GivesGenerators, GivesInequalities, GivesRows, Gives, nothing_meets, Converts, IsWithout}
+use Rattle.rep_conv.specs.Converted.{GivesGenerators, GivesInequalities, GivesRows, Gives, nothing_meets, Converts, IsWithout, as_rows}
 use Rattle.rep_text.specs.declared.rep.Rep.{Rep}
 use Rattle.rep_text.specs.declared.rep.RepKind.{RepKind}
 use Rattle.rep_text.specs.declared.rep.RepKind.TheVariants.{Side, Equal, Line, Point, Direction}
@@ -40,7 +40,7 @@ use Rattle.rep_text.specs.declared.rep.RepRow.{RepRow}
 use Rattle.rep_text.specs.declared.conv.ConvEntry.{ConvEntry}
 use Rattle.rep_conv.specs.Laws.{readers, ConversionIsRight}
 use Rattle.rep_conv.proofs.LinePlaces.{unread}
-use Rattle.rep_conv.proofs.Ends.{take_front, vectors_in, vector_source, vector_member, as_rows, vectors-append, vectors_same, vectors_none, flat_source}
+use Rattle.rep_conv.proofs.Ends.{take_front, vectors_in, vector_source, vector_member, vectors-append, vectors_same, vectors_none, flat_source}
 use Rattle.rep_conv.proofs.SameSets.{Same, hull_rows, three, fits_at, member_rows, three-lines, three-points, three-directions, side_same, equal_same, MeetsGiven, member_sides, met_by_none, inv, in_text, in_use, lined, line_is, as_sides, gens_fit, pointed, pointed_text, point_in, side_in, two_cases, one_case, conversion_keeps_set}
 
 -- ---- lists without a member twice

@@ -41,14 +41,14 @@ use Rattle.rep_conv.specs.Sets.{MeetsAllRows, IsInSet, IsMember, vectors_of}
 use Rattle.rep_conv.specs.Rows.{rows_of_kind, rows_from, rows_under, text_rows}
 use Rattle.rep_conv.specs.Live.{state, rows_in_use}
 use Rattle.rep_conv.specs.Rows.{has_rows}
-use Rattle.rep_conv.specs.Converted.{at_height, with_normal, GivesGenerators, GivesInequalities, GivesRows, Gives, nothing_meets, Converts}
+use Rattle.rep_conv.specs.Converted.{at_height, with_normal, GivesGenerators, GivesInequalities, GivesRows, Gives, nothing_meets, Converts, as_rows}
 use Rattle.rep_text.specs.declared.rep.Rep.{Rep}
 use Rattle.rep_text.specs.declared.rep.RepKind.{RepKind}
 use Rattle.rep_text.specs.declared.rep.RepKind.TheVariants.{Side, Equal, Line, Point, Direction}
 use Rattle.rep_text.specs.declared.rep.RepRow.{RepRow}
 use Rattle.rep_text.specs.declared.conv.ConvEntry.{ConvEntry}
 use Rattle.rep_conv.specs.Laws.{readers, OneOther}
-use Rattle.rep_conv.proofs.Ends.{as_rows, flat_source, negated_homogenised}
+use Rattle.rep_conv.proofs.Ends.{flat_source, negated_homogenised}
 use Rattle.rep_conv.proofs.SameSets.{Same, three, fits_at, rows_meet, meets_all, sides_same, hull_met, same_rows, points_wide, directions_wide, lines_wide, without_point, height_source, no_points, inv, started, in_text, in_use, lined, gens_fit, pointed, pointed_text, point_in, some_rows, two_cases, one_case}
 
 -- ---- numbers

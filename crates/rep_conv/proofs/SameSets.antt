@@ -41,7 +41,7 @@ use Rattle.rep_conv.specs.Sets.{MeetsRow, MeetsAllRows, IsInSet, IsMember, norma
 use Rattle.rep_conv.specs.Rows.{side_row, rows_of_kind, rows_from, rows_under, text_rows, has_point, has_rows, row_at}
 use Rattle.rep_conv.specs.Live.{State, state, after, nothing, rows_in_use}
 use Rattle.rep_conv.specs.Meets.{has_start, is_start, in_order, Meets}
-use Rattle.rep_conv.specs.Converted.{at_height, with_normal, GivesGenerators, GivesInequalities, GivesRows, Gives, nothing_meets, Converts}
+use Rattle.rep_conv.specs.Converted.{at_height, with_normal, GivesGenerators, GivesInequalities, GivesRows, Gives, nothing_meets, Converts, as_rows}
 use Rattle.rep_text.specs.declared.rep.Rep.{Rep}
 use Rattle.rep_text.specs.declared.rep.RepKind.{RepKind}
 use Rattle.rep_text.specs.declared.rep.RepKind.TheVariants.{Side, Equal, Line, Point, Direction}
@@ -52,7 +52,7 @@ use Rattle.representations.proofs.Places.{places_are_readers}
 use Rattle.rep_conv.proofs.TextRows.{length-normal}
 use Rattle.rep_conv.specs.Laws.{readers, GeneratorsStand, Stands, ConversionKeepsSet}
 use Rattle.rep_conv.proofs.Standing.{rules_keep_description}
-use Rattle.rep_conv.proofs.Ends.{take_front, entry_last, by_parts, front_width, normal_is, bound_is, negated_homogenised, same_place, flat_source, flat_member, vectors_in, vector_source, vector_member, as_rows, vectors-append, vectors_same, vectors_none}
+use Rattle.rep_conv.proofs.Ends.{take_front, entry_last, by_parts, front_width, normal_is, bound_is, negated_homogenised, same_place, flat_source, flat_member, vectors_in, vector_source, vector_member, vectors-append, vectors_same, vectors_none}
 
 abbrev pub Same : Type 0 → Type 0 → Type 0
 Same P Q = (P → Q) × (Q → P)

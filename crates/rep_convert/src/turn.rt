@@ -11,7 +11,7 @@ ghost use Rattle.rep_text.specs.ConvText.{conv_grammar};
 ghost use Rattle.rep_text.specs.declared.conv.ConvEntry.TheVariants as entry;
 ghost use Rattle.rep_convert.specs.Licensed.{IsConvLeft};
 ghost use Rattle.rep_convert.specs.Order.{IsOrder};
-ghost use Rattle.rep_convert.specs.Pairs.{named};
+ghost use Rattle.overflows.specs.Pairs.{named};
 ghost use Rattle.rep_convert.specs.Standing.{StandsAt, line_places};
 
 use crate::fault::ConvFault;

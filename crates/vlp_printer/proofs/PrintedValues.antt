@@ -25,7 +25,7 @@ use Rattle.vlp_reader.specs.declared.statement.Matrix.{Matrix}
 use Rattle.vlp_reader.specs.declared.statement.Matrix.TheVariants.{Constraints, Objectives, ConeVectors, Duality}
 use Rattle.vlp_reader.specs.declared.statement.Statement.{Statement}
 use Rattle.vlp_reader.specs.declared.statement.Statement.TheVariants.{Silent, Heading, Entry, Limit, End}
-use Rattle.vlp_reader.proofs.Drafts.{matrix_from, same_matrix_itself}
+use Rattle.vlp_reader.proofs.Drafts.{matrix_from, same_matrix_itself, same_axis_itself}
 use Rattle.vlp_problem.proofs.Numbers.{length-numbers, number_at}
 use Rattle.vlp_problem.proofs.Zero.{zero_is}
 use Rattle.vlp_problem.specs.Values.{duality_entries, cone_vectors}
@@ -236,10 +236,6 @@ unsaid_is (Lower low) h = absurd (false≢true h)
 unsaid_is (Upper high) h = absurd (false≢true h)
 unsaid_is (Double low high) h = absurd (false≢true h)
 unsaid_is (Fixed value) h = absurd (false≢true h)
-
-same_axis_itself : (axis : Axis) → same_axis axis axis ≡ true
-same_axis_itself Row = refl
-same_axis_itself Column = refl
 
 said_bound : (axis : Axis) (k : ℕ) (b : Bound) → unwrap_or (first_given (given_bound axis k) (bound_says axis k b)) Unsaid ≡ b
 said_bound axis k b = elim (cases_Bool (is_unsaid b)) [

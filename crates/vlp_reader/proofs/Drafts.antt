@@ -60,7 +60,7 @@ matrix_from Duality Constraints h = absurd (false≢true h)
 matrix_from Duality Objectives h = absurd (false≢true h)
 matrix_from Duality ConeVectors h = absurd (false≢true h)
 
-same_axis_itself : (axis : Axis) → same_axis axis axis ≡ true
+pub same_axis_itself : (axis : Axis) → same_axis axis axis ≡ true
 same_axis_itself Row = refl
 same_axis_itself Column = refl
 

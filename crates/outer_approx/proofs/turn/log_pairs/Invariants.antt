@@ -1,6 +1,6 @@
 use Rattle.std.proofs.Common.{◌≡◌, All, IsTrue, map, take}
 use Rattle.word_lines.specs.Parts.{is_formed_pair}
-use Rattle.outer_approx.specs.Pairs.{named}
+use Rattle.overflows.specs.Pairs.{named}
 use Rattle.outer_approx.proofs.turn.log_pairs.Given as goal
 
 abbrev pub invariant-loop-pair : goal.invariant-loop-pair

@@ -1,5 +1,5 @@
 use Rattle.std.proofs.Common.{rules, map}
-use Rattle.outer_approx.specs.Pairs.{named}
+use Rattle.overflows.specs.Pairs.{named}
 use Rattle.outer_approx.proofs.Added.{add_written}
 use Rattle.outer_approx.proofs.turn.push_add.Goals as goal
 

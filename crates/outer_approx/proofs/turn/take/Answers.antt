@@ -12,8 +12,8 @@ use Rattle.outer_approx.specs.Cuts.{said_by}
 use Rattle.outer_approx.specs.Lines.{line_places}
 use Rattle.outer_approx.specs.Standing.{IsOuter, StandForSame, cuts_of, rows_of_trail}
 use Rattle.outer_approx.specs.Task.{setting}
-use Rattle.outer_approx.specs.Pairs.{named}
-use Rattle.outer_approx.proofs.Added.{named_required}
+use Rattle.overflows.specs.Pairs.{named}
+use Rattle.overflows.proofs.NamedPairs.{named_required}
 use Rattle.outer_approx.proofs.Outer.{added_cuts, is_addition, on_any, row_wide, stand_still, turned, turned_lines, turned_preimages, turned_rows}
 use Rattle.outer_approx.proofs.turn.take.Goals as goal
 

@@ -7,8 +7,8 @@ use Rattle.log_rules.specs.Live.{lines, preimages}
 use Rattle.outer_approx.specs.Cuts.{said_by}
 use Rattle.outer_approx.specs.Lines.{line_places}
 use Rattle.outer_approx.specs.Standing.{IsOuter, cuts_of, rows_of_trail}
-use Rattle.outer_approx.specs.Pairs.{named}
-use Rattle.outer_approx.proofs.Added.{named_required}
+use Rattle.overflows.specs.Pairs.{named}
+use Rattle.overflows.proofs.NamedPairs.{named_required}
 use Rattle.outer_approx.proofs.Outer.{added_cuts, row_wide, turned, turned_lines, turned_preimages, turned_rows}
 use Rattle.outer_approx.proofs.turn.try_take.Goals as goal
 

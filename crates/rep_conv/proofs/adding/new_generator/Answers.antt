@@ -10,14 +10,15 @@ use Rattle.entry_checks.proofs.Going.{Passed, Stopped, stopped-after}
 use Rattle.rep_conv.specs.Adding.{between_steps, quotients}
 use Rattle.log_live.specs.Live.{live_of, numbered_of}
 use Rattle.log_live.specs.declared.generator.Generator.{Generator}
-use Rattle.rep_conv.proofs.Between.{below, divides, events_are, few_steps, find_minus, find_plus, gen_wide, made_is, same_width, value_read}
+use Rattle.log_live.proofs.PairSides.{find_plus, find_minus}
+use Rattle.rep_conv.proofs.Between.{below, divides, events_are, few_steps, gen_wide, made_is, same_width, value_read}
 use Rattle.rep_conv.proofs.adding.new_generator.Goals as goal
 
 pub place_of-at_plus-requires-clause-live : goal.place_of-at_plus-requires-clause-live
-place_of-at_plus-requires-clause-live c = (_, find_plus c.requires.pair.0 c.requires.pair.1 c.requires.pair.2 c.args.generators.now c.args.values.now c.requires.pair.4 c.requires.pair.5 c.requires.pair.3 c.requires.pair.6 c.args.pair c.requires.pair.7)
+place_of-at_plus-requires-clause-live c = (_, find_plus c.requires.pair.1 c.requires.pair.2 c.args.generators.now c.requires.pair.4.rises c.requires.pair.3 c.requires.pair.6 c.args.pair c.requires.pair.7)
 
 pub place_of-at_minus-requires-clause-live : goal.place_of-at_minus-requires-clause-live
-place_of-at_minus-requires-clause-live c = (_, find_minus c.requires.pair.0 c.requires.pair.1 c.requires.pair.2 c.args.generators.now c.args.values.now c.requires.pair.4 c.requires.pair.5 c.requires.pair.3 c.requires.pair.6 c.args.pair c.requires.pair.7)
+place_of-at_minus-requires-clause-live c = (_, find_minus c.requires.pair.1 c.requires.pair.2 c.args.generators.now c.requires.pair.4.rises c.requires.pair.3 c.requires.pair.6 c.args.pair c.requires.pair.7)
 
 pub new_vector-requires-clause-widths : goal.new_vector-requires-clause-widths
 new_vector-requires-clause-widths c =

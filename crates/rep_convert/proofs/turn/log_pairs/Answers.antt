@@ -1,5 +1,5 @@
 use Rattle.std.proofs.Common.{arith}
-use Rattle.rep_convert.proofs.Named.{pairs_written}
+use Rattle.overflows.proofs.NamedPairs.{pairs_written}
 use Rattle.rep_convert.proofs.turn.log_pairs.Goals as goal
 
 pub returns-clause-written : goal.returns-clause-written

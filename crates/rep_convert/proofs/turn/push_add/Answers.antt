@@ -1,5 +1,5 @@
 use Rattle.std.proofs.Common.{rules, map}
-use Rattle.rep_convert.specs.Pairs.{named}
+use Rattle.overflows.specs.Pairs.{named}
 use Rattle.rep_convert.proofs.Named.{add_written}
 use Rattle.rep_convert.proofs.turn.push_add.Goals as goal
 

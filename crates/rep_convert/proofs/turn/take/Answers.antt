@@ -12,9 +12,9 @@ use Rattle.rep_conv.specs.Rows.{row_at, text_rows}
 use Rattle.rep_conv.proofs.EntrySteps.{row_wide}
 use Rattle.rep_conv.proofs.Standing.{rules_keep_description}
 use Rattle.rep_text.specs.declared.conv.ConvEntry.{ConvEntry}
-use Rattle.rep_convert.specs.Pairs.{named}
+use Rattle.overflows.specs.Pairs.{named}
+use Rattle.overflows.proofs.NamedPairs.{named_required}
 use Rattle.rep_convert.specs.Standing.{StandsAt, line_places}
-use Rattle.rep_convert.proofs.Named.{named_required}
 use Rattle.rep_convert.proofs.Overflowed.{addition_left}
 use Rattle.rep_convert.proofs.Turned.{short_wide, turned, turned_lines, turned_used}
 use Rattle.rep_convert.proofs.turn.take.Goals as goal

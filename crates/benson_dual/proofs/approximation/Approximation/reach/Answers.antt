@@ -7,7 +7,7 @@ use Rattle.overflows.specs.Faults.{Overflows}
 use Rattle.outer_approx.specs.Standing.{rows_of_trail}
 use Rattle.outer_approx.specs.Task.{setting}
 use Rattle.recession.specs.Asking.{IsAsked}
-use Rattle.benson_dual.proofs.LiveVectors.{base_start, is_reached, long, start_long, vector_is}
+use Rattle.outer_approx.proofs.LiveVectors.{base_start, is_reached, long, start_long, vector_is}
 use Rattle.benson_dual.proofs.AllInUse.{none_asked}
 use Rattle.benson_dual.proofs.Images.{c_long, live_full, reached_more}
 use Rattle.benson_dual.proofs.approximation.Approximation.reach.Goals as goal

@@ -1,12 +1,13 @@
 use Rattle.std.proofs.Common.{◌∙◌, ◌+◌, ◌-◌, ◌<◌, ◌≤◌, ℕ, List, ap, length, slice_index_or, subst, sym}
 use Rattle.std.specs.Prelude.{IfNone, IfSome}
+use Rattle.std.proofs.lemmas.Option.{none-some}
 use Rattle.polyhedra.specs.LiveList.{numbers}
 use Rattle.polyhedra.proofs.Lists.{seen_more}
 use Rattle.deriv_log.specs.declared.entry.Entry.{Entry}
 use Rattle.double_descr.specs.State.{State as Description}
 use Rattle.benson_primal.specs.Search.{AreReached, HasSameRows, IsDone, IsFound, IsSearching}
 use Rattle.benson_primal.proofs.Marked.{all_done, done_stays}
-use Rattle.benson_primal.proofs.Searched.{any_stays, grown_from, kept_stays, rows_on, some_not_none}
+use Rattle.benson_primal.proofs.Searched.{any_stays, grown_from, kept_stays, rows_on}
 use Rattle.benson_primal.proofs.search.Search.advance.Goals as goal
 use Rattle.benson_primal.proofs.search.Search.advance.Goals.{in-Some+in_ok-try_cut+else-branch+else-is_spent, in_default}
 
@@ -51,7 +52,7 @@ loop-i-preserved g c =
             still = subst (λ s. HasSameRows task c.args.self.now s) (sym w.self-is) (rows_on task c.args.self.now asked tried before at_try);
             found = subst (λ s. IfSome c.match-branch-2.first (IsFound value task s)) (sym w.self-is)
                 (subst (λ f. IfSome f (IsFound value task tried)) (sym w.first-is) (subst (λ f. IsFound value task tried f) (sym w.unwrap_or-kept.ensures) kept));
-            seen = λ none. absurd (some_not_none c.match-branch-2.first w.unwrap_or-kept.result w.first-is none);
+            seen = λ none. absurd (none-some w.unwrap_or-kept.result (sym none ∙ w.first-is));
           }
       | in_default w ↦
           let scope = c.args.scope in

@@ -1,7 +1,8 @@
 use Rattle.std.proofs.Common.{rules, map, take, length, refl, sym, subst, arith}
 use Rattle.std.proofs.lemmas.List.{length-take-le}
+use Rattle.outer_approx.proofs.LiveVectors.{long, start_long, base_start, is_reached}
 use Rattle.recession.specs.Asking.{IsAsked}
-use Rattle.benson_primal.proofs.Asked.{long, width_known, start_long, base_start, is_reached, next_cut_is}
+use Rattle.benson_primal.proofs.Asked.{width_known, next_cut_is}
 use Rattle.benson_primal.proofs.Marked.{stay_reached}
 use Rattle.benson_primal.proofs.Searched.{reached_more, rows_reached, stops_at}
 use Rattle.benson_primal.proofs.search.Search.ask_at.Goals as goal

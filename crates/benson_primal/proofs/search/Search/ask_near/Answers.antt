@@ -7,8 +7,9 @@ use Rattle.lineality.specs.Without.{open_count, with_zeros}
 use Rattle.polyhedra.specs.Exactness.{row_of}
 use Rattle.outer_approx.specs.Cuts.{said_by}
 use Rattle.outer_approx.specs.Lines.{line_places}
+use Rattle.outer_approx.proofs.LiveVectors.{short_wide, long, start_long, places_many}
 use Rattle.recession.specs.Asking.{IsAsked}
-use Rattle.benson_primal.proofs.Asked.{long, near_cut_is, places_many, short_wide, start_long, width_known}
+use Rattle.benson_primal.proofs.Asked.{near_cut_is, width_known}
 use Rattle.benson_primal.proofs.search.Search.ask_near.Goals as goal
 
 pub slice_bounds-vector_nearby-end : goal.slice_bounds-vector_nearby-end

@@ -1,5 +1,5 @@
 use Rattle.std.proofs.Common.{rules}
-use Rattle.benson_primal.proofs.Asked.{live_at}
+use Rattle.outer_approx.proofs.LiveVectors.{live_at}
 use Rattle.benson_primal.proofs.search.Search.own_cut.Goals as goal
 
 pub ask_at-requires : goal.ask_at-requires

@@ -2,7 +2,7 @@ use Rattle.std.proofs.Common.{◌≢◌, [], List, map, subst, sym, ◌∙◌, a
 use Rattle.std.proofs.lemmas.List.{length-map}
 use Rattle.deriv_log.specs.declared.entry.Entry.{Entry}
 use Rattle.log_rules.specs.Live.{preimages}
-use Rattle.benson_primal.proofs.Asked.{short_wide}
+use Rattle.outer_approx.proofs.LiveVectors.{short_wide}
 use Rattle.benson_primal.proofs.Marked.{done_left_out}
 use Rattle.benson_primal.proofs.search.Search.reach.Goals as goal
 

@@ -2,8 +2,8 @@ use Rattle.std.proofs.Common.{◌≡◌, ap, ◌∙◌, map, subst, sym}
 use Rattle.std.proofs.lemmas.Result.{IfOk-weaker}
 use Rattle.lineality.specs.Without.{with_zeros}
 use Rattle.outer_approx.specs.Lines.{line_places}
-use Rattle.benson_primal.specs.Search.{IsLiveVector}
-use Rattle.benson_primal.proofs.Asked.{live_vector}
+use Rattle.outer_approx.specs.LiveVectors.{IsLiveVector}
+use Rattle.outer_approx.proofs.LiveVectors.{live_vector}
 use Rattle.benson_primal.proofs.search.Search.vector.Goals as goal
 
 pub returns-clause-live : goal.returns-clause-live

@@ -1,11 +1,12 @@
 use Rattle.std.proofs.Common.{◌≡◌, ◌≤◌, ◌<◌, ◌+◌, ◌-◌, ◌∙◌, List, ℕ, ap, arith, length, slice_index_or, subst, sym}
 use Rattle.std.specs.Prelude.{IfNone, IfSome}
+use Rattle.std.proofs.lemmas.Option.{none-some}
 use Rattle.lin_rows.proofs.Errors.{err_holds}
 use Rattle.polyhedra.specs.LiveList.{numbers}
 use Rattle.polyhedra.proofs.Lists.{seen_more}
 use Rattle.double_descr.specs.State.{State as Description}
 use Rattle.lower_image.specs.Search.{AreAllCertified, IsDone, IsNextRow, IsSearching}
-use Rattle.lower_image.proofs.Searched.{all_done, done_stays, kept_holds, some_not_none}
+use Rattle.lower_image.proofs.Searched.{all_done, done_stays, kept_holds}
 use Rattle.lower_image.proofs.search.Search.advance.Goals as goal
 use Rattle.lower_image.proofs.search.Search.advance.Goals.{in-Some+in_ok-try_row+else-branch+else-tries-eq-MOST_TRIES, in_default}
 
@@ -51,7 +52,7 @@ loop-i-preserved g c =
             still = ap (λ s. s.dd) w.self-is ∙ w.in_ok-try_row.ensures.as_before w.if-branch.false ∙ before;
             few = omega (arith, w.tries-is, w.if-tries-eq-MOST_TRIES.false, c.loop-i.invariant.few);
             found = subst (λ o. IfSome o (IsNextRow value task dd)) (sym w.first-is) (subst (IsNextRow value task dd) (sym w.unwrap_or-kept.ensures) kept);
-            seen = λ none. absurd (some_not_none c.match-branch-2.first w.unwrap_or-kept.result w.first-is none);
+            seen = λ none. absurd (none-some w.unwrap_or-kept.result (sym none ∙ w.first-is));
           }
       | in_default w ↦
           let n = length c.live-count.result.now in

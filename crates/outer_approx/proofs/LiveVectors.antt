@@ -1,6 +1,6 @@
 -- The vector of a live generator, with zeros at the places of lines.
-use Rattle.std.proofs.Common.{◌≡◌, ◌≢◌, ◌↔◌, ℕ, zero, suc, Bool, true, false, List, [], ◌∷◌, map, take, length, Contains, IsTrue, refl, sym, ap, ◌∙◌, subst, arith, true≢false}
-use Rattle.std.proofs.lemmas.List.{length-map}
+use Rattle.std.proofs.Common.{◌≡◌, ◌≢◌, ◌↔◌, ℕ, suc, Bool, true, false, List, [], ◌∷◌, map, take, length, Contains, IsTrue, refl, sym, ap, ◌∙◌, subst, arith, true≢false}
+use Rattle.std.proofs.lemmas.List.{length-map, take-map}
 use Rattle.exact_field.specs.Rational.{ℚ, zero_ℚ}
 use Rattle.exact_field.specs.Vector.{entry}
 use Rattle.polyhedra.specs.Exactness.{homogenised}
@@ -17,14 +17,8 @@ use Rattle.outer_approx.specs.Lines.{line_places}
 use Rattle.outer_approx.specs.Preimages.{IsReached}
 use Rattle.outer_approx.specs.Standing.{IsOuter}
 use Rattle.outer_approx.specs.Task.{Task}
-use Rattle.benson_dual.specs.Images.{IsLiveVector}
 use Rattle.outer_approx.proofs.Growing.{live_generator}
-
--- the front of a mapped list
-pub map-take : {F : Type 0} (value : F → ℚ) (n : ℕ) (xs : List F) → map value (take n xs) ≡ take n (map value xs)
-map-take value zero xs = refl
-map-take value (suc n) [] = refl
-map-take value (suc n) (x ∷ xs) = ap (λ ys. value x ∷ ys) (map-take value n xs)
+use Rattle.outer_approx.specs.LiveVectors.{IsLiveVector}
 
 -- ---- with zeros at the places of lines
 pub length-homogenised : (v : List ℚ) (t : ℚ) → length (homogenised v t) ≡ suc (length v)
@@ -81,7 +75,7 @@ module _ {F : Type 0} (value : F → ℚ) (task : Task) (trail : List Entry) (g 
 
     module _ (n : ℕ) (n_is : n ≡ task.file.objs) (seen : List F) (seen_is : seen ≡ take n full) where
       start_is : map value seen ≡ h.v
-      start_is = ap (map value) seen_is ∙ map-take value n full ∙ ap (λ k. take k (map value full)) n_is
+      start_is = ap (map value) seen_is ∙ sym (take-map value n full) ∙ ap (λ k. take k (map value full)) n_is
           ∙ ap (take task.file.objs) h.is ∙ front-homogenised task.file.objs h.v (last_of h.t) h.wide
 
       pub vector_is : map value full ≡ homogenised (map value seen) (last_of t)
