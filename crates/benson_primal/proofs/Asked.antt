@@ -1,11 +1,12 @@
 -- What is asked at a live generator.
-use Rattle.std.proofs.Common.{◌≡◌, ◌≢◌, ◌↔◌, ℕ, zero, suc, Bool, true, false, List, [], ◌∷◌, map, take, length, All, Contains, IsTrue, refl, sym, ap, ◌∙◌, subst, arith, true≢false}
+use Rattle.std.proofs.Common.{◌≡◌, ◌≢◌, ◌↔◌, ℕ, zero, suc, Bool, true, false, List, [], ◌∷◌, map, take, length, All, Contains, IsTrue, refl, sym, ap, ◌∙◌, subst, true≢false}
 use Rattle.std.proofs.lemmas.List.{length-map}
 use Rattle.exact_field.specs.Rational.{ℚ, zero_ℚ, neg_ℚ, ◌≤ℚ◌, ◌<ℚ◌}
 use Rattle.exact_field.specs.Vector.{dot, entry}
 use Rattle.polyhedra.specs.Exactness.{homogenised, row_of}
 use Rattle.lineality.specs.Without.{open_count, with_zeros, without}
 use Rattle.lineality.proofs.Marks.{length-marks}
+use Rattle.lineality.proofs.Masks.{length-short, length-unfilled}
 use Rattle.deriv_log.specs.declared.entry.Entry.{Entry}
 use Rattle.double_descr.specs.State.{State as Description}
 use Rattle.log_rules.specs.Live.{lines, preimages}
@@ -45,24 +46,11 @@ length-homogenised (x ∷ v) t = ap suc (length-homogenised v t)
 pub places_many : (task : Task) (trail : List Entry) → length (line_places task trail) ≡ task.file.objs
 places_many task trail = length-marks task.file.objs (lines trail)
 
--- what is one longer than the places with zeros at the marked ones, is one longer than the open ones without
-short_long : (bs : List Bool) (z : List ℚ) → length (with_zeros bs z) ≡ suc (length bs) → length z ≡ suc (open_count bs)
-short_long [] z h = h
-short_long (true ∷ bs) z h = short_long bs z (omega arith)
-short_long (false ∷ bs) [] h = absurd (omega arith)
-short_long (false ∷ bs) (x ∷ z) h = ap suc (short_long bs z (omega arith))
-
-without_long : (bs : List Bool) (v : List ℚ) → length v ≡ suc (length bs) → length (without bs v) ≡ suc (open_count bs)
-without_long [] v h = h
-without_long (b ∷ bs) [] h = absurd (omega arith)
-without_long (true ∷ bs) (x ∷ v) h = without_long bs v (omega arith)
-without_long (false ∷ bs) (x ∷ v) h = ap suc (without_long bs v (omega arith))
-
--- so it is of the row of a cut
+-- the row of a cut is one longer than the open places
 pub row_long : {F : Type 0} (value : F → ℚ) (cut : Cut F) (bs : List Bool) → length bs ≡ length cut.w →
     length (without bs (row_of (said_by value cut))) ≡ suc (open_count bs)
 row_long value cut bs same =
-    without_long bs (row_of (said_by value cut))
+    length-short bs (row_of (said_by value cut))
     (length-homogenised (map value cut.w) (neg_ℚ (value cut.gamma)) ∙ ap suc (length-map cut.w value ∙ sym same))
 
 module _ (task : Task) (trail : List Entry) (dd : Description) (outer : IsOuter task trail dd) (g : ℕ) (short : List ℚ)
@@ -75,7 +63,7 @@ module _ (task : Task) (trail : List Entry) (dd : Description) (outer : IsOuter 
   pub short_wide : length short ≡ suc (open_count (line_places task trail))
   short_wide =
       let h = live_vector in
-      short_long (line_places task trail) short
+      length-unfilled (line_places task trail) short
       (ap length h.is ∙ length-homogenised h.v (last_of h.t) ∙ ap suc (h.wide ∙ sym (places_many task trail)))
 
 -- ---- at the vector of a live generator
