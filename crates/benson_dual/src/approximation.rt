@@ -15,7 +15,8 @@ use crate::image::Image;
 use deriv_log::Entries;
 use double_descr::Dd;
 use exact_field::{Field, is_zero};
-use outer_approx::{end_solved, full_vector, push_preimage};
+use lineality::line_places::full_vector;
+use outer_approx::{end_solved, push_preimage};
 use overflows::SolveFault;
 use recession::{Asked, Kept, ask};
 

@@ -1,10 +1,11 @@
 -- What is asked at a live generator.
-use Rattle.std.proofs.Common.{◌≡◌, ◌≢◌, ◌↔◌, ℕ, suc, Bool, true, false, List, [], ◌∷◌, map, take, length, All, IsTrue, sym, ap, ◌∙◌, subst, arith}
+use Rattle.std.proofs.Common.{◌≡◌, ◌≢◌, ◌↔◌, ℕ, suc, Bool, true, false, List, [], ◌∷◌, map, take, length, All, IsTrue, sym, ap, ◌∙◌, subst}
 use Rattle.std.proofs.lemmas.List.{length-map}
 use Rattle.exact_field.specs.Rational.{ℚ, zero_ℚ, neg_ℚ, ◌≤ℚ◌, ◌<ℚ◌}
 use Rattle.exact_field.specs.Vector.{dot, entry}
 use Rattle.polyhedra.specs.Exactness.{row_of}
 use Rattle.lineality.specs.Without.{open_count, without}
+use Rattle.lineality.proofs.Masks.{length-short}
 use Rattle.deriv_log.specs.declared.entry.Entry.{Entry}
 use Rattle.overflow_rules.proofs.CutTurns.{optimum_turns, read_at_origin}
 use Rattle.lp_form.specs.declared.shown.Cut.{Cut}
@@ -22,18 +23,11 @@ pub width_known : {F : Type 0} (value : F → ℚ) (holds : ℚ → Bool) (task 
     length c ≡ task.file.objs
 width_known value holds task form c weights k = sym (length-map c value) ∙ ap length k.c_is ∙ k.fitting.fits.lengths
 
--- ---- without the entries at the places of lines
-without_long : (bs : List Bool) (v : List ℚ) → length v ≡ suc (length bs) → length (without bs v) ≡ suc (open_count bs)
-without_long [] v h = h
-without_long (b ∷ bs) [] h = absurd (omega arith)
-without_long (true ∷ bs) (x ∷ v) h = without_long bs v (omega arith)
-without_long (false ∷ bs) (x ∷ v) h = ap suc (without_long bs v (omega arith))
-
--- so it is of the row of a cut
+-- the row of a cut is one longer than the open places
 pub row_long : {F : Type 0} (value : F → ℚ) (cut : Cut F) (bs : List Bool) → length bs ≡ length cut.w →
     length (without bs (row_of (said_by value cut))) ≡ suc (open_count bs)
 row_long value cut bs same =
-    without_long bs (row_of (said_by value cut))
+    length-short bs (row_of (said_by value cut))
     (length-homogenised (map value cut.w) (neg_ℚ (value cut.gamma)) ∙ ap suc (length-map cut.w value ∙ sym same))
 
 -- ---- at the vector of a live generator

@@ -10,6 +10,7 @@ use Rattle.polyhedra.proofs.Lists.{HasWidth}
 use Rattle.polyhedra.proofs.Members.{member_of, Contains-map}
 use Rattle.lineality.specs.Without.{open_count, without, with_zeros}
 use Rattle.lineality.specs.Steps.{IsClear}
+use Rattle.lineality.proofs.Masks.{length-short}
 use Rattle.log_rules.proofs.PassedTests.{zero_passes}
 use Rattle.log_live.specs.Adding.{AreDescribed}
 use Rattle.log_live.specs.Live.{live_of, numbered_of}
@@ -55,13 +56,6 @@ open_most (false ∷ bs) zero = omega arith
 open_most (true ∷ bs) (suc k) = open_most bs k
 open_most (false ∷ bs) (suc k) = let h = open_most bs k in omega (arith, h)
 
-length-less : (bs : List Bool) (v : List ℚ) → length v ≡ suc (length bs) →
-    length (without bs v) ≡ suc (open_count bs)
-length-less [] v h = h
-length-less (b ∷ bs) [] h = absurd (omega arith)
-length-less (true ∷ bs) (x ∷ v) h = length-less bs v (omega arith)
-length-less (false ∷ bs) (x ∷ v) h = ap suc (length-less bs v (omega arith))
-
 module _ (q : ℕ) (rows : List (List ℚ)) (gens : List Generator)
     (d : AreDescribed q rows (vectors (live_of gens))) (g : Generator)
     (listed : Contains gens g) where
@@ -92,7 +86,7 @@ module _ (q : ℕ) (rows : List (List ℚ)) (gens : List Generator)
       sym (member_of (HasWidth d.open_places) (map (without d.marks) (vectors (live_of gens)))
       (without d.marks g.vector) d.described.generators_wide.wide
       (Contains-map (without d.marks) (vectors (live_of gens)) g.vector vector_listed))
-      ∙ length-less d.marks g.vector
+      ∙ length-short d.marks g.vector
       (member_of (HasWidth (suc (length d.marks))) (vectors (live_of gens)) g.vector d.wide.wide
       vector_listed)
 

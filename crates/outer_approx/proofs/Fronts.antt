@@ -1,5 +1,5 @@
 -- The entries of first generators but their last ones, and the lists that they make.
-use Rattle.std.proofs.Common.{◌≡◌, ℕ, suc, ◌+◌, ◌-◌, ◌*◌, ◌<◌, ◌≤◌, List, [], ◌∷◌, ◌++◌, map, length, take, drop, Bool, Contains, true, false, IsTrue, refl, sym, ap, ap₂, ◌∙◌, subst, arith, slice_index_or, min, length-append}
+use Rattle.std.proofs.Common.{◌≡◌, ℕ, suc, ◌+◌, ◌-◌, ◌*◌, ◌<◌, ◌≤◌, List, [], ◌∷◌, ◌++◌, map, length, take, drop, Bool, Contains, true, IsTrue, refl, sym, ap, ap₂, ◌∙◌, subst, arith, slice_index_or, min, length-append}
 use Rattle.std.specs.List.{range_with_len}
 use Rattle.std.proofs.lemmas.Grind.{get_or_after_one}
 use Rattle.std.proofs.lemmas.List.{length-drop, length-map, length-take, map_push, take_more}
@@ -8,6 +8,7 @@ use Rattle.polyhedra.specs.LiveList.{LiveList, Numbered, numbered, numbers, vect
 use Rattle.polyhedra.proofs.Members.{Contains-map}
 use Rattle.polyhedra.proofs.Tests.{both_hold}
 use Rattle.lineality.specs.Without.{open_count, with_zeros}
+use Rattle.lineality.proofs.Masks.{length-filled}
 use Rattle.upper_image.specs.Spots.{pieces}
 use Rattle.deriv_log.specs.Formed.{is_formed}
 use Rattle.word_lines.specs.Parts.{is_formed_part}
@@ -17,13 +18,6 @@ use Rattle.deriv_log.specs.declared.entry.Entry.TheVariants.{Start}
 use Rattle.outer_approx.specs.First.{AreFirst, HasStart, front_with}
 use Rattle.outer_approx.proofs.Numbers.{numbered_at}
 use Rattle.outer_approx.proofs.Pieces.{pieces_more}
-
--- a vector with one entry more than places are open
-pub length-more : (bs : List Bool) (v : List ℚ) → length v ≡ suc (open_count bs) → length (with_zeros bs v) ≡ suc (length bs)
-length-more [] v h = h
-length-more (true ∷ bs) v h = ap suc (length-more bs v h)
-length-more (false ∷ bs) [] h = absurd (omega (arith, h))
-length-more (false ∷ bs) (x ∷ v) h = ap suc (length-more bs v (omega (arith, h)))
 
 -- ---- a generator by its number
 module _ (q : ℕ) (list : LiveList) (f : AreFirst q list) (g : ℕ) (low : 1 ≤ g) (high : g ≤ suc q) where
@@ -57,7 +51,7 @@ module _ (q : ℕ) (list : LiveList) (f : AreFirst q list) (g : ℕ) (low : 1 �
 -- ---- the entries of a generator but its last one, with zeros at the places of lines
 pub length-front : (bs : List Bool) (v : List ℚ) → length v ≡ suc (open_count bs) → length (front_with bs v) ≡ length bs
 length-front bs v wide =
-    let filled : length (with_zeros bs v) ≡ suc (length bs) = length-more bs v wide in
+    let filled : length (with_zeros bs v) ≡ suc (length bs) = length-filled bs v wide in
     let cut : length (take (length bs) (with_zeros bs v)) ≡ min (length bs) (length (with_zeros bs v)) = length-take (length bs) (with_zeros bs v) in
     omega (arith, cut, filled)
 

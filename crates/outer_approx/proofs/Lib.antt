@@ -14,7 +14,6 @@ pub mod Numbers
 pub mod Outer
 pub mod Pieces
 pub mod Pushed
-pub mod Reading
 pub mod RowsOfCuts
 pub mod Turned
 pub mod Used

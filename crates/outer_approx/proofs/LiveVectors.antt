@@ -1,11 +1,12 @@
 -- The vector of a live generator, with zeros at the places of lines.
-use Rattle.std.proofs.Common.{◌≡◌, ◌≢◌, ◌↔◌, ℕ, suc, Bool, true, false, List, [], ◌∷◌, map, take, length, Contains, IsTrue, refl, sym, ap, ◌∙◌, subst, arith, true≢false}
+use Rattle.std.proofs.Common.{◌≡◌, ◌≢◌, ◌↔◌, ℕ, suc, Bool, true, false, List, [], ◌∷◌, map, take, length, Contains, IsTrue, refl, sym, ap, ◌∙◌, subst, true≢false}
 use Rattle.std.proofs.lemmas.List.{length-map, take-map}
 use Rattle.exact_field.specs.Rational.{ℚ, zero_ℚ}
 use Rattle.exact_field.specs.Vector.{entry}
 use Rattle.polyhedra.specs.Exactness.{homogenised}
 use Rattle.lineality.specs.Without.{open_count, with_zeros}
 use Rattle.lineality.proofs.Marks.{length-marks}
+use Rattle.lineality.proofs.Masks.{length-unfilled}
 use Rattle.deriv_log.specs.declared.entry.Entry.{Entry}
 use Rattle.double_descr.specs.State.{State as Description}
 use Rattle.log_rules.specs.Live.{lines, preimages}
@@ -29,13 +30,6 @@ length-homogenised (x ∷ v) t = ap suc (length-homogenised v t)
 pub places_many : (task : Task) (trail : List Entry) → length (line_places task trail) ≡ task.file.objs
 places_many task trail = length-marks task.file.objs (lines trail)
 
--- what is one longer than the places with zeros at the marked ones, is one longer than the open ones without
-short_long : (bs : List Bool) (z : List ℚ) → length (with_zeros bs z) ≡ suc (length bs) → length z ≡ suc (open_count bs)
-short_long [] z h = h
-short_long (true ∷ bs) z h = short_long bs z (omega arith)
-short_long (false ∷ bs) [] h = absurd (omega arith)
-short_long (false ∷ bs) (x ∷ z) h = ap suc (short_long bs z (omega arith))
-
 module _ (task : Task) (trail : List Entry) (dd : Description) (outer : IsOuter task trail dd) (g : ℕ) (short : List ℚ)
     (listed : Contains dd.list.live (record { number = g; vector = short })) where
   pub live_vector : IsLiveVector task trail g (with_zeros (line_places task trail) short)
@@ -46,7 +40,7 @@ module _ (task : Task) (trail : List Entry) (dd : Description) (outer : IsOuter 
   pub short_wide : length short ≡ suc (open_count (line_places task trail))
   short_wide =
       let h = live_vector in
-      short_long (line_places task trail) short
+      length-unfilled (line_places task trail) short
       (ap length h.is ∙ length-homogenised h.v (last_of h.t) ∙ ap suc (h.wide ∙ sym (places_many task trail)))
 
 -- ---- as a list that is read

@@ -11,7 +11,7 @@ mod unstarted;
 
 pub use ends::end_solved;
 pub use log::{Line, open_trail, push_cut, push_cut_entry, push_preimage};
-pub use places::{cut_row, full_vector, places_of};
+pub use places::{cut_row, places_of};
 pub use start::start_outer;
 pub use turn::{take, try_take};
 pub use unstarted::{infeasible_log, whole_log};

@@ -15,12 +15,13 @@ ghost use Rattle.outer_approx.specs.Task.{Task, setting};
 ghost use Rattle.overflows.specs.Faults.{Overflows};
 ghost use Rattle.polyhedra.specs.Cone.{HasFullRank};
 
-use crate::places::{cut_row, full_vector, open_places};
+use crate::places::cut_row;
 use deriv_log::{Entries, Entry};
 use double_descr::Dd;
 use exact_field::Field;
 use frac128::Vector;
 use lin_rows::Rows;
+use lineality::line_places::{full_vector, open_places};
 use lp_form::Cut;
 use overflows::{SolveFault, fractions, fractions_are_written, naturals_are_written, start_fault};
 use src_sink::{Items, NoMemory};

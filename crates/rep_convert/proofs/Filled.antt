@@ -1,20 +1,13 @@
 -- Vectors with zeros at the places of lines, as generators.
-use Rattle.std.proofs.Common.{◌≡◌, ℕ, suc, ◌+◌, Bool, true, false, List, [], ◌∷◌, map, length, refl, sym, ap, ap₂, ◌∙◌, arith}
+use Rattle.std.proofs.Common.{◌≡◌, ℕ, suc, ◌+◌, Bool, List, [], ◌∷◌, map, length, refl, sym, ap, ap₂, ◌∙◌}
 use Rattle.std.proofs.lemmas.List.{length-map}
 use Rattle.exact_field.specs.Rational.{ℚ}
 use Rattle.polyhedra.specs.DoubleDescription.{IsNormed, magnitude, norming}
 use Rattle.polyhedra.specs.LiveList.{Numbered, numbered, starting}
 use Rattle.lineality.specs.Steps.{IsClear, list_without}
 use Rattle.lineality.specs.Without.{open_count, with_zeros, without}
-use Rattle.lineality.proofs.Masks.{without-with}
+use Rattle.lineality.proofs.Masks.{length-filled, without-with}
 use Rattle.lineality.proofs.StepsWithout.{IsGood, norming-same, numbered-less}
-
--- a vector with one entry more than there are places
-pub length-filled : (bs : List Bool) (v : List ℚ) → length v ≡ suc (open_count bs) → length (with_zeros bs v) ≡ suc (length bs)
-length-filled [] v h = h
-length-filled (true ∷ bs) v h = ap suc (length-filled bs v h)
-length-filled (false ∷ bs) [] h = absurd (omega (arith, h))
-length-filled (false ∷ bs) (x ∷ v) h = ap suc (length-filled bs v (omega (arith, h)))
 
 pub clear_filled : (bs : List Bool) (v : List ℚ) → IsClear bs (with_zeros bs v)
 clear_filled bs v = ap (with_zeros bs) (without-with bs v)

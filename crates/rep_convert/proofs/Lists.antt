@@ -1,10 +1,10 @@
 -- Lists that are gone through in their order.
-use Rattle.std.proofs.Common.{◌≡◌, ℕ, suc, ◌+◌, ◌<◌, ◌≤◌, Bool, true, false, List, [], ◌∷◌, ◌++◌, map, length, take, All, Contains, slice_index_or, refl, sym, ap, ap₂, ◌∙◌, subst, arith}
+use Rattle.std.proofs.Common.{◌≡◌, ℕ, ◌+◌, ◌<◌, ◌≤◌, Bool, List, [], ◌∷◌, ◌++◌, map, length, take, All, Contains, slice_index_or, sym, ap, ap₂, ◌∙◌, subst, arith}
 use Rattle.std.proofs.lemmas.List.{get_or-map, length-map, map-append, map-id, take_all, take_more}
 use Rattle.std.proofs.lemmas.List.Elements.{All-nil, All-cons, All-append, Contains-get_or}
 use Rattle.exact_field.specs.Rational.{ℚ}
 use Rattle.polyhedra.specs.LiveList.{Numbered, numbers, vectors}
-use Rattle.lineality.specs.Without.{open_count, with_zeros, without}
+use Rattle.lineality.specs.Without.{with_zeros}
 
 -- what holds of the first i of a list, and of the next
 module _ {X : Type 0} (P : X → Type 0) where
@@ -16,22 +16,9 @@ module _ {X : Type 0} (P : X → Type 0) where
   pub all_done : (xs : List X) (i : ℕ) → length xs ≤ i → All P (take i xs) → All P xs
   all_done xs i l h = subst (All P) (take_all i xs l) h
 
--- ---- rows without the entries at places
-pub without_none : (bs : List Bool) → without bs [] ≡ []
-without_none [] = refl
-without_none (b ∷ bs) = refl
-
--- a row with one entry more than there are places
-pub length-short : (bs : List Bool) (v : List ℚ) → length v ≡ suc (length bs) → length (without bs v) ≡ suc (open_count bs)
-length-short [] v h = h
-length-short (b ∷ bs) [] h = absurd (omega (arith, h))
-length-short (true ∷ bs) (x ∷ v) h = length-short bs v (omega (arith, h))
-length-short (false ∷ bs) (x ∷ v) h = ap suc (length-short bs v (omega (arith, h)))
-
-pub open_bound : (bs : List Bool) → open_count bs ≤ length bs
-open_bound [] = omega arith
-open_bound (true ∷ bs) = let h = open_bound bs in omega (arith, h)
-open_bound (false ∷ bs) = let h = open_bound bs in omega (arith, h)
+-- ---- what is called in any field, where each number is its own value
+pub own_values : (f : List ℚ → List ℚ) (xs out : List ℚ) → map (λ (q : ℚ). q) out ≡ f (map (λ (q : ℚ). q) xs) → out ≡ f xs
+own_values f xs out h = sym (map-id out) ∙ h ∙ ap f (map-id xs)
 
 -- ---- generators by their numbers
 pub gens_more : (bs : List Bool) (live : List Numbered) (i n : ℕ) (old new : List (List ℚ)) (full short : List ℚ) → i < length (numbers live) →

@@ -20,7 +20,7 @@ use Rattle.lineality.specs.Steps.{IsClear, list_without}
 use Rattle.lineality.specs.Without.{with_zeros, without}
 use Rattle.lineality.proofs.Echelon.{IsFlatAt, echelon_of}
 use Rattle.lineality.proofs.Marks.{length-marks, with_flat}
-use Rattle.lineality.proofs.Masks.{dot-without}
+use Rattle.lineality.proofs.Masks.{dot-without, length-filled}
 use Rattle.lineality.proofs.OpenPlaces.{open_places}
 use Rattle.lineality.proofs.Reduction.{reduced_of}
 use Rattle.lin_rows.specs.Sums.{AreHeld}
@@ -50,7 +50,7 @@ use Rattle.rep_conv.proofs.TextRows.{text_rows_wide}
 use Rattle.rep_convert.specs.Lines.{AreLinesOf, marks_of, width_without}
 use Rattle.rep_convert.specs.Standing.{IsOpenLog, StandsAt}
 use Rattle.rep_convert.specs.Started.{IsStarted, picked_without}
-use Rattle.rep_convert.proofs.Filled.{clear_filled, length-filled, normed_filled, starting_without}
+use Rattle.rep_convert.proofs.Filled.{clear_filled, normed_filled, starting_without}
 use Rattle.rep_convert.proofs.Growing.{flat_held, open_more, state_more}
 use Rattle.rep_convert.proofs.HeldProducts.{product_held}
 use Rattle.rep_convert.proofs.Joined.{joined, length-joined, pieces_joined}

@@ -15,6 +15,7 @@ use Rattle.polyhedra.proofs.Members.{Contains-map, all_of_members, member_of, pa
 use Rattle.polyhedra.proofs.Order.{not_zero_of_positive}
 use Rattle.lineality.specs.Without.{marks, open_count, with_zeros, without}
 use Rattle.lineality.proofs.Marks.{length-marks}
+use Rattle.lineality.proofs.Masks.{length-filled}
 use Rattle.lineality.proofs.Places.{at-zeros}
 use Rattle.lin_rows.specs.Read.{numbers}
 use Rattle.lin_rows.specs.Sums.{AreHeld}
@@ -35,7 +36,6 @@ use Rattle.rep_conv.proofs.TextRows.{text_rows_wide}
 use Rattle.rep_convert.specs.Licensed.{AreInUse, AreMultiplied, AreShort, IsElimTable}
 use Rattle.rep_convert.specs.Lines.{AreLinesOf, marks_of, rows_without, width_without}
 use Rattle.rep_convert.specs.Started.{AreStarts, picked_without}
-use Rattle.rep_convert.proofs.Filled.{length-filled}
 use Rattle.rep_convert.proofs.FullRank.{full_rank}
 use Rattle.rep_convert.proofs.StartEntry.{within}
 

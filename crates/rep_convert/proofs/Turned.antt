@@ -1,5 +1,5 @@
 -- A conversion after one more row has come into use.
-use Rattle.std.proofs.Common.{◌≡◌, ℕ, suc, ◌<◌, List, [], ◌∷◌, ◌++◌, map, length, All, Bool, Contains, IsTrue, refl, sym, ap, ap₂, ◌∙◌, subst, arith, true, false, not, ◌&&◌, ◌||◌, nat_lt}
+use Rattle.std.proofs.Common.{◌≡◌, ℕ, suc, ◌<◌, List, [], ◌∷◌, ◌++◌, map, length, All, Bool, Contains, IsTrue, refl, sym, ap, ap₂, ◌∙◌, subst, false, not, ◌&&◌, ◌||◌, nat_lt}
 use Rattle.std.proofs.lemmas.List.{map-append}
 use Rattle.std.proofs.lemmas.List.Elements.{All-cons}
 use Rattle.std.proofs.lemmas.List.Folds.{list_any-append}
@@ -12,6 +12,7 @@ use Rattle.polyhedra.proofs.Members.{Contains-map, member_of}
 use Rattle.lineality.specs.Steps.{IsClear, IsStepWithout, list_without}
 use Rattle.lineality.specs.Without.{open_count, without}
 use Rattle.lineality.proofs.Marks.{length-marks}
+use Rattle.lineality.proofs.Masks.{length-short}
 use Rattle.lineality.proofs.StepsWithout.{IsGood, steps_without}
 use Rattle.double_descr.specs.Adding.{AreHeld, add_blocks}
 use Rattle.double_descr.specs.State.{State as Description}
@@ -137,15 +138,8 @@ module _ (rep : Rep) (log : List ConvEntry) (dd : Description) (h : StandsAt rep
       made = generator_laws.grows dd.width dd.rows dd.list short h.made;
     })
 
--- a row without the entries at marked places
-length-more : (bs : List Bool) (v : List ℚ) → length v ≡ suc (length bs) → length (without bs v) ≡ suc (open_count bs)
-length-more [] v h = h
-length-more (b ∷ bs) [] h = absurd (omega (arith, h))
-length-more (true ∷ bs) (x ∷ v) h = length-more bs v (omega (arith, h))
-length-more (false ∷ bs) (x ∷ v) h = ap suc (length-more bs v (omega (arith, h)))
-
--- has as many entries as the double description has columns
+-- a row without the entries at marked places has as many entries as the double description has columns
 pub short_wide : (rep : Rep) (log : List ConvEntry) (dd : Description) → StandsAt rep log dd → (v : List ℚ) → length v ≡ suc rep.width →
     length (without (line_places rep log) v) ≡ dd.width
 short_wide rep log dd h v wide =
-    length-more (line_places rep log) v (wide ∙ ap suc (sym (length-marks rep.width (state rep log).lines))) ∙ sym h.width
+    length-short (line_places rep log) v (wide ∙ ap suc (sym (length-marks rep.width (state rep log).lines))) ∙ sym h.width

@@ -6,17 +6,17 @@ ghost use Rattle.lin_rows.specs.Sums.{AreHeld};
 ghost use Rattle.rep_conv.specs.Live.{state};
 ghost use Rattle.rep_conv.specs.Rows.{text_rows};
 ghost use Rattle.rep_convert.specs.Licensed.{IsConvLeft};
-ghost use Rattle.rep_convert.specs.Lines.{AreLinesOf};
+ghost use Rattle.rep_convert.specs.Lines.{AreLinesOf, marks_of};
 ghost use Rattle.rep_convert.specs.Started.{IsStarted};
 ghost use Rattle.rep_convert.specs.Standing.{StandsAt, line_places};
 
 use crate::fault::ConvFault;
 use crate::lines::lines_of;
 use crate::log::{lines_log, push_start};
-use crate::places::places_of;
 use crate::start::{Started, start};
 use double_descr::Dd;
 use frac128::{Frac, Vector, Vectors};
+use lineality::line_places::places_of;
 use rep_text::{ConvLog, Rep};
 use src_sink::{Items, NoMemory};
 use std::alloc::Global;
@@ -31,6 +31,13 @@ pub(crate) struct Begun {
     pub(crate) picks: Items<u32>,
     pub(crate) log: ConvLog,
     pub(crate) dd: Dd<Frac>,
+}
+
+/// For each place but the last whether it is that of a line.
+fn marks_of(alloc: Global, rep: &Rep, lines: &[Vector]) -> Result<Items<bool>, NoMemory>
+    ensures { IfOk result (λ places. places ≡ marks_of rep.now lines.now) }
+{
+    places_of(alloc, rep.width, lines)
 }
 
 /// The log of the lines and of the start.
@@ -71,7 +78,7 @@ pub(crate) fn begin(alloc: Global, rep: &Rep, rows: &[Vector]) -> Result<Begun, 
     ensures left { IfErr result (IsConvLeft is_held rep.now) }
 {
     let lines = lines_of(alloc, rep, rows)?;
-    let places = places_of(alloc, rep.width, lines.as_slice())?;
+    let places = marks_of(alloc, rep, lines.as_slice())?;
     let started = start(alloc, rep, lines.as_slice(), places.as_slice(), rows)?;
     let log = begun_log(alloc, rep, lines.as_slice(), &started)?;
     let Started { picks, dd, .. } = started;

@@ -11,7 +11,6 @@ mod licences;
 mod lines;
 mod log;
 mod order;
-mod places;
 mod products;
 mod start;
 mod turn;

@@ -12,11 +12,11 @@ ghost use Rattle.double_descr.specs.Starting.{IsStart};
 use crate::fault::ConvFault;
 use crate::licences::row_left;
 use crate::order::order_of;
-use crate::places::{fill, open_places, row_without};
 use crate::products::try_products;
 use double_descr::{Dd, DdFault};
 use frac128::{Frac, Vector, Vectors};
 use lin_rows::{Indep, RowFault, Rows, find_independent};
+use lineality::line_places::{full_vector, open_places, row_without};
 use rep_text::Rep;
 use src_sink::{Items, NoMemory};
 use std::alloc::Global;
@@ -226,7 +226,7 @@ pub(crate) fn filled_generators(
     let numbers = dd.live();
     let mut gens = Items::new(alloc);
     for number in numbers {
-        gens.push(fill(alloc, places, dd.generator(*number))?)?;
+        gens.push(full_vector(alloc, places, dd.generator(*number))?)?;
     }
     Ok(gens)
 }

@@ -15,10 +15,10 @@ ghost use Rattle.overflows.specs.Pairs.{named};
 ghost use Rattle.rep_convert.specs.Standing.{StandsAt, line_places};
 
 use crate::fault::ConvFault;
-use crate::places::row_without;
 use deriv_log::Family;
 use double_descr::{Dd, Pair};
 use frac128::{Frac, Vector};
+use lineality::line_places::row_without;
 use overflows::add_fault;
 use rep_text::{ConvEntry, ConvLog, Rep};
 use src_sink::{Items, NoMemory};

@@ -8,7 +8,7 @@ use Rattle.outer_approx.specs.Lines.{AreLinesFor, told_by}
 use Rattle.outer_approx.specs.Standing.{IsBegun}
 use Rattle.outer_approx.specs.declared.log.Line.{Line}
 use Rattle.outer_approx.proofs.LineEntries.{line_begun, line_unreached}
-use Rattle.outer_approx.proofs.Reading.{rest_is}
+use Rattle.lineality.proofs.Reading.{rest_is}
 use Rattle.outer_approx.proofs.log.open_trail.Goals as goal
 
 pub loop-line-preserved : goal.loop-line-preserved

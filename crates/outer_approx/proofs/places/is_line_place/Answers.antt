@@ -4,7 +4,7 @@ use Rattle.lineality.specs.Lines.{leading_place}
 use Rattle.lineality.specs.Without.{is_line_place}
 use Rattle.outer_approx.specs.Lines.{told_by}
 use Rattle.outer_approx.specs.declared.log.Line.{Line}
-use Rattle.outer_approx.proofs.Reading.{line_here, line_next, rest_is}
+use Rattle.lineality.proofs.Reading.{line_here, line_next, rest_is}
 use Rattle.outer_approx.proofs.places.is_line_place.Goals as goal
 
 pub returns-then-leading_place-place : goal.returns-then-leading_place-place

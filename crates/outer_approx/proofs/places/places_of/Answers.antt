@@ -1,6 +1,6 @@
 use Rattle.std.proofs.Common.{map}
 use Rattle.outer_approx.specs.Lines.{told_by}
-use Rattle.outer_approx.proofs.Reading.{marks_end, marks_more}
+use Rattle.lineality.proofs.Reading.{marks_end, marks_more}
 use Rattle.outer_approx.proofs.places.places_of.Goals as goal
 
 pub loop-k-preserved : goal.loop-k-preserved

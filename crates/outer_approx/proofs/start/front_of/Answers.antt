@@ -3,7 +3,8 @@ use Rattle.std.specs.Prelude.{IfOk}
 use Rattle.std.proofs.lemmas.List.{length-map, length-take, take-map}
 use Rattle.exact_field.specs.Rational.{ℚ}
 use Rattle.lineality.specs.Without.{open_count, with_zeros}
-use Rattle.outer_approx.proofs.Fronts.{entries_are, length-more, number_listed, wide_here}
+use Rattle.lineality.proofs.Masks.{length-filled}
+use Rattle.outer_approx.proofs.Fronts.{entries_are, number_listed, wide_here}
 use Rattle.outer_approx.proofs.start.front_of.Goals as goal
 
 pub generator-requires : goal.generator-requires
@@ -19,7 +20,7 @@ slice_bounds-fractions-end g c =
     let is = entries_are count c.args.dd.now.list c.requires.first c.args.g c.requires.low c.requires.high value c.generator.result.now c.generator.ensures.only in
     let long : length entries ≡ suc (length bs) =
     sym (length-map entries value) ∙ ap (λ (v : List ℚ). length v) (full_is ∙ ap (with_zeros bs) is)
-    ∙ length-more bs _ (wide_here count c.args.dd.now.list c.requires.first c.args.g c.requires.low c.requires.high) in
+    ∙ length-filled bs _ (wide_here count c.args.dd.now.list c.requires.first c.args.g c.requires.low c.requires.high) in
     let cut : length (take (length bs) entries) ≡ min (length bs) (length entries) = length-take (length bs) entries in
     omega (arith, cut, long)
 

@@ -4,7 +4,7 @@ use Rattle.polyhedra.specs.LiveList.{vectors}
 use Rattle.overflows.proofs.Formed.{naturals_written, vector_written}
 use Rattle.outer_approx.specs.First.{AreFirst}
 use Rattle.outer_approx.proofs.Fronts.{has_start, start_written}
-use Rattle.outer_approx.proofs.Reading.{open_bound}
+use Rattle.lineality.proofs.Masks.{open_bound}
 use Rattle.outer_approx.proofs.start.push_start.Goals as goal
 
 pub directions_of-requires-clause-few : goal.directions_of-requires-clause-few

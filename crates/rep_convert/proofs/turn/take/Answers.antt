@@ -15,6 +15,7 @@ use Rattle.rep_text.specs.declared.conv.ConvEntry.{ConvEntry}
 use Rattle.overflows.specs.Pairs.{named}
 use Rattle.overflows.proofs.NamedPairs.{named_required}
 use Rattle.rep_convert.specs.Standing.{StandsAt, line_places}
+use Rattle.rep_convert.proofs.Lists.{own_values}
 use Rattle.rep_convert.proofs.Overflowed.{addition_left}
 use Rattle.rep_convert.proofs.Turned.{short_wide, turned, turned_lines, turned_used}
 use Rattle.rep_convert.proofs.turn.take.Goals as goal
@@ -23,7 +24,7 @@ pub add-requires : goal.add-requires
 add-requires c =
     let rep = c.args.rep.now in
     let log = c.args.log.now in
-    ap (λ (v : List ℚ). length v) (c.as_slice.ensures.items ∙ c.in_ok-short.ensures ∙ ap₂ without c.requires.places c.requires.row)
+    ap (λ (v : List ℚ). length v) (c.as_slice.ensures.items ∙ own_values (without c.args.places.now) c.args.row.now c.in_ok-short.short c.in_ok-short.ensures ∙ ap₂ without c.requires.places c.requires.row)
     ∙ short_wide rep log c.args.dd.now c.requires.stands (row_at rep c.args.number) (row_wide rep (text_rows rep) c.args.number refl c.requires.exists)
 
 pub returns-in-Ok-clause-ok : goal.returns-in-Ok-clause-ok
@@ -33,7 +34,7 @@ returns-in-Ok-clause-ok c =
     let dd = c.args.dd.now in
     let short = map (λ (q : ℚ). q) c.as_slice.result.now in
     let short_is : short ≡ without (line_places rep log) (row_at rep c.args.number) =
-    map-id c.as_slice.result.now ∙ c.as_slice.ensures.items ∙ c.in_ok-short.ensures ∙ ap₂ without c.requires.places c.requires.row in
+    map-id c.as_slice.result.now ∙ c.as_slice.ensures.items ∙ own_values (without c.args.places.now) c.args.row.now c.in_ok-short.short c.in_ok-short.ensures ∙ ap₂ without c.requires.places c.requires.row in
     subst (λ (es : List ConvEntry). StandsAt rep es c.add.new.self) (sym c.in_ok-push_add-in-Ok.ensures.ok)
     (turned rep log dd c.requires.stands c.args.number c.requires.exists c.requires.unused short short_is (map named c.as_slice-in-Ok.result.now)
     (named_required dd.rows dd.list short short c.in-Ok.change c.as_slice-in-Ok.result.now c.as_slice-in-Ok.ensures.items c.in-Ok.ensures.change refl)
@@ -46,7 +47,7 @@ returns-in-Ok-clause-used c =
     let dd = c.args.dd.now in
     let short = map (λ (q : ℚ). q) c.as_slice.result.now in
     let short_is : short ≡ without (line_places rep log) (row_at rep c.args.number) =
-    map-id c.as_slice.result.now ∙ c.as_slice.ensures.items ∙ c.in_ok-short.ensures ∙ ap₂ without c.requires.places c.requires.row in
+    map-id c.as_slice.result.now ∙ c.as_slice.ensures.items ∙ own_values (without c.args.places.now) c.args.row.now c.in_ok-short.short c.in_ok-short.ensures ∙ ap₂ without c.requires.places c.requires.row in
     ap (λ (es : List ConvEntry). (state rep es).used) c.in_ok-push_add-in-Ok.ensures.ok
     ∙ turned_used rep log dd c.requires.stands c.args.number c.requires.exists c.requires.unused short short_is (map named c.as_slice-in-Ok.result.now)
     (named_required dd.rows dd.list short short c.in-Ok.change c.as_slice-in-Ok.result.now c.as_slice-in-Ok.ensures.items c.in-Ok.ensures.change refl)
@@ -59,7 +60,7 @@ returns-in-Ok-clause-lines c =
     let dd = c.args.dd.now in
     let short = map (λ (q : ℚ). q) c.as_slice.result.now in
     let short_is : short ≡ without (line_places rep log) (row_at rep c.args.number) =
-    map-id c.as_slice.result.now ∙ c.as_slice.ensures.items ∙ c.in_ok-short.ensures ∙ ap₂ without c.requires.places c.requires.row in
+    map-id c.as_slice.result.now ∙ c.as_slice.ensures.items ∙ own_values (without c.args.places.now) c.args.row.now c.in_ok-short.short c.in_ok-short.ensures ∙ ap₂ without c.requires.places c.requires.row in
     ap (λ (es : List ConvEntry). (state rep es).lines) c.in_ok-push_add-in-Ok.ensures.ok
     ∙ turned_lines rep log dd c.requires.stands c.args.number c.requires.exists c.requires.unused short short_is (map named c.as_slice-in-Ok.result.now)
     (named_required dd.rows dd.list short short c.in-Ok.change c.as_slice-in-Ok.result.now c.as_slice-in-Ok.ensures.items c.in-Ok.ensures.change refl)
@@ -84,7 +85,7 @@ returns-clause-left c =
     let fault = c.in-Err.fault in
     let short = map (λ (q : ℚ). q) c.as_slice-in-Err.result.now in
     let short_is : short ≡ without (line_places rep log) (row_at rep c.args.number) =
-    map-id c.as_slice-in-Err.result.now ∙ c.as_slice-in-Err.ensures.items ∙ c.in_ok-short.ensures ∙ ap₂ without c.requires.places c.requires.row in
+    map-id c.as_slice-in-Err.result.now ∙ c.as_slice-in-Err.ensures.items ∙ own_values (without c.args.places.now) c.args.row.now c.in_ok-short.short c.in_ok-short.ensures ∙ ap₂ without c.requires.places c.requires.row in
     addition_left rep log dd c.requires.stands ((rules_keep_description rep log c.requires.stands.met).begun c.requires.stands.started).exist
     c.args.number c.requires.exists short short_is (λ (q : ℚ). q) fault c.add_fault-told.result c.from.result
     (subst (λ (xs : List ℚ). IsAddFault (λ (q : ℚ). q) is_held (add_blocks dd.rows dd.list.live (map (λ (q : ℚ). q) xs)) fault)

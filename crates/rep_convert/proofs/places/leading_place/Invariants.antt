@@ -1,6 +1,0 @@
-use Rattle.std.proofs.Common.{◌≡◌, ◌+◌, drop}
-use Rattle.lineality.specs.Lines.{leading_place}
-use Rattle.rep_convert.proofs.places.leading_place.Given as goal
-
-abbrev pub invariant-loop-k : goal.invariant-loop-k
-invariant-loop-k l = leading_place l.v ≡ l.k + leading_place (drop l.k l.v)
