@@ -77,7 +77,6 @@ module _ (file : Problem) (w : List ℚ) (basis : List ℕ) (z y : List ℚ) (w_
 
 -- ---- in a field
 module _ {F : Type 0} (value : F → ℚ) (form : Data F) (file : Problem) (stands : IsDataOf value file form) where
-
   module _ (w z : List F) (basis : List ℕ) (y : List ℚ) (w_long : length w ≡ length form.p)
       (h : IsOptimumAt (weight_system file (map value w)) basis (map value z) y) where
     unknowns_long : length z ≡ weight_total file
