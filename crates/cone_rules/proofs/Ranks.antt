@@ -14,7 +14,7 @@ use Rattle.polyhedra.proofs.Lists.{HoldsAt}
 use Rattle.polyhedra.proofs.Members.{all_of_members, member_of}
 use Rattle.polyhedra.proofs.Negatives.{dot-negated}
 use Rattle.polyhedra.proofs.Order.{lt_irrefl}
-use Rattle.polyhedra.proofs.Entries.{entry-negated}
+use Rattle.polyhedra.proofs.Entries.{entry-negated, slice-negated}
 use Rattle.tableaux.specs.Table.{unit}
 use Rattle.tableaux.proofs.Definition.{slice_eq, unit_entry}
 use Rattle.tableaux.proofs.Places.{delta, delta-same, same_or_other, if_true, if_false}
@@ -55,7 +55,7 @@ orthant_pointed : (q : ℕ) → HasNoLine q Orthant
 orthant_pointed q d h k =
     slice_eq d (zeros q) (h.wide ∙ sym (length-zeros q))
     (λ i l. zero_of_both (slice_index_or d i zero_ℚ) (h.entries i zero_ℚ l)
-    (subst (λ (x : ℚ). zero_ℚ ≤ℚ x) (Rattle.cone_rules.proofs.Parts.slice-negated d i) (k.entries i zero_ℚ (omega (arith, l, k.wide, h.wide))))
+    (subst (λ (x : ℚ). zero_ℚ ≤ℚ x) (slice-negated d i) (k.entries i zero_ℚ (omega (arith, l, k.wide, h.wide))))
     ∙ sym (slice-zeros q i))
 
 orthant_outside : (q : ℕ) (f : List ℚ) (k : ℕ) → 1 ≤ k → k ≤ q → entry f k ≤ℚ zero_ℚ → ShowsOutside q Orthant f (unit q k) []
