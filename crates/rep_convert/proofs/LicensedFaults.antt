@@ -9,7 +9,7 @@ use Rattle.exact_field.specs.declared.op.Op.{Op}
 use Rattle.exact_field.specs.declared.op.Op.TheVariants.{Add, Mul, Div}
 use Rattle.exact_field.specs.declared.op.Left.{Left as Operation}
 use Rattle.polyhedra.specs.DoubleDescription.{magnitude, norming}
-use Rattle.tableaux.specs.Table.{Table, at, beside_unit, column_of}
+use Rattle.tableaux.specs.Table.{Table, beside_unit, column_of}
 use Rattle.frac128.specs.Held.{is_held}
 use Rattle.lin_rows.specs.Eliminate.{IsElimFault}
 use Rattle.lin_rows.specs.Read.{numbers}

@@ -1,4 +1,4 @@
-use Rattle.std.proofs.Common.{◌<◌, List, ℕ, All, AllPairs, sym, subst}
+use Rattle.std.proofs.Common.{◌<◌, ℕ, All, AllPairs, sym, subst}
 use Rattle.std.proofs.lemmas.List.Elements.{All-nil}
 use Rattle.polyhedra.proofs.Members.{pairs-nil}
 use Rattle.rep_convert.proofs.start.rising_of.Goals as goal
