@@ -10,6 +10,9 @@ without entries at their places, scaled and in order. `-` in place of PROGRAM ru
 those of `reps.py` on texts that are small enough.
 
 `reps_beside.py PROGRAM = COUNT [SEED]` compares the answers of all on COUNT random texts of sets that are not empty.
+
+`reps_beside.py PROGRAM + [TRIES]` times the series of growing sizes below beside the Parma Polyhedra Library alone: milliseconds of the
+processor, the least of TRIES (10) in turn, less those that each takes for a text of one row.
 """
 import collections
 import math
@@ -224,6 +227,58 @@ def families():
         yield name, rep
 
 
+SERIES = (("cyclic", "vertices", 4, (12, 20, 30, 40, 60, 80)), ("cyclic", "vertices", 5, (8, 10, 12, 16, 20)), ("cyclic", "vertices", 6, (8, 10, 12, 14, 16)),
+          ("cyclic", "facets", 4, (20, 40, 80, 120)), ("cyclic", "facets", 6, (12, 16, 24, 32)),
+          ("zero_one", "facets", 8, (20, 40, 80, 120)), ("zero_one", "vertices", 7, (12, 16, 20, 24)),
+          ("drawn", "facets", 5, (20, 40, 80, 160)), ("drawn", "facets", 8, (16, 24, 32, 40)), ("drawn", "vertices", 4, (100, 200, 400, 800)),
+          ("drawn", "vertices", 6, (24, 36, 48, 80)), ("covering", "vertices", 5, (80, 160, 320, 640)), ("packing", "vertices", 5, (40, 80, 160, 320)),
+          ("upper", "facets", 5, (80, 160, 320, 640)))
+
+
+def text_of(family, command, n, count):
+    """The text of a series at a size."""
+    rep = getattr(reps, family)(count, n, *([1] if family != "cyclic" else []))
+    if COMMAND[rep.kind] == command:
+        return rep
+    return polar(rep) if family == "drawn" else converted(rep)[0]
+
+
+def milliseconds(words):
+    """What one run takes of the processor, up to its end."""
+    limit = lambda: resource.setrlimit(resource.RLIMIT_CPU, (LIMIT, LIMIT + 1))
+    child = subprocess.Popen(words, stdout=subprocess.DEVNULL, stderr=subprocess.DEVNULL, preexec_fn=limit)
+    _, status, used = os.wait4(child.pid, 0)
+    child.returncode = os.waitstatus_to_exitcode(status)
+    return 1000 * (used.ru_utime + used.ru_stime) if child.returncode == 0 else math.inf
+
+
+def growth(program, tries):
+    """Prints the series; how many grow more than beside the other from their least size to their greatest is returned."""
+    one, more = Rep("sides", 1, [("h", (1, 0))]), 0
+    with tempfile.TemporaryDirectory() as folder:
+        def least(rep):
+            path = os.path.join(folder, "text")
+            with open(path, "w") as out:
+                out.write(rep.text())
+            both = [program, COMMAND[rep.kind], path], [os.path.join(HERE, "reps_ppl"), path]
+            best = [math.inf, math.inf]
+            for _ in range(tries):
+                best = [min(least, milliseconds(words)) for least, words in zip(best, both)]
+                if max(best) > 1000 * ENOUGH:
+                    break
+            return best
+
+        starts = least(one)
+        print(f"a text of one row: {starts[0]:.1f} and {starts[1]:.1f} ms")
+        for family, command, n, counts in SERIES:
+            times = [[max(time - start, 0.1) for time, start in zip(least(text_of(family, command, n, count)), starts)] for count in counts]
+            print(f"{family} N {n}, {command}: " + ", ".join(f"{count}: {ours:.1f} {other:.1f}" for count, (ours, other) in zip(counts, times))
+                  + f"; growth {times[-1][0] / times[0][0]:.1f} {times[-1][1] / times[0][1]:.1f}", flush=True)
+            more += times[-1][0] / times[0][0] > times[-1][1] / times[0][1]
+    print(f"{more} of {len(SERIES)} series grow more than beside PPL")
+    return more
+
+
 def shown(each):
     """The seconds, or how the run ended."""
     if each.status is None:
@@ -294,6 +349,8 @@ def main():
     program = None if sys.argv[1] == "-" else os.path.abspath(sys.argv[1])
     if sys.argv[2:3] == ["="]:
         return int(compare(program, int(sys.argv[3]), int(sys.argv[4]) if len(sys.argv) > 4 else 1) > 0)
+    if sys.argv[2:3] == ["+"]:
+        return int(growth(program, int(sys.argv[3]) if len(sys.argv) > 3 else 10) > 0)
     return int(table(program, sys.argv[2:]) > 0)
 
 

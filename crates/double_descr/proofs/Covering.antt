@@ -1,12 +1,12 @@
 -- Sets of tight rows: the meet of two, and how many rows two have in common.
-use Rattle.std.proofs.Common.{true≢false, IsTrue, ◌↔◌, Contains, ◌+◌, ◌-◌, min, ◌≡◌, ℕ, zero, suc, ◌<◌, ◌≤◌, ◌⊎◌, inl, inr, subst, cond, count_by, List, [], ◌∷◌, length, map, Bool, true, false, ◌&&◌, refl, sym, ap, ◌∙◌, arith}
+use Rattle.std.proofs.Common.{true≢false, IsTrue, ◌↔◌, Contains, ◌+◌, ◌-◌, min, ◌≡◌, ℕ, zero, suc, ◌<◌, ◌≤◌, ◌⊎◌, inl, inr, subst, cond, count_by, List, [], ◌∷◌, length, map, Bool, true, false, ◌&&◌, refl, sym, ap, ap₂, ◌∙◌, arith}
 use Rattle.std.specs.Prelude.{IsFalse}
-use Rattle.std.proofs.lemmas.Bool.{cases_lt}
+use Rattle.std.proofs.lemmas.Bool.{and_parts, cases_lt}
 use Rattle.std.proofs.lemmas.List.{ext_get_or, length-map}
 use Rattle.std.proofs.lemmas.List.Sums.{sum_by-cons, length-filter}
 use Rattle.exact_field.specs.Rational.{ℚ}
 use Rattle.exact_field.specs.Vector.{dot}
-use Rattle.incid_sets.specs.Marks.{has, size, IsMeet}
+use Rattle.incid_sets.specs.Marks.{has, size, ContainsAll, IsMeet}
 use Rattle.polyhedra.specs.DoubleDescription.{is_zero, is_uncovered}
 use Rattle.polyhedra.specs.Generators.{common_rows, tight_rows}
 use Rattle.polyhedra.specs.LiveList.{Numbered, vectors, tight_set, without_numbers, is_uncovered_live}
@@ -100,14 +100,60 @@ module _ {F : Type 0} (value : F → ℚ) (n : ℕ) (rows : List (List ℚ)) (ge
       counted (inl h) = inl (let e : size p.tight ≡ length (tight_rows rows (values value p.vector.items)) = tight_size p two.plus_listed in omega (arith, h, e, shared_size))
       counted (inr h) = inr (let e : size m.tight ≡ length (tight_rows rows (values value m.vector.items)) = tight_size m two.minus_listed in omega (arith, h, e, shared_size))
 
--- where fewer than the width less 2 are common, by a test
-pub few_shared : {F : Type 0} (value : F → ℚ) (n : ℕ) (rows : List (List ℚ)) (gens : List (Generator F)) (p m : Generator F) →
-    AreTwoLive value n rows gens p m → (least : ℕ) → least ≡ length p.vector.items - 2 → (enough : Bool) →
-    (common : List Bool) × IsMeet common p.tight m.tight × (IsTrue enough ↔ (least ≤ size common)) → IsFalse enough →
-    is_uncovered_live rows (live_of value gens) (pair_of value p m) ≡ false
-few_shared value n rows gens p m two least is enough (common, meet, told) few =
-    few_are_no_pair value n rows gens p m common two meet (by (cases_lt (size common) least))
+-- ---- sets of rows that hold the tight ones
+-- the common numbers of two sets
+both_of : List Bool → List Bool → List Bool
+both_of [] ys = []
+both_of (x ∷ xs) [] = []
+both_of (x ∷ xs) (y ∷ ys) = (x && y) ∷ both_of xs ys
+
+and_false : (b : Bool) → (b && false) ≡ false
+and_false true = refl
+and_false false = refl
+
+both_common : (xs ys : List Bool) (k : ℕ) → has (both_of xs ys) k ≡ (has xs k && has ys k)
+unfolding both_of
+both_common [] ys k = refl
+both_common (x ∷ xs) [] k = sym (and_false (has (x ∷ xs) k))
+both_common (x ∷ xs) (y ∷ ys) zero = refl
+both_common (x ∷ xs) (y ∷ ys) (suc k) = both_common xs ys k
+
+length-both : (xs ys : List Bool) → length (both_of xs ys) ≡ min (length xs) (length ys)
+unfolding both_of
+length-both [] ys = omega arith
+length-both (x ∷ xs) [] = omega arith
+length-both (x ∷ xs) (y ∷ ys) = let e = length-both xs ys in omega (arith, e)
+
+both_is : (xs ys : List Bool) → IsMeet (both_of xs ys) xs ys
+both_is xs ys = record { bound = length-both xs ys; common = both_common xs ys }
+
+size_cons : (x : Bool) (xs : List Bool) → size (x ∷ xs) ≡ cond {A = ℕ} x 1 0 + size xs
+size_cons x xs = sum_by-cons (λ (marked : Bool). cond {A = ℕ} marked 1 0) x xs
+
+-- a set within another has no more numbers
+size_within : (xs ys : List Bool) → ((k : ℕ) → IsTrue (has xs k) → IsTrue (has ys k)) → size xs ≤ size ys
+size_within [] ys h = omega arith
+size_within (true ∷ xs) [] h = absurd (true≢false (sym (h 0 refl)))
+size_within (false ∷ xs) [] h = let e = size_cons false xs in let less = size_within xs [] (λ k. h (suc k)) in omega (arith, e, less)
+size_within (true ∷ xs) (false ∷ ys) h = absurd (true≢false (sym (h 0 refl)))
+size_within (true ∷ xs) (true ∷ ys) h =
+    let d = size_cons true xs in let e = size_cons true ys in let less = size_within xs ys (λ k. h (suc k)) in omega (arith, d, e, less)
+size_within (false ∷ xs) (y ∷ ys) h =
+    let d = size_cons false xs in let e = size_cons y ys in let less = size_within xs ys (λ k. h (suc k)) in omega (arith, d, e, less)
+
+-- where fewer than the width less 2 of some rows are tight at one generator, and all that are tight at the other are of them, by a test
+pub few_met : {F : Type 0} (value : F → ℚ) (n : ℕ) (all : List (List ℚ)) (gens : List (Generator F)) (p m : Generator F) →
+    AreTwoLive value n all gens p m → (least : ℕ) → least ≡ length p.vector.items - 2 → (enough : Bool) (rows : List Bool) → ContainsAll rows m.tight →
+    (common : List Bool) × IsMeet common p.tight rows × (IsTrue enough ↔ (least ≤ size common)) → IsFalse enough →
+    is_uncovered_live all (live_of value gens) (pair_of value p m) ≡ false
+few_met value n all gens p m two least is enough rows within (common, meet, told) few =
+    few_are_no_pair value n all gens p m (both_of p.tight m.tight) two (both_is p.tight m.tight) (by (cases_lt (size common) least))
   where
-    by : (size common < least) ⊎ (least ≤ size common) → size common < length p.vector.items - 2
-    by (inl l) = omega (arith, l, is)
+    contained : (k : ℕ) → IsTrue (has (both_of p.tight m.tight) k) → IsTrue (has common k)
+    contained k h =
+        let parts = and_parts (has p.tight k) (has m.tight k) (sym (both_common p.tight m.tight k) ∙ h) in
+        meet.common k ∙ ap₂ (λ x y. x && y) parts.0 (within k parts.1)
+
+    by : (size common < least) ⊎ (least ≤ size common) → size (both_of p.tight m.tight) < length p.vector.items - 2
+    by (inl l) = let less = size_within (both_of p.tight m.tight) common contained in omega (arith, l, is, less)
     by (inr l) = absurd (true≢false (sym (told.1 l) ∙ few))

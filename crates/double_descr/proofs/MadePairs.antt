@@ -12,6 +12,7 @@ use Rattle.polyhedra.specs.Generators.{IsTightAtBoth}
 use Rattle.polyhedra.specs.LiveList.{staying, dropped, Numbered, LivePair, vectors, numbers, numbered, products, tight_set, without_numbers, is_uncovered_live}
 use Rattle.polyhedra.proofs.Generators.{tight_at_meeting}
 use Rattle.polyhedra.proofs.Order.{lt_irrefl, lt_trans}
+use Rattle.polyhedra.proofs.Lists.{Contains-here, Contains-there}
 use Rattle.polyhedra.proofs.Members.{member_of, Contains-map}
 use Rattle.double_descr.specs.Steps.{values, between}
 use Rattle.double_descr.specs.State.{numbered_of, live_of, pair_of, HasTightSet, AreTwoLive}
@@ -174,6 +175,41 @@ module _ {F : Type 0} (value : F → ℚ) (d : Addition) (gens : List (Generator
     minus_listed = mc;
     differ = λ e. lt_irrefl zero_ℚ (lt_trans zero_ℚ a zero_ℚ up (subst (λ (x : ℚ). x <ℚ zero_ℚ) (be ∙ ap (dot d.row) (sym e) ∙ sym ae) down));
   }
+
+  -- where a generator has no pair with any at which the row is negative, nothing is left of these pairs
+  pub unmet : (holds : ℚ → Bool) (p : Generator F) →
+      ((m : Generator F) → Contains gens m → dot d.row (values value m.vector.items) <ℚ zero_ℚ → is_uncovered_live d.rows (live_of value gens) (pair_of value p m) ≡ false) →
+      (left : List LivePair) (made : Made F) → IsMadeSoFar value holds d gens (with_negatives d.row (numbered_of value p) (live_of value gens) ++ left) made →
+      IsMadeSoFar value holds d gens left made
+  unmet holds p none left made h = record {
+    done = h.done;
+    split = h.split ∙ ap (λ l. h.done ++ l) (go gens (λ m c. c));
+    pairs_are = h.pairs_are;
+    new_are = h.new_are;
+    tight = h.tight;
+    held = h.held;
+    from = h.from;
+    bound = h.bound;
+  }
+    where
+      go : (hs : List (Generator F)) → ((m : Generator F) → Contains hs m → Contains gens m) →
+          filter (is_uncovered_live d.rows (live_of value gens)) (with_negatives d.row (numbered_of value p) (live_of value hs) ++ left)
+          ≡ filter (is_uncovered_live d.rows (live_of value gens)) left
+      go [] among = refl
+      go (m ∷ hs) among = step (lt_ℚ (dot d.row (values value m.vector.items)) zero_ℚ) refl (go hs (λ k c. among k (Contains-there m hs k c)))
+        where
+          step : (b : Bool) → lt_ℚ (dot d.row (values value m.vector.items)) zero_ℚ ≡ b →
+              filter (is_uncovered_live d.rows (live_of value gens)) (with_negatives d.row (numbered_of value p) (live_of value hs) ++ left)
+              ≡ filter (is_uncovered_live d.rows (live_of value gens)) left →
+              filter (is_uncovered_live d.rows (live_of value gens)) (map (λ (k : Numbered). record { plus_side = numbered_of value p; minus_side = k })
+              (cond b (numbered_of value m ∷ filter (λ (k : Numbered). lt_ℚ (dot d.row k.vector) zero_ℚ) (live_of value hs)) (filter (λ (k : Numbered). lt_ℚ (dot d.row k.vector) zero_ℚ) (live_of value hs))) ++ left)
+              ≡ filter (is_uncovered_live d.rows (live_of value gens)) left
+          step false e rest = rest
+          step true e rest =
+              let after = with_negatives d.row (numbered_of value p) (live_of value hs) ++ left in
+              ap (λ b. cond b (pair_of value p m ∷ filter (is_uncovered_live d.rows (live_of value gens)) after) (filter (is_uncovered_live d.rows (live_of value gens)) after))
+              (none m (among m (Contains-here m hs m refl)) e)
+              ∙ rest
 
   -- a meeting point is not 0
   pub norming_of : (p m : Generator F) (a b : ℚ) → Contains gens p → Contains gens m → a ≡ dot d.row (values value p.vector.items) → b ≡ dot d.row (values value m.vector.items) →

@@ -14,7 +14,7 @@ use Rattle.double_descr.specs.declared.fault.DdFault.{DdFault}
 use Rattle.double_descr.specs.declared.fault.DdFault.TheVariants.{Elim, Left as Stuck, NoMemory}
 use Rattle.double_descr.specs.declared.made.Made.{Made}
 use Rattle.double_descr.specs.declared.next.Next.{Next}
-use Rattle.incid_sets.specs.Marks.{HasRoom, IsMeet}
+use Rattle.incid_sets.specs.Marks.{ContainsAll, HasRoom, IsMeet}
 
 -- the addition of a row to some rows: these, the row, and the number that the first new generator gets
 pub record Addition : Type 0 where
@@ -129,6 +129,10 @@ pub record IsPlus {F : Type 0} (value : F → ℚ) (a : Addition) (gens : List (
   pub listed : Contains gens plus
   pub valued : value at ≡ dot a.row (values value plus.vector.items)
   pub positive : zero_ℚ <ℚ value at
+
+-- the set has each row that is tight at a generator at which the new row is negative
+abbrev pub Reaches : {F : Type 0} → (F → ℚ) → Addition → List (Generator F) → List Bool → Type 0
+Reaches {F} value a gens reach = (g : Generator F) → Contains gens g → dot a.row (values value g.vector.items) <ℚ zero_ℚ → ContainsAll reach g.tight
 
 -- the generator's set has room for one row more
 pub record HasRoomForRow {F : Type 0} (g : Generator F) : Type 0 where

@@ -10,6 +10,7 @@ mod next;
 mod pairs;
 mod parts;
 mod points;
+mod reach;
 mod starting;
 mod steps;
 

@@ -4,13 +4,14 @@ ghost use Rattle.exact_field.specs.Rational.{zero_ℚ, ◌<ℚ◌};
 ghost use Rattle.polyhedra.specs.DoubleDescription.{norming};
 ghost use Rattle.polyhedra.specs.LiveList.{LivePair, is_uncovered_live};
 ghost use Rattle.double_descr.specs.Adding.{IsAddFault, block_of};
-ghost use Rattle.double_descr.specs.Making.{Addition, IsMadeSoFar, IsMaking, IsPairFault, IsPlus, IsTried, blocks_of_pairs, candidates_from, negative_places, pair_at, with_negatives};
+ghost use Rattle.double_descr.specs.Making.{Addition, IsMadeSoFar, IsMaking, IsPairFault, IsPlus, IsTried, Reaches, blocks_of_pairs, candidates_from, negative_places, pair_at, with_negatives};
 ghost use Rattle.double_descr.specs.State.{AreTwoLive, live_of, numbered_of, pair_of};
 ghost use Rattle.double_descr.specs.Steps.{between, values};
 
 use crate::fault::{DdFault, Pair};
 use crate::generator::{Generator, make_between};
-use crate::pairs::{are_adjacent, share_enough};
+use crate::pairs::{are_adjacent, meets_enough};
+use crate::reach::reach_of;
 use exact_field::{Field, is_positive};
 use incid_sets::Marks;
 use src_sink::{Items, MOST_ITEMS};
@@ -106,7 +107,7 @@ fn meet_at<F: Field>(
         (blocks_of_pairs F.value addition generators.now)) }
 {
     let minus = &generators[j];
-    if !share_enough(plus, minus) {
+    if !meets_enough(plus, &minus.tight) {
         return Ok(());
     }
     try_pair(alloc, generators, plus, minus, at_plus, values[j], so_far)
@@ -144,17 +145,20 @@ fn meet_with<F: Field>(
     Ok(())
 }
 
-/// Makes the new generators of generator `i`, if the row is positive there.
+/// Makes the new generators of generator `i`, if the row is positive there. Most have too few rows
+/// in common with all at which it is negative, and no pair of these is read.
 fn try_plus<F: Field>(
     alloc: Global,
     generators: &[Generator<F>],
     values: &[F],
     below: &[usize],
+    reach: &Marks,
     i: usize,
     so_far: &mut Made<F>,
 ) -> Result<(), DdFault<F>>
     ghost addition: { Addition }
     requires making { IsMaking F.value addition generators.now values.now below.now }
+    requires reach { Reaches F.value addition generators.now reach.now }
     requires same { length values.now ≡ length generators.now }
     requires inside { i < length generators.now }
     requires so_far { IsMadeSoFar F.value F.holds addition generators.now
@@ -167,6 +171,9 @@ fn try_plus<F: Field>(
     let plus = &generators[i];
     let at_plus = values[i];
     if !is_positive(at_plus) {
+        return Ok(());
+    }
+    if !meets_enough(plus, reach) {
         return Ok(());
     }
     meet_with(alloc, generators, values, plus, at_plus, below, so_far)
@@ -193,8 +200,9 @@ pub fn meet_all<F: Field>(
     ensures left { IfErr result (IsAddFault F.value F.holds
         (blocks_of_pairs F.value addition generators.now)) }
 {
+    let reach = reach_of(alloc, so_far.common.bound(), generators, values)?;
     for i in 0..generators.len() {
-        try_plus(alloc, generators, values, below, i, so_far)?;
+        try_plus(alloc, generators, values, below, &reach, i, so_far)?;
     }
     Ok(())
 }

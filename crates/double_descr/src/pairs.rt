@@ -1,6 +1,6 @@
 //! Opposite pairs of generators, and the new generators between them.
 ghost use Rattle.std.specs.Prelude.{◌≡◌, ◌≤◌, ◌+◌, ◌||◌, ℕ, List, All, IsFalse, IsTrue, false, not, nat_eq};
-ghost use Rattle.incid_sets.specs.Marks.{size, IsMeet};
+ghost use Rattle.incid_sets.specs.Marks.{size, ContainsAll, IsMeet};
 ghost use Rattle.exact_field.specs.Rational.{ℚ};
 ghost use Rattle.polyhedra.specs.DoubleDescription.{covers};
 ghost use Rattle.polyhedra.specs.LiveList.{is_uncovered_live};
@@ -78,17 +78,17 @@ fn has_one_more<F: Field>(generator: &Generator<F>, count: u32) -> bool
     !generator.tight.has_at_least(count.saturating_add(2))
 }
 
-/// Whether at least as many rows are tight at both generators as the width less 2. Where there are
-/// fewer, a third one covers the pair.
-pub fn share_enough<F: Field>(plus: &Generator<F>, minus: &Generator<F>) -> bool
-    ensures { (n : ℕ) (rows : List (List ℚ)) (generators : List (Generator F))
-        → AreTwoLive F.value n rows generators plus.now minus.now → IsFalse result
-        → is_uncovered_live rows (live_of F.value generators)
-        (pair_of F.value plus.now minus.now)
+/// Whether at least as many of these rows are tight at the generator as the width less 2. Where
+/// there are fewer, a third one covers each pair of it with one at which no others are tight.
+pub fn meets_enough<F: Field>(plus: &Generator<F>, rows: &Marks) -> bool
+    ensures { (n : ℕ) (all : List (List ℚ)) (generators : List (Generator F)) (minus : Generator F)
+        → AreTwoLive F.value n all generators plus.now minus → ContainsAll rows.now minus.tight
+        → IsFalse result
+        → is_uncovered_live all (live_of F.value generators) (pair_of F.value plus.now minus)
         ≡ false }
 {
     let least = plus.vector.len().saturating_sub(2);
-    plus.tight.shares(&minus.tight, least)
+    plus.tight.shares(rows, least)
 }
 
 /// Whether no third generator covers the pair. None does where at most one tight row of either is

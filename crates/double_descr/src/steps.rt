@@ -7,7 +7,7 @@ ghost use Rattle.polyhedra.specs.DoubleDescription.{is_zero};
 ghost use Rattle.double_descr.specs.Steps.{IsSoFar, Runs, Step, StopsAt, combination_steps, multiple_steps, product_steps, quotient_steps, term_steps, values};
 
 use exact_field::{Field, Left, is_zero};
-use std::alloc::{AllocFailed, Global};
+use std::alloc::{AllocError, AllocFailed, Global};
 
 /// Why a calculation was given up.
 #[derive(Debug, Drop)]
@@ -113,7 +113,7 @@ pub fn combination<F: Field>(
     ensures value { IfOk result (λ z. values F.value z.items
         ≡ plus (values F.value vector.now) (scaled (F.value factor) (values F.value other.now))) }
 {
-    let mut out = Vec::new(alloc);
+    let mut out = Vec::with_capacity(alloc, vector.len())?;
     for i in 0..vector.len() {
         out.push(add_product(factor, other[i], vector[i], done + 2 * i as u64)?)?;
     }
@@ -133,7 +133,7 @@ pub fn quotients<F: Field>(alloc: Global, vector: &[F], by: F, done: u64) -> Res
     ensures value { IfOk result (λ z. values F.value z.items
         ≡ scaled (inverse_ℚ (F.value by)) (values F.value vector.now)) }
 {
-    let mut out = Vec::new(alloc);
+    let mut out = Vec::with_capacity(alloc, vector.len())?;
     for i in 0..vector.len() {
         match vector[i].div(by) {
             Err(left) => return Err(Stop::Step(done + i as u64 + 1, left)),
@@ -150,6 +150,17 @@ impl<T: Drop, F: Drop> From<AllocFailed<T>> for Stop<F> {
     ghost from_gives = { λ _ e. e ≡ NoMemory };
 
     fn from(_e: AllocFailed<T>) -> Stop<F> {
+        Stop::NoMemory
+    }
+}
+
+impl<F: Drop> From<AllocError> for Stop<F> {
+    ghost use Rattle.std.specs.Prelude.{◌≡◌};
+    ghost use Rattle.double_descr.specs.declared.steps.Stop.TheVariants.{NoMemory};
+
+    ghost from_gives = { λ _ e. e ≡ NoMemory };
+
+    fn from(_e: AllocError) -> Stop<F> {
         Stop::NoMemory
     }
 }

@@ -2,7 +2,7 @@
 use mir.Syntax.{w128}
 use mir.Val.{to_z, of_z}
 use Rattle.std.specs.Prelude.{◌≡◌, ℕ, ℤ, pos, ◌+◌, ◌*◌, ◌/◌, ◌+ℤ◌, ◌*ℤ◌, ◌^◌, ◌<◌, ◌≤◌, ◌⊎◌, unsigned_abs, IsTrue, refl, List, [], ◌∷◌, length, drop, get_or, Option, Some, None, IfSome}
-use Rattle.std.specs.Int.{IsGcd, ◌∣◌}
+use Rattle.std.specs.Int.{◌∣◌}
 use Rattle.std.proofs.Common.{arith, sym, ap, ◌∙◌, subst, inl, inr, mul-pos}
 use Rattle.std.proofs.Math.Nat.{div-le_self, mul-div_cancel', dvd-mul_left, pos_of_dvd_of_pos}
 use Rattle.std.proofs.lemmas.Int.{unsigned_abs-mul}
@@ -64,15 +64,18 @@ add_other n m d e g x y hd he ed ee =
     ∙ ap (λ (z : ℕ). (n *ℤ pos e +ℤ m *ℤ pos z) *ℤ (pos d *ℤ pos y)) ed)
 
 -- and so as it is computed
-pub common_total : (n m : ℤ) (d e g x y : ℕ) (t : ℤ) (k : ℕ) → 0 < d → 0 < e → IsGcd d e g → x ≡ d / g → y ≡ e / g → t ≡ n *ℤ pos y +ℤ m *ℤ pos x → k ≡ d * y → fraction t k ≡ fraction n d +ℚ fraction m e
-common_total n m d e g x y t k hd he is ex ey et ek =
+pub common_total : (n m : ℤ) (d e g x y : ℕ) (t : ℤ) (k : ℕ) → 0 < d → 0 < e → g * x ≡ d → g * y ≡ e → t ≡ n *ℤ pos y +ℤ m *ℤ pos x → k ≡ d * y → fraction t k ≡ fraction n d +ℚ fraction m e
+common_total n m d e g x y t k hd he ed ee et ek =
     ap (λ (z : ℤ). fraction z k) et
     ∙ ap (fraction (n *ℤ pos y +ℤ m *ℤ pos x)) ek
-    ∙ add_other n m d e g x y hd he (ap (λ (z : ℕ). g * z) ex ∙ mul-div_cancel' g is.0) (ap (λ (z : ℕ). g * z) ey ∙ mul-div_cancel' g is.1)
+    ∙ add_other n m d e g x y hd he ed ee
 
-pub multiple_positive : (d e g y k : ℕ) → 0 < d → 0 < e → IsGcd d e g → y ≡ e / g → k ≡ d * y → 0 < k
-multiple_positive d e g y k hd he is ey ek =
-    subst (λ (z : ℕ). 0 < z) (sym ek) (mul-pos hd (positive_factor g y e he (ap (λ (z : ℕ). g * z) ey ∙ mul-div_cancel' g is.1)))
+pub multiple_positive : (d e g y k : ℕ) → 0 < d → 0 < e → g * y ≡ e → k ≡ d * y → 0 < k
+multiple_positive d e g y k hd he ee ek = subst (λ (z : ℕ). 0 < z) (sym ek) (mul-pos hd (positive_factor g y e he ee))
+
+-- a divisor times the quotient by it
+pub times_quotient : (d g x : ℕ) → g ∣ d → x ≡ d / g → g * x ≡ d
+times_quotient d g x divides ex = ap (λ (z : ℕ). g * z) ex ∙ mul-div_cancel' g divides
 
 -- ---- a product
 

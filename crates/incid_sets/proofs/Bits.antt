@@ -1,10 +1,10 @@
 -- Words and the numbers that their bits are: what a test of one word says of its 64 numbers.
-use Rattle.std.proofs.Common.{◌≡◌, ◌≢◌, ℕ, zero, suc, ◌+◌, ◌*◌, ◌/◌, ◌%◌, ◌^◌, ◌<◌, ◌≤◌, List, length, get_or, set, min, true, ◌&&◌, refl, sym, ap, ap₂, ◌∙◌, ◌⊎◌, inl, inr, arith, eq-eqb, eqb-true, bit_and, bit_or, w64}
+use Rattle.std.proofs.Common.{◌≡◌, ◌≢◌, ℕ, zero, suc, ◌+◌, ◌*◌, ◌/◌, ◌%◌, ◌^◌, ◌<◌, ◌≤◌, List, length, get_or, set, min, max, true, ◌&&◌, ◌||◌, refl, sym, ap, ap₂, ◌∙◌, ◌⊎◌, inl, inr, arith, eq-eqb, eqb-true, bit_and, bit_or, w64}
 use Rattle.std.proofs.lemmas.Bool.{cases_eq, cases_lt}
 use Rattle.std.specs.Prelude.{◌==◌}
 use Rattle.std.specs.Int.{bit_at}
 use Rattle.std.proofs.lemmas.List.{get_or_past, get_or-set_same, get_or-set_other, length-set}
-use Rattle.std.proofs.lemmas.Nat.Bits.{bit_at_and, bit_at-lt, bit_at_above, bit_at-zero, same_from_bits, bit_at_set_same, bit_at_set_other}
+use Rattle.std.proofs.lemmas.Nat.Bits.{bit_at_and, bit_at_or, bit_at-lt, bit_at_above, bit_at-zero, same_from_bits, bit_at_set_same, bit_at_set_other}
 use Rattle.incid_sets.specs.Words.{is_marked, AddsMark}
 
 -- ---- a bit is 0 or 1
@@ -112,6 +112,20 @@ test_of_both a b i = ap (λ n. n == 1) (bit_at_and a b i) ∙ go (bit_cases a i)
 pub marked_both : (words a b : List ℕ) (k : ℕ) → get_or words (k / 64) 0 ≡ bit_and (get_or a (k / 64) 0) (get_or b (k / 64) 0) →
     is_marked words k ≡ (is_marked a k && is_marked b k)
 marked_both words a b k e = ap (λ n. bit_at n (k % 64) == 1) e ∙ test_of_both (get_or a (k / 64) 0) (get_or b (k / 64) 0) (k % 64)
+
+-- ---- the words of a union
+test_of_either : (a b i : ℕ) → (bit_at (bit_or a b) i == 1) ≡ ((bit_at a i == 1) || (bit_at b i == 1))
+test_of_either a b i = ap (λ n. n == 1) (bit_at_or a b i) ∙ go (bit_cases a i) (bit_cases b i)
+  where
+    go : (bit_at a i ≡ 0) ⊎ (bit_at a i ≡ 1) → (bit_at b i ≡ 0) ⊎ (bit_at b i ≡ 1) → (max (bit_at a i) (bit_at b i) == 1) ≡ ((bit_at a i == 1) || (bit_at b i == 1))
+    go (inl e) (inl f) = ap₂ (λ x y. max x y == 1) e f ∙ sym (ap₂ (λ x y. (x == 1) || (y == 1)) e f)
+    go (inl e) (inr f) = ap₂ (λ x y. max x y == 1) e f ∙ sym (ap₂ (λ x y. (x == 1) || (y == 1)) e f)
+    go (inr e) (inl f) = ap₂ (λ x y. max x y == 1) e f ∙ sym (ap₂ (λ x y. (x == 1) || (y == 1)) e f)
+    go (inr e) (inr f) = ap₂ (λ x y. max x y == 1) e f ∙ sym (ap₂ (λ x y. (x == 1) || (y == 1)) e f)
+
+pub marked_either : (words a b : List ℕ) (k : ℕ) → get_or words (k / 64) 0 ≡ bit_or (get_or a (k / 64) 0) (get_or b (k / 64) 0) →
+    is_marked words k ≡ (is_marked a k || is_marked b k)
+marked_either words a b k e = ap (λ n. bit_at n (k % 64) == 1) e ∙ test_of_either (get_or a (k / 64) 0) (get_or b (k / 64) 0) (k % 64)
 
 -- ---- one more number
 pub set_marked : (words : List ℕ) (k : ℕ) → k / 64 < length words →

@@ -1,5 +1,5 @@
 -- Sets as lists of their numbers below a bound: what the words of a set say of the set.
-use Rattle.std.proofs.Common.{◌≡◌, ◌≢◌, ℕ, zero, suc, ◌/◌, ◌%◌, max, length-append, ◌+◌, ◌-◌, ◌*◌, ◌<◌, ◌≤◌, List, [], ◌∷◌, ◌++◌, length, get_or, set, replicate, min, Bool, true, false, ◌&&◌, refl, sym, ap, ap₂, ◌∙◌, ◌⊎◌, inl, inr, arith}
+use Rattle.std.proofs.Common.{◌≡◌, ◌≢◌, ℕ, zero, suc, ◌/◌, ◌%◌, max, length-append, ◌+◌, ◌-◌, ◌*◌, ◌<◌, ◌≤◌, List, [], ◌∷◌, ◌++◌, length, get_or, set, replicate, min, Bool, true, false, ◌&&◌, ◌||◌, refl, sym, ap, ap₂, ◌∙◌, ◌⊎◌, inl, inr, arith}
 use Rattle.std.specs.Prelude.{IsTrue, ◌↔◌, ◌==◌, not, nat_eq}
 use Rattle.std.specs.Int.{bit_at}
 use Rattle.std.proofs.lemmas.Bool.{cases_eq, cases_lt}
@@ -8,7 +8,7 @@ use Rattle.std.proofs.lemmas.List.{get_or_past, length-replicate, get_or-append_
 use Rattle.std.proofs.Math.ListN.{get_or-append}
 use Rattle.std.proofs.lemmas.List.FromFn.{length-map-range_with_len, get_or-map-range_with_len, fill_by_all}
 use Rattle.incid_sets.specs.Words.{is_marked, marks_below, AreBounded, AddsMark, TellsMark}
-use Rattle.incid_sets.specs.Marks.{has, no_marks, ContainsAll, CoversBoth, IsAllBut, IsMeet}
+use Rattle.incid_sets.specs.Marks.{has, no_marks, ContainsAll, CoversBoth, IsAllBut, IsMeet, IsUnion}
 
 pub length-marks_below : (bound : ℕ) (words : List ℕ) → length (marks_below bound words) ≡ bound
 length-marks_below bound words = length-map-range_with_len (is_marked words) 0 bound
@@ -81,6 +81,32 @@ meet_is words a b n m l h i j e f = record {
     by k (inl p) q = f k p
     by k (inr p) (inr q) = past_words words k p ∙ sym (both_false (is_marked a k) (is_marked b k) (inl (i.none_above k q)))
     by k (inr p) (inl q) = let r : n ≤ 64 * length words = h.room in past_words words k p ∙ sym (both_false (is_marked a k) (is_marked b k) (inr (j.none_above k (omega arith))))
+
+-- ---- a union
+pub union_bounded : (words a b : List ℕ) (n m : ℕ) → AreBounded a n → AreBounded b m → m ≤ n → length words ≡ length a →
+    ((k : ℕ) → k < 64 * length a → is_marked words k ≡ (is_marked a k || is_marked b k)) → AreBounded words n
+union_bounded words a b n m h i less many f = record {
+  room = (let r : n ≤ 64 * length a = h.room in omega arith);
+  none_above = λ k above. by k above (cases_lt k (64 * length a));
+}
+  where
+    by : (k : ℕ) → n ≤ k → (k < 64 * length a) ⊎ (64 * length a ≤ k) → is_marked words k ≡ false
+    by k above (inl p) = f k p ∙ ap₂ (λ x y. x || y) (h.none_above k above) (i.none_above k (omega arith))
+    by k above (inr p) = past_words words k (omega arith)
+
+pub union_is : (words a b : List ℕ) (n m : ℕ) → AreBounded words n → AreBounded a n → AreBounded b m → m ≤ n →
+    ((k : ℕ) → k < 64 * length a → is_marked words k ≡ (is_marked a k || is_marked b k)) →
+    IsUnion (marks_below n words) (marks_below n a) (marks_below m b)
+union_is words a b n m h i j less f = record {
+  bound = (let x : length (marks_below n words) ≡ n = length-marks_below n words in
+      let y : length (marks_below n a) ≡ n = length-marks_below n a in
+      let z : length (marks_below m b) ≡ m = length-marks_below m b in omega arith);
+  either = λ k. has-marks_below n words h k ∙ by k (cases_lt k n) ∙ sym (ap₂ (λ x y. x || y) (has-marks_below n a i k) (has-marks_below m b j k));
+}
+  where
+    by : (k : ℕ) → (k < n) ⊎ (n ≤ k) → is_marked words k ≡ (is_marked a k || is_marked b k)
+    by k (inl p) = let r : n ≤ 64 * length a = i.room in f k (omega arith)
+    by k (inr p) = h.none_above k p ∙ sym (ap₂ (λ x y. x || y) (i.none_above k p) (j.none_above k (omega arith)))
 
 -- ---- words of zeros
 abbrev zero_list : ℕ → List ℕ

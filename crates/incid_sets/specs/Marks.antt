@@ -1,5 +1,5 @@
 -- A set of numbers below a bound: a list that says of each number below the bound whether the set has it.
-use Rattle.std.specs.Prelude.{ℕ, ◌%◌, ◌≡◌, ◌≢◌, ◌<◌, nat_eq, List, Bool, false, not, IsTrue, ◌&&◌, length, min, replicate, slice_index_or, count_by}
+use Rattle.std.specs.Prelude.{ℕ, ◌%◌, ◌≡◌, ◌≢◌, ◌<◌, nat_eq, List, Bool, false, not, IsTrue, ◌&&◌, ◌||◌, length, max, min, replicate, slice_index_or, count_by}
 
 -- whether the set has the number
 abbrev pub has : List Bool → ℕ → Bool
@@ -34,3 +34,8 @@ CoversBoth marks a b = (k : ℕ) → IsTrue (has a k) → IsTrue (has b k) → I
 pub record IsMeet (marks a b : List Bool) : Type 0 where
   pub bound : length marks ≡ min (length a) (length b)
   pub common : (k : ℕ) → has marks k ≡ (has a k && has b k)
+
+-- the first set has exactly the numbers of the two others, and the greater bound of theirs
+pub record IsUnion (marks a b : List Bool) : Type 0 where
+  pub bound : length marks ≡ max (length a) (length b)
+  pub either : (k : ℕ) → has marks k ≡ (has a k || has b k)

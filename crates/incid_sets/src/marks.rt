@@ -1,10 +1,10 @@
 //! Sets of numbers below a bound.
 ghost use Rattle.std.specs.Prelude.{◌≡◌, ◌<◌, ◌≤◌, ◌*◌, ◌+◌, ◌-◌, ◌++◌, ◌∷◌, [], ◌↔◌, ℕ, List, Bool, IsOk, IsTrue, true, OnOk, OnErr, IfOk, length, slice_set};
-ghost use Rattle.incid_sets.specs.Marks.{has, no_marks, size, ContainsAll, CoversBoth, HasRoom, IsAllBut, IsMeet};
+ghost use Rattle.incid_sets.specs.Marks.{has, no_marks, size, ContainsAll, CoversBoth, HasRoom, IsAllBut, IsMeet, IsUnion};
 
 use crate::words::{
-    WORD, contains_words, count_marks, covers_words, grow_words, has_mark, have_at_least, set_mark,
-    share_at_least, tell_mark, words_for, write_meet, zero_words,
+    WORD, add_words, contains_words, count_marks, covers_words, grow_words, has_mark,
+    have_at_least, set_mark, share_at_least, tell_mark, words_for, write_meet, zero_words,
 };
 use src_sink::NoMemory;
 use std::alloc::Global;
@@ -155,5 +155,12 @@ impl Marks {
         ensures { IsMeet self.new a.now b.now }
     {
         write_meet(&mut self.words, &a.words, &b.words);
+    }
+    /// Gives the set each number of another one, whose bound is not greater. No memory is taken.
+    pub fn unite(&mut self, other: &Marks)
+        requires { length other.now ≤ length self.old }
+        ensures { IsUnion self.new self.old other.now }
+    {
+        add_words(&mut self.words, &other.words);
     }
 }

@@ -1,6 +1,6 @@
 //! Bits of words, taken a word at a time. A list of words that is shorter counts as continued with
 //! zeros.
-ghost use Rattle.std.specs.Prelude.{◌≡◌, ◌+◌, ◌<◌, ◌/◌, ◌*◌, ◌^◌, ◌≤◌, ◌↔◌, ℕ, IsOk, IsTrue, bit_and, count_ones, IfOk, OnOk, replicate, ◌&&◌, slice_index, vec_len};
+ghost use Rattle.std.specs.Prelude.{◌≡◌, ◌+◌, ◌<◌, ◌/◌, ◌*◌, ◌^◌, ◌≤◌, ◌↔◌, ℕ, IsOk, IsTrue, bit_and, count_ones, IfOk, OnOk, replicate, ◌&&◌, ◌||◌, slice_index, vec_len};
 ghost use Rattle.incid_sets.specs.Marks.{size};
 ghost use Rattle.incid_sets.specs.Words.{common_words, is_marked, marks_below, AddsMark, AreBounded, TellsMark};
 
@@ -152,5 +152,17 @@ pub fn write_meet(words: &mut Vec<u64>, a: &[u64], b: &[u64])
 {
     for i in 0..words.len() {
         words[i] = word_at(a, i) & word_at(b, i);
+    }
+}
+
+/// Gives the words each number of the others, as far as they have room.
+pub fn add_words(words: &mut Vec<u64>, other: &[u64])
+    ensures room { vec_len words.new ≡ vec_len words.old }
+    ensures either { (k : ℕ) → k < 64 * vec_len words.old
+        → is_marked words.new.items k ≡ (is_marked words.old.items k || is_marked other.now k) }
+{
+    for i in 0..words.len() {
+        let more = words[i] | word_at(other, i);
+        words[i] = more;
     }
 }

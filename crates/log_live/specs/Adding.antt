@@ -1,5 +1,5 @@
 -- What an `add` entry does to the live generators, by the parts that the calls go through.
-use Rattle.std.specs.Prelude.{◌≡◌, ℕ, suc, ◌+◌, ◌-◌, ◌<◌, ◌≤◌, List, [], ◌∷◌, ◌++◌, length, map, filter, take, drop, All, AllPairs, Bool, false, not, ◌||◌, nat_eq, if◌then◌else◌, None, Contains}
+use Rattle.std.specs.Prelude.{◌≡◌, ℕ, suc, ◌+◌, ◌-◌, ◌<◌, ◌≤◌, List, [], ◌∷◌, ◌++◌, length, map, filter, take, drop, All, AllPairs, Bool, false, if◌then◌else◌, None, Contains}
 use Rattle.std.specs.List.{flat_map}
 use Rattle.exact_field.specs.Rational.{ℚ, zero_ℚ, one_ℚ, neg_ℚ, ◌*ℚ◌, ◌/ℚ◌, le_ℚ, lt_ℚ}
 use Rattle.exact_field.specs.Vector.{dot, entry}

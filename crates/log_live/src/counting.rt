@@ -3,7 +3,7 @@ ghost use Rattle.std.specs.Prelude.{◌≡◌, ◌<◌, ◌≤◌, ◌-◌, ℕ,
 ghost use Rattle.exact_field.specs.Rational.{ℚ, zero_ℚ};
 ghost use Rattle.frac128.specs.Sparse.{is_zero as is_number_zero};
 ghost use Rattle.polyhedra.specs.LiveList.{vectors};
-ghost use Rattle.log_live.specs.Adding.{AreDescribed, AreGenerators};
+ghost use Rattle.log_live.specs.Adding.{AreDescribed};
 ghost use Rattle.log_live.specs.Live.{live_of};
 ghost use Rattle.log_live.specs.declared.generator.Generator.{Generator};
 
@@ -29,7 +29,8 @@ fn is_open(generators: &[Generator], place: usize) -> bool
 /// of the lines, nothing would change if they were left out. It costs a look at a generator for
 /// each place, and at all of them for the other places.
 pub fn least_common(generators: &[Generator]) -> usize
-    requires { (q : ℕ) × AreGenerators q generators.now }
+    requires { (q : ℕ) × (rows : List (List ℚ))
+        × AreDescribed q rows (vectors (live_of generators.now)) }
     ensures { (q : ℕ) (rows : List (List ℚ))
         (d : AreDescribed q rows (vectors (live_of generators.now)))
         → result ≤ d.open_places - 2 }

@@ -21,7 +21,8 @@ use entry_checks::{Steps, append, magnitude, pass};
 use exact_field::Field;
 use frac128::{Frac, Vector};
 use log_live::{
-    Generator, common_and_next, divide, has_pairs, no_rows, number_after, place_of, point_between,
+    Generator, common_and_next, divide, has_pairs, least_common, no_rows, number_after, place_of,
+    point_between,
 };
 use log_rules::{Rule, Stop};
 use src_sink::{Items, NoMemory};
@@ -76,7 +77,8 @@ fn are_asked(
         ≡ same_pairs pairs.now (required_pairs rows (live_of generators.now) row)) }
 {
     let common = no_rows(alloc, generators)?;
-    has_pairs(alloc, generators, values, pairs, common, 0)
+    let least = least_common(generators);
+    has_pairs(alloc, generators, values, pairs, common, least)
 }
 
 /// The test that the pairs are those that a row with these values asks for.

@@ -11,6 +11,7 @@ ghost use Rattle.rep_convert.specs.Started.{IsStarted};
 ghost use Rattle.rep_convert.specs.Standing.{StandsAt, line_places};
 
 use crate::fault::ConvFault;
+use crate::keys::Keys;
 use crate::lines::lines_of;
 use crate::log::{lines_log, push_start};
 use crate::start::{Started, start};
@@ -68,7 +69,12 @@ fn begun_log(
 }
 
 /// Begins a conversion, where there are rows.
-pub(crate) fn begin(alloc: Global, rep: &Rep, rows: &[Vector]) -> Result<Begun, ConvFault>
+pub(crate) fn begin(
+    alloc: Global,
+    rep: &Rep,
+    rows: &[Vector],
+    keys: &Keys,
+) -> Result<Begun, ConvFault>
     requires rows { rows.now ≡ text_rows rep.now }
     requires some { 0 < length rows.now }
     ensures stands { IfOk result (λ begun. StandsAt rep.now begun.log begun.dd) }
@@ -79,7 +85,7 @@ pub(crate) fn begin(alloc: Global, rep: &Rep, rows: &[Vector]) -> Result<Begun, 
 {
     let lines = lines_of(alloc, rep, rows)?;
     let places = marks_of(alloc, rep, lines.as_slice())?;
-    let started = start(alloc, rep, lines.as_slice(), places.as_slice(), rows)?;
+    let started = start(alloc, rep, lines.as_slice(), places.as_slice(), rows, keys)?;
     let log = begun_log(alloc, rep, lines.as_slice(), &started)?;
     let Started { picks, dd, .. } = started;
     Ok(Begun {

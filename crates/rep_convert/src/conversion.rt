@@ -9,6 +9,7 @@ ghost use Rattle.rep_convert.specs.Standing.{IsConversion};
 use crate::begin::{Begun, begin};
 use crate::ends::finish;
 use crate::fault::{ConvFault, Converted};
+use crate::keys::keys_of;
 use frac128::Vectors;
 use rep_conv::{other_rep, text_rows};
 use rep_text::{ConvEntry, ConvLog, Rep};
@@ -48,8 +49,9 @@ pub fn convert(alloc: Global, rep: &Rep) -> Result<Converted, ConvFault>
     if rows.len() == 0 {
         return Ok(convert_without_rows(alloc, rep)?);
     }
-    let mut begun = begin(alloc, rep, rows.as_slice())?;
-    let found = finish(alloc, rep, &rows, &mut begun)?;
+    let keys = keys_of(alloc, rep.gens, rows.as_slice())?;
+    let mut begun = begin(alloc, rep, rows.as_slice(), &keys)?;
+    let found = finish(alloc, rep, &rows, &keys, &mut begun)?;
     let Begun { log, .. } = begun;
     Ok(Converted { rep: found, log })
 }

@@ -8,6 +8,7 @@ ghost use Rattle.rep_convert.specs.Standing.{IsConversion, StandsAt, line_places
 
 use crate::begin::Begun;
 use crate::fault::ConvFault;
+use crate::keys::Keys;
 use crate::order::order_of;
 use crate::start::filled_generators;
 use crate::turn::take_all;
@@ -21,6 +22,7 @@ pub(crate) fn finish(
     alloc: Global,
     rep: &Rep,
     rows: &Vectors,
+    keys: &Keys,
     begun: &mut Begun,
 ) -> Result<Rep, ConvFault>
     requires rows { rows.now ≡ text_rows rep.now }
@@ -34,13 +36,7 @@ pub(crate) fn finish(
     ensures left { IfErr result (IsConvLeft is_held rep.now) }
 {
     let count = rows.len() as u32;
-    let order = order_of(
-        alloc,
-        rep.gens,
-        count,
-        rows.as_slice(),
-        begun.picks.as_slice(),
-    )?;
+    let order = order_of(alloc, keys, count, rows.as_slice(), begun.picks.as_slice())?;
     let places = begun.places.as_slice();
     take_all(
         alloc,

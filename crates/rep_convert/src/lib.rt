@@ -6,6 +6,7 @@ mod begin;
 mod conversion;
 mod ends;
 mod fault;
+mod keys;
 mod laws;
 mod licences;
 mod lines;

@@ -10,6 +10,7 @@ ghost use Rattle.rep_convert.specs.Started.{AreStarts, IsStarted, picked_without
 ghost use Rattle.double_descr.specs.Starting.{IsStart};
 
 use crate::fault::ConvFault;
+use crate::keys::Keys;
 use crate::licences::row_left;
 use crate::order::order_of;
 use crate::products::try_products;
@@ -278,6 +279,7 @@ pub(crate) fn start(
     lines: &[Vector],
     places: &[bool],
     rows: &[Vector],
+    keys: &Keys,
 ) -> Result<Started, ConvFault>
     requires lines { AreLinesOf rep.now lines.now }
     requires places { places.now ≡ marks_of rep.now lines.now }
@@ -288,7 +290,7 @@ pub(crate) fn start(
     ensures left { IfErr result (IsConvLeft is_held rep.now) }
 {
     let short = short_rows(alloc, places, rows)?;
-    let order = order_of(alloc, rep.gens, short.count(), rows, &[])?;
+    let order = order_of(alloc, keys, short.count(), rows, &[])?;
     let picks = start_numbers(alloc, rep, lines, &short, order.as_slice())?;
     let dd = describe(alloc, rep, lines, &short, picks.as_slice())?;
     let gens = tried_generators(alloc, rep, lines, places, rows, picks.as_slice(), &dd)?;

@@ -1,6 +1,6 @@
 //! Products of vectors over one denominator.
 
-ghost use Rattle.std.specs.Prelude.{◌≡◌, ◌<◌, ◌^◌, ◌*ℤ◌, unsigned_abs, length, IfSome, IsTrue};
+ghost use Rattle.std.specs.Prelude.{◌≡◌, ◌*◌, ◌<◌, ◌^◌, ◌*ℤ◌, ℕ, unsigned_abs, length, IfSome, IsTrue};
 ghost use Rattle.std.specs.Bool.{OnTrue};
 ghost use Rattle.exact_field.specs.Field.{IsShortDot};
 ghost use Rattle.exact_field.specs.Rational.{zero_ℚ, fraction, ◌+ℚ◌, ◌*ℚ◌};
@@ -48,6 +48,39 @@ fn narrow_product(a: i128, b: i128) -> i128
     i128::from(a as i64 * b as i64)
 }
 
+/// The quotient, where it is whole.
+fn whole_quotient(x: u64, y: u64) -> Option<u64>
+    requires { 0 < y }
+    ensures { IfSome result (λ q. y * q ≡ x) }
+{
+    if x < y {
+        return None;
+    }
+    let quotient = quotient_words(x, y);
+    if y * quotient == x {
+        Some(quotient)
+    } else {
+        None
+    }
+}
+
+/// Two denominators over their greatest common divisor. Mostly one of the two is a multiple of the
+/// other, and one division tells.
+fn without_common(d: u64, e: u64) -> (u64, u64)
+    requires d_positive { 0 < d }
+    requires e_positive { 0 < e }
+    ensures { (g : ℕ) × (g * result.0 ≡ d) × (g * result.1 ≡ e) }
+{
+    if let Some(times) = whole_quotient(d, e) {
+        return (times, 1);
+    }
+    if let Some(times) = whole_quotient(e, d) {
+        return (1, times);
+    }
+    let common = gcd_words(d, e);
+    (quotient_words(d, common), quotient_words(e, common))
+}
+
 impl Sum {
     /// 0, the sum of no products.
     pub fn zero() -> Sum
@@ -69,7 +102,7 @@ impl Sum {
         }
     }
 
-    /// The sum and a fraction of another denominator, over the least common multiple.
+    /// The sum and a fraction of another denominator, over a common multiple of the two.
     fn plus_other(self, num: i128, den: u64) -> Option<Sum>
         requires num_small { unsigned_abs num < 2 ^ 60 }
         requires den_small { den < 2 ^ 60 }
@@ -77,9 +110,7 @@ impl Sum {
         ensures { IfSome result
             (λ s. fraction s.num s.den ≡ fraction self.num self.den +ℚ fraction num den) }
     {
-        let common = gcd_words(self.den, den);
-        let left = quotient_words(self.den, common);
-        let right = quotient_words(den, common);
+        let (left, right) = without_common(self.den, den);
         let multiple = wide_product(self.den, right);
         if multiple >= DEN_LIMIT || self.num.unsigned_abs() >= SHORT {
             return None;

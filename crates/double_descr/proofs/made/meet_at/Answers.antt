@@ -48,8 +48,8 @@ try_pair-requires g c κs within =
     )
 
 -- a pair with too few common rows is left out
-pub returns-then-not-share_enough-clause-ok : goal.returns-then-not-share_enough-clause-ok
-returns-then-not-share_enough-clause-ok g c = λ left h.
+pub returns-then-not-meets_enough-clause-ok : goal.returns-then-not-meets_enough-clause-ok
+returns-then-not-meets_enough-clause-ok g c = λ left h.
     let F = g.row.F.Denot in
     let value = g.F.Field.value in
     let holds = g.F.Field.holds in
@@ -68,7 +68,7 @@ returns-then-not-share_enough-clause-ok g c = λ left h.
     let be : value b ≡ dot d.row (values value m.vector.items) = value_at_index value d.row gens vals P.at_row c.args.j b m within inside is c.index-generators-j.is in
     let down : value b <ℚ zero_ℚ = below_at value vals c.args.j b within is c.requires.1.1.1.1.1 in
     let two = two_of value d gens P.addition p m a (value b) P.listed mc P.valued be P.positive down in
-    let covered = c.share_enough.ensures (length d.row) d.rows gens two c.if-not-share_enough.true in
+    let covered = c.meets_enough.ensures (length d.row) d.rows gens m two (λ k marked. marked) c.if-not-meets_enough.true in
     let here : IsMadeSoFar value holds d gens (pair_of value p m ∷ left) c.args.so_far.now =
     subst (λ (q : LivePair). IsMadeSoFar value holds d gens (q ∷ left) c.args.so_far.now) (candidate value gens p m c.args.j inside c.index-generators-j.is) h in
     tried value holds d gens P.addition p m P.listed mc a (value b) P.valued be P.positive down left c.args.so_far.now c.args.so_far.now here

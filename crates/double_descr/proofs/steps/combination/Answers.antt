@@ -15,7 +15,7 @@ returns-in_err-add_product-clause-runs g c = λ steps left h.
     let i = c.loop-i.i in
     let e = drop_value value c.args.vector.now i c.index-vector-i.result c.loop-i-test.true c.index-vector-i.is in
     let f = drop_value value c.args.other.now i c.index-other-i.result (omega arith) c.index-other-i.is in
-    match_stop value g.F.Field.holds steps c.from_residual.result c.in_err-add_product.field-0.0 _ c.from_residual.ensures.1
+    match_stop value g.F.Field.holds steps c.from_residual-in_err-add_product.result c.in_err-add_product.field-0.0 _ c.from_residual-in_err-add_product.ensures.1
     (c.in_err-add_product.ensures.runs steps (combination_steps k (drop (i + 1) p) (drop (i + 1) m) ++ left)
     (same_left g.F.Field.holds steps _ _ _ (combination_at k (value c.index-vector-i.result) (value c.index-other-i.result) (drop i p) (drop i m) (drop (i + 1) p) (drop (i + 1) m) left e f)
     (c.loop-i.invariant.so_far steps left h)))

@@ -1,9 +1,28 @@
 use Rattle.std.proofs.Common.{◌≡◌, ◌+◌, ◌<◌, ◌≤◌, ℕ, suc, arith, ap, sym, ◌∙◌, Contains, length, take}
 use Rattle.lineality.specs.Without.{open_count}
+use Rattle.polyhedra.proofs.Members.{all_of_members}
 use Rattle.log_live.specs.declared.generator.Generator.{Generator}
 use Rattle.log_live.proofs.LeastCounts.{open_all, open_most, open_width, opens, some_there, wide_of}
 use Rattle.log_live.proofs.counting.least_common.Goals as goal
 use Rattle.log_live.proofs.counting.least_common.Goals.{then-is_open, else-is_open}
+
+pub overflow_sub-places : goal.overflow_sub-places
+overflow_sub-places c =
+    let gens = c.args.generators.now in
+    let some : 0 < length gens = some_there gens (sym c.is_empty.ensures ∙ c.if-is_empty.false) in
+    let wide : length c.index-generators-0.result.vector ≡ suc c.requires.0 = wide_of c.requires.0 c.requires.1 gens c.requires.2 c.index-generators-0.result (0, some, sym c.index-generators-0.is) in
+    let same = ap (λ (g : Generator). length g.vector) c.index-generators-0.is in
+    omega (arith, wide, same, c.len-places.ensures.value)
+
+pub is_open-requires : goal.is_open-requires
+is_open-requires c =
+    let gens = c.args.generators.now in
+    let some : 0 < length gens = some_there gens (sym c.is_empty.ensures ∙ c.if-is_empty.false) in
+    let first : length c.index-generators-0.result.vector ≡ suc c.requires.0 = wide_of c.requires.0 c.requires.1 gens c.requires.2 c.index-generators-0.result (0, some, sym c.index-generators-0.is) in
+    let same = ap (λ (g : Generator). length g.vector) c.index-generators-0.is in
+    all_of_members (λ (g : Generator). c.loop-place.place < length g.vector) gens
+    (λ g among. let wide : length g.vector ≡ suc c.requires.0 = wide_of c.requires.0 c.requires.1 gens c.requires.2 g among in
+    omega (arith, first, wide, same, c.len-places.ensures.value, c.loop-place-test.true))
 
 pub loop-place-preserved : goal.loop-place-preserved
 loop-place-preserved c =

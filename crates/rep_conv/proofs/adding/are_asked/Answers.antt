@@ -1,4 +1,3 @@
-use Rattle.std.proofs.Common.{arith}
 use Rattle.log_live.specs.Adding.{AreAtPairs}
 use Rattle.log_live.proofs.PairCounts.{rising_of}
 use Rattle.rep_conv.proofs.Between.{many}
@@ -10,11 +9,11 @@ has_pairs-requires-clause-values c = many c.requires.0 c.requires.1 c.requires.2
 pub returns : goal.returns
 returns c width rows row a at_row =
     let rising = rising_of c.args.generators.now a.rises in
-    let d : AreAtPairs width 0 rows c.args.generators.now = record {
+    let d : AreAtPairs width c.least_common-least.result rows c.args.generators.now = record {
       next = rising.0;
       rising = rising.1;
       described = a.described;
       tight = a.tight;
-      least_is = omega arith;
+      least_is = c.least_common-least.ensures width rows a.described;
     } in
     c.has_pairs.ensures width rows row d at_row

@@ -10,7 +10,7 @@ use Rattle.frac128.proofs.frac.dot.Sum.plus_other.Goals as goal
 
 pub of-requires-clause-positive : goal.of-requires-clause-positive
 of-requires-clause-positive c =
-    multiple_positive c.args.self.den c.args.den c.gcd_words-common.result _ _ c.args.self.positive c.requires.positive c.gcd_words-common.ensures c.quotient_words-right.ensures c.wide_product-multiple.ensures
+    multiple_positive c.args.self.den c.args.den c.without_common-left.ensures.0 c.without_common-left.result.1 _ c.args.self.positive c.requires.positive c.without_common-left.ensures.2 c.wide_product-multiple.ensures
 
 pub returns : goal.returns
 returns c =
@@ -18,7 +18,7 @@ returns c =
     let total =
     to_z-of_z w128 c.sum_of_products-sum.result (fits_signed_from_abs w128 _ (omega arith))
     ∙ c.sum_of_products-sum.ensures.value
-    ∙ same_total c.args.self.num c.args.num _ _ c.quotient_words-right.result c.quotient_words-left.result (kept c.args.self.num (let few = c.args.self.num_small in omega arith)) (kept c.args.num (omega arith)) in
+    ∙ same_total c.args.self.num c.args.num _ _ c.without_common-left.result.1 c.without_common-left.result.0 (kept c.args.self.num (let few = c.args.self.num_small in omega arith)) (kept c.args.num (omega arith)) in
     subst (λ (z : ℚ). IfSome c.of.result (λ s. fraction s.num s.den ≡ z))
-    (common_total c.args.self.num c.args.num c.args.self.den c.args.den c.gcd_words-common.result _ _ _ _ c.args.self.positive c.requires.positive c.gcd_words-common.ensures c.quotient_words-left.ensures c.quotient_words-right.ensures total c.wide_product-multiple.ensures)
+    (common_total c.args.self.num c.args.num c.args.self.den c.args.den c.without_common-left.ensures.0 _ _ _ _ c.args.self.positive c.requires.positive c.without_common-left.ensures.1 c.without_common-left.ensures.2 total c.wide_product-multiple.ensures)
     c.of.ensures

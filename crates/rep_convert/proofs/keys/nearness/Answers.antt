@@ -1,6 +1,6 @@
 use Rattle.std.proofs.Common.{sym, ◌∙◌, true≢false}
 use Rattle.log_rules.proofs.PassedTests.{zero_passes}
-use Rattle.rep_convert.proofs.order.nearness.Goals as goal
+use Rattle.rep_convert.proofs.keys.nearness.Goals as goal
 
 pub reciprocal-requires : goal.reciprocal-requires
 reciprocal-requires c = λ none.

@@ -1,0 +1,179 @@
+//! What rows are sorted by: how far out points lie, and else the angles of rows with their mean.
+
+use exact_field::Field;
+use frac128::{Frac, Vector, is_zero};
+use src_sink::NoMemory;
+use std::alloc::Global;
+
+/// A number for each row. `None` stands for the least.
+#[derive(Drop)]
+pub(crate) enum Keys {
+    /// How near to the origin points lie.
+    Nearness(Vec<Option<Frac>>),
+    /// The squares of the cosines of the angles with the mean of all rows, with the signs of the
+    /// cosines, in units that are the same for all.
+    Cosines(Vec<Option<i128>>),
+}
+
+/// How many steps of a 65,536th of its greatest magnitude each entry of a row has, cut to whole
+/// numbers.
+type Steps = Vec<i64>;
+
+/// The negative of a number's magnitude.
+fn below_zero(x: Frac) -> Frac {
+    if x.sign() > 0 { x.neg() } else { x }
+}
+
+/// The sum of the magnitudes of a row's entries but the last over that of the last, with a minus:
+/// the less it is, the farther out a point lies. `None` where the last entry is 0, as for a
+/// direction, or the number is not held.
+fn nearness(row: &[Frac]) -> Option<Frac> {
+    let (last, entries) = row.split_last()?;
+    if is_zero(*last) {
+        return None;
+    }
+    let mut sum = Frac::from(0);
+    for entry in entries {
+        sum = sum.plus(below_zero(*entry))?;
+    }
+    let by = sum.times(last.reciprocal())?;
+    Some(below_zero(by))
+}
+
+/// The negative of the greatest magnitude among the entries.
+fn lowest(row: &[Frac]) -> Frac {
+    let mut low = Frac::from(0);
+    for entry in row {
+        low = low.min(below_zero(*entry));
+    }
+    low
+}
+
+/// The steps of a row. `None` where all entries are 0, or a number is not held.
+fn steps_of(alloc: Global, row: &[Frac]) -> Result<Option<Steps>, NoMemory> {
+    let low = lowest(row);
+    if is_zero(low) {
+        return Ok(None);
+    }
+    let Some(per_unit) = Frac::from(-65_536).times(low.reciprocal()) else {
+        return Ok(None);
+    };
+    let mut steps = Vec::with_capacity(alloc, row.len())?;
+    for entry in row {
+        let Some(count) = entry.times(per_unit) else {
+            return Ok(None);
+        };
+        steps.push((count.num() / count.den()) as i64)?;
+    }
+    Ok(Some(steps))
+}
+
+/// The steps of each row.
+fn steps_of_all(alloc: Global, rows: &[Vector]) -> Result<Vec<Option<Steps>>, NoMemory> {
+    let mut all = Vec::with_capacity(alloc, rows.len())?;
+    for row in rows {
+        all.push(steps_of(alloc, row.as_slice())?)?;
+    }
+    Ok(all)
+}
+
+/// Adds numbers to the sums at the same places, up to the greatest number of the type.
+fn add_steps(sums: &mut [i64], steps: &[i64]) {
+    for (sum, count) in sums.iter_mut().zip(steps) {
+        *sum = sum.saturating_add(*count);
+    }
+}
+
+/// The sum of the products at the same places, up to the greatest number of the type.
+fn product(a: &[i64], b: &[i64]) -> i64 {
+    let mut sum = 0i64;
+    for (x, y) in a.iter().zip(b) {
+        sum = sum.saturating_add(x.saturating_mul(*y));
+    }
+    sum
+}
+
+/// The sum of all rows, each in steps of its own.
+fn mean_of(alloc: Global, rows: &[Vector], all: &[Option<Steps>]) -> Result<Steps, NoMemory> {
+    let mut sums = Vec::new(alloc);
+    if let Some(row) = rows.first() {
+        for _ in row.as_slice() {
+            sums.push(0)?;
+        }
+    }
+    for steps in all.iter().flatten() {
+        add_steps(&mut sums, steps);
+    }
+    Ok(sums)
+}
+
+/// The square of the cosine of the angle between a row and another vector, with the sign of the
+/// cosine, in units that are the same for all rows.
+fn cosine(steps: &[i64], to: &[i64]) -> i128 {
+    let along = i128::from(product(steps, to));
+    let size = i128::from(product(steps, steps).max(1));
+    let square = along.saturating_mul(along) / size;
+    if along < 0 {
+        square.saturating_neg()
+    } else {
+        square
+    }
+}
+
+/// Whether one row is the negative of the other.
+fn are_opposite(a: &[Frac], b: &[Frac]) -> bool {
+    a.iter().zip(b).all(|(x, y)| *x == y.neg())
+}
+
+/// Whether the row before or after a row is its negative, as of an equation or a line.
+fn goes_both_ways(rows: &[Vector], k: usize) -> bool {
+    let Some(row) = rows.get(k) else {
+        return false;
+    };
+    let is_other = |i: usize| {
+        rows.get(i)
+            .is_some_and(|other| are_opposite(row.as_slice(), other.as_slice()))
+    };
+    is_other(k.saturating_add(1)) || k.checked_sub(1).is_some_and(is_other)
+}
+
+/// For each row the square of the cosine of its angle with the mean of all; `None` for rows that go
+/// both ways, and for those without steps.
+fn cosines(alloc: Global, rows: &[Vector]) -> Result<Vec<Option<i128>>, NoMemory> {
+    let all = steps_of_all(alloc, rows)?;
+    let mean = mean_of(alloc, rows, &all)?;
+    let mut keys = Vec::with_capacity(alloc, rows.len())?;
+    for (k, steps) in all.iter().enumerate() {
+        let key = if goes_both_ways(rows, k) {
+            None
+        } else {
+            steps.as_ref().map(|steps| cosine(steps, &mean))
+        };
+        keys.push(key)?;
+    }
+    Ok(keys)
+}
+
+/// Whether all rows are points.
+fn are_points(gens: bool, rows: &[Vector]) -> bool {
+    gens && rows.iter().all(|row| row.as_slice().last().is_some_and(|last| !is_zero(*last)))
+}
+
+/// For each point how near it lies.
+fn nearness_of_all(alloc: Global, rows: &[Vector]) -> Result<Vec<Option<Frac>>, NoMemory> {
+    let mut keys = Vec::with_capacity(alloc, rows.len())?;
+    for row in rows {
+        keys.push(nearness(row.as_slice()))?;
+    }
+    Ok(keys)
+}
+
+/// What the rows of a text are sorted by, `gens` where it lists points, directions and lines. The
+/// cost is that of a few operations for each entry.
+pub(crate) fn keys_of(alloc: Global, gens: bool, rows: &[Vector]) -> Result<Keys, NoMemory> {
+    if are_points(gens, rows) {
+        Ok(Keys::Nearness(nearness_of_all(alloc, rows)?))
+    } else {
+        Ok(Keys::Cosines(cosines(alloc, rows)?))
+    }
+}
