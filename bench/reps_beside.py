@@ -244,37 +244,40 @@ def text_of(family, command, n, count):
 
 
 def milliseconds(words):
-    """What one run takes of the processor, up to its end."""
-    limit = lambda: resource.setrlimit(resource.RLIMIT_CPU, (LIMIT, LIMIT + 1))
-    child = subprocess.Popen(words, stdout=subprocess.DEVNULL, stderr=subprocess.DEVNULL, preexec_fn=limit)
-    _, status, used = os.wait4(child.pid, 0)
-    child.returncode = os.waitstatus_to_exitcode(status)
-    return 1000 * (used.ru_utime + used.ru_stime) if child.returncode == 0 else math.inf
+    """What one run takes of the processor, up to its end. It is started without a copy of this process, whose pages would count."""
+    null = [(os.POSIX_SPAWN_OPEN, 1, os.devnull, os.O_WRONLY, 0)]
+    _, status, used = os.wait4(os.posix_spawn(words[0], words, os.environ, file_actions=null), 0)
+    return 1000 * (used.ru_utime + used.ru_stime) if status == 0 else math.inf
+
+
+def both_times(program, rep, tries):
+    """The least times of this program and of the other for a text."""
+    with tempfile.TemporaryDirectory() as folder:
+        path = os.path.join(folder, "text")
+        with open(path, "w") as out:
+            out.write(rep.text())
+        runs = [program, COMMAND[rep.kind], path], [os.path.join(HERE, "reps_ppl"), path]
+        best = [math.inf, math.inf]
+        for _ in range(tries):
+            best = [min(time, milliseconds(words)) for time, words in zip(best, runs)]
+            if max(best) > 1000 * ENOUGH:
+                break
+    return best
 
 
 def growth(program, tries):
-    """Prints the series; how many grow more than beside the other from their least size to their greatest is returned."""
-    one, more = Rep("sides", 1, [("h", (1, 0))]), 0
-    with tempfile.TemporaryDirectory() as folder:
-        def least(rep):
-            path = os.path.join(folder, "text")
-            with open(path, "w") as out:
-                out.write(rep.text())
-            both = [program, COMMAND[rep.kind], path], [os.path.join(HERE, "reps_ppl"), path]
-            best = [math.inf, math.inf]
-            for _ in range(tries):
-                best = [min(least, milliseconds(words)) for least, words in zip(best, both)]
-                if max(best) > 1000 * ENOUGH:
-                    break
-            return best
-
-        starts = least(one)
-        print(f"a text of one row: {starts[0]:.1f} and {starts[1]:.1f} ms")
-        for family, command, n, counts in SERIES:
-            times = [[max(time - start, 0.1) for time, start in zip(least(text_of(family, command, n, count)), starts)] for count in counts]
-            print(f"{family} N {n}, {command}: " + ", ".join(f"{count}: {ours:.1f} {other:.1f}" for count, (ours, other) in zip(counts, times))
-                  + f"; growth {times[-1][0] / times[0][0]:.1f} {times[-1][1] / times[0][1]:.1f}", flush=True)
-            more += times[-1][0] / times[0][0] > times[-1][1] / times[0][1]
+    """Prints the series; returned is in how many this program grows more than the other from the least size to the greatest."""
+    starts = both_times(program, Rep("sides", 1, [("h", (1, 0))]), tries)
+    print("a text of one row: {:.1f} and {:.1f} ms".format(*starts))
+    more = 0
+    for family, command, n, counts in SERIES:
+        times = []
+        for count in counts:
+            times.append([max(time - start, 0.1) for time, start in zip(both_times(program, text_of(family, command, n, count), tries), starts)])
+        ours, other = (last / first for first, last in zip(times[0], times[-1]))
+        print(f"| {family} N {n}, {command} | " + ", ".join(map(str, counts)) + " | " + ", ".join(f"{time[0]:.1f}" for time in times) + " | "
+              + ", ".join(f"{time[1]:.1f}" for time in times) + f" | {ours:.0f} | {other:.0f} |", flush=True)
+        more += ours > other
     print(f"{more} of {len(SERIES)} series grow more than beside PPL")
     return more
 

@@ -63,7 +63,10 @@ fn steps_of(alloc: Global, row: &[Frac]) -> Result<Option<Steps>, NoMemory> {
         let Some(count) = entry.times(per_unit) else {
             return Ok(None);
         };
-        steps.push((count.num() / count.den()) as i64)?;
+        let Ok(whole) = i64::try_from(count.num() / count.den()) else {
+            return Ok(None);
+        };
+        steps.push(whole)?;
     }
     Ok(Some(steps))
 }
