@@ -50,13 +50,13 @@ covers_both words p q n m l h i j b e = (
 )
 
 -- ---- a meet
-both_false : (a b : Bool) → (a ≡ false) ⊎ (b ≡ false) → (a && b) ≡ false
+pub both_false : (a b : Bool) → (a ≡ false) ⊎ (b ≡ false) → (a && b) ≡ false
 both_false a b (inl e) = ap (λ x. x && b) e
 both_false true b (inr e) = e
 both_false false b (inr e) = refl
 
 -- past its words no number is marked
-past_words : (words : List ℕ) (k : ℕ) → 64 * length words ≤ k → is_marked words k ≡ false
+pub past_words : (words : List ℕ) (k : ℕ) → 64 * length words ≤ k → is_marked words k ≡ false
 past_words words k h = ap (λ (n : ℕ). bit_at n (k % 64) == 1) (get_or_past words (k / 64) 0 (omega arith)) ∙ ap (λ (b : ℕ). b == 1) (bit_at-zero (k % 64))
 
 pub meet_bounded : (words a b : List ℕ) (n m l : ℕ) → AreBounded a m → AreBounded b l → n ≡ min m l → n ≤ 64 * length words →

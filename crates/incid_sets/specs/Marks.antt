@@ -1,5 +1,5 @@
 -- A set of numbers below a bound: a list that says of each number below the bound whether the set has it.
-use Rattle.std.specs.Prelude.{ℕ, ◌%◌, ◌≡◌, ◌≢◌, ◌<◌, nat_eq, List, Bool, false, not, IsTrue, ◌&&◌, ◌||◌, length, max, min, replicate, slice_index_or, count_by}
+use Rattle.std.specs.Prelude.{ℕ, ◌%◌, ◌≡◌, ◌≢◌, ◌<◌, ◌≤◌, nat_eq, List, Bool, true, false, not, Option, Some, None, IsTrue, ◌&&◌, ◌||◌, length, max, min, replicate, slice_index_or, count_by}
 
 -- whether the set has the number
 abbrev pub has : List Bool → ℕ → Bool
@@ -39,3 +39,8 @@ pub record IsMeet (marks a b : List Bool) : Type 0 where
 pub record IsUnion (marks a b : List Bool) : Type 0 where
   pub bound : length marks ≡ max (length a) (length b)
   pub either : (k : ℕ) → has marks k ≡ (has a k || has b k)
+
+-- the least number of the set that is not less than k, or that there is none
+abbrev pub IsNextFrom : List Bool → ℕ → Option ℕ → Type 0
+IsNextFrom marks k (Some j) = (k ≤ j) × (j < length marks) × (has marks j ≡ true) × ((i : ℕ) → k ≤ i → i < j → has marks i ≡ false)
+IsNextFrom marks k None = (i : ℕ) → k ≤ i → has marks i ≡ false

@@ -1,5 +1,5 @@
 -- Numbers as the bits of words: number k is bit k % 64 of word k / 64.
-use Rattle.std.specs.Prelude.{ℕ, ◌*◌, ◌/◌, ◌%◌, ◌≤◌, List, Bool, ◌≡◌, ◌≢◌, true, false, map, length, ◌==◌, slice_index}
+use Rattle.std.specs.Prelude.{ℕ, ◌*◌, ◌/◌, ◌%◌, ◌<◌, ◌≤◌, List, Bool, Option, Some, None, ◌≡◌, ◌≢◌, true, false, map, length, ◌==◌, slice_index}
 use Rattle.std.specs.Int.{bit_at}
 use Rattle.std.specs.Int.Bits.{bit_and}
 use Rattle.std.specs.List.{range_with_len}
@@ -32,3 +32,8 @@ pub record AddsMark (old new : List ℕ) (k : ℕ) : Type 0 where
 abbrev pub TellsMark : List ℕ → List ℕ → ℕ → Bool → Type 0
 TellsMark old new k true = AddsMark old new k
 TellsMark old new k false = new ≡ old
+
+-- the least number of the words that is not less than k, or that there is none
+abbrev pub IsMarkedFrom : List ℕ → ℕ → Option ℕ → Type 0
+IsMarkedFrom words k (Some j) = (k ≤ j) × (is_marked words j ≡ true) × ((i : ℕ) → k ≤ i → i < j → is_marked words i ≡ false)
+IsMarkedFrom words k None = (i : ℕ) → k ≤ i → is_marked words i ≡ false

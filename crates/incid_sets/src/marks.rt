@@ -1,10 +1,11 @@
 //! Sets of numbers below a bound.
-ghost use Rattle.std.specs.Prelude.{◌≡◌, ◌<◌, ◌≤◌, ◌*◌, ◌+◌, ◌-◌, ◌++◌, ◌∷◌, [], ◌↔◌, ℕ, List, Bool, IsOk, IsTrue, true, OnOk, OnErr, IfOk, length, slice_set};
-ghost use Rattle.incid_sets.specs.Marks.{has, no_marks, size, ContainsAll, CoversBoth, HasRoom, IsAllBut, IsMeet, IsUnion};
+ghost use Rattle.std.specs.Prelude.{◌≡◌, ◌<◌, ◌≤◌, ◌*◌, ◌+◌, ◌-◌, ◌++◌, ◌∷◌, [], ◌↔◌, ℕ, List, Bool, IsOk, IsTrue, true, OnOk, OnErr, IfOk, length, slice_set, ◌&&◌};
+ghost use Rattle.incid_sets.specs.Marks.{has, no_marks, size, ContainsAll, CoversBoth, HasRoom, IsAllBut, IsMeet, IsNextFrom, IsUnion};
 
 use crate::words::{
-    WORD, add_words, contains_words, count_marks, covers_words, grow_words, has_mark,
-    have_at_least, set_mark, share_at_least, tell_mark, words_for, write_meet, zero_words,
+    WORD, add_words, clear_words, contains_words, count_marks, covers_words, grow_words, has_mark,
+    have_at_least, keep_words, mark_from, set_mark, share_at_least, tell_mark, words_for,
+    write_meet, zero_words,
 };
 use src_sink::NoMemory;
 use std::alloc::Global;
@@ -162,5 +163,29 @@ impl Marks {
         ensures { IsUnion self.new self.old other.now }
     {
         add_words(&mut self.words, &other.words);
+    }
+
+    /// Takes from the set each number that the other does not have. No memory is taken.
+    pub fn keep(&mut self, other: &Marks)
+        ensures bound { length self.new ≡ length self.old }
+        ensures common { (k : ℕ) → has self.new k ≡ (has self.old k && has other.now k) }
+    {
+        keep_words(&mut self.words, &other.words);
+    }
+
+    /// Makes the set empty. No memory is taken.
+    pub fn clear(&mut self)
+        ensures { self.new ≡ no_marks (length self.old) }
+    {
+        clear_words(&mut self.words);
+    }
+
+    /// The least number of the set that is not less than `k`. The cost is that of the words
+    /// between.
+    pub fn next_from(&self, k: u32) -> Option<u32>
+        ensures { IsNextFrom self.now k result }
+    {
+        let _bound = self.bound;
+        mark_from(&self.words, k)
     }
 }

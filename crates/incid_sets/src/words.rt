@@ -1,8 +1,8 @@
 //! Bits of words, taken a word at a time. A list of words that is shorter counts as continued with
 //! zeros.
-ghost use Rattle.std.specs.Prelude.{◌≡◌, ◌+◌, ◌<◌, ◌/◌, ◌*◌, ◌^◌, ◌≤◌, ◌↔◌, ℕ, IsOk, IsTrue, bit_and, count_ones, IfOk, OnOk, replicate, ◌&&◌, ◌||◌, slice_index, vec_len};
+ghost use Rattle.std.specs.Prelude.{◌≡◌, ◌+◌, ◌<◌, ◌/◌, ◌*◌, ◌^◌, ◌≤◌, ◌↔◌, ℕ, IsOk, IsTrue, false, bit_and, count_ones, IfOk, OnOk, replicate, ◌&&◌, ◌||◌, slice_index, vec_len};
 ghost use Rattle.incid_sets.specs.Marks.{size};
-ghost use Rattle.incid_sets.specs.Words.{common_words, is_marked, marks_below, AddsMark, AreBounded, TellsMark};
+ghost use Rattle.incid_sets.specs.Words.{common_words, is_marked, marks_below, AddsMark, AreBounded, IsMarkedFrom, TellsMark};
 
 use src_sink::NoMemory;
 use std::alloc::Global;
@@ -165,4 +165,44 @@ pub fn add_words(words: &mut Vec<u64>, other: &[u64])
         let more = words[i] | word_at(other, i);
         words[i] = more;
     }
+}
+
+/// Takes from the words each number that the others do not have.
+pub fn keep_words(words: &mut Vec<u64>, other: &[u64])
+    ensures room { vec_len words.new ≡ vec_len words.old }
+    ensures common { (k : ℕ) → k < 64 * vec_len words.old
+        → is_marked words.new.items k ≡ (is_marked words.old.items k && is_marked other.now k) }
+{
+    for i in 0..words.len() {
+        let common = words[i] & word_at(other, i);
+        words[i] = common;
+    }
+}
+
+/// Takes each number from the words.
+pub fn clear_words(words: &mut Vec<u64>)
+    ensures { words.new.items ≡ replicate (vec_len words.old) 0 }
+{
+    for i in 0..words.len() {
+        words[i] = 0;
+    }
+}
+
+/// The least number of the words that is not less than `k`, where all are below 2^32.
+pub fn mark_from(words: &[u64], k: u32) -> Option<u32>
+    requires { (i : ℕ) → 2 ^ 32 ≤ i → is_marked words.now i ≡ false }
+    ensures { IsMarkedFrom words.now k result }
+{
+    let first = k as usize / WORD;
+    let rest = word_at(words, first) >> (k as usize % WORD);
+    if rest != 0 {
+        return Some(k + rest.trailing_zeros());
+    }
+    for i in first + 1..words.len() {
+        let word = words[i];
+        if word != 0 {
+            return Some((i * WORD) as u32 + word.trailing_zeros());
+        }
+    }
+    None
 }
