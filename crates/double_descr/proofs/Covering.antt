@@ -102,7 +102,7 @@ module _ {F : Type 0} (value : F → ℚ) (n : ℕ) (rows : List (List ℚ)) (ge
 
 -- ---- sets of rows that hold the tight ones
 -- the common numbers of two sets
-both_of : List Bool → List Bool → List Bool
+unfoldable pub both_of : List Bool → List Bool → List Bool
 both_of [] ys = []
 both_of (x ∷ xs) [] = []
 both_of (x ∷ xs) (y ∷ ys) = (x && y) ∷ both_of xs ys
@@ -111,7 +111,7 @@ and_false : (b : Bool) → (b && false) ≡ false
 and_false true = refl
 and_false false = refl
 
-both_common : (xs ys : List Bool) (k : ℕ) → has (both_of xs ys) k ≡ (has xs k && has ys k)
+pub both_common : (xs ys : List Bool) (k : ℕ) → has (both_of xs ys) k ≡ (has xs k && has ys k)
 unfolding both_of
 both_common [] ys k = refl
 both_common (x ∷ xs) [] k = sym (and_false (has (x ∷ xs) k))
@@ -124,14 +124,14 @@ length-both [] ys = omega arith
 length-both (x ∷ xs) [] = omega arith
 length-both (x ∷ xs) (y ∷ ys) = let e = length-both xs ys in omega (arith, e)
 
-both_is : (xs ys : List Bool) → IsMeet (both_of xs ys) xs ys
+pub both_is : (xs ys : List Bool) → IsMeet (both_of xs ys) xs ys
 both_is xs ys = record { bound = length-both xs ys; common = both_common xs ys }
 
-size_cons : (x : Bool) (xs : List Bool) → size (x ∷ xs) ≡ cond {A = ℕ} x 1 0 + size xs
+pub size_cons : (x : Bool) (xs : List Bool) → size (x ∷ xs) ≡ cond {A = ℕ} x 1 0 + size xs
 size_cons x xs = sum_by-cons (λ (marked : Bool). cond {A = ℕ} marked 1 0) x xs
 
 -- a set within another has no more numbers
-size_within : (xs ys : List Bool) → ((k : ℕ) → IsTrue (has xs k) → IsTrue (has ys k)) → size xs ≤ size ys
+pub size_within : (xs ys : List Bool) → ((k : ℕ) → IsTrue (has xs k) → IsTrue (has ys k)) → size xs ≤ size ys
 size_within [] ys h = omega arith
 size_within (true ∷ xs) [] h = absurd (true≢false (sym (h 0 refl)))
 size_within (false ∷ xs) [] h = let e = size_cons false xs in let less = size_within xs [] (λ k. h (suc k)) in omega (arith, e, less)

@@ -1,3 +1,4 @@
+pub mod ByRow
 pub mod Covering
 pub mod InPlace
 pub mod KeptNext

@@ -1,5 +1,5 @@
 -- The new generators of an addition, one opposite pair at a time.
-use Rattle.std.proofs.Common.{◌≡◌, ℕ, ◌+◌, ◌<◌, List, [], ◌∷◌, ◌++◌, map, length, filter, All, Contains, Bool, true, false, cond, refl, sym, ap, ap₂, ◌∙◌, subst, append_assoc, get_or}
+use Rattle.std.proofs.Common.{◌≡◌, ℕ, ◌+◌, ◌<◌, List, [], ◌∷◌, ◌++◌, map, length, filter, All, Contains, Bool, true, false, cond, refl, sym, ap, ap₂, ◌∙◌, subst, append_assoc, arith, get_or}
 use Rattle.double_descr.proofs.NotZero.{meeting_not_zero}
 use Rattle.polyhedra.specs.DoubleDescription.{norming}
 use Rattle.std.proofs.lemmas.List.{get_or-map, map-append, length-map}
@@ -17,7 +17,8 @@ use Rattle.polyhedra.proofs.Members.{member_of, Contains-map}
 use Rattle.double_descr.specs.Steps.{values, between}
 use Rattle.double_descr.specs.State.{numbered_of, live_of, pair_of, HasTightSet, AreTwoLive}
 use Rattle.double_descr.specs.Adding.{Block, AreHeld, IsFault, IsAddFault, value_block, block_of, pair_block}
-use Rattle.double_descr.specs.Making.{Addition, IsAddition, blocks_of_pairs, with_negatives, candidates_of, candidates, AddsPair, IsTried, IsPairFault, pair_numbers, live_numbers, IsMadeSoFar}
+use Rattle.double_descr.specs.Making.{Addition, IsAddition, blocks_of_pairs, negative_places, with_negatives, candidates_of, candidates, AddsPair, IsTried, IsPairFault, pair_numbers, live_numbers, IsMadeSoFar}
+use Rattle.double_descr.proofs.NegativePlaces.{places_count}
 use Rattle.double_descr.specs.declared.generator.Generator.{Generator}
 use Rattle.double_descr.specs.declared.made.Made.{Made}
 use Rattle.double_descr.specs.declared.fault.DdFault.{DdFault}
@@ -154,6 +155,19 @@ candidates_are row (p ∷ ps) all = ap (λ l. candidates_of row p all ++ l) (can
         ≡ products (cond c (p ∷ filter (λ g. lt_ℚ zero_ℚ (dot row g.vector)) ps) (filter (λ g. lt_ℚ zero_ℚ (dot row g.vector)) ps)) (filter (λ g. lt_ℚ (dot row g.vector) zero_ℚ) all)
     go true = refl
     go false = refl
+
+-- where no value is below 0 there is none
+pub no_candidates : (row : List ℚ) (gens : List Numbered) (at : List ℚ) → at ≡ map (λ (g : Numbered). dot row g.vector) gens → length (negative_places 0 at) ≡ 0 →
+    candidates row gens gens ≡ []
+no_candidates row gens at is none =
+    candidates_are row gens gens ∙ go (filter (λ g. lt_ℚ (dot row g.vector) zero_ℚ) gens)
+    (sym (places_count (λ (g : Numbered). dot row g.vector) gens 0) ∙ ap (λ l. length (negative_places 0 l)) (sym is) ∙ none)
+    (filter (λ g. lt_ℚ zero_ℚ (dot row g.vector)) gens)
+  where
+    go : (ms : List Numbered) → length ms ≡ 0 → (ps : List Numbered) → products ps ms ≡ []
+    go [] e [] = refl
+    go [] e (p ∷ ps) = go [] e ps
+    go (m ∷ ms) e ps = absurd (omega (arith, e))
 
 -- ---- what an addition says of one generator and its value
 module _ {F : Type 0} (value : F → ℚ) (d : Addition) (gens : List (Generator F)) (ctx : IsAddition value d gens) where

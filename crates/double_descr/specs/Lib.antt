@@ -1,6 +1,7 @@
 -- The subject: State (what a double description holds), Starting and Adding (what its two calls
--- answer), with Steps (operations in their order). For the code's own steps: Making, Faults.
+-- answer), with Steps (operations in their order). For the code's own steps: Making, ByRow, Faults.
 pub mod Adding
+pub mod ByRow
 pub mod Faults
 pub mod Making
 pub mod Starting

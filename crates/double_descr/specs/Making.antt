@@ -1,12 +1,12 @@
 -- The new generators of an addition, made one opposite pair at a time.
-use Rattle.std.specs.Prelude.{ℕ, suc, ◌+◌, ◌<◌, ◌≡◌, List, [], ◌∷◌, ◌++◌, map, length, get_or, drop, filter, All, Contains, Bool, true, false, if◌then◌else◌, Option, Some, None}
+use Rattle.std.specs.Prelude.{ℕ, suc, ◌+◌, ◌<◌, ◌≡◌, List, [], ◌∷◌, ◌++◌, map, length, get_or, drop, filter, All, Contains, Bool, IsFalse, true, false, if◌then◌else◌, Option, Some, None}
 use Rattle.exact_field.specs.Rational.{ℚ, zero_ℚ, lt_ℚ, ◌<ℚ◌}
 use Rattle.exact_field.specs.Vector.{dot}
 use Rattle.polyhedra.specs.DoubleDescription.{normed, made}
 use Rattle.polyhedra.specs.LiveList.{Numbered, LivePair, numbers, numbered, without_numbers, is_uncovered_live, live_pairs, new_vectors, step}
 use Rattle.polyhedra.specs.LiveSteps.{IsLive}
 use Rattle.double_descr.specs.Steps.{values, between}
-use Rattle.double_descr.specs.State.{numbered_of, live_of, list_of, HasTightSet, tight_sets}
+use Rattle.double_descr.specs.State.{numbered_of, live_of, list_of, pair_of, AreTwoLive, HasTightSet, tight_sets}
 use Rattle.double_descr.specs.Adding.{Block, AreHeld, IsFault, add_blocks, block_of, pair_block, pair_blocks}
 use Rattle.double_descr.specs.declared.generator.Generator.{Generator}
 use Rattle.double_descr.specs.declared.fault.Pair.{Pair}
@@ -14,7 +14,9 @@ use Rattle.double_descr.specs.declared.fault.DdFault.{DdFault}
 use Rattle.double_descr.specs.declared.fault.DdFault.TheVariants.{Elim, Left as Stuck, NoMemory}
 use Rattle.double_descr.specs.declared.made.Made.{Made}
 use Rattle.double_descr.specs.declared.next.Next.{Next}
-use Rattle.incid_sets.specs.Marks.{ContainsAll, HasRoom, IsMeet}
+use Rattle.double_descr.specs.ByRow.{IsIndexed}
+use Rattle.double_descr.specs.declared.by_row.Search.{Search}
+use Rattle.incid_sets.specs.Marks.{has, ContainsAll, HasRoom, IsMeet}
 
 -- the addition of a row to some rows: these, the row, and the number that the first new generator gets
 pub record Addition : Type 0 where
@@ -64,6 +66,7 @@ pub record IsMaking {F : Type 0} (value : F → ℚ) (a : Addition) (gens : List
   pub at_row : AreValuesAt value a.row gens vals
   pub places : below ≡ negative_places 0 (map value vals)
   pub room : length a.rows + 1 < 4294967296
+  pub few : length gens < 4294967296
 
 -- the pair of a generator with the one at this place
 abbrev pub pair_at : {F : Type 0} → (F → ℚ) → List (Generator F) → Generator F → ℕ → LivePair
@@ -126,6 +129,7 @@ pub record IsPlus {F : Type 0} (value : F → ℚ) (a : Addition) (gens : List (
   pub addition : IsAddition value a gens
   pub at_row : AreValuesAt value a.row gens vals
   pub room : length a.rows + 1 < 4294967296
+  pub few : length gens < 4294967296
   pub listed : Contains gens plus
   pub valued : value at ≡ dot a.row (values value plus.vector.items)
   pub positive : zero_ℚ <ℚ value at
@@ -133,6 +137,18 @@ pub record IsPlus {F : Type 0} (value : F → ℚ) (a : Addition) (gens : List (
 -- the set has each row that is tight at a generator at which the new row is negative
 abbrev pub Reaches : {F : Type 0} → (F → ℚ) → Addition → List (Generator F) → List Bool → Type 0
 Reaches {F} value a gens reach = (g : Generator F) → Contains gens g → dot a.row (values value g.vector.items) <ℚ zero_ℚ → ContainsAll reach g.tight
+
+-- what the pairs of an addition are found by: the rows that are tight where the new row is negative, and the places by row
+pub record IsSearch {F : Type 0} (value : F → ℚ) (a : Addition) (gens : List (Generator F)) (search : Search) : Type 0 where
+  pub reach : Reaches value a gens search.reach
+  pub bound : length search.reach ≡ length a.rows
+  pub indexed : IsIndexed gens search
+
+-- a generator at which the new row is negative, and whose place is not in the set, has no pair with this one
+abbrev pub LeavesOutCovered : {F : Type 0} → (F → ℚ) → Addition → List (Generator F) → Generator F → List Bool → Type 0
+LeavesOutCovered {F} value a gens plus possible = (minus : Generator F) (place : ℕ) → place < length gens → minus ≡ get_or gens place minus →
+    AreTwoLive value (length a.row) a.rows gens plus minus → dot a.row (values value minus.vector.items) <ℚ zero_ℚ → IsFalse (has possible place) →
+    is_uncovered_live a.rows (live_of value gens) (pair_of value plus minus) ≡ false
 
 -- the generator's set has room for one row more
 pub record HasRoomForRow {F : Type 0} (g : Generator F) : Type 0 where

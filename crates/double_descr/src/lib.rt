@@ -1,6 +1,7 @@
 //! Double description: the generators of the cone of rows, kept by one row at a time.
 #![tactic(auto)]
 
+mod by_row;
 mod dd;
 mod fault;
 mod generator;

@@ -1,17 +1,18 @@
 //! The new generators of an addition.
 ghost use Rattle.std.specs.Prelude.{◌≡◌, ◌≢◌, ◌+◌, ◌<◌, ◌++◌, List, [], ◌∷◌, IfErr, OnOk, get_or, length, map};
 ghost use Rattle.exact_field.specs.Rational.{zero_ℚ, ◌<ℚ◌};
+ghost use Rattle.incid_sets.specs.Marks.{ContainsAll};
 ghost use Rattle.polyhedra.specs.DoubleDescription.{norming};
 ghost use Rattle.polyhedra.specs.LiveList.{LivePair, is_uncovered_live};
 ghost use Rattle.double_descr.specs.Adding.{IsAddFault, block_of};
-ghost use Rattle.double_descr.specs.Making.{Addition, IsMadeSoFar, IsMaking, IsPairFault, IsPlus, IsTried, Reaches, blocks_of_pairs, candidates_from, negative_places, pair_at, with_negatives};
+ghost use Rattle.double_descr.specs.Making.{Addition, IsMadeSoFar, IsMaking, IsPairFault, IsPlus, IsSearch, IsTried, LeavesOutCovered, blocks_of_pairs, candidates_from, negative_places, pair_at, with_negatives};
 ghost use Rattle.double_descr.specs.State.{AreTwoLive, live_of, numbered_of, pair_of};
 ghost use Rattle.double_descr.specs.Steps.{between, values};
 
+use crate::by_row::{Search, possible_places, search_of};
 use crate::fault::{DdFault, Pair};
 use crate::generator::{Generator, make_between};
 use crate::pairs::{are_adjacent, meets_enough};
-use crate::reach::reach_of;
 use exact_field::{Field, is_positive};
 use incid_sets::Marks;
 use src_sink::{Items, MOST_ITEMS};
@@ -35,6 +36,7 @@ pub struct Made<F: Drop> {
 /// Makes the new generator of an opposite pair, unless a third one covers it.
 fn try_pair<F: Field>(
     alloc: Global,
+    search: &Search,
     generators: &[Generator<F>],
     plus: &Generator<F>,
     minus: &Generator<F>,
@@ -49,6 +51,9 @@ fn try_pair<F: Field>(
     requires room { length addition.rows + 1 < 4294967296 }
     requires common { length so_far.old.common ≡ length addition.rows }
     requires below { F.value at_minus <ℚ zero_ℚ }
+    requires search { IsSearch F.value addition generators.now search.now }
+    requires few { length generators.now < 4294967296 }
+    requires reached { ContainsAll search.now.reach minus.now.tight }
     requires not_zero { norming (between (F.value at_plus) (F.value at_minus)
         (values F.value plus.now.vector.items) (values F.value minus.now.vector.items))
         ≢ zero_ℚ }
@@ -62,7 +67,16 @@ fn try_pair<F: Field>(
         (block_of F.value plus.now minus.now (F.value at_plus) (F.value at_minus))) }
 {
     so_far.common.set_meet(&plus.tight, &minus.tight);
-    if !are_adjacent(generators, plus, minus, &so_far.common, &mut so_far.last) {
+    let is_pair = are_adjacent(
+        alloc,
+        search,
+        generators,
+        plus,
+        minus,
+        &so_far.common,
+        &mut so_far.last,
+    )?;
+    if !is_pair {
         return Ok(());
     }
     if so_far.first_new as usize + so_far.pairs.len() > MOST_ITEMS {
@@ -79,9 +93,11 @@ fn try_pair<F: Field>(
 }
 
 /// Makes the new generator of one generator, at which the row is positive, with generator `j`, at
-/// which it is negative. Most pairs have too few common rows, and nothing else of them is read.
+/// which it is negative. Most pairs have too few common rows, and nothing of them is read.
 fn meet_at<F: Field>(
     alloc: Global,
+    search: &Search,
+    possible: &Marks,
     generators: &[Generator<F>],
     values: &[F],
     plus: &Generator<F>,
@@ -95,6 +111,8 @@ fn meet_at<F: Field>(
     requires common { length so_far.old.common ≡ length addition.rows }
     requires inside { j < length generators.now }
     requires below { get_or (map F.value values.now) j zero_ℚ <ℚ zero_ℚ }
+    requires search { IsSearch F.value addition generators.now search.now }
+    requires possible { LeavesOutCovered F.value addition generators.now plus.now possible.now }
     ensures bound { length so_far.new.common ≡ length so_far.old.common }
     ensures ok { (left : List LivePair)
         → IsMadeSoFar F.value F.holds addition generators.now
@@ -106,17 +124,23 @@ fn meet_at<F: Field>(
         → IfErr result (IsAddFault F.value F.holds
         (blocks_of_pairs F.value addition generators.now)) }
 {
+    if !possible.has(j as u32) {
+        return Ok(());
+    }
     let minus = &generators[j];
     if !meets_enough(plus, &minus.tight) {
         return Ok(());
     }
-    try_pair(alloc, generators, plus, minus, at_plus, values[j], so_far)
+    try_pair(
+        alloc, search, generators, plus, minus, at_plus, values[j], so_far,
+    )
 }
 
 /// Makes the new generators of one generator at which the row is positive, with each at which it is
 /// negative, from their places.
 fn meet_with<F: Field>(
     alloc: Global,
+    search: &Search,
     generators: &[Generator<F>],
     values: &[F],
     plus: &Generator<F>,
@@ -129,6 +153,7 @@ fn meet_with<F: Field>(
     requires same { length values.now ≡ length generators.now }
     requires places { below.now ≡ negative_places 0 (map F.value values.now) }
     requires common { length so_far.old.common ≡ length addition.rows }
+    requires search { IsSearch F.value addition generators.now search.now }
     ensures ok { (left : List LivePair)
         → IsMadeSoFar F.value F.holds addition generators.now (with_negatives addition.row
         (numbered_of F.value plus.now) (live_of F.value generators.now) ++ left) so_far.old
@@ -139,8 +164,11 @@ fn meet_with<F: Field>(
         → IfErr result (IsAddFault F.value F.holds
         (blocks_of_pairs F.value addition generators.now)) }
 {
+    let possible = possible_places(alloc, search, plus)?;
     for j in below {
-        meet_at(alloc, generators, values, plus, at_plus, *j, so_far)?;
+        meet_at(
+            alloc, search, &possible, generators, values, plus, at_plus, *j, so_far,
+        )?;
     }
     Ok(())
 }
@@ -152,13 +180,13 @@ fn try_plus<F: Field>(
     generators: &[Generator<F>],
     values: &[F],
     below: &[usize],
-    reach: &Marks,
+    search: &Search,
     i: usize,
     so_far: &mut Made<F>,
 ) -> Result<(), DdFault<F>>
     ghost addition: { Addition }
     requires making { IsMaking F.value addition generators.now values.now below.now }
-    requires reach { Reaches F.value addition generators.now reach.now }
+    requires search { IsSearch F.value addition generators.now search.now }
     requires same { length values.now ≡ length generators.now }
     requires inside { i < length generators.now }
     requires so_far { IsMadeSoFar F.value F.holds addition generators.now
@@ -173,16 +201,18 @@ fn try_plus<F: Field>(
     if !is_positive(at_plus) {
         return Ok(());
     }
-    if !meets_enough(plus, reach) {
+    if !meets_enough(plus, &search.reach) {
         return Ok(());
     }
-    meet_with(alloc, generators, values, plus, at_plus, below, so_far)
+    meet_with(
+        alloc, search, generators, values, plus, at_plus, below, so_far,
+    )
 }
 
 /// Makes all new generators of an addition, from the values of the row at the live generators, and
-/// the places of those below 0. The cost is at the worst that of the opposite pairs times the live
-/// generators times the words of a tight set. Pairs with too few common tight rows are not scanned,
-/// and most other scans stop early.
+/// the places of those below 0. The cost is at the worst that of the opposite pairs times the rows
+/// that are tight at both times the words of a set of places. Most pairs have too few common tight
+/// rows; of these a bit is read, and nothing of those of a generator that no pair is left for.
 pub fn meet_all<F: Field>(
     alloc: Global,
     generators: &[Generator<F>],
@@ -200,9 +230,12 @@ pub fn meet_all<F: Field>(
     ensures left { IfErr result (IsAddFault F.value F.holds
         (blocks_of_pairs F.value addition generators.now)) }
 {
-    let reach = reach_of(alloc, so_far.common.bound(), generators, values)?;
+    if below.is_empty() {
+        return Ok(());
+    }
+    let search = search_of(alloc, so_far.common.bound(), generators, values)?;
     for i in 0..generators.len() {
-        try_plus(alloc, generators, values, below, &reach, i, so_far)?;
+        try_plus(alloc, generators, values, below, &search, i, so_far)?;
     }
     Ok(())
 }

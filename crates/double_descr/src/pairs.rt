@@ -1,15 +1,19 @@
 //! Opposite pairs of generators, and the new generators between them.
-ghost use Rattle.std.specs.Prelude.{◌≡◌, ◌≤◌, ◌+◌, ◌||◌, ℕ, List, All, IsFalse, IsTrue, false, not, nat_eq};
-ghost use Rattle.incid_sets.specs.Marks.{size, ContainsAll, IsMeet};
+ghost use Rattle.std.specs.Prelude.{◌≡◌, ◌<◌, ◌≤◌, ◌+◌, ◌||◌, ℕ, List, All, IfOk, IsFalse, IsTrue, false, length, not, nat_eq};
+ghost use Rattle.incid_sets.specs.Marks.{has, size, ContainsAll, IsMeet};
 ghost use Rattle.exact_field.specs.Rational.{ℚ};
 ghost use Rattle.polyhedra.specs.DoubleDescription.{covers};
 ghost use Rattle.polyhedra.specs.LiveList.{is_uncovered_live};
+ghost use Rattle.double_descr.specs.ByRow.{tight_at, IsIndexed};
 ghost use Rattle.double_descr.specs.State.{AreTwoLive, HasTightSet, live_of, pair_of};
 ghost use Rattle.double_descr.specs.Steps.{values};
 
+use crate::by_row::{Search, thirds_of};
 use crate::generator::Generator;
 use exact_field::Field;
 use incid_sets::Marks;
+use src_sink::NoMemory;
+use std::alloc::Global;
 
 /// Whether the generator is one of the pair.
 fn is_one_of<F: Field>(third: &Generator<F>, plus: &Generator<F>, minus: &Generator<F>) -> bool
@@ -41,14 +45,21 @@ fn covers_pair<F: Field>(
     !is_one_of(third, plus, minus)
 }
 
-/// Whether no third generator covers the pair, by a scan. The one that covered last is tried first.
+/// Whether no third generator covers the pair: of those in the places at which all common rows are
+/// tight, as others do not. The one that covered last is tried first.
 fn is_uncovered<F: Field>(
     generators: &[Generator<F>],
+    thirds: &Marks,
     plus: &Generator<F>,
     minus: &Generator<F>,
     common: &Marks,
     last: &mut usize,
 ) -> bool
+    requires bound { length thirds.now ≡ length generators.now }
+    requires few { length generators.now < 4294967296 }
+    requires thirds { (place : ℕ) → place < length generators.now
+        → ContainsAll (tight_at generators.now place) common.now
+        → IsTrue (has thirds.now place) }
     ensures { (rows : List (List ℚ)) → All (HasTightSet F.value rows) generators.now
         → HasTightSet F.value rows plus.now → HasTightSet F.value rows minus.now
         → IsMeet common.now plus.now.tight minus.now.tight
@@ -62,11 +73,14 @@ fn is_uncovered<F: Field>(
             return false;
         }
     }
-    for (i, third) in generators.iter().enumerate() {
+    let mut from = 0;
+    while let Some(i) = thirds.next_from(from) {
+        let third = &generators[i as usize];
         if covers_pair(third, plus, minus, common) {
-            *last = i;
+            *last = i as usize;
             return false;
         }
+        from = i + 1;
     }
     true
 }
@@ -92,27 +106,35 @@ pub fn meets_enough<F: Field>(plus: &Generator<F>, rows: &Marks) -> bool
 }
 
 /// Whether no third generator covers the pair. None does where at most one tight row of either is
-/// not tight at the other; so many pairs need no scan.
+/// not tight at the other; so many pairs need no search.
 pub fn are_adjacent<F: Field>(
+    alloc: Global,
+    search: &Search,
     generators: &[Generator<F>],
     plus: &Generator<F>,
     minus: &Generator<F>,
     common: &Marks,
     last: &mut usize,
-) -> bool
-    ensures { (n : ℕ) (rows : List (List ℚ))
+) -> Result<bool, NoMemory>
+    requires search { IsIndexed generators.now search.now }
+    requires few { length generators.now < 4294967296 }
+    requires same { length common.now ≡ length search.now.reach }
+    requires rows { length common.now < 4294967296 }
+    requires reached { ContainsAll search.now.reach common.now }
+    ensures { IfOk result (λ answer. (n : ℕ) (rows : List (List ℚ))
         → AreTwoLive F.value n rows generators.now plus.now minus.now
         → IsMeet common.now plus.now.tight minus.now.tight
-        → result
+        → answer
         ≡ is_uncovered_live rows (live_of F.value generators.now)
-        (pair_of F.value plus.now minus.now) }
+        (pair_of F.value plus.now minus.now)) }
 {
     let count = common.count();
     if has_one_more(plus, count) {
-        return true;
+        return Ok(true);
     }
     if has_one_more(minus, count) {
-        return true;
+        return Ok(true);
     }
-    is_uncovered(generators, plus, minus, common, last)
+    let thirds = thirds_of(alloc, search, common)?;
+    Ok(is_uncovered(generators, &thirds, plus, minus, common, last))
 }

@@ -36,7 +36,8 @@ pub fn reach_of<F: Field>(
     requires values { AreValuesAt F.value addition.row generators.now values.now }
     requires tight { All (HasTightSet F.value addition.rows) generators.now }
     requires same { length values.now ≡ length generators.now }
-    ensures { IfOk result (Reaches F.value addition generators.now) }
+    ensures bound { IfOk result (λ reach. length reach ≡ count) }
+    ensures reaches { IfOk result (Reaches F.value addition generators.now) }
 {
     let mut reach = Marks::new(alloc, count)?;
     for i in 0..generators.len() {

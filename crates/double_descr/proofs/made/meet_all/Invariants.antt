@@ -4,8 +4,8 @@ use Rattle.double_descr.proofs.made.meet_all.Given as goal
 abbrev pub ghost-try_plus : goal.ghost-try_plus
 ghost-try_plus g a = g.addition
 
-abbrev pub ghost-reach_of : goal.ghost-reach_of
-ghost-reach_of g a = g.addition
+abbrev pub ghost-search_of : goal.ghost-search_of
+ghost-search_of g a = g.addition
 
 abbrev pub invariant-loop-i : goal.invariant-loop-i
 invariant-loop-i g l =

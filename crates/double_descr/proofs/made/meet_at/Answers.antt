@@ -35,14 +35,32 @@ try_pair-requires g c κs within =
     let mc : Contains gens m = (c.args.j, inside, sym c.index-generators-j.is) in
     let be : value b ≡ dot d.row (values value m.vector.items) = value_at_index value d.row gens vals P.at_row
     c.args.j b m (omega (arith, c.requires.1.1.0, inside)) inside c.index-values-j.is c.index-generators-j.is in
-    let down : value b <ℚ zero_ℚ = below_at value vals c.args.j b (omega (arith, c.requires.1.1.0, inside)) c.index-values-j.is c.requires.1.1.1.1.1 in
+    let down : value b <ℚ zero_ℚ = below_at value vals c.args.j b (omega (arith, c.requires.1.1.0, inside)) c.index-values-j.is c.requires.1.1.1.1.1.0 in
     let a : ℚ = value c.args.at_plus in (
       within,
       (
         two_of value d gens P.addition p m a (value b) P.listed mc P.valued be P.positive down,
         (
           P.addition.narrow,
-          (P.room, (c.requires.1.1.1.0, (down, norming_of value d gens P.addition p m a (value b) P.listed mc P.valued be P.positive down))),
+          (
+            P.room,
+            (
+              c.requires.1.1.1.0,
+              (
+                down,
+                (
+                  c.requires.1.1.1.1.1.1.0,
+                  (
+                    P.few,
+                    (
+                      c.requires.1.1.1.1.1.1.0.reach m mc (subst (λ (x : ℚ). x <ℚ zero_ℚ) be down),
+                      norming_of value d gens P.addition p m a (value b) P.listed mc P.valued be P.positive down,
+                    ),
+                  ),
+                ),
+              ),
+            ),
+          ),
         ),
       ),
     )
@@ -66,7 +84,7 @@ returns-then-not-meets_enough-clause-ok g c = λ left h.
     let is : b ≡ get_or vals c.args.j b = get_or_default vals c.args.j c.args.at_plus b within in
     let mc : Contains gens m = (c.args.j, inside, sym c.index-generators-j.is) in
     let be : value b ≡ dot d.row (values value m.vector.items) = value_at_index value d.row gens vals P.at_row c.args.j b m within inside is c.index-generators-j.is in
-    let down : value b <ℚ zero_ℚ = below_at value vals c.args.j b within is c.requires.1.1.1.1.1 in
+    let down : value b <ℚ zero_ℚ = below_at value vals c.args.j b within is c.requires.1.1.1.1.1.0 in
     let two = two_of value d gens P.addition p m a (value b) P.listed mc P.valued be P.positive down in
     let covered = c.meets_enough.ensures (length d.row) d.rows gens m two (λ k marked. marked) c.if-not-meets_enough.true in
     let here : IsMadeSoFar value holds d gens (pair_of value p m ∷ left) c.args.so_far.now =
@@ -89,7 +107,7 @@ returns-clause-ok g c = λ left h.
     let mc : Contains gens m = (c.args.j, inside, sym c.index-generators-j.is) in
     let be : value b ≡ dot d.row (values value m.vector.items) = value_at_index value d.row gens vals P.at_row
     c.args.j b m (omega (arith, c.requires.1.1.0, inside)) inside c.index-values-j.is c.index-generators-j.is in
-    let down : value b <ℚ zero_ℚ = below_at value vals c.args.j b (omega (arith, c.requires.1.1.0, inside)) c.index-values-j.is c.requires.1.1.1.1.1 in
+    let down : value b <ℚ zero_ℚ = below_at value vals c.args.j b (omega (arith, c.requires.1.1.0, inside)) c.index-values-j.is c.requires.1.1.1.1.1.0 in
     let here : IsMadeSoFar value holds d gens (pair_of value p m ∷ left) c.args.so_far.now =
     subst (λ (q : LivePair). IsMadeSoFar value holds d gens (q ∷ left) c.args.so_far.now) (candidate value gens p m c.args.j inside c.index-generators-j.is) h in
     on_ok_map c.try_pair.result _ _ c.try_pair.ensures.ok
@@ -111,9 +129,38 @@ returns-clause-left g c = λ left h.
     let mc : Contains gens m = (c.args.j, inside, sym c.index-generators-j.is) in
     let be : value b ≡ dot d.row (values value m.vector.items) = value_at_index value d.row gens vals P.at_row
     c.args.j b m (omega (arith, c.requires.1.1.0, inside)) inside c.index-values-j.is c.index-generators-j.is in
-    let down : value b <ℚ zero_ℚ = below_at value vals c.args.j b (omega (arith, c.requires.1.1.0, inside)) c.index-values-j.is c.requires.1.1.1.1.1 in
+    let down : value b <ℚ zero_ℚ = below_at value vals c.args.j b (omega (arith, c.requires.1.1.0, inside)) c.index-values-j.is c.requires.1.1.1.1.1.0 in
     let here : IsMadeSoFar value holds d gens (pair_of value p m ∷ left) c.args.so_far.now =
     subst (λ (q : LivePair). IsMadeSoFar value holds d gens (q ∷ left) c.args.so_far.now) (candidate value gens p m c.args.j inside c.index-generators-j.is) h in
     if_err_map c.try_pair.result _ _ c.try_pair.ensures.left
     (λ fault k. tried_fault value holds d gens P.addition p m P.listed mc (value c.args.at_plus) (value b)
     P.valued be P.positive down left c.args.so_far.now c.try_pair.new.so_far here fault k)
+
+-- a generator whose place was left out has no pair with it
+pub returns-then-not-has-clause-ok : goal.returns-then-not-has-clause-ok
+returns-then-not-has-clause-ok g c = λ left h.
+    let F = g.row.F.Denot in
+    let value = g.F.Field.value in
+    let holds = g.F.Field.holds in
+    let d = g.addition in
+    let gens = c.args.generators.now in
+    let vals = c.args.values.now in
+    let p = c.args.plus.now in
+    let j = c.args.j in
+    let P = c.requires.1.0 in
+    let inside = c.requires.1.1.1.1.0 in
+    let within : j < length vals = omega (arith, c.requires.1.1.0, inside) in
+    let m : Generator F = get_or gens j p in
+    let m-is : m ≡ get_or gens j m = get_or_default gens j p m inside in
+    let a : ℚ = value c.args.at_plus in
+    let b : F = get_or vals j c.args.at_plus in
+    let is : b ≡ get_or vals j b = get_or_default vals j c.args.at_plus b within in
+    let mc : Contains gens m = (j, inside, sym m-is) in
+    let be : value b ≡ dot d.row (values value m.vector.items) = value_at_index value d.row gens vals P.at_row j b m within inside is m-is in
+    let down : value b <ℚ zero_ℚ = below_at value vals j b within is c.requires.1.1.1.1.1.0 in
+    let two = two_of value d gens P.addition p m a (value b) P.listed mc P.valued be P.positive down in
+    let covered = c.requires.1.1.1.1.1.1.1 m j inside m-is two (subst (λ (x : ℚ). x <ℚ zero_ℚ) be down) (sym c.has.ensures ∙ c.if-not-has.true) in
+    let here : IsMadeSoFar value holds d gens (pair_of value p m ∷ left) c.args.so_far.now =
+    subst (λ (q : LivePair). IsMadeSoFar value holds d gens (q ∷ left) c.args.so_far.now) (candidate value gens p m j inside m-is) h in
+    tried value holds d gens P.addition p m P.listed mc a (value b) P.valued be P.positive down left c.args.so_far.now c.args.so_far.now here
+    (subst (λ (t : Bool). IsTried value holds t p m a (value b) c.args.so_far.now c.args.so_far.now) (sym covered) (refl, refl)) refl refl

@@ -78,10 +78,17 @@ meet_at-requires g c κs within =
         (
           c.requires.1.1.0,
           (
-            c.loop-j.invariant.bound ∙ c.requires.1.1.1.1,
+            c.loop-j.invariant.bound ∙ c.requires.1.1.1.1.0,
             (
               inside value d.row gens vals P.at_row c.args.below.now places p k c.loop-j-test.true,
-              negative value d.row gens vals P.at_row c.args.below.now places p k c.loop-j-test.true,
+              (
+                negative value d.row gens vals P.at_row c.args.below.now places p k c.loop-j-test.true,
+                (
+                  c.requires.1.1.1.1.1,
+                  λ m place within is two down closed. c.in_ok-possible.ensures (length d.row) d.rows gens m place c.requires.1.1.1.1.1.indexed two
+                      (c.requires.1.1.1.1.1.reach m (place, within, sym is) down) within is closed,
+                ),
+              ),
             ),
           ),
         ),
@@ -99,7 +106,7 @@ returns-in_err-meet_at-clause-left g c = λ left h.
     let P = c.requires.1.0 in
     let places = c.requires.1.1.1.0 in
     let k = c.loop-j.j-index in
-    err_holds c.from_residual.result c.in_err-meet_at.field-0.0 _ c.from_residual.ensures.1
+    err_holds c.from_residual-in_err-meet_at.result c.in_err-meet_at.field-0.0 _ c.from_residual-in_err-meet_at.ensures.1
     (c.in_err-meet_at.ensures.left (drop (k + 1) (with_negatives d.row (numbered_of value p) (live_of value gens)) ++ left)
     (subst (λ (q : List LivePair). IsMadeSoFar value holds d gens q c.loop-j.so_far)
     (first_left value d.row gens vals P.at_row c.args.below.now places p k c.loop-j-test.true left)

@@ -61,7 +61,7 @@ returns-clause-ok g c =
     let value = g.F.Field.value in
     subst (λ (t : Bool). IsTried value g.F.Field.holds t c.args.plus.now c.args.minus.now (value c.args.at_plus) (value c.args.at_minus) c.args.so_far.now
     record { pairs = c.push-2.new.self; generators = c.push.new.self; common = c.set_meet.new.self; last = c.are_adjacent.new.last; first_new = c.args.so_far.now.first_new })
-    (sym c.if-not-are_adjacent.false ∙ c.are_adjacent.ensures (length g.addition.row) g.addition.rows two c.set_meet.ensures)
+    (sym c.if-not-is_pair.false ∙ c.in_ok-is_pair.ensures (length g.addition.row) g.addition.rows two c.set_meet.ensures)
     (record {
       pair = c.in_ok-push-2.ensures.ok;
       generator = c.in_ok-generator.generator;
@@ -77,19 +77,19 @@ returns-clause-ok g c =
       held = c.in_ok-generator.ensures.held;
     })
 
-pub returns-then-not-are_adjacent-clause-ok : goal.returns-then-not-are_adjacent-clause-ok
-returns-then-not-are_adjacent-clause-ok g c =
+pub returns-then-not-is_pair-clause-ok : goal.returns-then-not-is_pair-clause-ok
+returns-then-not-is_pair-clause-ok g c =
     let two = c.requires.1.0 in
     let value = g.F.Field.value in
     subst (λ (t : Bool). IsTried value g.F.Field.holds t c.args.plus.now c.args.minus.now (value c.args.at_plus) (value c.args.at_minus) c.args.so_far.now
     record { pairs = c.args.so_far.now.pairs; generators = c.args.so_far.now.generators; common = c.set_meet.new.self; last = c.are_adjacent.new.last; first_new = c.args.so_far.now.first_new })
-    (sym c.if-not-are_adjacent.true ∙ c.are_adjacent.ensures (length g.addition.row) g.addition.rows two c.set_meet.ensures) (refl, refl)
+    (sym c.if-not-is_pair.true ∙ c.in_ok-is_pair.ensures (length g.addition.row) g.addition.rows two c.set_meet.ensures) (refl, refl)
 
 pub returns-in_err-generator-clause-left : goal.returns-in_err-generator-clause-left
 returns-in_err-generator-clause-left g c =
     let two = c.requires.1.0 in
     let value = g.F.Field.value in
-    err_holds c.from_residual.result c.in_err-generator.field-0.0 _ c.from_residual.ensures.1
+    err_holds c.from_residual-in_err-generator.result c.in_err-generator.field-0.0 _ c.from_residual-in_err-generator.ensures.1
     (pair_fault value g.F.Field.holds (is_uncovered_live g.addition.rows (live_of value c.args.generators.now) (pair_of value c.args.plus.now c.args.minus.now))
     (block_of value c.args.plus.now c.args.minus.now (value c.args.at_plus) (value c.args.at_minus)) c.in_err-generator.field-0.0
-    (sym (c.are_adjacent.ensures (length g.addition.row) g.addition.rows two c.set_meet.ensures) ∙ c.if-not-are_adjacent.false) c.in_err-generator.ensures.left)
+    (sym (c.in_ok-is_pair.ensures (length g.addition.row) g.addition.rows two c.set_meet.ensures) ∙ c.if-not-is_pair.false) c.in_err-generator.ensures.left)

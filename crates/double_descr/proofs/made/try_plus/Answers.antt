@@ -28,11 +28,12 @@ meet_with-requires g c κs within =
           addition = making.addition;
           at_row = making.at_row;
           room = making.room;
+          few = making.few;
           listed = (i, inside, sym c.index-generators-i.is);
           valued = ae;
           positive = sym c.is_positive.ensures.test ∙ c.if-not-is_positive.false;
         },
-        (c.requires.1.1.1.0, (making.places, c.requires.1.1.1.1.1.bound)),
+        (c.requires.1.1.1.0, (making.places, (c.requires.1.1.1.1.1.bound, c.requires.1.1.0))),
       ),
     )
 
@@ -77,7 +78,7 @@ returns-then-not-meets_enough-clause-ok g c =
     unmet value d gens making.addition holds p
     (λ m mc down. c.meets_enough.ensures (length d.row) d.rows gens m
     (two_of value d gens making.addition p m a (dot d.row (values value m.vector.items)) (i, inside, sym c.index-generators-i.is) mc ae refl up down)
-    (c.requires.1.1.0 m mc down) c.if-not-meets_enough.true)
+    (c.requires.1.1.0.reach m mc down) c.if-not-meets_enough.true)
     (candidates_from value d gens (i + 1)) c.args.so_far.now here
 
 pub returns-clause-ok : goal.returns-clause-ok

@@ -57,6 +57,7 @@ meet_all-requires g c κs within =
           at_row = at;
           places = c.as_slice-3.ensures.items ∙ c.in_ok-below.ensures ∙ ap (λ l. negative_places 0 (map value l)) (c.as_slice.ensures.items ∙ sym c.as_slice-2.ensures.items);
           room = omega (arith, count);
+          few = let many = one_each value d.row gens vals at in omega (arith, many, c.as_slice-2.ensures.bound);
         },
         (one_each value d.row gens vals at, c.in_ok-so_far.ensures gens),
       ),

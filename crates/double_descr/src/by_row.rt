@@ -1,0 +1,174 @@
+//! For each row the places of the generators at which it is tight, and what pairs are found by that.
+ghost use Rattle.std.specs.Prelude.{◌≡◌, ◌+◌, ◌<◌, ◌≤◌, ℕ, List, Bool, All, IfOk, IsFalse, IsTrue, OnOk, false, get_or, length};
+ghost use Rattle.incid_sets.specs.Marks.{has, size, ContainsAll, IsMeet};
+ghost use Rattle.exact_field.specs.Rational.{ℚ};
+ghost use Rattle.polyhedra.specs.LiveList.{is_uncovered_live};
+ghost use Rattle.double_descr.specs.ByRow.{set_of, tight_at, AreByRow, GivesPlace, HasPlace, HaveRoom, IsIndexed};
+ghost use Rattle.double_descr.specs.Making.{Addition, AreValuesAt, IsSearch};
+ghost use Rattle.double_descr.specs.State.{AreTwoLive, HasTightSet, live_of, pair_of};
+
+use crate::generator::Generator;
+use crate::reach::reach_of;
+use exact_field::Field;
+use incid_sets::Marks;
+use src_sink::NoMemory;
+use std::alloc::Global;
+
+/// What the pairs of an addition are found by.
+#[derive(Debug, Drop)]
+pub struct Search {
+    /// The rows that are tight at one of the generators at which the new row is negative.
+    pub reach: Marks,
+    /// For each of these rows the places of the generators at which it is tight.
+    pub by_row: Vec<Marks>,
+    /// The places of all generators.
+    pub all: Marks,
+}
+
+/// An empty set for each row, with room for so many places if the row is in a set, and else with
+/// none.
+fn empty_sets(alloc: Global, rows: &Marks, count: u32) -> Result<Vec<Marks>, NoMemory>
+    ensures { IfOk result (λ sets. HaveRoom rows.now count sets.items) }
+{
+    let bound = rows.bound();
+    let mut sets = Vec::with_capacity(alloc, bound as usize)?;
+    for r in 0..bound {
+        let room = if rows.has(r) { count } else { 0 };
+        sets.push(Marks::new(alloc, room)?)?;
+    }
+    Ok(sets)
+}
+
+/// Gives the sets of some rows a place.
+fn insert_place(sets: &mut Vec<Marks>, rows: &Marks, place: u32)
+    requires few { length rows.now < 4294967296 }
+    requires inside { length rows.now ≤ length sets.old.items }
+    requires room { (r : ℕ) → IsTrue (has rows.now r)
+        → place < length (set_of sets.old.items r) }
+    ensures { GivesPlace rows.now place sets.old.items sets.new.items }
+{
+    let mut from = 0;
+    while let Some(r) = rows.next_from(from) {
+        sets[r as usize].insert(place);
+        from = r + 1;
+    }
+}
+
+/// Gives the sets of some rows the places of all generators at which they are tight. The cost is
+/// that of the words of the sets of tight rows, and of each place that is given.
+fn fill_sets<F: Field>(
+    alloc: Global,
+    generators: &[Generator<F>],
+    rows: &Marks,
+    sets: &mut Vec<Marks>,
+) -> Result<(), NoMemory>
+    requires few { length rows.now < 4294967296 }
+    requires numbered { length generators.now < 4294967296 }
+    requires tight { All (λ g. length g.tight ≡ length rows.now) generators.now }
+    requires room { HaveRoom rows.now (length generators.now) sets.old.items }
+    ensures { OnOk result
+        (AreByRow generators.now rows.now (length generators.now) sets.new.items) }
+{
+    let mut shared = Marks::new(alloc, rows.bound())?;
+    for i in 0..generators.len() {
+        shared.set_meet(rows, &generators[i].tight);
+        insert_place(sets, &shared, i as u32);
+    }
+    Ok(())
+}
+
+/// What the pairs of an addition are found by, from the values of its row at the generators.
+pub fn search_of<F: Field>(
+    alloc: Global,
+    count: u32,
+    generators: &[Generator<F>],
+    values: &[F],
+) -> Result<Search, NoMemory>
+    ghost addition: { Addition }
+    requires count { count ≡ length addition.rows }
+    requires values { AreValuesAt F.value addition.row generators.now values.now }
+    requires tight { All (HasTightSet F.value addition.rows) generators.now }
+    requires same { length values.now ≡ length generators.now }
+    requires numbered { length generators.now < 4294967296 }
+    ensures { IfOk result (IsSearch F.value addition generators.now) }
+{
+    let reach = reach_of(alloc, count, generators, values)?;
+    let many = generators.len() as u32;
+    let mut by_row = empty_sets(alloc, &reach, many)?;
+    fill_sets(alloc, generators, &reach, &mut by_row)?;
+    let all = Marks::all_but(alloc, many, many)?;
+    Ok(Search { reach, by_row, all })
+}
+
+/// Takes from a set of places those that fewer than `least` of some rows have. Of any rows but
+/// `least` less one, a place that is not taken has one at least: so whole groups of that many rows
+/// are held against all places at once.
+fn narrow(sets: &[Marks], rows: &Marks, least: usize, any: &mut Marks, possible: &mut Marks)
+    requires few { length rows.now < 4294967296 }
+    requires inside { length rows.now ≤ length sets.now }
+    requires bounded { (r : ℕ) → length (set_of sets.now r) ≤ length any.old }
+    ensures bound { length possible.new ≡ length possible.old }
+    ensures keeps { (place : ℕ) (tight common : List Bool) → HasPlace sets.now rows.now tight place
+        → IsMeet common rows.now tight → least ≤ size common → IsTrue (has possible.old place)
+        → IsTrue (has possible.new place) }
+{
+    let group = (rows.count() as usize).saturating_sub(least) + 1;
+    let mut taken = 0;
+    let mut from = 0;
+    any.clear();
+    while let Some(r) = rows.next_from(from) {
+        any.unite(&sets[r as usize]);
+        taken += 1;
+        if taken >= group {
+            possible.keep(any);
+            any.clear();
+            taken = 0;
+        }
+        from = r + 1;
+    }
+}
+
+/// The places at which a generator can have a pair: at others too few rows are tight at both.
+pub fn possible_places<F: Field>(
+    alloc: Global,
+    search: &Search,
+    plus: &Generator<F>,
+) -> Result<Marks, NoMemory>
+    requires few { length search.now.reach < 4294967296 }
+    requires inside { length search.now.reach ≤ length search.now.by_row.items }
+    requires bounded { (r : ℕ)
+        → length (set_of search.now.by_row.items r) ≤ length search.now.all }
+    ensures { IfOk result (λ possible. (n : ℕ) (rows : List (List ℚ)) (generators : List (Generator F))
+        (minus : Generator F) (place : ℕ) → IsIndexed generators search.now
+        → AreTwoLive F.value n rows generators plus.now minus
+        → ContainsAll search.now.reach minus.tight → place < length generators
+        → minus ≡ get_or generators place minus → IsFalse (has possible place)
+        → is_uncovered_live rows (live_of F.value generators) (pair_of F.value plus.now minus)
+        ≡ false) }
+{
+    let shared = Marks::meet(alloc, &search.reach, &plus.tight)?;
+    let least = plus.vector.len().saturating_sub(2);
+    let mut any = Marks::new(alloc, search.all.bound())?;
+    let mut possible = Marks::meet(alloc, &search.all, &search.all)?;
+    narrow(&search.by_row, &shared, least, &mut any, &mut possible);
+    Ok(possible)
+}
+
+/// The places of the generators at which all of some rows are tight, among all.
+pub fn thirds_of(alloc: Global, search: &Search, common: &Marks) -> Result<Marks, NoMemory>
+    requires few { length common.now < 4294967296 }
+    requires inside { length common.now ≤ length search.now.by_row.items }
+    ensures bound { IfOk result (λ thirds. length thirds ≡ length search.now.all) }
+    ensures thirds { IfOk result (λ thirds. (place : ℕ) (tight : List Bool)
+        → HasPlace search.now.by_row.items common.now tight place
+        → ContainsAll tight common.now → IsTrue (has search.now.all place)
+        → IsTrue (has thirds place)) }
+{
+    let mut thirds = Marks::meet(alloc, &search.all, &search.all)?;
+    let mut from = 0;
+    while let Some(r) = common.next_from(from) {
+        thirds.keep(&search.by_row[r as usize]);
+        from = r + 1;
+    }
+    Ok(thirds)
+}
