@@ -1,15 +1,16 @@
 -- Places by row: what a search leaves out has no pair.
-use Rattle.std.proofs.Common.{true≢false, IsTrue, ◌+◌, ◌-◌, ◌≡◌, ℕ, zero, suc, ◌<◌, ◌≤◌, cond, List, [], ◌∷◌, length, drop, get_or, Bool, true, false, ◌&&◌, ◌||◌, not, nat_eq, ne_eqb, refl, sym, ap, ◌∙◌, subst, arith}
+use Rattle.std.proofs.Common.{Option, Some, None, true≢false, IsTrue, ◌+◌, ◌-◌, ◌≡◌, ℕ, zero, suc, ◌<◌, ◌≤◌, cond, List, [], ◌∷◌, length, drop, get_or, Bool, true, false, ◌&&◌, ◌||◌, not, nat_eq, ne_eqb, refl, sym, ap, ◌∙◌, subst, arith}
 use Rattle.std.specs.Prelude.{IsFalse}
 use Rattle.std.specs.List.{list_all}
 use Rattle.std.proofs.lemmas.Bool.{and_parts, or_parts}
 use Rattle.std.proofs.lemmas.List.{get_or_default}
 use Rattle.exact_field.specs.Rational.{ℚ}
 use Rattle.exact_field.specs.Vector.{dot}
-use Rattle.incid_sets.specs.Marks.{has, size, IsMeet, IsUnion}
+use Rattle.incid_sets.specs.Marks.{has, size, ContainsAll, IsMeet, IsUnion}
 use Rattle.polyhedra.specs.DoubleDescription.{covers, is_zero}
 use Rattle.polyhedra.specs.LiveList.{tight_set}
-use Rattle.double_descr.specs.ByRow.{set_of, HasPlace}
+use Rattle.double_descr.specs.ByRow.{set_of, tight_at, AreSetsOf, AreWithin, HasPlace, HasPlaceIn}
+use Rattle.double_descr.specs.declared.generator.Generator.{Generator}
 use Rattle.double_descr.proofs.Covering.{both_common, both_of, size_cons, size_within}
 
 -- ---- how many of the first k rows are not tight
@@ -146,3 +147,14 @@ not_begun sets rows tight any set next r place holds is listed union absent = (p
 -- a place is not the number of all
 pub not_past : (place many : ℕ) → place < many → not (nat_eq place many) ≡ true
 not_past place many less = ap not (ne_eqb place many (λ e. omega (arith, less, e)))
+
+-- ---- the sets of a search
+pub within_sets : {F : Type 0} (gens : List (Generator F)) (reach : List Bool) (sets : Option (List (List Bool))) (rows bound : ℕ) → AreSetsOf gens reach sets →
+    rows ≡ length reach → bound ≡ length gens → AreWithin rows bound sets
+within_sets gens reach (Some sets) rows bound h r b = (omega (arith, h.room.many, r), λ k. let l = h.room.bounded k in omega (arith, l, b))
+within_sets gens reach None rows bound h r b = tt
+
+pub placed : {F : Type 0} (gens : List (Generator F)) (reach : List Bool) (sets : Option (List (List Bool))) (common : List Bool) (place : ℕ) → AreSetsOf gens reach sets →
+    place < length gens → ContainsAll reach common → HasPlaceIn sets common (tight_at gens place) place
+placed gens reach (Some sets) common place h inside reached = λ r shared tight. h.holds place inside r (reached r shared) tight
+placed gens reach None common place h inside reached = tt

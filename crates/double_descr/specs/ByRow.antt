@@ -1,5 +1,5 @@
 -- For each row the places of the generators at which it is tight.
-use Rattle.std.specs.Prelude.{ℕ, ◌<◌, ◌≤◌, ◌≡◌, List, [], map, length, get_or, Bool, IsTrue}
+use Rattle.std.specs.Prelude.{ℕ, ◌<◌, ◌≤◌, ◌≡◌, List, [], map, length, get_or, Bool, IsTrue, Option, Some, None}
 use Rattle.incid_sets.specs.Marks.{has}
 use Rattle.double_descr.specs.declared.generator.Generator.{Generator}
 use Rattle.double_descr.specs.declared.by_row.Search.{Search}
@@ -34,8 +34,23 @@ pub record AreByRow {F : Type 0} (gens : List (Generator F)) (rows : List Bool) 
   pub room : HaveRoom rows (length gens) sets
   pub holds : (place : ℕ) → place < done → HasPlace sets rows (tight_at gens place) place
 
--- the sets of a search are those of all generators
+-- the sets of a search, if it has any, are those of all generators
+abbrev pub AreSetsOf : {F : Type 0} → List (Generator F) → List Bool → Option (List (List Bool)) → Type 0
+AreSetsOf gens rows (Some sets) = AreByRow gens rows (length gens) sets
+AreSetsOf gens rows None = Unit {0}
+
+-- there are as many sets as so many rows, if there are any, of numbers below a bound
+abbrev pub AreWithin : ℕ → ℕ → Option (List (List Bool)) → Type 0
+AreWithin rows bound (Some sets) = (rows ≤ length sets) × ((r : ℕ) → length (set_of sets r) ≤ bound)
+AreWithin rows bound None = Unit {0}
+
+-- the same as HasPlace, where there are sets
+abbrev pub HasPlaceIn : Option (List (List Bool)) → List Bool → List Bool → ℕ → Type 0
+HasPlaceIn (Some sets) rows tight place = HasPlace sets rows tight place
+HasPlaceIn None rows tight place = Unit {0}
+
+-- what a search says of all generators
 pub record IsIndexed {F : Type 0} (gens : List (Generator F)) (search : Search) : Type 0 where
-  pub by_row : AreByRow gens search.reach (length gens) search.by_row.items
+  pub by_row : AreSetsOf gens search.reach search.by_row
   pub bound : length search.all ≡ length gens
   pub each : (place : ℕ) → place < length gens → IsTrue (has search.all place)

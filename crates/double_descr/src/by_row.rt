@@ -3,7 +3,7 @@ ghost use Rattle.std.specs.Prelude.{◌≡◌, ◌+◌, ◌<◌, ◌≤◌, ℕ,
 ghost use Rattle.incid_sets.specs.Marks.{has, size, ContainsAll, IsMeet};
 ghost use Rattle.exact_field.specs.Rational.{ℚ};
 ghost use Rattle.polyhedra.specs.LiveList.{is_uncovered_live};
-ghost use Rattle.double_descr.specs.ByRow.{set_of, tight_at, AreByRow, GivesPlace, HasPlace, HaveRoom, IsIndexed};
+ghost use Rattle.double_descr.specs.ByRow.{set_of, AreByRow, AreSetsOf, AreWithin, GivesPlace, HasPlace, HasPlaceIn, HaveRoom, IsIndexed};
 ghost use Rattle.double_descr.specs.Making.{Addition, AreValuesAt, IsSearch};
 ghost use Rattle.double_descr.specs.State.{AreTwoLive, HasTightSet, live_of, pair_of};
 
@@ -11,7 +11,7 @@ use crate::generator::Generator;
 use crate::reach::reach_of;
 use exact_field::Field;
 use incid_sets::Marks;
-use src_sink::NoMemory;
+use src_sink::{Items, NoMemory};
 use std::alloc::Global;
 
 /// What the pairs of an addition are found by.
@@ -19,8 +19,9 @@ use std::alloc::Global;
 pub struct Search {
     /// The rows that are tight at one of the generators at which the new row is negative.
     pub reach: Marks,
-    /// For each of these rows the places of the generators at which it is tight.
-    pub by_row: Vec<Marks>,
+    /// For each of these rows the places of the generators at which it is tight. `None` where there
+    /// are too few pairs for it to be worth its making.
+    pub by_row: Option<Items<Marks>>,
     /// The places of all generators.
     pub all: Marks,
 }
@@ -77,12 +78,37 @@ fn fill_sets<F: Field>(
     Ok(())
 }
 
-/// What the pairs of an addition are found by, from the values of its row at the generators.
+/// With fewer negative values than this, each pair is read.
+const ENOUGH: usize = 64;
+
+/// The sets of the places of the generators by row, where there are enough negative values.
+fn sets_by_row<F: Field>(
+    alloc: Global,
+    generators: &[Generator<F>],
+    rows: &Marks,
+    negatives: usize,
+) -> Result<Option<Items<Marks>>, NoMemory>
+    requires few { length rows.now + 1 < 4294967296 }
+    requires numbered { length generators.now < 4294967296 }
+    requires tight { All (λ g. length g.tight ≡ length rows.now) generators.now }
+    ensures { IfOk result (AreSetsOf generators.now rows.now) }
+{
+    if negatives < ENOUGH {
+        return Ok(None);
+    }
+    let mut sets = empty_sets(alloc, rows, generators.len() as u32)?;
+    fill_sets(alloc, generators, rows, &mut sets)?;
+    Ok(Some(Items::from_vec(sets)))
+}
+
+/// What the pairs of an addition are found by, from the values of its row at the generators, and
+/// how many of them are negative.
 pub fn search_of<F: Field>(
     alloc: Global,
     count: u32,
     generators: &[Generator<F>],
     values: &[F],
+    negatives: usize,
 ) -> Result<Search, NoMemory>
     ghost addition: { Addition }
     requires count { count ≡ length addition.rows }
@@ -90,12 +116,12 @@ pub fn search_of<F: Field>(
     requires tight { All (HasTightSet F.value addition.rows) generators.now }
     requires same { length values.now ≡ length generators.now }
     requires numbered { length generators.now < 4294967296 }
+    requires room { length addition.rows + 1 < 4294967296 }
     ensures { IfOk result (IsSearch F.value addition generators.now) }
 {
     let reach = reach_of(alloc, count, generators, values)?;
+    let by_row = sets_by_row(alloc, generators, &reach, negatives)?;
     let many = generators.len() as u32;
-    let mut by_row = empty_sets(alloc, &reach, many)?;
-    fill_sets(alloc, generators, &reach, &mut by_row)?;
     let all = Marks::all_but(alloc, many, many)?;
     Ok(Search { reach, by_row, all })
 }
@@ -135,40 +161,57 @@ pub fn possible_places<F: Field>(
     plus: &Generator<F>,
 ) -> Result<Marks, NoMemory>
     requires few { length search.now.reach < 4294967296 }
-    requires inside { length search.now.reach ≤ length search.now.by_row.items }
-    requires bounded { (r : ℕ)
-        → length (set_of search.now.by_row.items r) ≤ length search.now.all }
-    ensures { IfOk result (λ possible. (n : ℕ) (rows : List (List ℚ)) (generators : List (Generator F))
-        (minus : Generator F) (place : ℕ) → IsIndexed generators search.now
-        → AreTwoLive F.value n rows generators plus.now minus
+    requires within { AreWithin (length search.now.reach) (length search.now.all)
+        search.now.by_row }
+    ensures { IfOk result (λ possible. (n : ℕ) (rows : List (List ℚ))
+        (generators : List (Generator F)) (minus : Generator F) (place : ℕ)
+        → IsIndexed generators search.now → AreTwoLive F.value n rows generators plus.now minus
         → ContainsAll search.now.reach minus.tight → place < length generators
         → minus ≡ get_or generators place minus → IsFalse (has possible place)
         → is_uncovered_live rows (live_of F.value generators) (pair_of F.value plus.now minus)
         ≡ false) }
 {
+    let mut possible = Marks::meet(alloc, &search.all, &search.all)?;
+    let Some(sets) = &search.by_row else {
+        return Ok(possible);
+    };
     let shared = Marks::meet(alloc, &search.reach, &plus.tight)?;
     let least = plus.vector.len().saturating_sub(2);
     let mut any = Marks::new(alloc, search.all.bound())?;
-    let mut possible = Marks::meet(alloc, &search.all, &search.all)?;
-    narrow(&search.by_row, &shared, least, &mut any, &mut possible);
+    narrow(sets.as_slice(), &shared, least, &mut any, &mut possible);
     Ok(possible)
 }
 
-/// The places of the generators at which all of some rows are tight, among all.
-pub fn thirds_of(alloc: Global, search: &Search, common: &Marks) -> Result<Marks, NoMemory>
+/// Takes from a set of places those at which not all of some rows are tight.
+fn keep_common(sets: &[Marks], common: &Marks, thirds: &mut Marks)
     requires few { length common.now < 4294967296 }
-    requires inside { length common.now ≤ length search.now.by_row.items }
-    ensures bound { IfOk result (λ thirds. length thirds ≡ length search.now.all) }
-    ensures thirds { IfOk result (λ thirds. (place : ℕ) (tight : List Bool)
-        → HasPlace search.now.by_row.items common.now tight place
-        → ContainsAll tight common.now → IsTrue (has search.now.all place)
-        → IsTrue (has thirds place)) }
+    requires inside { length common.now ≤ length sets.now }
+    ensures bound { length thirds.new ≡ length thirds.old }
+    ensures thirds { (place : ℕ) (tight : List Bool) → HasPlace sets.now common.now tight place
+        → ContainsAll tight common.now → IsTrue (has thirds.old place)
+        → IsTrue (has thirds.new place) }
 {
-    let mut thirds = Marks::meet(alloc, &search.all, &search.all)?;
     let mut from = 0;
     while let Some(r) = common.next_from(from) {
-        thirds.keep(&search.by_row[r as usize]);
+        thirds.keep(&sets[r as usize]);
         from = r + 1;
     }
+}
+
+/// The places of the generators at which all of some rows are tight, among others where the search
+/// has no sets.
+pub fn thirds_of(alloc: Global, search: &Search, common: &Marks) -> Result<Marks, NoMemory>
+    requires few { length common.now < 4294967296 }
+    requires within { AreWithin (length common.now) (length search.now.all) search.now.by_row }
+    ensures bound { IfOk result (λ thirds. length thirds ≡ length search.now.all) }
+    ensures thirds { IfOk result (λ thirds. (place : ℕ) (tight : List Bool)
+        → HasPlaceIn search.now.by_row common.now tight place → ContainsAll tight common.now
+        → IsTrue (has search.now.all place) → IsTrue (has thirds place)) }
+{
+    let mut thirds = Marks::meet(alloc, &search.all, &search.all)?;
+    let Some(sets) = &search.by_row else {
+        return Ok(thirds);
+    };
+    keep_common(sets.as_slice(), common, &mut thirds);
     Ok(thirds)
 }

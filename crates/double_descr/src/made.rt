@@ -233,7 +233,13 @@ pub fn meet_all<F: Field>(
     if below.is_empty() {
         return Ok(());
     }
-    let search = search_of(alloc, so_far.common.bound(), generators, values)?;
+    let search = search_of(
+        alloc,
+        so_far.common.bound(),
+        generators,
+        values,
+        below.len(),
+    )?;
     for i in 0..generators.len() {
         try_plus(alloc, generators, values, below, &search, i, so_far)?;
     }

@@ -8,11 +8,11 @@ use Rattle.double_descr.specs.declared.generator.Generator.{Generator}
 use Rattle.double_descr.proofs.ByRow.{not_past}
 use Rattle.double_descr.proofs.by_row.search_of.Goals as goal
 
-pub fill_sets-requires-clause-few : goal.fill_sets-requires-clause-few
-fill_sets-requires-clause-few g c = omega (arith, c.in_ok-reach.ensures.bound, c.ranges.count.fits)
+pub sets_by_row-requires-clause-few : goal.sets_by_row-requires-clause-few
+sets_by_row-requires-clause-few g c = omega (arith, c.in_ok-reach.ensures.bound, c.requires.1.0, c.requires.1.1.1.1.1.1)
 
-pub fill_sets-requires-clause-tight : goal.fill_sets-requires-clause-tight
-fill_sets-requires-clause-tight g c =
+pub sets_by_row-requires-clause-tight : goal.sets_by_row-requires-clause-tight
+sets_by_row-requires-clause-tight g c =
     let value = g.F.Field.value in
     let rows = g.addition.rows in
     let gens = c.args.generators.now in
@@ -28,7 +28,7 @@ returns g c =
       reach = c.in_ok-reach.ensures.reaches;
       bound = c.in_ok-reach.ensures.bound ∙ c.requires.1.0;
       indexed = record {
-        by_row = c.in_ok-fill_sets.ensures;
+        by_row = c.in_ok-by_row.ensures;
         bound = but.bounded;
         each = λ place inside. but.others place inside ∙ not_past place (length c.args.generators.now) inside;
       };

@@ -1,19 +1,9 @@
-use Rattle.std.proofs.Common.{◌≡◌, ◌<◌, ◌&&◌, Some, length, ap, ap₂, ◌∙◌, subst, arith}
-use Rattle.incid_sets.specs.Marks.{has, IsNextFrom}
-use Rattle.double_descr.specs.ByRow.{set_of}
-use Rattle.double_descr.proofs.ByRow.{set_read}
+use Rattle.std.proofs.Common.{◌&&◌, List, Bool, sym, ap₂, ◌∙◌, subst}
+use Rattle.double_descr.specs.ByRow.{HasPlace, HasPlaceIn}
 use Rattle.double_descr.proofs.by_row.thirds_of.Goals as goal
 
-pub loop-r-preserved : goal.loop-r-preserved
-loop-r-preserved c =
-    let sets = c.args.search.now.by_row.items in
-    let r = c.in-Some.r in
-    let found : IsNextFrom c.args.common.now c.loop-r.from (Some r) = subst (λ o. IsNextFrom c.args.common.now c.loop-r.from o) c.in-Some.is c.next_from.ensures in
-    let inside : r < length sets = omega (arith, found.1, c.requires.inside) in
-    let is : c.index.result.now ≡ set_of sets r = set_read sets r c.index.result.now inside c.index.ensures in
-    record {
-      bound = c.keep.ensures.bound ∙ c.loop-r.invariant.bound;
-      kept = λ place tight holds within had.
-          c.keep.ensures.common place ∙ ap₂ (λ x y. x && y) (c.loop-r.invariant.kept place tight holds within had)
-          (ap (λ s. has s place) is ∙ holds r found.2 (within r found.2));
-    }
+pub returns-clause-thirds : goal.returns-clause-thirds
+returns-clause-thirds c = λ place tight holds full had.
+    c.keep_common.ensures.thirds place tight (subst (λ (l : List (List Bool)). HasPlace l c.args.common.now tight place) (sym c.as_slice.ensures.items)
+    (subst (λ o. HasPlaceIn o c.args.common.now tight place) c.in-Some.is holds)) full
+    (c.in_ok-thirds.ensures.common place ∙ ap₂ (λ x y. x && y) had had)

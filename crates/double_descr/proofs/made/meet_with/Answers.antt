@@ -1,4 +1,4 @@
-use Rattle.std.proofs.Common.{◌≡◌, ℕ, ◌+◌, ◌<◌, List, ◌∷◌, ◌++◌, map, length, filter, drop, get_or, sym, ap, ◌∙◌, subst, arith}
+use Rattle.std.proofs.Common.{◌≡◌, ℕ, ◌+◌, ◌<◌, List, ◌∷◌, ◌++◌, map, length, filter, drop, get_or, refl, sym, ap, ◌∙◌, subst, arith}
 use Rattle.std.proofs.lemmas.List.{drop_all, length-map}
 use Rattle.exact_field.specs.Rational.{ℚ, zero_ℚ, lt_ℚ, ◌<ℚ◌}
 use Rattle.exact_field.specs.Vector.{dot}
@@ -6,6 +6,7 @@ use Rattle.polyhedra.specs.LiveList.{Numbered, LivePair}
 use Rattle.double_descr.specs.State.{live_of, numbered_of}
 use Rattle.double_descr.specs.Making.{AreValuesAt, IsMadeSoFar, negative_places, pair_at, with_negatives}
 use Rattle.double_descr.specs.declared.generator.Generator.{Generator}
+use Rattle.double_descr.proofs.ByRow.{within_sets}
 use Rattle.double_descr.proofs.NegativePlaces.{IsPlaceOf, pair_of_place, place_of, places_count}
 use Rattle.double_descr.proofs.made.meet_with.Goals as goal
 use Rattle.lin_rows.proofs.Errors.{err_holds}
@@ -127,3 +128,7 @@ returns-clause-ok g c = λ left h.
     (drop_all k (with_negatives d.row (numbered_of value p) (live_of value gens))
     (omega (arith, count value d.row gens vals P.at_row c.args.below.now places (numbered_of value p))))
     (c.loop-j.invariant.so_far left h)
+
+pub possible_places-requires-clause-within : goal.possible_places-requires-clause-within
+possible_places-requires-clause-within g c = within_sets c.args.generators.now c.args.search.now.reach c.args.search.now.by_row (length c.args.search.now.reach) (length c.args.search.now.all)
+    c.requires.1.1.1.1.1.indexed.by_row refl c.requires.1.1.1.1.1.indexed.bound

@@ -1,8 +1,9 @@
-use Rattle.std.proofs.Common.{sym, arith, inl, inr}
+use Rattle.std.proofs.Common.{length, sym, arith, inl, inr}
 use Rattle.polyhedra.proofs.Members.{member_of}
 use Rattle.double_descr.specs.ByRow.{tight_at}
 use Rattle.double_descr.specs.State.{HasTightSet}
 use Rattle.double_descr.proofs.pairs.are_adjacent.Goals as goal
+use Rattle.double_descr.proofs.ByRow.{placed, within_sets}
 use Rattle.double_descr.proofs.Covering.{one_more_is_a_pair}
 
 pub returns-then-has_one_more : goal.returns-then-has_one_more
@@ -24,4 +25,8 @@ returns g c = λ n rows two m. c.is_uncovered.ensures rows two.tight
 pub is_uncovered-requires-clause-thirds : goal.is_uncovered-requires-clause-thirds
 is_uncovered-requires-clause-thirds g c = λ place inside full.
     c.in_ok-thirds.ensures.thirds place (tight_at c.args.generators.now place)
-    (λ r shared tight. c.requires.search.by_row.holds place inside r (c.requires.reached r shared) tight) full (c.requires.search.each place inside)
+    (placed c.args.generators.now c.args.search.now.reach c.args.search.now.by_row c.args.common.now place c.requires.search.by_row inside c.requires.reached) full (c.requires.search.each place inside)
+
+pub thirds_of-requires-clause-within : goal.thirds_of-requires-clause-within
+thirds_of-requires-clause-within g c = within_sets c.args.generators.now c.args.search.now.reach c.args.search.now.by_row (length c.args.common.now) (length c.args.search.now.all)
+    c.requires.search.by_row c.requires.same c.requires.search.bound
