@@ -79,7 +79,7 @@ fn fill_sets<F: Field>(
 }
 
 /// With fewer negative values than this, each pair is read.
-const ENOUGH: usize = 64;
+const ENOUGH: usize = 16;
 
 /// The sets of the places of the generators by row, where there are enough negative values.
 fn sets_by_row<F: Field>(
