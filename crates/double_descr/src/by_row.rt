@@ -78,10 +78,11 @@ fn fill_sets<F: Field>(
     Ok(())
 }
 
-/// With fewer negative values than this, each pair is read.
+/// With fewer negative values than this, the sets would cost more than reading each pair.
 const ENOUGH: usize = 16;
 
-/// The sets of the places of the generators by row, where there are enough negative values.
+/// The sets of the places of the generators by row, where there are enough negative values. They
+/// take a bit for each generator and row at the most, as the sets of tight rows do.
 fn sets_by_row<F: Field>(
     alloc: Global,
     generators: &[Generator<F>],
@@ -126,9 +127,10 @@ pub fn search_of<F: Field>(
     Ok(Search { reach, by_row, all })
 }
 
-/// Takes from a set of places those that fewer than `least` of some rows have. Of any rows but
-/// `least` less one, a place that is not taken has one at least: so whole groups of that many rows
-/// are held against all places at once.
+/// Takes from a set of places those that can be seen to be in the sets of fewer than `least` of
+/// some rows. A place that is in so many misses no more than the others, and so is in the set of
+/// one at least of any group of that many rows and one: the rows are gone through in such groups,
+/// and each is held against all places at once. The cost is that of the words of the sets.
 fn narrow(sets: &[Marks], rows: &Marks, least: usize, any: &mut Marks, possible: &mut Marks)
     requires few { length rows.now < 4294967296 }
     requires inside { length rows.now ≤ length sets.now }
@@ -198,8 +200,8 @@ fn keep_common(sets: &[Marks], common: &Marks, thirds: &mut Marks)
     }
 }
 
-/// The places of the generators at which all of some rows are tight, among others where the search
-/// has no sets.
+/// The places of the generators at which all of some rows are tight; those of all generators where
+/// the search has no sets.
 pub fn thirds_of(alloc: Global, search: &Search, common: &Marks) -> Result<Marks, NoMemory>
     requires few { length common.now < 4294967296 }
     requires within { AreWithin (length common.now) (length search.now.all) search.now.by_row }
