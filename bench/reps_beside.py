@@ -13,6 +13,10 @@ those of `reps.py` on texts that are small enough.
 
 `reps_beside.py PROGRAM + [TRIES]` times the series of growing sizes below beside the Parma Polyhedra Library alone: milliseconds of the
 processor, the least of TRIES (10) in turn, less those that each takes for a text of one row.
+
+`reps_beside.py PROGRAM # [NAME..]` counts the instructions of the conversions alone in these series, or in those whose names begin so,
+by callgrind (Debian: valgrind): what PPL's `minimize` takes, and of ours the whole run less one that only reads the text. Counts do
+not vary as times do. It takes half an hour.
 """
 import collections
 import math
@@ -282,6 +286,45 @@ def growth(program, tries):
     return more
 
 
+def instructions(words, folder, function=None):
+    """How many instructions a run takes; those inside of a function alone, if one is named."""
+    path = os.path.join(folder, "counts")
+    call = ["valgrind", "--tool=callgrind", f"--callgrind-out-file={path}"]
+    told = subprocess.run(call + words, stdout=subprocess.DEVNULL, stderr=subprocess.PIPE, text=True).stderr
+    if function is None:
+        return int(re.search(r"Collected : (\d+)", told)[1])
+    listed = subprocess.run(["callgrind_annotate", "--inclusive=yes", "--threshold=100", path], capture_output=True, text=True).stdout
+    return max(int(line.split()[0].replace(",", "")) for line in listed.splitlines() if function in line)
+
+
+def conversion_counts(program, rep):
+    """Millions of instructions of the conversion alone, of this program and of the other."""
+    with tempfile.TemporaryDirectory() as folder:
+        path, empty = os.path.join(folder, "text"), os.path.join(folder, "empty")
+        with open(path, "w") as out:
+            out.write(rep.text())
+        open(empty, "w").close()
+        ours = instructions([program, COMMAND[rep.kind], path], folder) - instructions([program, "reconv", path, empty], folder)
+        other = instructions([os.path.join(HERE, "reps_ppl"), path], folder, "Polyhedron::minimize()")
+    return ours / 1e6, other / 1e6
+
+
+def counted_growth(program, wanted):
+    """Prints the series by instructions; returned is in how many this program grows more from the least size to the greatest."""
+    more = 0
+    for family, command, n, counts in SERIES:
+        name = f"{family} N {n}, {command}"
+        if wanted and not any(name.startswith(each) for each in wanted):
+            continue
+        pairs = [conversion_counts(program, text_of(family, command, n, count)) for count in counts]
+        ours, other = (last / first for first, last in zip(pairs[0], pairs[-1]))
+        print(f"| {name} | " + ", ".join(map(str, counts)) + " | " + ", ".join(f"{pair[0]:.1f}" for pair in pairs) + " | "
+              + ", ".join(f"{pair[1]:.1f}" for pair in pairs) + f" | {ours:.1f} | {other:.1f} |", flush=True)
+        more += ours > other
+    print(f"{more} series grow more than in PPL")
+    return more
+
+
 def shown(each):
     """The seconds, or how the run ended."""
     if each.status is None:
@@ -354,6 +397,8 @@ def main():
         return int(compare(program, int(sys.argv[3]), int(sys.argv[4]) if len(sys.argv) > 4 else 1) > 0)
     if sys.argv[2:3] == ["+"]:
         return int(growth(program, int(sys.argv[3]) if len(sys.argv) > 3 else 10) > 0)
+    if sys.argv[2:3] == ["#"]:
+        return int(counted_growth(program, sys.argv[3:]) > 0)
     return int(table(program, sys.argv[2:]) > 0)
 
 
