@@ -219,7 +219,7 @@ def families():
         yield f"drawn {count} {n} 1", drawn(count, n, 1)
     for count, n in ((60, 5), (36, 6)):
         yield f"cyclic {count} {n}", cyclic(count, n)
-    for count, n in ((80, 9), (36, 10)):
+    for count, n in ((80, 9), (36, 10), (96, 7), (160, 8), (240, 8), (480, 9)):
         yield f"zero_one {count} {n} 1", zero_one(count, n, 1)
     for name, of in (("covering", reps.covering), ("packing", reps.packing), ("upper", reps.upper)):
         for count, n in ((80, 4), (40, 5), (30, 6), (20, 7), (16, 8)):

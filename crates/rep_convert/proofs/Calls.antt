@@ -1,5 +1,6 @@
 -- What the calls of a start hand on, by the rows of the text.
-use Rattle.std.proofs.Common.{◌≡◌, ℕ, suc, ◌-◌, ◌<◌, List, [], map, length, All, AllPairs, Contains, slice_index_or, refl, sym, ap, ◌∙◌, subst, true}
+use Rattle.std.proofs.Common.{◌≡◌, ◌≢◌, ℕ, suc, ◌-◌, ◌<◌, List, [], map, length, All, AllPairs, Contains, slice_index_or, refl, sym, ap, ◌∙◌, subst, true}
+use Rattle.std.specs.List.Sorted.{IsPermutation}
 use Rattle.std.proofs.lemmas.List.{length-map}
 use Rattle.exact_field.specs.Rational.{ℚ}
 use Rattle.frac128.specs.Held.{is_held}
@@ -24,7 +25,7 @@ use Rattle.rep_convert.specs.Licensed.{AreMultiplied, AreShort, IsElimTable}
 use Rattle.rep_convert.specs.Lines.{AreLinesOf, marks_of, rows_without, width_without}
 use Rattle.rep_convert.specs.Started.{AreStarts, IsStarted, picked_without}
 use Rattle.rep_convert.proofs.LicensedFaults.{same_numbers}
-use Rattle.rep_convert.proofs.Starting.{gens_long, multiplied, none_orthogonal, picked_is, picked_short, rows_long, same_widths, short_table, starts_among, starts_are}
+use Rattle.rep_convert.proofs.Starting.{gens_long, multiplied, named_once, none_orthogonal, picked_is, picked_short, rows_long, same_widths, short_table, starts_among, starts_are}
 
 -- ---- whole rows
 pub complement_here : (n w : ℕ) (rows text got list : List (List ℚ)) → n ≡ w → rows ≡ text → list ≡ got →
@@ -68,14 +69,25 @@ module _ (rep : Rep) (lines : List (List ℚ)) (are : AreLinesOf rep lines) (n :
       (subst (λ (k : ℕ). AreIndependent k (rows_without rep lines) ks) width
       (subst (λ (t : Table). AreIndependent n t ks) (same_numbers rows ∙ rows_are) h)))
 
-  pub starts_among_here : (first : List ℕ) → AllPairs (λ j k. j < k) first → All (λ k. k < length rows) first → (m : ℕ) (some_of : List (List ℚ)) → m ≡ n →
-      some_of ≡ map (λ k. slice_index_or rows k []) first → (ks : List ℕ) → AreIndependent m (numbers (λ (q : ℚ). q) some_of) ks →
-      AreStarts rep lines (map (λ i. slice_index_or first (i - 1) 0) ks)
-  starts_among_here first rise exist m some_of same_width are_some ks h =
-      starts_among rep lines are first rise
-      (subst (λ (k : ℕ). All (λ j. j < k) first) (ap (λ (t : List (List ℚ)). length t) rows_are ∙ length-map (text_rows rep) (without (marks_of rep lines))) exist) ks
-      (subst (λ (k : ℕ). AreIndependent k (map (λ j. slice_index_or (rows_without rep lines) j []) first) ks) (same_width ∙ width)
-      (subst (λ (t : Table). AreIndependent m t ks) (same_numbers some_of ∙ are_some ∙ ap (λ (t : List (List ℚ)). map (λ j. slice_index_or t j []) first) rows_are) h))
+  -- ---- independent rows among those of these numbers, in any order
+  module _ (first : List ℕ) (once : AllPairs (λ j k. j ≢ k) first) (exist : All (λ k. k < length rows) first) (m : ℕ) (some_of : List (List ℚ)) (same_width : m ≡ n)
+      (are_some : some_of ≡ map (λ k. slice_index_or rows k []) first) (ks : List ℕ) (h : AreIndependent m (numbers (λ (q : ℚ). q) some_of) ks) where
+    abbrev named : List ℕ
+    named = map (λ i. slice_index_or first (i - 1) 0) ks
+
+    exist_here : All (λ k. k < length (text_rows rep)) first
+    exist_here = subst (λ (k : ℕ). All (λ j. j < k) first) (ap (λ (t : List (List ℚ)). length t) rows_are ∙ length-map (text_rows rep) (without (marks_of rep lines))) exist
+
+    independent : AreIndependent (width_without rep lines) (map (λ j. slice_index_or (rows_without rep lines) j []) first) ks
+    independent =
+        subst (λ (k : ℕ). AreIndependent k (map (λ j. slice_index_or (rows_without rep lines) j []) first) ks) (same_width ∙ width)
+        (subst (λ (t : Table). AreIndependent m t ks) (same_numbers some_of ∙ are_some ∙ ap (λ (t : List (List ℚ)). map (λ j. slice_index_or t j []) first) rows_are) h)
+
+    pub named_once_here : AllPairs (λ j k. j ≢ k) named
+    named_once_here = named_once rep lines are first once exist_here ks independent
+
+    pub starts_among_here : (picks : List ℕ) → IsPermutation named picks → AllPairs (λ j k. j < k) picks → AreStarts rep lines picks
+    starts_among_here = starts_among rep lines are first once exist_here ks independent
 
   -- ---- picked rows
   module _ (picks : List ℕ) (starts : AreStarts rep lines picks) (m : ℕ) (picked : List (List ℚ)) (picked_width : m ≡ n)

@@ -1,11 +1,13 @@
 -- The order of further rows as it is listed, and as it is gone through.
-use Rattle.std.proofs.Common.{◌≡◌, ◌≢◌, ℕ, ◌+◌, ◌<◌, ◌≤◌, List, [], ◌∷◌, ◌++◌, length, take, All, AllPairs, Contains, eqb-true, eq-eqb, sym, ap, ◌∙◌, subst, arith, inl, inr, slice_index_or, append_assoc}
+use Rattle.std.proofs.Common.{◌≡◌, ◌≢◌, ℕ, ◌+◌, ◌<◌, ◌≤◌, List, [], ◌∷◌, ◌++◌, length, take, get_or, All, AllPairs, Contains, eqb-true, eq-eqb, sym, ap, ◌∙◌, subst, arith, inl, inr, slice_index_or, append_assoc}
 use Rattle.std.specs.Bool.{Decides}
-use Rattle.std.specs.List.Sorted.{IsPermutation}
+use Rattle.std.specs.List.Sorted.{IsPermutation, IsSorted}
 use Rattle.std.specs.Prelude.{◌==◌}
 use Rattle.std.proofs.lemmas.Bool.{cases_eq}
 use Rattle.std.proofs.lemmas.List.Sorted.{All-permutation, Contains-permutation}
-use Rattle.std.proofs.lemmas.Map.Keys.{IsDistinct-IsPermutation}
+use Rattle.std.specs.Ordering.{nat_cmp}
+use Rattle.std.proofs.lemmas.Map.Keys.{IsDistinct-IsPermutation, ge_from_not_lt}
+use Rattle.std.proofs.lemmas.List.Kept.{AllPairs-from_increasing}
 use Rattle.std.proofs.lemmas.Map.Made.{AllPairs-from_IsDistinct, IsDistinct-from_AllPairs}
 use Rattle.std.proofs.lemmas.List.{get_or_default, get_or-take, length-take, take_all, take_more}
 use Rattle.std.proofs.lemmas.List.Elements.{All-nil, All-push, All-weaker, Contains-append_cases, Contains-append_left, Contains-append_right, Contains-push}
@@ -62,31 +64,37 @@ order_more k used order new h free is = subst (IsOrder (k + 1) used) (sym is) (r
 decides : (a b : ℕ) → Decides (a == b) (a ≡ b)
 decides a b = (eqb-true a b, eq-eqb a b)
 
+pub once_permuted : (xs ys : List ℕ) → IsPermutation xs ys → AllPairs (λ j k. j ≢ k) xs → AllPairs (λ j k. j ≢ k) ys
+once_permuted xs ys p once =
+    AllPairs-from_IsDistinct decides ys (IsDistinct-IsPermutation (λ (a b : ℕ). a == b) either xs ys p (IsDistinct-from_AllPairs decides xs once))
+  where
+    either : (a b : ℕ) → (a == b) ≡ (b == a)
+    either a b = same_tests (a == b) (b == a) (λ e. eq-eqb b a (sym (eqb-true a b e))) (λ e. eq-eqb a b (sym (eqb-true b a e)))
+
 pub order_permuted : (n : ℕ) (used order new : List ℕ) → IsPermutation order new → IsOrder n used order → IsOrder n used new
 order_permuted n used order new p h = record {
   exist = All-permutation (λ k. k < n) order new p h.exist;
   unused = All-permutation (λ k. Contains used k → ⊥) order new p h.unused;
-  once = AllPairs-from_IsDistinct decides new (IsDistinct-IsPermutation (λ (a b : ℕ). a == b) either order new p (IsDistinct-from_AllPairs decides order h.once));
+  once = once_permuted order new p h.once;
   all = λ k l. elim (h.all k l) [
     | inl a ↦ inl a
     | inr b ↦ inr (Contains-permutation order new k p b)
   ];
 }
-  where
-    either : (a b : ℕ) → (a == b) ≡ (b == a)
-    either a b = same_tests (a == b) (b == a) (λ e. eq-eqb b a (sym (eqb-true a b e))) (λ e. eq-eqb a b (sym (eqb-true b a e)))
 
--- ---- rising numbers
-pub rises_more : (k : ℕ) (xs new : List ℕ) → AllPairs (λ i j. i < j) xs → All (λ j. j < k) xs → new ≡ xs ++ k ∷ [] →
-    AllPairs (λ i j. i < j) new × All (λ j. j < k + 1) new
-rises_more k xs new rise below is = subst (λ (ys : List ℕ). AllPairs (λ i j. i < j) ys × All (λ j. j < k + 1) ys) (sym is) (
-  pairs-append (λ i j. i < j) xs (k ∷ []) rise (pairs-cons (λ i j. i < j) k [] (All-nil (λ j. k < j)) (pairs-nil (λ i j. i < j)))
-      (λ i j c d. subst (λ (b : ℕ). i < b) (only_one k j d) (member_of (λ a. a < k) xs i below c)),
-  All-push (λ j. j < k + 1) xs k (weaker k xs below) (omega arith),
-)
-  where
-    only_one : (a b : ℕ) → Contains (a ∷ []) b → a ≡ b
-    only_one a b c = elim (Contains-cases a [] b c) [ inl e ↦ e | inr n ↦ absurd (Contains-nil b n) ]
+-- ---- the first of them
+pub once_first : (n : ℕ) (xs : List ℕ) → AllPairs (λ j k. j ≢ k) xs → AllPairs (λ j k. j ≢ k) (take n xs)
+once_first n xs once i j d before inside same =
+    let long = length-take n xs in
+    let below : j < n = omega (arith, inside, long) in
+    once i j d before (omega (arith, inside, long)) (sym (get_or-take n xs i d (omega (arith, before, below))) ∙ same ∙ get_or-take n xs j d below)
+
+-- ---- sorted
+pub rises_sorted : (xs : List ℕ) → IsSorted nat_cmp xs → AllPairs (λ j k. j ≢ k) xs → AllPairs (λ j k. j < k) xs
+rises_sorted xs sorted once = AllPairs-from_increasing xs (λ k l.
+    let behind = ge_from_not_lt (get_or xs (k + 1) 0) (get_or xs k 0) (sorted k 0 (omega arith) l) in
+    let other = once k (k + 1) 0 (omega arith) l in
+    omega (arith, behind, other))
 
 -- ---- as it is gone through
 module _ (n : ℕ) (used order : List ℕ) (h : IsOrder n used order) (i : ℕ) (inside : i < length order) (number : ℕ) (is : number ≡ slice_index_or order i 0)

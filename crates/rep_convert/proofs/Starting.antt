@@ -1,15 +1,18 @@
 -- The rows that a conversion starts with.
-use Rattle.std.proofs.Common.{◌≡◌, ℕ, zero, suc, ◌-◌, ◌<◌, ◌≤◌, ◌==◌, not, true, List, [], ◌∷◌, map, length, All, AllPairs, Contains, slice_index_or, refl, sym, ap, ap₂, ◌∙◌, subst, arith}
+use Rattle.std.proofs.Common.{◌≡◌, ◌≢◌, ℕ, zero, suc, ◌-◌, ◌<◌, ◌≤◌, ◌==◌, not, true, List, [], ◌∷◌, map, length, All, AllPairs, Contains, slice_index_or, refl, sym, ap, ap₂, ◌∙◌, subst, arith}
 use Rattle.std.proofs.lemmas.List.{get_or-map, length-map, map-id}
+use Rattle.std.specs.List.Sorted.{IsPermutation}
+use Rattle.std.proofs.lemmas.List.Sorted.{All-permutation, IsPermutation-sym, length_permutation}
+use Rattle.std.proofs.lemmas.Map.Views.{All-map-IsPermutation}
 use Rattle.std.proofs.lemmas.List.Elements.{All-head, All-map, All-tail, All-weaker, Contains-get_or}
-use Rattle.exact_field.specs.Rational.{ℚ, one_ℚ}
+use Rattle.exact_field.specs.Rational.{ℚ, one_ℚ, zero_ℚ}
 use Rattle.exact_field.specs.Vector.{dot, entry}
 use Rattle.frac128.specs.Held.{is_held}
 use Rattle.polyhedra.specs.Cone.{HasFullRank}
 use Rattle.polyhedra.specs.LiveList.{LiveList, Numbered, vectors}
 use Rattle.polyhedra.specs.Vectors.{zeros}
 use Rattle.polyhedra.proofs.Laws.{zero_lt_one}
-use Rattle.polyhedra.proofs.Lists.{HasWidth}
+use Rattle.polyhedra.proofs.Lists.{HasWidth, all_from_map}
 use Rattle.polyhedra.proofs.LiveList.{vectors-numbered}
 use Rattle.polyhedra.proofs.Members.{Contains-map, all_of_members, member_of, pairs-map, pairs-weaker}
 use Rattle.polyhedra.proofs.Order.{not_zero_of_positive}
@@ -92,8 +95,8 @@ module _ (rep : Rep) (lines : List (List ℚ)) (are : AreLinesOf rep lines) wher
         (λ k l. Contains-map W (text_rows rep) (row_at rep k) (row_listed k l)) picks h));
   }
 
-  -- ---- independent rows among some of the rows
-  module _ (first : List ℕ) (rise : AllPairs (λ j k. j < k) first) (exist : All (λ k. k < length (text_rows rep)) first) where
+  -- ---- independent rows among some of the rows, in any order
+  module _ (first : List ℕ) (once : AllPairs (λ j k. j ≢ k) first) (exist : All (λ k. k < length (text_rows rep)) first) where
     abbrev some_of : List (List ℚ)
     some_of = map (λ k. slice_index_or (rows_without rep lines) k []) first
 
@@ -113,23 +116,37 @@ module _ (rep : Rep) (lines : List (List ℚ)) (are : AreLinesOf rep lines) wher
         (get_or-map (λ j. slice_index_or (rows_without rep lines) j []) first (k - 1) 0 [] (omega (arith, one, end, some_many)))
         (named_at ks (All-tail (λ i. 1 ≤ i) k ks low) (All-tail (λ i. i ≤ length some_of) k ks high))
 
-    pub starts_among : (numbers : List ℕ) → AreIndependent n some_of numbers → AreStarts rep lines (map number_at numbers)
-    starts_among numbers h = record {
-      many = length-map numbers number_at ∙ h.many;
-      rise = pairs-map (λ j k. j < k) number_at numbers (pairs-weaker (λ i k. i < k) (λ i k. number_at i < number_at k) numbers
+    module _ (numbers : List ℕ) (h : AreIndependent n some_of numbers) where
+      abbrev named : List ℕ
+      named = map number_at numbers
+
+      pub named_once : AllPairs (λ j k. j ≢ k) named
+      named_once = pairs-map (λ j k. j ≢ k) number_at numbers (pairs-weaker (λ i k. i < k) (λ i k. number_at i ≢ number_at k) numbers
           (λ i k c d l.
           let low = member_of (λ j. 1 ≤ j) numbers i h.from_one c in
           let high = member_of (λ j. j ≤ length some_of) numbers k h.to_end d in
-          rise (i - 1) (k - 1) 0 (omega (arith, l, low)) (omega (arith, l, low, high, some_many))) h.rising);
-      exist = listed;
-      rank = subst (HasFullRank n) (named_at numbers h.from_one h.to_end ∙ picked_is (map number_at numbers) listed) h.rank;
-    }
-      where
-        listed : All (λ k. k < length (text_rows rep)) (map number_at numbers)
-        listed = All-map (λ k. k < length (text_rows rep)) number_at numbers (all_of_members (λ i. number_at i < length (text_rows rep)) numbers (λ i c.
-            let low = member_of (λ j. 1 ≤ j) numbers i h.from_one c in
-            let high = member_of (λ j. j ≤ length some_of) numbers i h.to_end c in
-            exist (i - 1) 0 (omega (arith, low, high, some_many))))
+          once (i - 1) (k - 1) 0 (omega (arith, l, low)) (omega (arith, l, low, high, some_many))) h.rising)
+
+      named_exist : All (λ k. k < length (text_rows rep)) named
+      named_exist = All-map (λ k. k < length (text_rows rep)) number_at numbers (all_of_members (λ i. number_at i < length (text_rows rep)) numbers (λ i c.
+          let low = member_of (λ j. 1 ≤ j) numbers i h.from_one c in
+          let high = member_of (λ j. j ≤ length some_of) numbers i h.to_end c in
+          exist (i - 1) 0 (omega (arith, low, high, some_many))))
+
+      named_rank : HasFullRank n (picked_without rep lines named)
+      named_rank = subst (HasFullRank n) (named_at numbers h.from_one h.to_end ∙ picked_is named named_exist) h.rank
+
+      -- rising, they are a start
+      pub starts_among : (picks : List ℕ) → IsPermutation named picks → AllPairs (λ j k. j < k) picks → AreStarts rep lines picks
+      starts_among picks p rise = record {
+        many = length_permutation named picks p ∙ (length-map numbers number_at ∙ h.many);
+        rise = rise;
+        exist = All-permutation (λ k. k < length (text_rows rep)) named picks p named_exist;
+        rank = λ z wide none. named_rank z wide
+            (All-map (λ v. dot v z ≡ zero_ℚ) W (map (row_at rep) named)
+            (All-map-IsPermutation (row_at rep) (λ r. dot (W r) z ≡ zero_ℚ) picks named (IsPermutation-sym named picks p)
+            (all_from_map (λ v. dot v z ≡ zero_ℚ) W (map (row_at rep) picks) none)));
+      }
 
   -- ---- independent rows
   module _ (some : has_rows rep ≡ true) where

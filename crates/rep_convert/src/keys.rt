@@ -1,13 +1,16 @@
-//! What rows are sorted by: how far out points lie, and else the angles of rows with their mean.
+//! What rows are sorted by: corners of a box by their entries, other points by how far out they
+//! lie, and else rows by their angles with the mean of all.
 
 use exact_field::Field;
 use frac128::{Frac, Vector, is_zero};
 use src_sink::NoMemory;
 use std::alloc::Global;
 
-/// A number for each row. `None` stands for the least.
+/// What rows are sorted by. Of the numbers, one for each row, `None` stands for the least.
 #[derive(Drop)]
 pub(crate) enum Keys {
+    /// Their entries, as corners of a box.
+    Corners,
     /// How near to the origin points lie.
     Nearness(Vec<Option<Frac>>),
     /// The squares of the cosines of the angles with the mean of all rows, with the signs of the
@@ -162,6 +165,20 @@ fn are_points(gens: bool, rows: &[Vector]) -> bool {
     gens && rows.iter().all(|row| row.as_slice().last().is_some_and(|last| !is_zero(*last)))
 }
 
+/// Whether rows have two values at a place, or one.
+fn has_two_values(rows: &[Vector], k: usize) -> bool {
+    let entries = || rows.iter().filter_map(|row| row.as_slice().get(k));
+    let first = entries().next();
+    let other = entries().find(|x| Some(*x) != first);
+    entries().all(|x| Some(x) == first || Some(x) == other)
+}
+
+/// Whether points are corners of a box: at each place they have two values at most.
+fn are_corners(rows: &[Vector]) -> bool {
+    let width = rows.first().map_or(0, |row| row.as_slice().len());
+    (0..width).all(|k| has_two_values(rows, k))
+}
+
 /// For each point how near it lies.
 fn nearness_of_all(alloc: Global, rows: &[Vector]) -> Result<Vec<Option<Frac>>, NoMemory> {
     let mut keys = Vec::with_capacity(alloc, rows.len())?;
@@ -174,9 +191,11 @@ fn nearness_of_all(alloc: Global, rows: &[Vector]) -> Result<Vec<Option<Frac>>, 
 /// What the rows of a text are sorted by, `gens` where it lists points, directions and lines. The
 /// cost is that of a few operations for each entry.
 pub(crate) fn keys_of(alloc: Global, gens: bool, rows: &[Vector]) -> Result<Keys, NoMemory> {
-    if are_points(gens, rows) {
-        Ok(Keys::Nearness(nearness_of_all(alloc, rows)?))
-    } else {
-        Ok(Keys::Cosines(cosines(alloc, rows)?))
+    if !are_points(gens, rows) {
+        return Ok(Keys::Cosines(cosines(alloc, rows)?));
     }
+    if are_corners(rows) {
+        return Ok(Keys::Corners);
+    }
+    Ok(Keys::Nearness(nearness_of_all(alloc, rows)?))
 }

@@ -44,11 +44,59 @@ fn eighths(alloc: Global, count: u32, order: &[u32]) -> Result<Vec<usize>, NoMem
     Ok(eighths)
 }
 
-/// Sorts points, the farthest first. Those that are as far keep their order.
-fn sort_far_first(order: &mut Vec<u32>, nearness: &[Option<Frac>]) -> Result<(), NoMemory>
+/// The entries of the row of a number.
+fn entries_of(rows: &[Vector], k: u32) -> Option<&[Frac]> {
+    rows.get(k as usize).map(|row| row.as_slice())
+}
+
+/// For each number below the bound whether its row is equal to that of the number before it.
+fn repeats(
+    alloc: Global,
+    count: u32,
+    order: &[u32],
+    rows: &[Vector],
+) -> Result<Vec<bool>, NoMemory> {
+    let mut repeats = Vec::new(alloc);
+    for _ in 0..count {
+        repeats.push(false)?;
+    }
+    for (before, k) in order.iter().zip(order.iter().skip(1)) {
+        if let Some(is_repeat) = repeats.get_mut(*k as usize) {
+            *is_repeat = entries_of(rows, *before) == entries_of(rows, *k);
+        }
+    }
+    Ok(repeats)
+}
+
+/// Sorts corners of a box by their entries, from the first on; last come those that stand before.
+/// These give no new generators, and where there are most corners of a box, there are few
+/// generators at the end.
+fn sort_corners(
+    alloc: Global,
+    order: &mut Vec<u32>,
+    count: u32,
+    rows: &[Vector],
+) -> Result<(), NoMemory>
     ensures { OnOk result (IsPermutation order.old.items order.new.items) }
 {
-    order.sort_by_cached_key(|k| nearness.get(*k as usize).copied().flatten())?;
+    order.sort_by_cached_key(|k| entries_of(rows, *k))?;
+    let repeats = repeats(alloc, count, order, rows)?;
+    order.sort_by_cached_key(|k| repeats.get(*k as usize).copied())?;
+    Ok(())
+}
+
+/// Sorts points, the farthest first, and those that are as far by their entries.
+fn sort_far_first(
+    order: &mut Vec<u32>,
+    rows: &[Vector],
+    nearness: &[Option<Frac>],
+) -> Result<(), NoMemory>
+    ensures { OnOk result (IsPermutation order.old.items order.new.items) }
+{
+    order.sort_by_cached_key(|k| {
+        let near = nearness.get(*k as usize).copied().flatten();
+        (near, entries_of(rows, *k))
+    })?;
     Ok(())
 }
 
@@ -59,7 +107,7 @@ fn count_entries(row: &[Frac]) -> usize {
 
 /// Sorts rows: those of equations and lines first, then those at the widest angles with the mean
 /// of all. Within an eighth of these the rows of fewest entries come first, on which most
-/// generators lie where numbers are small; rows that are alike in this stand by rising numbers.
+/// generators lie where numbers are small; rows that are alike in this stand by their entries.
 fn sort_wide_first(
     alloc: Global,
     order: &mut Vec<u32>,
@@ -69,15 +117,16 @@ fn sort_wide_first(
 ) -> Result<(), NoMemory>
     ensures { OnOk result (IsPermutation order.old.items order.new.items) }
 {
-    order.sort_by_cached_key(|k| cosines.get(*k as usize).copied().flatten())?;
+    order.sort_by_cached_key(|k| {
+        let cosine = cosines.get(*k as usize).copied().flatten();
+        (cosine, entries_of(rows, *k))
+    })?;
     let eighths = eighths(alloc, count, order)?;
     order.sort_by_cached_key(|k| {
         let goes_one_way = cosines.get(*k as usize).copied().flatten().is_some();
         let eighth = eighths.get(*k as usize).copied();
-        let entries = rows
-            .get(*k as usize)
-            .map(|row| count_entries(row.as_slice()));
-        ((goes_one_way, eighth), (entries, *k))
+        let row = entries_of(rows, *k);
+        ((goes_one_way, eighth), (row.map(count_entries), row))
     })?;
     Ok(())
 }
@@ -93,7 +142,8 @@ fn sort_rows(
     ensures { OnOk result (IsPermutation order.old.items order.new.items) }
 {
     match keys {
-        Keys::Nearness(nearness) => sort_far_first(order, nearness),
+        Keys::Corners => sort_corners(alloc, order, count, rows),
+        Keys::Nearness(nearness) => sort_far_first(order, rows, nearness),
         Keys::Cosines(cosines) => sort_wide_first(alloc, order, count, rows, cosines),
     }
 }

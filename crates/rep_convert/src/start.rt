@@ -1,10 +1,11 @@
 //! The rows that a conversion starts with, and their double description.
-ghost use Rattle.std.specs.Prelude.{◌≡◌, ◌+◌, ◌-◌, ◌<◌, ◌≤◌, [], suc, All, AllPairs, IfErr, IfOk, IfSome, OnOk, length, map, slice_index_or};
+ghost use Rattle.std.specs.Prelude.{◌≡◌, ◌≢◌, ◌-◌, ◌<◌, ◌≤◌, [], suc, All, AllPairs, IfErr, IfOk, IfSome, IsPermutation, length, map, slice_index_or};
 ghost use Rattle.frac128.specs.Held.{is_held};
 ghost use Rattle.lineality.specs.Without.{open_count, with_zeros, without};
 ghost use Rattle.polyhedra.specs.LiveList.{vectors};
 ghost use Rattle.rep_conv.specs.Rows.{row_at, text_rows};
 ghost use Rattle.rep_convert.specs.Licensed.{IsConvLeft};
+ghost use Rattle.rep_convert.specs.Order.{IsOrder};
 ghost use Rattle.rep_convert.specs.Lines.{AreLinesOf, marks_of, rows_without, width_without};
 ghost use Rattle.rep_convert.specs.Started.{AreStarts, IsStarted, picked_without};
 ghost use Rattle.double_descr.specs.Starting.{IsStart};
@@ -59,29 +60,15 @@ fn from_zero(alloc: Global, numbers: &[u32]) -> Result<Items<u32>, NoMemory>
     Ok(list)
 }
 
-/// Lists a number, if it stands in another list.
-fn push_listed(found: &mut Items<u32>, list: &[u32], k: u32) -> Result<(), NoMemory>
-    requires rise { AllPairs (λ i j. i < j) found.old }
-    requires exist { All (λ j. j < k) found.old }
-    ensures rise { OnOk result (AllPairs (λ i j. i < j) found.new) }
-    ensures exist { OnOk result (All (λ j. j < k + 1) found.new) }
+/// These numbers, none of which stands twice, so that they rise.
+fn rising(numbers: Items<u32>) -> Items<u32>
+    requires { AllPairs (λ j k. j ≢ k) numbers }
+    ensures rise { AllPairs (λ j k. j < k) result }
+    ensures same { IsPermutation numbers result }
 {
-    if !list.contains(&k) {
-        return Ok(());
-    }
-    found.push(k)
-}
-
-/// Which of the numbers below the bound stand in a list, rising.
-fn rising_of(alloc: Global, count: u32, list: &[u32]) -> Result<Items<u32>, NoMemory>
-    ensures rise { IfOk result (λ found. AllPairs (λ i j. i < j) found) }
-    ensures exist { IfOk result (λ found. All (λ j. j < count) found) }
-{
-    let mut found = Items::new(alloc);
-    for k in 0..count {
-        push_listed(&mut found, list, k)?;
-    }
-    Ok(found)
+    let mut list = numbers.into_vec();
+    list.sort_unstable();
+    Items::from_vec(list)
 }
 
 /// The elements of a list at these places, from 1.
@@ -98,8 +85,9 @@ fn at_places(alloc: Global, list: &[u32], places: &[u32]) -> Result<Items<u32>, 
 }
 
 /// The numbers of the rows of a start among the first so many of an order, where these have enough
-/// and their elimination meets no overflow. Want of memory is told, as by the other calls. Its cost
-/// is that of an elimination of so many rows.
+/// and their elimination meets no overflow: each that is independent of those before it in the
+/// order. Want of memory is told, as by the other calls. Its cost is that of an elimination of so
+/// many rows.
 fn early_numbers(
     alloc: Global,
     rep: &Rep,
@@ -111,16 +99,17 @@ fn early_numbers(
     requires lines { AreLinesOf rep.now lines.now }
     requires width { short.now.width ≡ width_without rep.now lines.now }
     requires rows { short.now.list ≡ rows_without rep.now lines.now }
+    requires order { IsOrder (length short.now.list) [] order.now }
     ensures starts { IfOk result (λ found. IfSome found (AreStarts rep.now lines.now)) }
 {
-    let first = match order.get(..most) {
-        Some(first) => rising_of(alloc, short.count(), first)?,
-        None => return Ok(None),
+    let Some(first) = order.get(..most) else {
+        return Ok(None);
     };
-    let rows = picked_rows(alloc, short, first.as_slice())?;
+    let rows = picked_rows(alloc, short, first)?;
     match find_independent(alloc, &rows, rows.width()) {
         Ok(Indep::Basis(places)) => {
-            Ok(Some(at_places(alloc, first.as_slice(), places.as_slice())?))
+            let picks = at_places(alloc, first, places.as_slice())?;
+            Ok(Some(rising(picks)))
         }
         Ok(Indep::Orthogonal(_)) => Ok(None),
         Err(RowFault::Left { .. }) => Ok(None),
@@ -149,8 +138,8 @@ fn all_numbers(
     }
 }
 
-/// The numbers of the rows of the start, from 0: among the first rows of an order, where they can
-/// be found there, and else among all rows.
+/// The numbers of the rows of the start, from 0: among the first rows of an order, or among all in
+/// that order, where they can be found so, and else as the rows stand.
 fn start_numbers(
     alloc: Global,
     rep: &Rep,
@@ -162,15 +151,20 @@ fn start_numbers(
     requires some { 0 < length (text_rows rep.now) }
     requires width { short.now.width ≡ width_without rep.now lines.now }
     requires rows { short.now.list ≡ rows_without rep.now lines.now }
+    requires order { IsOrder (length short.now.list) [] order.now }
     ensures starts { IfOk result (AreStarts rep.now lines.now) }
     ensures left { IfErr result (IsConvLeft is_held rep.now) }
 {
-    let width = short.width() as usize;
-    for times in [1, 2, 4, 8] {
-        let found = early_numbers(alloc, rep, lines, short, order, times * width)?;
+    for times in [1, 2, 4, 8, 16, 32, 64, 128, 256] {
+        let most = times * short.width() as usize;
+        let found = early_numbers(alloc, rep, lines, short, order, most)?;
         if let Some(picks) = found {
             return Ok(picks);
         }
+    }
+    let found = early_numbers(alloc, rep, lines, short, order, order.len())?;
+    if let Some(picks) = found {
+        return Ok(picks);
     }
     all_numbers(alloc, rep, lines, short)
 }
