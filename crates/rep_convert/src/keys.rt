@@ -1,5 +1,5 @@
-//! What rows are sorted by: corners of a box by their entries, other points by how far out they
-//! lie, and else rows by their angles with the mean of all.
+//! What rows are sorted by: corners of a box by their entries, other points by how far from the
+//! mean of all they lie, and else rows by their angles with the mean of all.
 
 use exact_field::Field;
 use frac128::{Frac, Vector, is_zero};
@@ -11,36 +11,26 @@ use std::alloc::Global;
 pub(crate) enum Keys {
     /// Their entries, as corners of a box.
     Corners,
-    /// How near to the origin points lie.
-    Nearness(Vec<Option<Frac>>),
+    /// How near to their mean points lie, in units that are the same for all.
+    Nearness(Vec<Option<i64>>),
     /// The squares of the cosines of the angles with the mean of all rows, with the signs of the
     /// cosines, in units that are the same for all.
     Cosines(Vec<Option<i128>>),
 }
 
-/// How many steps of a 65,536th of its greatest magnitude each entry of a row has, cut to whole
-/// numbers.
+/// How many steps each entry of a row has, cut to whole numbers.
 type Steps = Vec<i64>;
+
+/// How many steps a row's entry of greatest magnitude has, with a minus, where angles are compared.
+const ANGLE_STEPS: i64 = -65_536;
+
+/// How many steps the greatest magnitude of all points has at most, with a minus. All numbers up to
+/// 24 divide it, so that fractions of small numbers are whole.
+const POINT_STEPS: i64 = -5_354_228_880;
 
 /// The negative of a number's magnitude.
 fn below_zero(x: Frac) -> Frac {
     if x.sign() > 0 { x.neg() } else { x }
-}
-
-/// The sum of the magnitudes of a row's entries but the last over that of the last, with a minus:
-/// the less it is, the farther out a point lies. `None` where the last entry is 0, as for a
-/// direction, or the number is not held.
-fn nearness(row: &[Frac]) -> Option<Frac> {
-    let (last, entries) = row.split_last()?;
-    if is_zero(*last) {
-        return None;
-    }
-    let mut sum = Frac::from(0);
-    for entry in entries {
-        sum = sum.plus(below_zero(*entry))?;
-    }
-    let by = sum.times(last.reciprocal())?;
-    Some(below_zero(by))
 }
 
 /// The negative of the greatest magnitude among the entries.
@@ -52,15 +42,25 @@ fn lowest(row: &[Frac]) -> Frac {
     low
 }
 
-/// The steps of a row. `None` where all entries are 0, or a number is not held.
-fn steps_of(alloc: Global, row: &[Frac]) -> Result<Option<Steps>, NoMemory> {
-    let low = lowest(row);
+/// How many steps a unit has, where the number of least value has so many. `None` where that is 0,
+/// or the number is not held.
+fn per_unit(low: Frac, steps: i64) -> Option<Frac> {
     if is_zero(low) {
-        return Ok(None);
+        return None;
     }
-    let Some(per_unit) = Frac::from(-65_536).times(low.reciprocal()) else {
-        return Ok(None);
-    };
+    Frac::from(steps).times(low.reciprocal())
+}
+
+/// A positive number cut to a whole one, if that is not 0.
+fn whole_part(x: Frac) -> Frac {
+    match i64::try_from(x.num() / x.den()) {
+        Ok(whole) if whole > 0 => Frac::from(whole),
+        _ => x,
+    }
+}
+
+/// The steps of a row. `None` where a number is not held.
+fn steps_of(alloc: Global, row: &[Frac], per_unit: Frac) -> Result<Option<Steps>, NoMemory> {
     let mut steps = Vec::with_capacity(alloc, row.len())?;
     for entry in row {
         let Some(count) = entry.times(per_unit) else {
@@ -74,11 +74,33 @@ fn steps_of(alloc: Global, row: &[Frac]) -> Result<Option<Steps>, NoMemory> {
     Ok(Some(steps))
 }
 
-/// The steps of each row.
-fn steps_of_all(alloc: Global, rows: &[Vector]) -> Result<Vec<Option<Steps>>, NoMemory> {
+/// The steps of each row by which angles are compared, 65,536 for the row's greatest magnitude.
+fn angle_steps(alloc: Global, rows: &[Vector]) -> Result<Vec<Option<Steps>>, NoMemory> {
     let mut all = Vec::with_capacity(alloc, rows.len())?;
     for row in rows {
-        all.push(steps_of(alloc, row.as_slice())?)?;
+        let steps = match per_unit(lowest(row.as_slice()), ANGLE_STEPS) {
+            Some(by) => steps_of(alloc, row.as_slice(), by)?,
+            None => None,
+        };
+        all.push(steps)?;
+    }
+    Ok(all)
+}
+
+/// The steps of each point, with as many for a unit.
+fn point_steps(alloc: Global, rows: &[Vector]) -> Result<Vec<Option<Steps>>, NoMemory> {
+    let mut low = Frac::from(0);
+    for row in rows {
+        low = low.min(lowest(row.as_slice()));
+    }
+    let by = per_unit(low, POINT_STEPS).map(whole_part);
+    let mut all = Vec::with_capacity(alloc, rows.len())?;
+    for row in rows {
+        let steps = match by {
+            Some(by) => steps_of(alloc, row.as_slice(), by)?,
+            None => None,
+        };
+        all.push(steps)?;
     }
     Ok(all)
 }
@@ -99,7 +121,7 @@ fn product(a: &[i64], b: &[i64]) -> i64 {
     sum
 }
 
-/// The sum of all rows, each in steps of its own.
+/// The sum of all rows in their steps.
 fn mean_of(alloc: Global, rows: &[Vector], all: &[Option<Steps>]) -> Result<Steps, NoMemory> {
     let mut sums = Vec::new(alloc);
     if let Some(row) = rows.first() {
@@ -146,7 +168,7 @@ fn goes_both_ways(rows: &[Vector], k: usize) -> bool {
 /// For each row the square of the cosine of its angle with the mean of all; `None` for rows that go
 /// both ways, and for those without steps.
 fn cosines(alloc: Global, rows: &[Vector]) -> Result<Vec<Option<i128>>, NoMemory> {
-    let all = steps_of_all(alloc, rows)?;
+    let all = angle_steps(alloc, rows)?;
     let mean = mean_of(alloc, rows, &all)?;
     let mut keys = Vec::with_capacity(alloc, rows.len())?;
     for (k, steps) in all.iter().enumerate() {
@@ -179,11 +201,25 @@ fn are_corners(rows: &[Vector]) -> bool {
     (0..width).all(|k| has_two_values(rows, k))
 }
 
-/// For each point how near it lies.
-fn nearness_of_all(alloc: Global, rows: &[Vector]) -> Result<Vec<Option<Frac>>, NoMemory> {
+/// The sum of the distances of a point's entries from those of the mean, times the number of
+/// points, with a minus: the less it is, the farther out the point lies.
+fn nearness(steps: &[i64], sums: &[i64], count: i64) -> i64 {
+    let mut near = 0i64;
+    for (x, sum) in steps.iter().zip(sums) {
+        let from = x.saturating_mul(count).saturating_sub(*sum);
+        near = near.saturating_add(from.min(from.saturating_neg()));
+    }
+    near
+}
+
+/// For each point how near to the mean of all it lies; `None` for those without steps.
+fn nearness_of_all(alloc: Global, rows: &[Vector]) -> Result<Vec<Option<i64>>, NoMemory> {
+    let all = point_steps(alloc, rows)?;
+    let sums = mean_of(alloc, rows, &all)?;
+    let count = i64::try_from(rows.len()).unwrap_or(i64::MAX);
     let mut keys = Vec::with_capacity(alloc, rows.len())?;
-    for row in rows {
-        keys.push(nearness(row.as_slice()))?;
+    for steps in all.iter() {
+        keys.push(steps.as_ref().map(|steps| nearness(steps, &sums, count)))?;
     }
     Ok(keys)
 }

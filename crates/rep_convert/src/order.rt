@@ -89,7 +89,7 @@ fn sort_corners(
 fn sort_far_first(
     order: &mut Vec<u32>,
     rows: &[Vector],
-    nearness: &[Option<Frac>],
+    nearness: &[Option<i64>],
 ) -> Result<(), NoMemory>
     ensures { OnOk result (IsPermutation order.old.items order.new.items) }
 {

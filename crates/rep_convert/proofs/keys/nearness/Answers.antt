@@ -1,7 +1,0 @@
-use Rattle.std.proofs.Common.{sym, ◌∙◌, true≢false}
-use Rattle.log_rules.proofs.PassedTests.{zero_passes}
-use Rattle.rep_convert.proofs.keys.nearness.Goals as goal
-
-pub reciprocal-requires : goal.reciprocal-requires
-reciprocal-requires c = λ none.
-    true≢false (sym (zero_passes c.in_ok-last.last.now none) ∙ sym c.is_zero.ensures ∙ c.if-is_zero.false)
