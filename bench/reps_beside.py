@@ -233,7 +233,7 @@ def families():
 
 SERIES = (("cyclic", "vertices", 4, (12, 20, 30, 40, 60, 80)), ("cyclic", "vertices", 5, (12, 16, 20, 24)), ("cyclic", "vertices", 6, (10, 12, 14, 16)),
           ("cyclic", "facets", 4, (20, 40, 80, 120)), ("cyclic", "facets", 6, (16, 20, 24, 32)),
-          ("zero_one", "facets", 8, (20, 40, 80, 120)), ("zero_one", "vertices", 7, (16, 18, 20, 24)),
+          ("zero_one", "facets", 8, (20, 40, 80, 120, 160, 240)), ("zero_one", "vertices", 7, (16, 18, 20, 24)),
           ("drawn", "facets", 5, (20, 40, 80, 160)), ("drawn", "facets", 8, (16, 24, 32, 40)), ("drawn", "vertices", 4, (100, 200, 400, 800)),
           ("drawn", "vertices", 6, (24, 36, 48, 80)), ("covering", "vertices", 5, (80, 160, 320, 640)), ("packing", "vertices", 5, (80, 160, 320, 640)),
           ("upper", "facets", 5, (80, 160, 320, 640)))
