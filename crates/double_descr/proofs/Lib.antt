@@ -13,3 +13,4 @@ pub mod Sifting
 pub mod SignTests
 pub mod StartState
 pub mod StepLists
+pub mod WholeNumbers

@@ -12,8 +12,10 @@ mod pairs;
 mod parts;
 mod points;
 mod reach;
+mod scales;
 mod starting;
 mod steps;
+mod wholes;
 
 pub use dd::Dd;
 pub use fault::{Change, DdFault, Pair};

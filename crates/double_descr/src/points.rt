@@ -5,6 +5,7 @@ ghost use Rattle.polyhedra.specs.DoubleDescription.{leading, magnitude, norming,
 ghost use Rattle.double_descr.specs.Steps.{Runs, between, meeting_steps, values};
 
 use crate::steps::{Stop, combination, quotients};
+use crate::wholes::meeting_over;
 use exact_field::{Field, is_negative, is_zero};
 use std::alloc::Global;
 
@@ -61,6 +62,9 @@ pub fn meeting_point<F: Field>(
         ≡ normed (between (F.value at_plus) (F.value at_minus) (values F.value plus.now)
         (values F.value minus.now))) }
 {
+    if let Some(vector) = meeting_over(alloc, plus, minus, at_plus, at_minus)? {
+        return Ok(vector);
+    }
     let factor = match at_plus.div(at_minus.neg()) {
         Err(left) => return Err(Stop::Step(1, left)),
         Ok(factor) => factor,

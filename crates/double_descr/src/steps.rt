@@ -6,6 +6,7 @@ ghost use Rattle.polyhedra.specs.Vectors.{plus, scaled};
 ghost use Rattle.polyhedra.specs.DoubleDescription.{is_zero};
 ghost use Rattle.double_descr.specs.Steps.{IsSoFar, Runs, Step, StopsAt, combination_steps, multiple_steps, product_steps, quotient_steps, term_steps, values};
 
+use exact_field::over::dot_over;
 use exact_field::{Field, Left, is_zero};
 use std::alloc::{AllocError, AllocFailed, Global};
 
@@ -88,7 +89,10 @@ pub fn product<F: Field>(row: &[F], vector: &[F]) -> Result<F, Stop<F>>
         (product_steps zero_ℚ (values F.value row.now) (values F.value vector.now)) result
         (λ r. F.value r ≡ dot (values F.value row.now) (values F.value vector.now)) }
 {
-    match F::short_dot(row, vector) {
+    if let Some(value) = F::short_dot(row, vector) {
+        return Ok(value);
+    }
+    match dot_over(row, vector) {
         Some(value) => Ok(value),
         None => product_by_steps(row, vector),
     }

@@ -4,6 +4,8 @@ pub mod Inequalities
 pub mod Integers
 pub mod LawProofs
 pub mod LeastQuotient
+pub mod Numerators
+pub mod Products
 pub mod RationalLaws
 pub mod Rationals
 pub mod RingTool

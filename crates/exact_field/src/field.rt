@@ -71,6 +71,10 @@ pub trait Field: Copy + Eq + Ord {
         requires { value other ≢ zero_ℚ }
         ensures { Answers value holds Div self other (value self /ℚ value other) result };
 
+    /// Whether the type holds each number whose parts are small.
+    fn holds_small() -> bool
+        ensures { IsTrue result → (q : ℚ) → IsSmall q → IsTrue (holds q) };
+
     /// The product of two vectors of one width, calculated in a short way of the type's own. An
     /// answer says that each product of two entries is held and each sum of those so far, so that
     /// entry by entry the same comes out. `None` says nothing: then the product is calculated entry

@@ -4,6 +4,7 @@
 pub mod field;
 pub mod laws;
 pub mod op;
+pub mod over;
 pub mod sign;
 
 pub use field::Field;

@@ -1,21 +1,20 @@
 -- Sums of products over one denominator.
 use mir.Syntax.{w128}
 use mir.Val.{to_z, of_z}
-use Rattle.std.specs.Prelude.{◌≡◌, ℕ, ℤ, pos, ◌+◌, ◌*◌, ◌/◌, ◌+ℤ◌, ◌*ℤ◌, ◌^◌, ◌<◌, ◌≤◌, ◌⊎◌, unsigned_abs, IsTrue, refl, List, [], ◌∷◌, length, drop, get_or, Option, Some, None, IfSome}
+use Rattle.std.specs.Prelude.{◌≡◌, ℕ, ℤ, pos, ◌+◌, ◌*◌, ◌/◌, ◌+ℤ◌, ◌*ℤ◌, ◌^◌, ◌<◌, ◌⊎◌, unsigned_abs, IsTrue, refl, List, [], ◌∷◌, length, drop, get_or}
 use Rattle.std.specs.Int.{◌∣◌}
 use Rattle.std.proofs.Common.{arith, sym, ap, ◌∙◌, subst, inl, inr, mul-pos}
 use Rattle.std.proofs.Math.Nat.{div-le_self, mul-div_cancel', dvd-mul_left, pos_of_dvd_of_pos}
 use Rattle.std.proofs.lemmas.Int.{unsigned_abs-mul}
 use Rattle.std.proofs.lemmas.Nat.{mul-lt}
-use Rattle.std.proofs.lemmas.List.{at_drop_more, drop_all}
-use Rattle.exact_field.specs.Field.{AreSumsHeld, IsShortDot}
+use Rattle.std.proofs.lemmas.List.{at_drop_more}
 use Rattle.exact_field.specs.Gcd.{gcd, gcd_is}
 use Rattle.exact_field.specs.Rational.{ℚ, zero_ℚ, fraction, ◌+ℚ◌, ◌*ℚ◌}
 use Rattle.exact_field.specs.Ring.{◌⊕◌, ◌⊗◌, v0, v1, v2, v3, v4, v5}
-use Rattle.exact_field.specs.Vector.{dot}
 use Rattle.exact_field.proofs.RingTool.{ring, integers}
+use Rattle.exact_field.proofs.Products.{IsDotFrom, dot_on}
 use Rattle.exact_field.proofs.RationalLaws.{fraction_represents, same_represented, add_represents}
-use Rattle.exact_field.proofs.Rationals.{zero_from_num, add_assoc_ℚ, zero-add_ℚ, add-zero_ℚ, zero-mul_ℚ, mul-zero_ℚ}
+use Rattle.exact_field.proofs.Rationals.{zero_from_num, add-zero_ℚ, zero-mul_ℚ, mul-zero_ℚ}
 use Rattle.frac128.specs.Held.{is_held, IsNarrow}
 use Rattle.frac128.specs.Signed.{is_below_zero}
 use Rattle.frac128.proofs.Compared.{same_bits}
@@ -118,44 +117,11 @@ add_nothing total r e = sym (ap (λ (z : ℚ). total +ℚ z) e ∙ add-zero_ℚ 
 
 -- ---- the product of two vectors
 
--- with the product of what is left from place i, the total is the product of the vectors, and all that comes before it
--- is held where all from here is
-pub record IsDotFrom (xs ys : List ℚ) (i : ℕ) (total : ℚ) : Type 0 where
-  pub rest : total +ℚ dot (drop i xs) (drop i ys) ≡ dot xs ys
-  pub held : AreSumsHeld is_held total (drop i xs) (drop i ys) → AreSumsHeld is_held zero_ℚ xs ys
-
-pub dot_start : (xs ys : List ℚ) (total : ℚ) → total ≡ zero_ℚ → IsDotFrom xs ys 0 total
-dot_start xs ys total e =
-    record {
-      rest = ap (λ (z : ℚ). z +ℚ dot xs ys) e ∙ zero-add_ℚ (dot xs ys);
-      held = λ h. subst (λ (z : ℚ). AreSumsHeld is_held z xs ys) e h;
-    }
-
+-- what is left from a place on
 left_from : (xs : List ℚ) (i : ℕ) (x : ℚ) → i < length xs → x ≡ get_or xs i x → drop i xs ≡ x ∷ drop (i + 1) xs
 left_from xs i x within is = at_drop_more (λ (zs : List ℚ). zs) xs i x within ∙ ap (λ (z : ℚ). z ∷ drop (i + 1) xs) (sym is)
 
-pub dot_more : (xs ys : List ℚ) (i : ℕ) (x y total next : ℚ) → i < length xs → length xs ≡ length ys → x ≡ get_or xs i x → y ≡ get_or ys i y → IsDotFrom xs ys i total → next ≡ total +ℚ x *ℚ y → IsTrue (is_held (x *ℚ y)) → IsTrue (is_held next) → IsDotFrom xs ys (i + 1) next
-dot_more xs ys i x y total next within same is_x is_y from e product_held next_held =
-    let ex : drop i xs ≡ x ∷ drop (i + 1) xs = left_from xs i x within is_x in
-    let ey : drop i ys ≡ y ∷ drop (i + 1) ys = left_from ys i y (omega arith) is_y in
-    let split : total +ℚ dot (drop i xs) (drop i ys) ≡ total +ℚ (x *ℚ y +ℚ dot (drop (i + 1) xs) (drop (i + 1) ys)) =
-    ap (λ (zs : List ℚ). total +ℚ dot zs (drop i ys)) ex ∙ ap (λ (zs : List ℚ). total +ℚ dot (x ∷ drop (i + 1) xs) zs) ey in
-    record {
-      rest =
-          ap (λ (z : ℚ). z +ℚ dot (drop (i + 1) xs) (drop (i + 1) ys)) e
-          ∙ add_assoc_ℚ total (x *ℚ y) (dot (drop (i + 1) xs) (drop (i + 1) ys))
-          ∙ sym split ∙ from.rest;
-      held =
-          λ h.
-          from.held
-          (subst (λ (zs : List ℚ). AreSumsHeld is_held total zs (drop i ys)) (sym ex)
-          (subst (λ (zs : List ℚ). AreSumsHeld is_held total (x ∷ drop (i + 1) xs) zs) (sym ey)
-          (product_held, subst (λ (z : ℚ). IsTrue (is_held z)) e next_held, subst (λ (z : ℚ). AreSumsHeld is_held z (drop (i + 1) xs) (drop (i + 1) ys)) e h)));
-    }
-
-pub dot_end : (xs ys : List ℚ) (i : ℕ) (total : ℚ) (o : Option ℚ) → length xs ≤ i → IsDotFrom xs ys i total → IfSome o (λ (q : ℚ). q ≡ total) → IsShortDot (λ (q : ℚ). q) is_held xs ys o
-dot_end xs ys i total None over from answer = tt
-dot_end xs ys i total (Some q) over from answer =
-    let none : drop i xs ≡ [] = drop_all i xs over in
-    let all : total ≡ dot xs ys = sym (add-zero_ℚ total) ∙ ap (λ (zs : List ℚ). total +ℚ dot zs (drop i ys)) (sym none) ∙ from.rest in
-    (answer ∙ all, from.held (subst (λ (zs : List ℚ). AreSumsHeld is_held total zs (drop i ys)) (sym none) tt))
+-- one more place of the product of two vectors
+pub dot_more : (xs ys : List ℚ) (i : ℕ) (x y total next : ℚ) → i < length xs → length xs ≡ length ys → x ≡ get_or xs i x → y ≡ get_or ys i y → IsDotFrom is_held xs ys i total → next ≡ total +ℚ x *ℚ y → IsTrue (is_held (x *ℚ y)) → IsTrue (is_held next) → IsDotFrom is_held xs ys (i + 1) next
+dot_more xs ys i x y total next within same is_x is_y =
+    dot_on is_held xs ys i x y total next (left_from xs i x within is_x) (left_from ys i y (omega arith) is_y)

@@ -192,6 +192,10 @@ impl Field for Tiny {
         })
     }
 
+    fn holds_small() -> bool {
+        false
+    }
+
     /// No short way, so that tests with this type go entry by entry.
     fn short_dot(_row: &[Tiny], _vector: &[Tiny]) -> Option<Tiny> {
         None

@@ -292,6 +292,10 @@ impl Field for Tier {
         })
     }
 
+    fn holds_small() -> bool {
+        true
+    }
+
     fn short_dot(row: &[Tier], vector: &[Tier]) -> Option<Tier> {
         dot(row, vector)
     }

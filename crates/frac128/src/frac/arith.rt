@@ -233,6 +233,10 @@ impl Field for Frac {
         })
     }
 
+    fn holds_small() -> bool {
+        true
+    }
+
     fn short_dot(row: &[Frac], vector: &[Frac]) -> Option<Frac> {
         dot(row, vector)
     }

@@ -43,7 +43,7 @@ returns-in_err-point g c =
     same_left holds steps (combination_steps (a /ℚ neg_ℚ b) p m ++ left) (combination_steps (value c.in-Ok.factor) p m ++ left) 1
     (ap (λ k. combination_steps k p m ++ left) (sym factor_is))
     (one_more holds steps _ _ 0 (start holds steps) held) in
-    stop_runs value holds steps c.from_residual.result c.in_err-point.field-0.0 _ c.from_residual.ensures.1 (c.in_err-point.ensures.runs steps left first)
+    stop_runs value holds steps c.from_residual-in_err-point.result c.in_err-point.field-0.0 _ c.from_residual-in_err-point.ensures.1 (c.in_err-point.ensures.runs steps left first)
 
 pub quotients-requires-clause-by : goal.quotients-requires-clause-by
 quotients-requires-clause-by g c =

@@ -2,11 +2,12 @@ use Rattle.std.proofs.Common.{◌≡◌, Some, ap, ◌∙◌, subst, arith}
 use Rattle.std.specs.Bool.{IsTrue}
 use Rattle.exact_field.specs.Rational.{ℚ, fraction, ◌+ℚ◌, ◌*ℚ◌}
 use Rattle.frac128.specs.Held.{is_held}
-use Rattle.frac128.proofs.Totals.{dot_start, dot_more, dot_end, fraction_held}
+use Rattle.exact_field.proofs.Products.{dot_start, dot_end}
+use Rattle.frac128.proofs.Totals.{dot_more, fraction_held}
 use Rattle.tier_frac.proofs.dot.dot.Goals as goal
 
 pub loop-i-init : goal.loop-i-init
-loop-i-init c = dot_start c.args.row.now c.args.vector.now _ c.zero-sum.ensures
+loop-i-init c = dot_start is_held c.args.row.now c.args.vector.now _ c.zero-sum.ensures
 
 pub loop-i-preserved : goal.loop-i-preserved
 loop-i-preserved c =
@@ -19,4 +20,4 @@ loop-i-preserved c =
     (fraction_held _ _ next.positive (let few = next.num_small in omega arith) (let few = next.den_small in omega arith))
 
 pub returns : goal.returns
-returns c = dot_end c.args.row.now c.args.vector.now c.loop-i.i _ (Some c.from_frac.result) (omega arith) c.loop-i.invariant (c.from_frac.ensures ∙ c.in_ok-reduce.ensures)
+returns c = dot_end (λ q. q) is_held c.args.row.now c.args.vector.now c.loop-i.i _ (Some c.from_frac.result) (omega arith) c.loop-i.invariant (c.from_frac.ensures ∙ c.in_ok-reduce.ensures)

@@ -1,6 +1,7 @@
 use Rattle.exact_field.specs.Rational.{fraction}
-use Rattle.frac128.proofs.Totals.{IsDotFrom}
+use Rattle.exact_field.proofs.Products.{IsDotFrom}
+use Rattle.frac128.specs.Held.{is_held}
 use Rattle.frac128.proofs.frac.dot.dot.Given as goal
 
 abbrev pub invariant-loop-i : goal.invariant-loop-i
-invariant-loop-i l = IsDotFrom l.row l.vector l.i (fraction l.sum.num l.sum.den)
+invariant-loop-i l = IsDotFrom is_held l.row l.vector l.i (fraction l.sum.num l.sum.den)
