@@ -14,6 +14,9 @@ those of `reps.py` on texts that are small enough.
 `reps_beside.py PROGRAM + [TRIES]` times the series of growing sizes below beside the Parma Polyhedra Library alone: milliseconds of the
 processor, the least of TRIES (10) in turn, less those that each takes for a text of one row.
 
+`reps_beside.py PROGRAM / [TRIES] [NAME..]` times whole runs on all texts, or on those whose names begin so, beside the Parma Polyhedra
+Library alone: milliseconds of the processor, the least of TRIES (12) in turn. Returned is on how many this program takes as long or more.
+
 `reps_beside.py PROGRAM # [NAME..]` counts the instructions of the conversions alone in these series, or in those whose names begin so,
 by callgrind (Debian: valgrind): what PPL's `minimize` takes, and of ours the whole run less one that only reads the text. Counts do
 not vary as times do. It takes half an hour.
@@ -269,6 +272,24 @@ def both_times(program, rep, tries):
     return best
 
 
+def beside(program, tries, wanted):
+    """Prints the times of both on each text that this program converts; returned is on how many it takes as long or more."""
+    print("| text | bensolve, ms | PPL, ms | of PPL's |")
+    print("|---|---|---|---|")
+    ratios = []
+    for title, rep in families():
+        if wanted and not any(title.startswith(name) for name in wanted):
+            continue
+        ours, other = both_times(program, rep, tries)
+        if ours < math.inf:
+            ratios.append(ours / other)
+            print(f"| {title}, {COMMAND[rep.kind]} | {ours:.1f} | {other:.1f} | {ours / other:.2f} |", flush=True)
+    mean = math.exp(sum(map(math.log, ratios)) / max(len(ratios), 1))
+    behind = sum(ratio >= 1 for ratio in ratios)
+    print(f"{len(ratios)} texts, {mean:.2f} of the time (geometric mean), {max(ratios, default=0):.2f} at most, {behind} behind")
+    return behind
+
+
 def growth(program, tries):
     """Prints the series; returned is in how many this program grows more than the other from the least size to the greatest."""
     starts = both_times(program, Rep("sides", 1, [("h", (1, 0))]), tries)
@@ -397,6 +418,9 @@ def main():
         return int(compare(program, int(sys.argv[3]), int(sys.argv[4]) if len(sys.argv) > 4 else 1) > 0)
     if sys.argv[2:3] == ["+"]:
         return int(growth(program, int(sys.argv[3]) if len(sys.argv) > 3 else 10) > 0)
+    if sys.argv[2:3] == ["/"]:
+        tries = sys.argv[3:4] if sys.argv[3:4] and sys.argv[3].isdigit() else []
+        return int(beside(program, int(tries[0]) if tries else 12, sys.argv[3 + len(tries):]) > 0)
     if sys.argv[2:3] == ["#"]:
         return int(counted_growth(program, sys.argv[3:]) > 0)
     return int(table(program, sys.argv[2:]) > 0)
