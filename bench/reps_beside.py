@@ -17,6 +17,9 @@ processor, the least of TRIES (10) in turn, less those that each takes for a tex
 `reps_beside.py PROGRAM / [TRIES] [NAME..]` times whole runs on all texts, or on those whose names begin so, beside the Parma Polyhedra
 Library alone: milliseconds of the processor, the least of TRIES (12) in turn. Returned is on how many this program takes as long or more.
 
+`reps_beside.py PROGRAM : [TRIES] [SEED..]` does so on random texts of 4 to 10 dimensions, 218 for each seed (2, 3 and 4), and prints those alone
+on which this program takes as long or more, the least of six times as many TRIES (3) where so many say so.
+
 `reps_beside.py PROGRAM # [NAME..]` counts the instructions of the conversions alone in these series, or in those whose names begin so,
 by callgrind (Debian: valgrind): what PPL's `minimize` takes, and of ours the whole run less one that only reads the text. Counts do
 not vary as times do. It takes half an hour.
@@ -272,6 +275,14 @@ def both_times(program, rep, tries):
     return best
 
 
+def told(ratios):
+    """Prints what part of the other's time this program takes; returned is on how many texts it takes as long or more."""
+    mean = math.exp(sum(map(math.log, ratios)) / max(len(ratios), 1))
+    behind = sum(ratio >= 1 for ratio in ratios)
+    print(f"{len(ratios)} texts, {mean:.2f} of the time (geometric mean), {max(ratios, default=0):.2f} at most, {behind} behind")
+    return behind
+
+
 def beside(program, tries, wanted):
     """Prints the times of both on each text that this program converts; returned is on how many it takes as long or more."""
     print("| text | bensolve, ms | PPL, ms | of PPL's |")
@@ -284,10 +295,36 @@ def beside(program, tries, wanted):
         if ours < math.inf:
             ratios.append(ours / other)
             print(f"| {title}, {COMMAND[rep.kind]} | {ours:.1f} | {other:.1f} | {ours / other:.2f} |", flush=True)
-    mean = math.exp(sum(map(math.log, ratios)) / max(len(ratios), 1))
-    behind = sum(ratio >= 1 for ratio in ratios)
-    print(f"{len(ratios)} texts, {mean:.2f} of the time (geometric mean), {max(ratios, default=0):.2f} at most, {behind} behind")
-    return behind
+    return told(ratios)
+
+
+def drawn_families(seeds):
+    """Names and texts of random points, and of inequalities with such normals."""
+    for seed in seeds:
+        for n in range(4, 11):
+            for count in sorted({n + 3, 2 * n, (2 if n > 7 else 3) * n}):
+                for most in (1, 9, 99, 999, 9999):
+                    yield f"drawn {count} {n} {seed} {most}", drawn(count, n, seed, most)
+            for count in sorted({2 * n, 3 * n, (3 if n > 8 else 6) * n}):
+                yield f"zero_one {count} {n} {seed}", zero_one(count, n, seed)
+
+
+def drawn_beside(program, tries, seeds):
+    """Prints the random texts on which this program takes as long as the other or more; returned is how many they are."""
+    ratios, left = [], 0
+    for title, points in drawn_families(seeds):
+        for rep in (points, polar(points)):
+            ours, other = both_times(program, rep, tries)
+            if ours == math.inf:
+                left += 1
+                continue
+            if ours >= other:
+                ours, other = both_times(program, rep, 6 * tries)
+            if ours >= other:
+                print(f"{title}, {COMMAND[rep.kind]}: {ours:.1f} and {other:.1f} ms", flush=True)
+            ratios.append(ours / other)
+    print(f"{left} texts are not converted")
+    return told(ratios)
 
 
 def growth(program, tries):
@@ -421,6 +458,9 @@ def main():
     if sys.argv[2:3] == ["/"]:
         tries = sys.argv[3:4] if sys.argv[3:4] and sys.argv[3].isdigit() else []
         return int(beside(program, int(tries[0]) if tries else 12, sys.argv[3 + len(tries):]) > 0)
+    if sys.argv[2:3] == [":"]:
+        tries, *seeds = map(int, sys.argv[3:] or ["3"])
+        return int(drawn_beside(program, tries, seeds or (2, 3, 4)) > 0)
     if sys.argv[2:3] == ["#"]:
         return int(counted_growth(program, sys.argv[3:]) > 0)
     return int(table(program, sys.argv[2:]) > 0)
