@@ -8,8 +8,8 @@
 #
 # The runs are `solve` with a log, of a problem with vertices, one without, and one with a cone by generators, `check`
 # of the logs of all three, `relog` of these and of a log of version 1, `sample 1`, a projection with its log, an
-# associated problem, a sum, a join, an image and weights of these problems, and `vertices` and `facets` of the alloy of
-# the examples, with logs, and `reconv` of both logs. The allocations are the calls of malloc, calloc and realloc of the
+# associated problem, a sum, a join, an image and weights of these problems, `vertices` and `facets` of the alloy of
+# the examples, with logs, `reconv` of both logs, and `facets` of two texts of long numbers. The allocations are the calls of malloc, calloc and realloc of the
 # whole process, from 1 up to the first number that no run reaches.
 set -euo pipefail
 top=$(cd "$(dirname "${BASH_SOURCE[0]}")/.." && pwd)
@@ -64,6 +64,9 @@ runs() {
     echo "weigh $work/problems/line 1,1"
     echo "vertices $top/examples/alloy.sides LOG"
     echo "facets $top/examples/alloy.gens LOG"
+    for problem in 11-drawn-points-to-999-in-5 12-drawn-points-to-99-in-6; do
+        echo "facets $top/crates/cases/data/conversions/$problem.gens"
+    done
     for problem in alloy.sides alloy.gens; do
         echo "reconv $top/examples/$problem $work/logs/$problem"
     done

@@ -18,7 +18,7 @@ processor, the least of TRIES (10) in turn, less those that each takes for a tex
 Library alone: milliseconds of the processor, the least of TRIES (12) in turn. Returned is on how many this program takes as long or more.
 
 `reps_beside.py PROGRAM : [TRIES] [SEED..]` does so on random texts of 4 to 10 dimensions, 218 for each seed (2, 3 and 4), and prints those alone
-on which this program takes as long or more, the least of six times as many TRIES (3) where so many say so.
+on which this program takes as long or more, the least of six times as many TRIES (3) where so many say so. It compares the answers too.
 
 `reps_beside.py PROGRAM # [NAME..]` counts the instructions of the conversions alone in these series, or in those whose names begin so,
 by callgrind (Debian: valgrind): what PPL's `minimize` takes, and of ours the whole run less one that only reads the text. Counts do
@@ -309,9 +309,17 @@ def drawn_families(seeds):
                 yield f"zero_one {count} {n} {seed}", zero_one(count, n, seed)
 
 
+def is_as_by_ppl(program, rep):
+    """Whether both answer the same set."""
+    with tempfile.TemporaryDirectory() as folder:
+        words = dict(zip(("bensolve",) + NAMES, commands(program, rep, folder)))
+        ours, other = (answer(name, run(words[name], folder), rep, folder) for name in ("bensolve", "PPL"))
+    return ours == other
+
+
 def drawn_beside(program, tries, seeds):
-    """Prints the random texts on which this program takes as long as the other or more; returned is how many they are."""
-    ratios, left = [], 0
+    """Prints the random texts on which this program takes as long as the other or more, or answers otherwise; returned is how many they are."""
+    ratios, left, different = [], 0, 0
     for title, points in drawn_families(seeds):
         for rep in (points, polar(points)):
             ours, other = both_times(program, rep, tries)
@@ -322,9 +330,12 @@ def drawn_beside(program, tries, seeds):
                 ours, other = both_times(program, rep, 6 * tries)
             if ours >= other:
                 print(f"{title}, {COMMAND[rep.kind]}: {ours:.1f} and {other:.1f} ms", flush=True)
+            if not is_as_by_ppl(program, rep):
+                different += 1
+                print(f"{title}, {COMMAND[rep.kind]}: the answers differ", flush=True)
             ratios.append(ours / other)
-    print(f"{left} texts are not converted")
-    return told(ratios)
+    print(f"{left} texts are not converted; {different} answers differ")
+    return told(ratios) + different
 
 
 def growth(program, tries):
