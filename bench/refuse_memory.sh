@@ -9,8 +9,8 @@
 # The runs are `solve` with a log, of a problem with vertices, one without, and one with a cone by generators, `check`
 # of the logs of all three, `relog` of these and of a log of version 1, `sample 1`, a projection with its log, an
 # associated problem, a sum, a join, an image and weights of these problems, `vertices` and `facets` of the alloy of
-# the examples, with logs, `reconv` of both logs, and `facets` of two texts of long numbers. The allocations are the calls of malloc, calloc and realloc of the
-# whole process, from 1 up to the first number that no run reaches.
+# the examples, with logs, `reconv` of both logs, and `facets` of two texts of long numbers. The allocations are the
+# calls of malloc, calloc and realloc of the whole process, from 1 up to the first number that no run reaches.
 set -euo pipefail
 top=$(cd "$(dirname "${BASH_SOURCE[0]}")/.." && pwd)
 work=$(mktemp -d)
