@@ -11,6 +11,7 @@ Where lrs and cdd read a file as two different sets, one of them is taken and na
 - `hull` beside an H-representation, `nonnegative` after `begin` or beside a V-representation, a word that says something of the set
   in the middle of a line, and `linearity` of a point are refused.
 - A V-representation with rows but no point is a cone: both put the point 0 in. One without rows is the empty set, as both print it.
+- A decimal is what it says, whatever the type of numbers is. In a rational file lrs refuses it, and scdd_gmp reads its front alone.
 """
 import re
 from fractions import Fraction
@@ -75,13 +76,17 @@ class _Reader:
             self.last = line
             self.printed_by_lrs |= text.startswith("*lrs:")
             words = text.split()
-            if words and not words[0].startswith("*"):
+            if words and (not words[0].startswith("*") or self._is_size_by_lrs(words)):
                 self._take(line, words)
         if self.part == "before":
             refuse(self.last, "there is no line `begin`")
         if self.part == "in":
             refuse(self.last, "there is no line `end`")
         return self._representation()
+
+    def _is_size_by_lrs(self, words: List[str]) -> bool:
+        """Whether this is the line after `begin` of what lrs prints: stars for a number of rows that it does not know yet."""
+        return self.part == "in" and not self.words and len(words) == 3 and not words[0].strip("*")
 
     def _take(self, line: int, words: List[str]) -> None:
         if self.part == "in":

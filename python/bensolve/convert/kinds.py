@@ -98,8 +98,8 @@ def convert(source: Source, kind: str, target: Optional[str] = None) -> str:
 
 def _why_not(form: str, target: str) -> str:
     if form == "gens":
-        return f"these are points, and {target} has inequalities: convert to gens, and let `bensolve facets` turn them"
-    return f"these are inequalities, and {target} has points: convert to sides, and let `bensolve vertices` turn them"
+        return f"these are points, and {target} tells inequalities: convert to gens, and let `bensolve facets` turn them"
+    return f"these are inequalities, and {target} tells points: convert to sides, and let `bensolve vertices` turn them"
 
 
 def _forms(read: object) -> Dict[str, Callable[[], Content]]:
