@@ -8,7 +8,8 @@ import os
 from fractions import Fraction
 from typing import Callable, Dict, List, NamedTuple, Optional, Tuple, Union
 
-from ..problem import LIMITS, Bound, NotExact, Problem, common_denominator
+from ..problem import LIMITS, Bound, NotExact, Problem
+from ..sets import feasible
 from ..texts import Facet, Projection, Report, Representation, Vector
 from . import cdd, lp, mps, normaliz, representations
 from .reading import NotConverted, Source
@@ -110,7 +111,7 @@ def _forms(read: object) -> Dict[str, Callable[[], Content]]:
         return {
             "sides": lambda: projection_sides(read),
             "gens": lambda: _listed(read.columns, read.lines, read.points, read.directions),
-            "problem": lambda: set_problem(projection_sides(read)),
+            "problem": lambda: feasible(read),
         }
     if isinstance(read, Report):
         if read.answer != "solved":
@@ -118,11 +119,11 @@ def _forms(read: object) -> Dict[str, Callable[[], Content]]:
         return {
             "sides": lambda: image_sides(read),
             "gens": lambda: _listed(len(read.duality), read.lines, read.points, read.directions),
-            "problem": lambda: set_problem(image_sides(read)),
+            "problem": lambda: feasible(image_sides(read)),
         }
     if read.kind == "gens":
         return {"gens": lambda: read}
-    return {"sides": lambda: read, "problem": lambda: set_problem(read)}
+    return {"sides": lambda: read, "problem": lambda: feasible(read)}
 
 
 def _listed(width: int, lines: Tuple[Vector, ...], points: Tuple[Vector, ...], directions: Tuple[Vector, ...]) -> Representation:
@@ -145,17 +146,6 @@ def image_sides(report: Report) -> Representation:
     sign = -1 if report.maximises else 1
     turned = [Facet(tuple(sign * weight for weight in facet.normal), sign * facet.bound) for facet in report.facets]
     return _inequalities(len(report.duality), turned)
-
-
-def set_problem(sides: Representation) -> Problem:
-    """A problem for which exactly the members of a set are feasible. Its rows are whole, and its one objective is 0."""
-    rows, bounds = [], []
-    for word, numbers in sides.rows:
-        factor = common_denominator(numbers)
-        *normal, bound = (value * factor for value in numbers)
-        rows.append(normal)
-        bounds.append(Bound.of(bound if word == "e" else (bound, None)))
-    return Problem("min", [{}], rows, columns=sides.width, row_bounds=bounds)
 
 
 def feasible_sides(problem: Problem) -> Representation:
