@@ -54,7 +54,7 @@ def main(words: List[str]) -> int:
         sys.stdout.flush()
         return status
     except Status as ended:
-        say(ended)
+        print(ended, file=sys.stderr)
         return ended.code
     except BrokenPipeError:
         sys.stdout = None
