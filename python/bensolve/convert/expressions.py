@@ -4,6 +4,8 @@ from typing import Dict, List, NamedTuple, NoReturn, Optional, Tuple
 
 from .reading import number, refuse, shown
 
+SIGNS = ("+", "-")
+
 
 class Token(NamedTuple):
     """A piece of a line. Its kind is `number`, `name`, or the text itself of any other."""
@@ -48,8 +50,8 @@ class Sum(NamedTuple):
 
 def take_sign(tokens: Tokens) -> int:
     """The sign that may stand here, as 1 or -1."""
-    sign = tokens.take_if("+", "-")
-    if sign and tokens.ahead().kind in "+-":
+    sign = tokens.take_if(*SIGNS)
+    if sign and tokens.ahead().kind in SIGNS:
         tokens.refuse("a number or a name, after one sign,")
     return -1 if sign and sign.kind == "-" else 1
 
@@ -65,7 +67,7 @@ def take_sum(tokens: Tokens) -> Sum:
             constant += sign * factor
         else:
             terms[name] = terms.get(name, Fraction(0)) + sign * factor
-        if tokens.ahead().kind not in "+-":
+        if tokens.ahead().kind not in SIGNS:
             return Sum(terms, constant)
 
 

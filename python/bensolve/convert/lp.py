@@ -10,8 +10,8 @@ from fractions import Fraction
 from typing import Callable, Dict, List, Optional, Tuple
 
 from ..problem import Problem
-from .expressions import Sum, Token, Tokens, take_sign, take_sum
-from .programs import INFINITE, Program, Row, bound, finite
+from .expressions import SIGNS, Sum, Token, Tokens, take_sign, take_sum
+from .programs import INFINITE, Column, Program, Row, bound, finite
 from .reading import Source, number, refuse, shown
 
 TOKEN = re.compile(
@@ -21,7 +21,8 @@ TOKEN = re.compile(
     r"|(?P<other>->|[-+:]))"
 )
 RELATIONS = {"<=": "<=", "=<": "<=", "<": "<=", ">=": ">=", "=>": ">=", ">": ">=", "=": "="}
-EXPONENT = re.compile(r"[eE][0-9]*")
+TURNED = {"<=": ">=", ">=": "<=", "=": "="}
+EXPONENT = re.compile(r"[eE](?:[0-9].*)?")
 OBJECTIVE = re.compile(r"(minimi[sz]e|minimum|min|maximi[sz]e|maximum|max)(\s+multi-?objectives?)?(?=\s|$)", re.I)
 CONSTRAINTS = re.compile(r"(subject\s+to|such\s+that|s\.t\.|st\.?)(?=\s|$)", re.I)
 SECTIONS = {
@@ -62,7 +63,7 @@ class _Reader:
         """Takes a line: the first of a section, or more of the section that is open."""
         word = " ".join(text.lower().split())
         if word in REFUSED:
-            refuse(line, f"the section `{text}` is not taken: it is none of a linear program")
+            refuse(line, f"the section `{text}` is not taken: it is none of a plain linear program")
         if not self.section:
             match = OBJECTIVE.match(text)
             if not match or text[match.end():].lstrip()[:1] == ":":
@@ -92,7 +93,7 @@ class _Reader:
 
     def _cut(self, line: int, text: str) -> None:
         at = 0
-        while text[at:].strip():
+        while at < len(text):
             match = TOKEN.match(text, at)
             if not match:
                 rest = text[at:].split()[0]
@@ -103,7 +104,7 @@ class _Reader:
             if word == "->":
                 refuse(line, "`->` is not taken: it belongs to an indicator, which is no row of a linear program")
             if kind == "name" and EXPONENT.fullmatch(word):
-                refuse(line, f"the name `{word}` may be an exponent: rename it")
+                refuse(line, f"the name `{shown(word)}` may be an exponent: rename it")
             self.tokens.append(Token(line, word if kind == "other" else kind, word))
             at = match.end()
 
@@ -153,7 +154,7 @@ class _Reader:
                 refuse(line, "a row has a column at least")
             row.entries = self._entries(line, terms)
             if left is not None:
-                _hold(row, line, {"<=": ">=", ">=": "<="}.get(relation, "="), left - terms.constant)
+                _hold(row, line, TURNED[relation], left - terms.constant)
             if left is None or tokens.ahead().kind == "relation":
                 second = self._take_relation(tokens)
                 if left is not None and (relation != second or relation == "="):
@@ -163,7 +164,7 @@ class _Reader:
     @staticmethod
     def _number_before(tokens: Tokens) -> Optional[Fraction]:
         """The number with a relation after it that stands here, if one does."""
-        signed = tokens.ahead().kind in "+-"
+        signed = tokens.ahead().kind in SIGNS
         if tokens.ahead(signed).kind != "number" or tokens.ahead(signed + 1).kind != "relation":
             return None
         sign = take_sign(tokens)
@@ -196,13 +197,13 @@ class _Reader:
     def _take_bound(self, line: int, words: List[Token]) -> None:
         tokens = Tokens(words, line)
         first = None
-        if tokens.ahead().kind in ("+", "-", "number") or tokens.ahead().text.lower() in INFINITE:
+        if tokens.ahead().kind in (*SIGNS, "number") or tokens.ahead().text.lower() in INFINITE:
             first = _take_bound_number(tokens)
             relation = self._take_relation(tokens)
         token = tokens.take_if("name") or tokens.refuse("the name of a column")
         column = self.program.column(line, token.text)
         if first is not None:
-            _bound(column, line, {"<=": ">=", ">=": "<="}.get(relation, "="), *first)
+            _bound(column, line, TURNED[relation], *first)
         elif tokens.ahead().text.lower() == "free" and len(words) == 2:
             column.give(line, "lower", None)
             column.give(line, "upper", None)
@@ -229,11 +230,13 @@ class _Reader:
         for name, at in self.binary.items():
             column = self.program.columns[name]
             if column.given:
-                refuse(at, f"`{shown(name)}` is binary, and line {min(column.given.values())} bounds it: some programs keep that and some do not")
+                bounded = min(column.given.values())
+                refuse(at, f"`{shown(name)}` is binary, and line {bounded} bounds it: some programs keep that and some do not")
             column.upper = Fraction(1)
         for column in self.program.columns.values():
-            if column.upper is not None and column.upper < 0 and "lower" not in column.given:
-                refuse(column.given["upper"], f"`{column.name}` has an upper bound below 0 and no lower one, which some programs read as 0 and some as none: give it")
+            if column.is_below_zero():
+                why = "has an upper bound below 0 and no lower one, which some programs read as 0 and some as none: give it"
+                refuse(column.given["upper"], f"`{shown(column.name)}` {why}")
         return self.program.problem(line)
 
 
@@ -257,7 +260,7 @@ def _hold(row: Row, line: int, relation: str, value: Fraction) -> None:
 
 
 def _take_bound_number(tokens: Tokens) -> Tuple[int, Optional[Fraction]]:
-    sign = tokens.take_if("+", "-")
+    sign = tokens.take_if(*SIGNS)
     token = tokens.take()
     if token.kind != "number" and token.text.lower() not in INFINITE:
         tokens.at -= 1
@@ -265,7 +268,7 @@ def _take_bound_number(tokens: Tokens) -> Tuple[int, Optional[Fraction]]:
     return bound(token.line, (sign.text if sign else "") + token.text)
 
 
-def _bound(column, line: int, relation: str, infinite: int, value: Optional[Fraction]) -> None:
+def _bound(column: Column, line: int, relation: str, infinite: int, value: Optional[Fraction]) -> None:
     """Takes `column REL value`."""
     if infinite and (relation == "=" or (infinite > 0) != (relation == "<=")):
         refuse(line, f"an infinite bound of `{column.name}` bounds nothing from this side")

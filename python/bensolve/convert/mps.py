@@ -7,11 +7,11 @@ Each N row is an objective, in their order. What readers take in different ways 
 - A number v in the RHS of an objective is its constant -v, with a note (of glpk it is +v).
 - RANGES of an E row with R below 0 go down from its right-hand side, and else up.
 - Of RHS, RANGES and BOUNDS there is one set each. A bound of 1e20 or more is refused, and `inf` is none.
-- Columns that are to be whole (markers, BV, LI, UI) are refused, or with --relax need not be whole; then one between markers
-  needs its own bounds, as some readers take 1 for the upper one.
+- Columns that are to be whole (markers, BV, LI, UI) are refused, or with --relax need not be whole; then each needs an upper bound,
+  as some readers take 1 where there is none.
 """
 from fractions import Fraction
-from typing import Callable, Dict, Iterator, List, NamedTuple, Optional, Tuple
+from typing import Callable, Dict, List, NamedTuple, Optional, Tuple
 
 from ..problem import Problem
 from .programs import Program, Row, bound, finite
@@ -19,9 +19,18 @@ from .reading import Source, is_number, number, refuse, shown
 
 FIELDS = ((1, 3), (4, 12), (14, 22), (24, 36), (39, 47), (49, 61))
 DIRECTIONS = {"MIN": "min", "MINIMIZE": "min", "MINIMISE": "min", "MAX": "max", "MAXIMIZE": "max", "MAXIMISE": "max"}
-NO_VALUE = ("FR", "MI", "PL", "BV")
-BOUND_TYPES = ("LO", "UP", "FX", *NO_VALUE, "LI", "UI")
-REFUSED_BOUNDS = {"SC": "a semi-continuous column is no matter of a linear program", "SI": "a semi-integer column is none of a linear program"}
+
+# The bounds that a type gives by its value, those that it gives without one, and the types of columns that are to be whole.
+BY_VALUE = {"LO": ("lower",), "LI": ("lower",), "UP": ("upper",), "UI": ("upper",), "FX": ("lower", "upper")}
+BY_TYPE: Dict[str, Dict[str, Optional[Fraction]]] = {
+    "FR": {"lower": None, "upper": None},
+    "MI": {"lower": None},
+    "PL": {"upper": None},
+    "BV": {"lower": Fraction(0), "upper": Fraction(1)},
+}
+WHOLE = ("BV", "LI", "UI")
+BOUND_TYPES = (*BY_VALUE, *BY_TYPE)
+REFUSED_BOUNDS = {"SC": "a semi-continuous column", "SI": "a semi-integer column"}
 
 
 class Card(NamedTuple):
@@ -43,7 +52,7 @@ class _Reader:
         self.sets: Dict[str, str] = {}
         self.types: Dict[str, str] = {}
         self.right: Dict[str, Fraction] = {}
-        self.ranges: Dict[str, Tuple[int, Fraction]] = {}
+        self.ranges: Dict[str, Fraction] = {}
         self.marker: Optional[int] = None
         self.direction_line: Optional[int] = None
         self.last_column = ""
@@ -159,36 +168,36 @@ class _Reader:
                 refuse(card.line, f"`{shown(name)}` is an objective, and has no range")
             if name in self.ranges:
                 refuse(card.line, f"the range of `{shown(name)}` was given before")
-            self.ranges[name] = card.line, finite(card.line, word, "a range")
+            self.ranges[name] = finite(card.line, word, "a range")
 
     def take_bound(self, card: Card) -> None:
         self._test_set(card)
         (name, word), = card.pairs
         column = self.program.column(card.line, name)
-        if card.type in ("BV", "LI", "UI"):
+        if card.type in WHOLE:
             self.program.make_integer(card.line, column)
-        if card.type in NO_VALUE:
-            for side, value in {"FR": {"lower": None, "upper": None}, "MI": {"lower": None}, "PL": {"upper": None},
-                                "BV": {"lower": Fraction(0), "upper": Fraction(1)}}[card.type].items():
+        if card.type in BY_TYPE:
+            for side, value in BY_TYPE[card.type].items():
                 column.give(card.line, side, value)
             return
         sign, value = bound(card.line, word)
-        sides = {"LO": ("lower",), "LI": ("lower",), "UP": ("upper",), "UI": ("upper",), "FX": ("lower", "upper")}[card.type]
-        if sign and (len(sides) == 2 or (sign > 0) != (sides == ("upper",))):
-            refuse(card.line, f"`{word}` is no {sides[0]} bound")
+        sides = BY_VALUE[card.type]
+        if sign and sides != (("upper",) if sign > 0 else ("lower",)):
+            refuse(card.line, f"`{word}` is no {' and no '.join(sides)} bound")
         for side in sides:
             column.give(card.line, side, value)
 
     def _finish(self, line: int) -> Problem:
         for name, row in self.program.rows.items():
-            right = self.right.get(name, Fraction(0))
-            row.lower, row.upper = _row_ends(self.types[name], right, self.ranges[name][1] if name in self.ranges else None)
+            row.lower, row.upper = _row_ends(self.types[name], self.right.get(name, Fraction(0)), self.ranges.get(name))
         for column in self.program.columns.values():
+            name = shown(column.name)
             if column.integer_line is not None and "upper" not in column.given:
-                refuse(column.integer_line, f"`{shown(column.name)}` has no upper bound: some programs take 1 for a whole column, and some none")
-            if column.upper is not None and column.upper < 0 and "lower" not in column.given:
+                refuse(column.integer_line, f"`{name}` has no upper bound: some programs take 1 for a whole column, and some none")
+            if column.is_below_zero():
                 column.lower = None
-                self.source.note(column.given["upper"], f"`{column.name}` has an upper bound below 0 and no lower one, so it is not held at 0 from below")
+                why = f"`{name}` has an upper bound below 0 and no lower one, so it is not held at 0 from below"
+                self.source.note(column.given["upper"], why)
         return self.program.problem(line)
 
 
@@ -254,7 +263,7 @@ class Free(Form):
     def _bound(reader: _Reader, line: int, words: List[str]) -> Card:
         test_bound_type(line, words[0])
         columns = reader.program.columns
-        if words[0] in NO_VALUE and len(words) in (2, 3):
+        if words[0] in BY_TYPE and len(words) in (2, 3):
             by_set = len(words) == 3 and words[2] in columns
             if by_set and words[1] in columns and is_number(words[2]):
                 refuse(line, f"`{shown(words[1])}` may be a set or a column here: name the set")
@@ -292,15 +301,17 @@ class Fixed(Form):
         ends = [0] + [end for _, end in FIELDS]
         starts = [start for start, _ in FIELDS] + [len(text)]
         for end, start in zip(ends, starts):
-            if text[end:start].strip():
-                refuse(line, f"`{shown(text[end:start].strip())}` stands between the fields, in column {end + 1}; --from mps takes the free form")
+            between = text[end:start].strip()
+            if between:
+                refuse(line, f"`{shown(between)}` stands between the fields, in column {end + 1}; --from mps takes the free form")
         return [" ".join(text[start:end].split()) for start, end in FIELDS]
 
 
 def test_bound_type(line: int, word: str) -> None:
+    if word in REFUSED_BOUNDS:
+        refuse(line, f"the bound type {word} is not taken: {REFUSED_BOUNDS[word]} is none of a linear program")
     if word not in BOUND_TYPES:
-        refuse(line, f"the bound type {word} is not taken: {REFUSED_BOUNDS[word]}" if word in REFUSED_BOUNDS else
-               f"`{shown(word)}` is no type of a bound: {', '.join(BOUND_TYPES)}")
+        refuse(line, f"`{shown(word)}` is no type of a bound: {', '.join(BOUND_TYPES)}")
 
 
 def read_free(source: Source) -> Problem:

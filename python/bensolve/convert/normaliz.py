@@ -252,8 +252,8 @@ def _read_symbolic(reader: _Reader, size: int) -> None:
     row = [Fraction(0)] * size
     for sign, terms in ((1, left.terms), (-1, right.terms)):
         for place, value in terms.items():
-            if not 1 <= int(place) <= size:
-                refuse(relation.line, f"there is no x[{place}]: the dimension is {size}")
+            if len(place) > 9 or not 1 <= int(place) <= size:
+                refuse(relation.line, f"there is no x[{shown(place)}]: the dimension is {size}")
             row[int(place) - 1] += sign * value
     reader.relate(relation.line, relation.text, tuple(row), right.constant - left.constant)
 
@@ -265,9 +265,9 @@ def _symbols(reader: _Reader, start: int, text: str) -> Tokens:
         if not match:
             rest = text[at:].split()[0]
             refuse(reader.line_at(start + at + text[at:].index(rest)), f"`{shown(rest)}` is no part of a symbolic constraint")
-        line = reader.line_at(start + match.start(match.lastgroup))
-        word = match[match.lastgroup]
-        tokens.append(Token(line, word if match.lastgroup == "other" else match.lastgroup, word[:9] if match.lastgroup == "name" else word))
+        kind = match.lastgroup
+        word = match[kind]
+        tokens.append(Token(reader.line_at(start + match.start(kind)), word if kind == "other" else kind, word))
         at = match.end()
     return Tokens(tokens, reader.line_at(start + len(text)))
 

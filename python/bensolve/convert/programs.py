@@ -1,6 +1,6 @@
 """A linear program as its file is read, row by row and column by column, and the vector linear program that it becomes."""
 from fractions import Fraction
-from typing import Dict, List, Optional, Tuple
+from typing import Dict, List, Optional, Tuple, Union
 
 from ..problem import LIMITS, NotExact, Problem, is_name
 from ..texts import TextFault
@@ -41,11 +41,9 @@ class Column:
         self.given[side] = line
         setattr(self, side, value)
 
-    def bounds(self) -> Optional[object]:
-        """As a problem takes them."""
-        if self.lower is not None and self.lower == self.upper:
-            return self.lower
-        return None if self.lower is self.upper is None else (self.lower, self.upper)
+    def is_below_zero(self) -> bool:
+        """Whether an upper bound below 0 stands against the lower one of the form."""
+        return self.upper is not None and self.upper < 0 and "lower" not in self.given
 
 
 class Program:
@@ -58,11 +56,8 @@ class Program:
         self.objectives: Dict[str, Row] = {}
         self.columns: Dict[str, Column] = {}
         self.places: Dict[str, int] = {}
-        self.unnamed = 0
 
     def add_row(self, line: int, name: Optional[str]) -> Row:
-        if name is None:
-            self.unnamed += 1
         return self._add(self.rows, line, name, "row", "rows")
 
     def add_objective(self, line: int, name: Optional[str]) -> Row:
@@ -77,7 +72,7 @@ class Program:
         if len(rows) == LIMITS[limit]:
             refuse(line, f"there are more than {LIMITS[limit]:,} {limit}, and the program takes no more")
         row = Row(name, line)
-        rows[f"\n{len(rows)}" if name is None else name] = row
+        rows[f"\n{len(rows)}" if name is None else name] = row  # no name has a line feed
         return row
 
     def add_column(self, line: int, name: str) -> Column:
@@ -108,7 +103,8 @@ class Program:
         whole = [column for column in self.columns.values() if column.integer_line is not None]
         if whole:
             first = whole[0]
-            self.source.note(first.integer_line, f"columns that need not be whole any more: {len(whole)}, `{first.name}` the first")
+            told = f"columns that need not be whole any more: {len(whole)}, `{first.name}` the first"
+            self.source.note(first.integer_line, told)
         objectives = list(self.objectives.values())
         self._add_constants(objectives)
         try:
@@ -123,8 +119,8 @@ class Program:
             [objective.entries for objective in objectives],
             [row.entries for row in rows],
             columns=len(columns),
-            row_bounds=[_row_bounds(row) for row in rows],
-            column_bounds=[column.bounds() for column in columns],
+            row_bounds=[_bounds(row) for row in rows],
+            column_bounds=[_bounds(column) for column in columns],
             row_names=[row.name for row in rows],
             column_names=[column.name for column in columns],
             objective_names=[objective.name for objective in objectives],
@@ -144,13 +140,15 @@ class Program:
         for objective in shifted:
             objective.entries[self.places[name]] = objective.constant
             told = f"the objective `{objective.name}`" if objective.name else "the objective"
-            self.source.note(objective.line, f"{told} has the constant {objective.constant}, by the column `{name}`, which is fixed at 1")
+            why = f"{told} has the constant {objective.constant}, by the column `{name}`, which is fixed at 1"
+            self.source.note(objective.line, why)
 
 
-def _row_bounds(row: Row) -> Optional[object]:
-    if row.lower is not None and row.lower == row.upper:
-        return row.lower
-    return None if row.lower is row.upper is None else (row.lower, row.upper)
+def _bounds(of: Union[Row, Column]) -> Union[None, Fraction, Tuple[Optional[Fraction], Optional[Fraction]]]:
+    """The bounds as a problem takes them: none, one value, or both."""
+    if of.lower is not None and of.lower == of.upper:
+        return of.lower
+    return None if of.lower is of.upper is None else (of.lower, of.upper)
 
 
 def test_name(line: int, kind: str, name: str) -> None:
