@@ -2,7 +2,7 @@
 
 Beside the files in data/convert stands what other programs make of them: `X.lrs` is the output of `lrs X`, `X.scdd` the file that
 `scdd_gmp X` writes (`scdd` for real.ine), `X.in.out` that of `normaliz --ExtremeRays --MaximalSubspace X`, and `X.glpk.*` what
-`glpsol` writes of X. Conversions between inequalities and points are those of bench/reps.py, apart from the package.
+`glpsol` writes of X (with ROW4 for names that it gives, as R and seven digits). Conversions between inequalities and points are those of bench/reps.py, apart from the package.
 """
 import io
 import os
@@ -260,6 +260,7 @@ class CddFiles(Refusals):
             (triangle.replace("rational", "ratonal"), 3, "`ratonal` is no type of numbers: integer, rational, real"),
             (triangle.replace("3 3 rational\n", "3 3\n"), 4, "`0` is no type of numbers: integer, rational, real"),
             (triangle.replace("end\n", ""), 7, "there is no line `end`"),
+            ("begin\n0 99999 rational\nend\n", 2, "`99999` stands where the number of columns is wanted, which is at most 1,000"),
             ("H-representation\n3 3 rational\n", 2, "the option `3` is not known"),
             ("cube\n", 2, "there is no line `begin`"),
             (triangle + triangle, 8, "`H-representation` stands after `begin` in line 2"),
@@ -345,6 +346,7 @@ class NormalizFiles(Refusals):
             (head + "inequalities 1 sparse\n1:1 1:2;\n", 3, "the place 1 is given twice"),
             (head + "inequalities [[1 2][3]]\n", 2, "a row has 2 numbers here, and not 1"),
             ("amb_space auto\ninequalities 1\n1 2\n", 2, "after `amb_space auto` a matrix in brackets comes first, which tells the dimension"),
+            ("amb_space 99999\nnonnegative\n", 1, "`99999` stands where the dimension, or `auto`, is wanted, which is at most 1,000"),
             ("amb_space 1\npolytope 1\n\n", 2, "a polytope has the dimension 2 at least, one more than its points have entries"),
             (head + "HilbertBasis\n", 2, "the file gives no constraints and no generators"),
         ):
@@ -365,6 +367,7 @@ class LooseTexts(Refusals):
             ("", 1, "the text says nothing: its first line is `sides K` or `gens K`"),
             ("side 2\nend\n", 1, "`side` stands where `sides` or `gens` is wanted"),
             ("sides 0\nend\n", 1, "`0` stands where the number of entries is wanted"),
+            ("sides 1001\nend\n", 1, "`1001` stands where the number of entries is wanted, which is at most 1,000"),
             ("sides 2 3\nend\n", 1, "after `sides` stands the number of entries alone"),
             ("sides 2\nh 1 0\nend\n", 2, "a row `h` has 3 numbers here, and not 2"),
             ("sides 2\n1 1 0 2\nend\n", 2, "no row of `sides` begins with `1`: h, e or end"),
@@ -420,7 +423,7 @@ class Programs(Refusals):
             for other, kind in (("free.mps", "mps"), ("fixed.mps", "fixedmps"), ("fixed.mps", "mps"), ("lp", "lp")):
                 with self.subTest(name=name, other=other, kind=kind):
                     objective, rows, bounds = by_names(read(kind, (DATA / "programs" / f"{stem}.glpk.{other}").read_text()))
-                    given = {None if re.fullmatch("r[._][0-9]+|R0000004", row) else row: value for row, value in rows.items()}
+                    given = {None if re.fullmatch("r[._][0-9]+|ROW4", row) else row: value for row, value in rows.items()}
                     self.assertEqual((objective, given, bounds), mine)
 
     def test_the_vlp_of_an_mps_file(self):
@@ -517,7 +520,7 @@ class Programs(Refusals):
         self.refused("fixedmps", text.replace("  the cost           2.5", "   the cost          2.5"), 6,
                      "`t` stands between the fields, in column 23; --from mps takes the free form")
 
-    WHOLE = " M1 'MARKER' 'INTORG'\n z cost 1 cap 1\n M2 'MARKER' 'INTEND'\n"
+    WHOLE = " MARK 'MARKER' 'INTORG'\n z cost 1 cap 1\n MARK 'MARKER' 'INTEND'\n"
 
     def test_whole_columns(self):
         self.refused("mps", self.mps(columns=self.WHOLE), 12, "the column `z` is to be whole, which no vlp file can say; --relax leaves that out")
@@ -564,6 +567,8 @@ class Programs(Refusals):
             (self.mps(bounds=" XX b x 1\n"), 14, "`XX` is no type of a bound: LO, LI, UP, UI, FX, FR, MI, PL, BV"),
             (self.mps(bounds=" SC b x 1\n"), 14, "the bound type SC is not taken: a semi-continuous column is none of a linear program"),
             (self.mps(bounds=" UP b z 1\n"), 14, "no column is named `z`"),
+            (self.mps(bounds=" FR b z\n"), 14, "no column is named `z`"),
+            (self.mps(columns=" 5 cap 1\n", bounds=" FR x 5\n"), 15, "`5` may be a column or a value here: name the set, and leave a value out"),
             (self.mps(bounds=" UP b x 1\n UP b x 2\n"), 15, "the upper bound of `x` was given in line 14"),
             (self.mps(bounds=" FX b x 1\n MI b x\n"), 15, "the lower bound of `x` was given in line 14"),
             (self.mps(bounds=" UP b x 1e20\n"), 14, "`1e20` is a bound of 1e20 or more, which many programs read as none: leave it out"),

@@ -18,7 +18,7 @@ from fractions import Fraction
 from typing import Dict, List, Optional, Set, Tuple
 
 from ..texts import Representation, Vector, joined, whole_text
-from .reading import NotConverted, Source, natural, number, refuse, shown
+from .reading import NotConverted, Source, natural, natural_width, number, refuse, shown
 
 HEADERS = {"H-representation": "sides", "V-representation": "gens"}
 BOTH_WAYS = ("linearity", "equality", "partial_enumeration")
@@ -175,7 +175,7 @@ class _Reader:
         if len(self.words) < 3:
             refuse(self.begin, "after `begin` stand the numbers of rows and columns and the type of numbers")
         (at, rows), (columns_at, columns), (type_at, number_type), *entries = self.words
-        size = natural(columns_at, columns, "the number of columns", 2)
+        size = natural_width(columns_at, columns, "the number of columns", 2)
         if number_type not in NUMBER_TYPES:
             refuse(type_at, f"`{shown(number_type)}` is no type of numbers: {', '.join(NUMBER_TYPES)}")
         count = len(entries) // size

@@ -264,10 +264,12 @@ class Free(Form):
         test_bound_type(line, words[0])
         columns = reader.program.columns
         if words[0] in BY_TYPE and len(words) in (2, 3):
-            by_set = len(words) == 3 and words[2] in columns
-            if by_set and words[1] in columns and is_number(words[2]):
-                refuse(line, f"`{shown(words[1])}` may be a set or a column here: name the set")
-            return Card(line, words[0], words[1] if by_set else "", [(words[2] if by_set else words[1], "")])
+            has_value = len(words) == 3 and words[1] in columns and is_number(words[2])
+            if has_value and words[2] in columns:
+                refuse(line, f"`{shown(words[2])}` may be a column or a value here: name the set, and leave a value out")
+            if len(words) == 2 or has_value:
+                return Card(line, words[0], "", [(words[1], "")])
+            return Card(line, words[0], words[1], [(words[2], "")])
         if len(words) not in (3, 4):
             refuse(line, f"a bound is its type, its set, a column and a value, and not {len(words)} words")
         *head, name, word = words[1:]

@@ -13,7 +13,7 @@ from typing import Callable, Dict, List, Optional, Tuple
 from ..texts import Representation, Vector, joined, whole_text
 from ..problem import common_denominator
 from .expressions import Token, Tokens, take_sum
-from .reading import NotConverted, Source, natural, number, refuse, shown
+from .reading import NotConverted, Source, natural, natural_width, number, refuse, shown
 
 Row = Tuple[str, Vector]
 
@@ -98,7 +98,7 @@ class _Reader:
         word = self.take("the dimension")
         self.is_auto = word == "auto"
         if not self.is_auto:
-            self.width = natural(self.line, word, "the dimension, or `auto`,", 1)
+            self.width = natural_width(self.line, word, "the dimension, or `auto`,")
 
     def entries(self, form: "Form") -> int:
         if self.width is None:

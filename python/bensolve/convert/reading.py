@@ -6,6 +6,7 @@ from typing import Iterator, List, NoReturn, Optional, Tuple
 from ..texts import TextFault
 
 LONGEST_NUMBER = 1000
+WIDEST = 1000
 DECIMAL = re.compile(r"[+-]?(?P<before>[0-9]*)(?:\.(?P<after>[0-9]*))?(?:[eE](?P<power>[+-]?[0-9]+))?")
 FRACTION = re.compile(r"[+-]?(?P<over>[0-9]+)/(?P<under>[0-9]+)")
 
@@ -75,3 +76,11 @@ def natural(line: int, word: str, what: str, least: int = 0) -> int:
     if not re.fullmatch("[0-9]{1,9}", word) or int(word) < least:
         refuse(line, f"`{shown(word)}` stands where {what} is wanted")
     return int(word)
+
+
+def natural_width(line: int, word: str, what: str, least: int = 1) -> int:
+    """How many entries a vector has: so many as a problem has columns, at most."""
+    value = natural(line, word, what, least)
+    if value > WIDEST:
+        refuse(line, f"`{word}` stands where {what} is wanted, which is at most {WIDEST:,}")
+    return value

@@ -2,7 +2,7 @@
 from typing import List, Tuple
 
 from ..texts import HELD, Representation, Vector
-from .reading import NotConverted, Source, natural, number, refuse, shown
+from .reading import NotConverted, Source, natural_width, number, refuse, shown
 
 MOST_LINES = 10_000
 MOST_ENTRIES = 19
@@ -37,7 +37,7 @@ def _head(line: int, words: List[str]) -> Tuple[str, int]:
         refuse(line, f"`{shown(words[0])}` stands where `sides` or `gens` is wanted")
     if len(words) != 2:
         refuse(line, f"after `{words[0]}` stands the number of entries alone")
-    return words[0], natural(line, words[1], "the number of entries", 1)
+    return words[0], natural_width(line, words[1], "the number of entries")
 
 
 def _row(line: int, words: List[str], kind: str, width: int) -> Tuple[str, Vector]:

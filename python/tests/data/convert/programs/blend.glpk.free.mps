@@ -7,22 +7,22 @@
 *
 NAME
 ROWS
- N R0000000
+ N ROW0    
  G protein
  L weight
  E balance
  G r.9
  L fat
 COLUMNS
- corn R0000000 3 protein 0.1
+ corn ROW0     3 protein 0.1
  corn weight 1 balance 1
  corn fat 0.04
- wheat R0000000 2.5 protein 0.125
+ wheat ROW0     2.5 protein 0.125
  wheat weight 1 balance -1
- oats R0000000 -0.75 protein 0.2
+ oats ROW0     -0.75 protein 0.2
  oats weight 1 r.9 -1
  oats fat 0.05
- soy R0000000 1 weight 1
+ soy ROW0     1 weight 1
  soy r.9 1
  trade weight -1
  fixed weight 1

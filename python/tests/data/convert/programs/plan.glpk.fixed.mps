@@ -7,7 +7,7 @@
 *
 NAME          PLAN
 ROWS
- N  R0000000
+ N  ROW0    
  L  CAPACITY
  G  DEMAND
  E  BALANCE
@@ -16,16 +16,16 @@ ROWS
  E  LOWBAND
  E  HIGHBAND
 COLUMNS
-    COAL      R0000000             2   CAPACITY             1
+    COAL      ROW0                 2   CAPACITY             1
     COAL      DEMAND               1
-    GAS       R0000000             3   DEMAND               1
+    GAS       ROW0                 3   DEMAND               1
     GAS       BALANCE              1   BAND_UP          0.125
-    WIND      R0000000             6   DEMAND               1
+    WIND      ROW0                 6   DEMAND               1
     WIND      BALANCE             -1   BAND_DN          0.015
     STORE     CAPACITY            -1   LOWBAND              1
     STORE     HIGHBAND             2
-    TRADE     R0000000             1   BALANCE              1
-    DEBT      R0000000          -0.5   HIGHBAND             1
+    TRADE     ROW0                 1   BALANCE              1
+    DEBT      ROW0              -0.5   HIGHBAND             1
     FIXED     DEMAND               1
     PLUS      DEMAND              -1
 RHS
