@@ -233,7 +233,8 @@ class CddFiles(Refusals):
         self.assertEqual(lines_of(convert(Source(text), "ext")), "gens 1|1 7|1 9|end")
         text = text.replace(" 1 5\n", " 1 5\nend\n")
         self.assertEqual(lines_of(convert(Source(text), "ext")), "gens 1|1 7|1 9|end")
-        self.refused("ext", text.replace("*lrs", "lrs"), 7, "`V-representation` stands after `begin` in line 3")
+        self.assertEqual(lines_of(convert(Source(text + "mplrs:lrslib v.7\n"), "ext")), "gens 1|1 7|1 9|end")
+        self.refused("ext", text.replace("*lrs:", "* lrs:"), 7, "`V-representation` stands after `begin` in line 3")
 
     def test_refusals(self):
         triangle = "H-representation\nbegin\n3 3 rational\n0 1 0\n0 0 1\n1 -1 -1\nend\n"
@@ -720,6 +721,8 @@ class Command(unittest.TestCase):
             (("--form", self.cube), "`--form` is no option: --from KIND or --relax"),
             ((self.cube, "--from"), "after --from a kind is wanted"),
             ((), "a file is wanted, and then maybe a kind and the name of the text that is made"),
+            ((self.path("none.ine"),), "`none.ine` cannot be read: No such file or directory"),
+            ((self.cube, self.path("none/x.sides")), "`none/x.sides` cannot be written: No such file or directory"),
             (("-",), "neither the ending nor the first word tells the kind of `-`: --from KIND names it"),
         ):
             with self.subTest(words=words):

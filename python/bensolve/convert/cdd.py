@@ -52,6 +52,9 @@ REFUSED = {
     "tope_listing": "it asks for the cells of an arrangement",
     "find_interior": "it asks for an interior point",
 }
+
+# Lines that lrs prints: its name and version, and the bases of `printcobasis`.
+BANNER = re.compile(r"\*?(?:mp)?lrs:")
 BASES = re.compile(r"[VF]#[0-9]+")
 
 
@@ -74,9 +77,10 @@ class _Reader:
     def read(self) -> Representation:
         for line, text in self.source.lines():
             self.last = line
-            self.printed_by_lrs |= text.startswith("*lrs:")
             words = text.split()
-            if words and (not words[0].startswith("*") or self._is_size_by_lrs(words)):
+            if BANNER.match(text):
+                self.printed_by_lrs = True
+            elif words and (not words[0].startswith("*") or self._is_size_by_lrs(words)):
                 self._take(line, words)
         if self.part == "before":
             refuse(self.last, "there is no line `begin`")

@@ -10,8 +10,8 @@ from .reading import NotConverted, Source
 REFUSED = 2
 
 
-class Words(ValueError):
-    """Why the words of the command are refused."""
+class NotServed(ValueError):
+    """Why nothing is converted, where no text is at fault: the words of the command, or a file."""
 
 
 def usage() -> str:
@@ -40,53 +40,63 @@ def _take_words(words: List[str]) -> Tuple[str, Optional[str], Optional[str], Op
             relax = True
         elif word == "--from":
             if at == len(words):
-                raise Words("after --from a kind is wanted")
+                raise NotServed("after --from a kind is wanted")
             source_kind = _kind(words[at])
             at += 1
         elif word.startswith("-") and word != "-":
-            raise Words(f"`{word}` is no option: --from KIND or --relax")
+            raise NotServed(f"`{word}` is no option: --from KIND or --relax")
         else:
             rest.append(word)
     if not 1 <= len(rest) <= 3:
-        raise Words("a file is wanted, and then maybe a kind and the name of the text that is made")
+        raise NotServed("a file is wanted, and then maybe a kind and the name of the text that is made")
     path, *others = rest
     if len(others) == 2:
         return path, source_kind, _kind(others[0]), others[1], relax
     if others and others[0] not in KINDS:
         target = kind_of_name(others[0])
         if target is None:
-            raise Words(f"`{others[0]}` is no kind, and its ending tells none: {', '.join(KINDS)}")
+            raise NotServed(f"`{others[0]}` is no kind, and its ending tells none: {', '.join(KINDS)}")
         return path, source_kind, target, others[0], relax
     return path, source_kind, others[0] if others else None, None, relax
 
 
 def _kind(word: str) -> str:
     if word not in KINDS:
-        raise Words(f"`{word}` is no kind: {', '.join(KINDS)}")
+        raise NotServed(f"`{word}` is no kind: {', '.join(KINDS)}")
     return word
 
 
 def _read(path: str) -> str:
     if path == "-":
         return sys.stdin.buffer.read().decode("utf-8", "surrogateescape")
-    return read_text(path)
+    try:
+        return read_text(path)
+    except OSError as why:
+        raise NotServed(f"`{path}` cannot be read: {why.strerror}") from None
+
+
+def _write(out: Optional[str], text: str) -> None:
+    if out is None:
+        sys.stdout.flush()
+        sys.stdout.buffer.write(text.encode("utf-8", "surrogateescape"))
+        return
+    try:
+        write_text(out, text)
+    except OSError as why:
+        raise NotServed(f"`{out}` cannot be written: {why.strerror}") from None
 
 
 def _convert_file(path: str, source_kind: Optional[str], target: Optional[str], out: Optional[str], relax: bool) -> None:
     if out is not None and path != "-" and os.path.exists(out) and os.path.samefile(path, out):
-        raise Words(f"`{out}` is the file that is read: give the text that is made another name")
+        raise NotServed(f"`{out}` is the file that is read: give the text that is made another name")
     source = Source(_read(path), relax)
     kind = source_kind or kind_of_name(path) or kind_of_text(source.text)
     if kind is None:
-        raise Words(f"neither the ending nor the first word tells the kind of `{path}`: --from KIND names it")
+        raise NotServed(f"neither the ending nor the first word tells the kind of `{path}`: --from KIND names it")
     text = convert(source, kind, target)
     for note in source.notes:
         print(f"bensolve: {path}: {note}", file=sys.stderr)
-    if out is None:
-        sys.stdout.flush()
-        sys.stdout.buffer.write(text.encode("utf-8", "surrogateescape"))
-    else:
-        write_text(out, text)
+    _write(out, text)
 
 
 def main(words: List[str]) -> int:
@@ -104,7 +114,7 @@ def main(words: List[str]) -> int:
         why: object = fault
     except NotConverted as reason:
         why = f"{path}: {reason}"
-    except Words as reason:
+    except NotServed as reason:
         why = reason
     print(f"bensolve: {why}", file=sys.stderr)
     return REFUSED
