@@ -342,6 +342,7 @@ class NormalizFiles(Refusals):
             (head + "inequalities 1\n1 0\n0 1\n", 4, f"`0` is not taken: {taken}, and what Normaliz is to compute"),
             (head + "cone 1\n1 0\ninequalities 1\n1 0\n", 4, "constraints stand beside generators: the set is what both have in common, and is not taken"),
             (head + "vertices 1\n1 0 0\n", 3, "a point of Normaliz ends with a denominator above 0, and not with 0"),
+            (head + "nonnegative\nsigns\n0 1\n", 3, "`signs` or `nonnegative` stands in line 2 already"),
             (head + "signs\n1 2\n", 3, "a sign is 1, -1 or 0, and not 2"),
             (head + "inequalities 1 sparse\n1:1 3:2;\n", 3, "there is no place 3 of 2"),
             (head + "inequalities 1 sparse\n1:1 1:2;\n", 3, "the place 1 is given twice"),

@@ -11,7 +11,7 @@ Where lrs and cdd read a file as two different sets, one of them is taken and na
 - `hull` beside an H-representation, `nonnegative` after `begin` or beside a V-representation, a word that says something of the set
   in the middle of a line, and `linearity` of a point are refused.
 - A V-representation with rows but no point is a cone: both put the point 0 in. One without rows is the empty set, as both print it.
-- A decimal is what it says, whatever the type of numbers is. In a rational file lrs refuses it, and scdd_gmp reads its front alone.
+- A decimal is what it says, whatever the type of numbers is. In a rational file lrs refuses it, and scdd_gmp reads it as 0.
 """
 import re
 from fractions import Fraction

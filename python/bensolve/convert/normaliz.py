@@ -54,6 +54,7 @@ class _Reader:
         self.rows: List[Row] = []
         self.first_lines: Dict[str, int] = {}
         self.bounded = False
+        self.sign_line: Optional[int] = None
 
     def line_at(self, place: int) -> int:
         return bisect_right(self.starts, place)
@@ -165,6 +166,18 @@ class _Reader:
         self.bounded |= word == "h"
         self.rows.append((word, row + (bound,)))
 
+    def take_signs(self, form: "Form") -> Vector:
+        """The signs of the entries, which a file gives once."""
+        if self.sign_line is not None:
+            refuse(self.line, f"`signs` or `nonnegative` stands in line {self.sign_line} already")
+        self.sign_line = self.line
+        if form.word == "nonnegative":
+            return (Fraction(1),) * self.entries(form)
+        if self.ahead() == "[":
+            self.take("`[`")
+            return self.row_in_brackets(form)
+        return tuple(self.take_number() for _ in range(self.entries(form)))
+
     def relate(self, line: int, relation: str, row: Vector, bound: Fraction) -> None:
         """Takes `row REL bound`."""
         if relation in ("<", ">"):
@@ -274,21 +287,11 @@ def _symbols(reader: _Reader, start: int, text: str) -> Tokens:
 
 def _read_signs(reader: _Reader, form: Form) -> None:
     """1 for an entry that is not negative, -1 for one that is not positive, 0 for any."""
-    if reader.ahead() == "[":
-        reader.take("`[`")
-        signs = reader.row_in_brackets(form)
-    else:
-        signs = tuple(reader.take_number() for _ in range(reader.entries(form)))
-    for place, sign in enumerate(signs):
+    for place, sign in enumerate(reader.take_signs(form)):
         if sign not in (-1, 0, 1):
             refuse(reader.line, f"a sign is 1, -1 or 0, and not {sign}")
         if sign:
             reader.constrain("h", _unit(reader.width, place, int(sign)), Fraction(0))
-
-
-def _read_nonnegative(reader: _Reader, form: Form) -> None:
-    for place in range(reader.entries(form)):
-        reader.constrain("h", _unit(reader.width, place, 1), Fraction(0))
 
 
 def _read_generators(reader: _Reader, form: Form) -> None:
@@ -310,7 +313,7 @@ FORMS = {
     "inhom_equations": Form("constraints", 1, _read_constraints, "e"),
     "constraints": Form("constraints", 0, _read_related),
     "signs": Form("constraints", 0, _read_signs),
-    "nonnegative": Form("constraints", 0, _read_nonnegative),
+    "nonnegative": Form("constraints", 0, _read_signs, "nonnegative"),
     "cone": Form("generators", 0, _read_generators, "0"),
     "subspace": Form("generators", 0, _read_generators, "l"),
     "vertices": Form("generators", 1, _read_points, "1"),

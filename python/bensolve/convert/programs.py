@@ -2,9 +2,9 @@
 from fractions import Fraction
 from typing import Dict, List, Optional, Tuple, Union
 
-from ..problem import LIMITS, NotExact, Problem, is_name
+from ..problem import LIMITS, Problem, is_name
 from ..texts import TextFault
-from .reading import NotConverted, Source, number, refuse, shown
+from .reading import Source, number, refuse, shown
 
 LARGEST_BOUND = Fraction(10) ** 20
 INFINITE = {"inf": 1, "+inf": 1, "infinity": 1, "+infinity": 1, "-inf": -1, "-infinity": -1}
@@ -107,12 +107,6 @@ class Program:
             self.source.note(first.integer_line, told)
         objectives = list(self.objectives.values())
         self._add_constants(objectives)
-        try:
-            return self._made(objectives)
-        except NotExact as why:
-            raise NotConverted(str(why)) from None
-
-    def _made(self, objectives: List[Row]) -> Problem:
         rows, columns = list(self.rows.values()), list(self.columns.values())
         return Problem(
             self.direction,
