@@ -7,7 +7,7 @@ reps_cdd reps_ppl`) the text itself. Times are of the processor and of the whole
 the peak that GNU time tells. Of the tries of a program the fastest counts. A run that takes more than LIMIT seconds is ended.
 What another prints is brought into the form of this program's texts: lines or equations in reduced echelon form, the others
 without entries at their places, scaled and in order. `-` in place of PROGRAM runs the others alone, and compares their answers with
-those of `reps.py` on texts that are small enough.
+those of `../oracle/reps.py` on texts that are small enough.
 
 `reps_beside.py PROGRAM = COUNT [SEED]` compares the answers of all on COUNT random texts of sets that are not empty.
 
@@ -35,6 +35,9 @@ import sys
 import tempfile
 from fractions import Fraction
 
+HERE = os.path.dirname(os.path.abspath(__file__))
+sys.path.insert(0, os.path.join(HERE, "..", "oracle"))
+
 import reps
 from reps import COMMAND, OTHER, Rep, converted, cross, cube, cyclic, drawn, normed, place_of, read_rep, whole, zero_one
 from reports import echelon
@@ -42,7 +45,6 @@ from reports import echelon
 LIMIT = 60
 TRIES = 3
 ENOUGH = 2.0
-HERE = os.path.dirname(os.path.abspath(__file__))
 NAMES = ("lrs", "cddlib", "PPL", "Normaliz")
 Run = collections.namedtuple("Run", "status seconds peak output")
 

@@ -1,4 +1,4 @@
-"""A stand-in for the program: it answers as the cases say, and converts representations by bench/reps.py.
+"""A stand-in for the program: it answers as the cases say, and converts representations by oracle/reps.py.
 
 `run(words)` takes the place of `bensolve.run.run`. A run that no case has is an error of the test that makes it.
 """
@@ -20,8 +20,8 @@ Answer = Tuple[int, str, str]
 
 
 def bench(name: str):
-    """A module of bench/, which computes apart from the program and from this package."""
-    folder = str(TOP / "bench")
+    """A module of oracle/, which computes apart from the program and from this package."""
+    folder = str(TOP / "oracle")
     if folder not in sys.path:
         sys.path.append(folder)
     return importlib.import_module(name)

@@ -2,7 +2,7 @@
 
 Beside the files in data/convert stands what other programs make of them: `X.lrs` is the output of `lrs X`, `X.scdd` the file that
 `scdd_gmp X` writes (`scdd` for real.ine), `X.in.out` that of `normaliz --ExtremeRays --MaximalSubspace X`, and `X.glpk.*` what
-`glpsol` writes of X (with ROW4 for names that it gives, as R and seven digits). Conversions between inequalities and points are those of bench/reps.py, apart from the package.
+`glpsol` writes of X (with ROW4 for names that it gives, as R and seven digits). Conversions between inequalities and points are those of oracle/reps.py, apart from the package.
 """
 import io
 import os
@@ -107,13 +107,13 @@ class Refusals(unittest.TestCase):
         self.assertEqual((caught.exception.line, caught.exception.sentence), (line, sentence))
 
 
-@unittest.skipUnless(hasattr(sys, "set_int_max_str_digits"), "bench/reps.py needs a newer Python")
+@unittest.skipUnless(hasattr(sys, "set_int_max_str_digits"), "oracle/reps.py needs a newer Python")
 class Apart(unittest.TestCase):
     """Conversions that are computed apart from the package."""
 
     @classmethod
     def setUpClass(cls):
-        sys.path.insert(0, str(TOP / "bench"))
+        sys.path.insert(0, str(TOP / "oracle"))
         try:
             import reps
         finally:

@@ -1,4 +1,4 @@
-"""Sets made of any number of sets, beside what bench/sets.py computes of them apart."""
+"""Sets made of any number of sets, beside what oracle/sets.py computes of them apart."""
 import random
 import unittest
 from fractions import Fraction

@@ -2,8 +2,8 @@
 # Refuses each allocation of a run in turn, and looks how the run ends: with status 6 (want of memory) and nothing
 # written, or as without the refusal, to the byte. Otherwise it says where, and ends with status 1.
 #
-#   bench/refuse_memory.sh [PROGRAM]    every allocation, of the built program (by default crates/bensolve/out/bensolve)
-#   bench/refuse_memory.sh --try N..    the allocations of these numbers, of the program as `rt try --fail-alloc N` runs
+#   oracle/refuse_memory.sh [PROGRAM]    every allocation, of the built program (by default crates/bensolve/out/bensolve)
+#   oracle/refuse_memory.sh --try N..    the allocations of these numbers, of the program as `rt try --fail-alloc N` runs
 #                                       it from its sources, which compiles it anew each time
 #
 # The runs are `solve` with a log, of a problem with vertices, one without, and one with a cone by generators, `check`
