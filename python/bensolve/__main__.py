@@ -65,4 +65,6 @@ def main(words: List[str]) -> int:
 
 
 if __name__ == "__main__":
+    # Names are as the files have them, whatever the terminal is set to.
+    sys.stdout.reconfigure(encoding="utf-8", errors="surrogateescape")
     sys.exit(main(sys.argv[1:]))

@@ -188,8 +188,8 @@ class Shapes(unittest.TestCase):
             energy().with_columns_first(["wind", 3])
 
     def test_a_file_with_many_entries(self):
-        entries = [f"a {i} {j} 1" for i in range(1, 317) for j in range(1, 317)]
-        text = "\n".join([f"p vlp min 316 316 {len(entries)} 1 0", *entries, "e", ""])
+        entries = [f"a {i} {j} 1" for i in range(1, 201) for j in range(1, 201)]
+        text = "\n".join([f"p vlp min 200 200 {len(entries)} 1 0", *entries, "e", ""])
         self.assertEqual(Problem.read(text).text(), text)
 
 

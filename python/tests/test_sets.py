@@ -41,7 +41,7 @@ class MadeProblems(unittest.TestCase):
 
     def test_a_sum_of_three(self):
         oracle, solved = bench("sets"), 0
-        for parts in zip(random_problems(3, 12), random_problems(4, 12), random_problems(5, 12)):
+        for parts in zip(random_problems(3, 9), random_problems(4, 9), random_problems(5, 9)):
             made = oracle.projection(hull(sets.summed(parts)), 2)
             first, second, third = map(oracle.feasible, map(hull, parts))
             points = [oracle.plus(oracle.plus(x, y), z) for x in first.points for y in second.points for z in third.points]
@@ -129,7 +129,7 @@ class ByTheProgram(unittest.TestCase):
 
     def test_random_sets(self):
         oracle = bench("sets")
-        for parts in zip(random_problems(3, 6), random_problems(4, 6), random_problems(5, 6)):
+        for parts in zip(random_problems(3, 3), random_problems(4, 3), random_problems(5, 3)):
             made = sets.sum(*parts)
             wanted = lines_of(oracle.projection(hull(sets.summed(parts)), 2))
             self.assertEqual(made.text().split("\nwitnesses\n")[0].splitlines(), wanted)
