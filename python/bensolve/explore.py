@@ -8,6 +8,7 @@ Without OUT.html the page goes to REPORT with `.html` in the place of its ending
 
 The page is no proof: it draws what the report says. Tested is that the report is one of this problem, where that is easy.
 """
+import argparse
 import base64
 import hashlib
 import html
@@ -15,7 +16,6 @@ import json
 import os
 import pkgutil
 import re
-import sys
 from decimal import Context, Decimal, Inexact
 from fractions import Fraction
 from typing import Dict, List, Sequence, Tuple
@@ -23,7 +23,7 @@ from typing import Dict, List, Sequence, Tuple
 from .picture import report_scene, ticks_of, tuple_text
 from .problem import Problem, Side
 from .shape import ShapeFault, area_of, box_around, dot, faces_of, ring_of
-from .texts import FaultLine, Report, TextFault, load_any, write_text
+from .texts import FaultLine, Report, load_any, write_text
 
 SCRIPTS = ("exact", "choice", "sheet", "answer", "frontier", "surface", "parallel", "cells", "page")
 NEAR, FAR = Fraction(12, 100), Fraction(3, 10)
@@ -374,20 +374,18 @@ def load_report(path: str) -> Report:
 
 
 def main(words: Sequence[str]) -> int:
-    if not 2 <= len(words) <= 3:
-        sys.stderr.write("explore FILE.vlp REPORT [OUT.html]\n")
-        return 2
-    file, path = words[:2]
-    out = words[2] if len(words) == 3 else os.path.splitext(path)[0] + ".html"
+    """The command `explore`."""
+    parser = argparse.ArgumentParser(prog="python3 -m bensolve explore", description="one HTML page to look at an answer")
+    parser.add_argument("file", metavar="FILE.vlp", help="the problem")
+    parser.add_argument("report", metavar="REPORT", help="what solve printed of it")
+    parser.add_argument("out", metavar="OUT.html", nargs="?", help="the page; without it REPORT with .html in the place of its ending")
+    given = parser.parse_args(words)
+    out = given.out or os.path.splitext(given.report)[0] + ".html"
     try:
-        text = page_of(Problem.load(file), load_report(path), os.path.basename(file))
-        if any(os.path.exists(out) and os.path.samefile(out, read) for read in (file, path)):
+        text = page_of(Problem.load(given.file), load_report(given.report), os.path.basename(given.file))
+        if any(os.path.exists(out) and os.path.samefile(out, read) for read in (given.file, given.report)):
             raise ReportFault(f"the page would take the place of {out}, which was read")
-        write_text(out, text)
-    except TextFault as fault:
-        sys.stderr.write(f"explore: {fault}\n")
-        return 3
     except (ReportFault, ShapeFault) as fault:
-        sys.stderr.write(f"explore: {path}: {fault}\n")
-        return 1
+        raise ReportFault(f"{given.report}: {fault}") from None
+    write_text(out, text)
     return 0

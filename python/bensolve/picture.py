@@ -5,6 +5,7 @@
 REPORT is what `solve` prints, PROJECTION what `project`, `map`, `meet`, `sum` and `join` print. Without OUT the SVG goes to standard
 output; an OUT that ends in `.off` gets the surface. Names are those of the axes, one for each.
 """
+import argparse
 import os
 import sys
 from fractions import Fraction
@@ -12,7 +13,7 @@ from typing import List, NamedTuple, Sequence, Union
 
 from .shape import Shape, ShapeFault, Side, area_of, box_around, dot, faces_of
 from .sheet import AROUND, Sheet, path_of, pixel
-from .texts import Projection, Report, TextFault, load_any, write_text
+from .texts import Projection, Report, load_any, write_text
 
 IMAGE, EDGE, POINT, ENDLESS, GRID, INK = "#d8e8f5", "#1f5f99", "#123a5e", "#b04a00", "#c9d1d9", "#444"
 LABELLED = 60
@@ -346,22 +347,20 @@ def picture_of(scene: Scene) -> str:
 
 
 def main(words: Sequence[str]) -> int:
-    if not words:
-        sys.stderr.write("picture REPORT|PROJECTION [OUT [NAME ..]]\n")
-        return 2
-    path, out, names = words[0], words[1] if len(words) > 1 else None, words[2:]
+    """The command `picture`."""
+    parser = argparse.ArgumentParser(prog="python3 -m bensolve picture", description="a report or projection of two or three axes as a picture")
+    parser.add_argument("text", metavar="REPORT|PROJECTION", help="what solve, project, map, meet, sum or join printed")
+    parser.add_argument("out", metavar="OUT", nargs="?", help="an SVG, or the surface where it ends in .off; without it the SVG is printed")
+    parser.add_argument("names", metavar="NAME", nargs="*", help="the names of the axes")
+    given = parser.parse_args(words)
     try:
-        scene = scene_of(load_any(path), os.path.basename(path), names)
-        if out is None:
+        scene = scene_of(load_any(given.text), os.path.basename(given.text), given.names)
+        if given.out is None:
             sys.stdout.write(picture_of(scene))
-        elif os.path.exists(out) and os.path.samefile(out, path):
+        elif os.path.exists(given.out) and os.path.samefile(given.out, given.text):
             raise ShapeFault("the picture would take the place of the text")
         else:
-            write_text(out, off_text(scene) if out.endswith(".off") else picture_of(scene))
-    except TextFault as fault:
-        sys.stderr.write(f"picture: {fault}\n")
-        return 3
+            write_text(given.out, off_text(scene) if given.out.endswith(".off") else picture_of(scene))
     except ShapeFault as fault:
-        sys.stderr.write(f"picture: {path}: {fault}\n")
-        return 1
+        raise ShapeFault(f"{given.text}: {fault}") from None
     return 0

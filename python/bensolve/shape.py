@@ -102,11 +102,12 @@ def turns(first, second, third):
 def ring_of(vectors, axes):
     """The corners, in turn, of what the vectors span; they lie in one plane, in which these two axes tell them apart.
 
-    Each vector is scaled so that one function is 1 at all of them, which brings directions to a finite place and keeps the order.
+    Each vector is scaled so that one function is 1 at all of them, which brings directions to a finite place and keeps the order. The
+    function is positive at all vectors, and at (0, 1) too, so that the two axes still tell the scaled vectors apart.
     """
     slope = positive_on([[v[axis] for axis in axes] for v in vectors if not v[-1]])
     values = [dot(slope, [v[axis] for axis in axes]) for v in vectors]
-    lift = 1 - min([value for value, v in zip(values, vectors) if v[-1]], default=0)
+    lift = 1 - min([0, *(value for value, v in zip(values, vectors) if v[-1])])
     seen = {}
     for value, v in zip(values, vectors):
         scale = value + lift * v[-1]

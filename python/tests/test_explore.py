@@ -1,6 +1,7 @@
 """Pages are read as HTML, and what they say is compared with the report; the decision of the script with plain fractions."""
 import base64
 import contextlib
+import functools
 import hashlib
 import io
 import json
@@ -15,11 +16,12 @@ from fractions import Fraction
 from html.parser import HTMLParser
 from pathlib import Path
 
+from bensolve import __main__ as commands
 from bensolve import explore
 from bensolve.problem import Problem
 from bensolve.shape import dot
 from bensolve.texts import Report
-from tests.cases import EXAMPLES
+from tests.cases import EXAMPLES, all_cases
 
 SAMPLES = Path(__file__).parent / "data"
 SOLVED = [EXAMPLES / name for name in ("energy", "farm", "tradeoff", "transfer", "transport", "prices")]
@@ -53,10 +55,12 @@ class Reader(HTMLParser):
             self.texts.setdefault(self.within[-1], []).append(data)
 
 
+@functools.lru_cache(None)
 def load(path):
     return Problem.load(f"{path}.vlp"), Report.load(f"{path}.report")
 
 
+@functools.lru_cache(None)
 def page_of(path):
     return explore.page_of(*load(path), f"{path.name}.vlp")
 
@@ -68,7 +72,10 @@ def data_of(text):
 def run(*words):
     err = io.StringIO()
     with contextlib.redirect_stderr(err):
-        status = explore.main([str(word) for word in words])
+        try:
+            status = commands.main(["explore", *map(str, words)])
+        except SystemExit as end:
+            status = end.code
     return status, err.getvalue()
 
 
@@ -135,6 +142,17 @@ class Pages(unittest.TestCase):
         self.assertIn("<li>1 × x1 ≤ 5</li>", shortage)
         self.assertIn("Every vector is in the image", unlimited)
         self.assertEqual((data_of(shortage), data_of(unlimited)), (None, None))
+
+    def test_reports_of_the_cases_have_pages(self):
+        seen = set()
+        for case in all_cases():
+            if case.words[:1] in (["solve"], ["dual"], ["check"]) and case.keys.get("status") == ["0"]:
+                for text in case.texts("out"):
+                    report = Report.read(text)
+                    page = Reader(explore.page_of(Problem.read(case.text("file")), report, case.name))
+                    self.assertEqual((page.within, page.tags - TAGS), ([], set()))
+                    seen.add((report.answer, len(report.duality)))
+        self.assertGreater(len(seen), 5)
 
     def test_names_are_text(self):
         problem, _ = load(SAMPLES / "hostile")
@@ -218,12 +236,12 @@ class Refusals(unittest.TestCase):
             fault = Path(folder) / "fault"
             fault.write_text("fault 3 line 1 kind 1 NoProblem\n")
             for words, status, told in (
-                    ([energy], 2, "explore FILE.vlp REPORT"),
+                    ([energy], 2, "usage: python3 -m bensolve explore"),
                     ([energy, EXAMPLES / "farm.report", out], 1, "farm.report: "),
                     ([energy, fault, out], 1, "this is a fault line"),
                     ([energy, EXAMPLES / "energy.weights", out], 1, "no report"),
-                    ([report, report, out], 3, "energy.report:1: "),
-                    ([energy, energy, out], 3, "energy.vlp:1: ")):
+                    ([report, report, out], 1, "energy.report:1: "),
+                    ([energy, energy, out], 1, "energy.vlp:1: ")):
                 with self.subTest(told):
                     got, error = run(*words)
                     self.assertEqual(got, status)
