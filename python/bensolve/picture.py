@@ -184,8 +184,9 @@ def draw_points(sheet, scene, place, seen=None):
         sheet.put("circle", title=f"point {k + 1}: {tuple_text(points[k])}", cx=pixel(x), cy=pixel(y), r=5 if len(shown) <= LABELLED else 2.5, fill=EDGE)
         sheet.take(x, y, 12, 12)
     for k in shown[:LABELLED]:
-        texts = [f"{k + 1}: {tuple_text(points[k])}"] if len(shown) <= 12 else []
-        any(sheet.label(*place(points[k]), text, spots_of(scene, AROUND), font_weight="bold", fill=POINT) for text in [*texts, str(k + 1)])
+        full, number = f"{k + 1}: {tuple_text(points[k])}", str(k + 1)
+        tries = [(full, gap, True) for gap in (9, 16, 24) if len(shown) <= 12] + [(number, 9, True), (number, 9, False)]
+        any(sheet.label(*place(points[k]), text, spots_of(scene, AROUND), gap, apart, font_weight="bold", fill=POINT) for text, gap, apart in tries)
 
 
 def label_edges(sheet, scene, edges):
@@ -234,12 +235,12 @@ def space_picture(scene: Scene) -> str:
     for turned in (False, True):
         for side, face in faces:
             if front[side.number] == turned:
-                draw_face(sheet, scene, side, face, box, view)
+                draw_face(sheet, scene, side, face, box, view, turned)
     draw_points(sheet, scene, place, seen)
     return sheet.text()
 
 
-def draw_face(sheet, scene, side, face, box, view):
+def draw_face(sheet, scene, side, face, box, view, front):
     """A face, the darker the more it is seen from the side. Edges at which the box cuts it off are thin."""
     normal = [float(value) for value in box.scaled_normal(side.normal)]
     level = abs(dot(normal, [float(value) for value in view.eye])) / dot(normal, normal) ** 0.5
@@ -249,6 +250,8 @@ def draw_face(sheet, scene, side, face, box, view):
     for k, corner in enumerate(face):
         cut = any(a == b and a in ends for a, b, ends in zip(corner, face[k - 1], zip(box.low, box.high)))
         sheet.put("polyline", fill="none", stroke=GRID if cut else EDGE, stroke_width=1 if cut else 2, points=path_of([places[k - 1], places[k]]))
+        if front and not cut and len(scene.shape.points) <= LABELLED:
+            sheet.take_line(places[k - 1], places[k], only_crossed=True)
 
 
 def draw_frame(sheet, scene, box, view):

@@ -55,11 +55,13 @@ function drawDots(sheet, at, hidden = () => false) {
 
 const LABELLED = 200;
 
+// The chosen point has a number in any case that there is room for; entries stand where there are few points.
 function labelDots(sheet, at, hidden = () => false) {
   for (const k of labelOrder().slice(0, LABELLED)) {
     if (hidden(k)) continue;
-    const place = at(data.places[k]), full = `${k + 1}: ${pointText(k)}`;
-    if (full.length < 32 && (pointCount <= 12 || k === state.chosen) && sheet.label(place, full, outside)) continue;
-    (k === state.chosen ? [9, 22, 36] : [9]).some(gap => sheet.label(place, `${k + 1}`, outside, gap));
+    const place = at(data.places[k]), full = `${k + 1}: ${pointText(k)}`, apart = [sheet.taken, sheet.crossed];
+    const long = full.length < 32 && (pointCount <= 12 || k === state.chosen), gaps = k === state.chosen ? [9, 22, 36] : [9];
+    (long && [9, 16, 24].some(gap => sheet.label(place, full, outside, gap, apart)))
+      || gaps.some(gap => sheet.label(place, `${k + 1}`, outside, gap, apart)) || gaps.some(gap => sheet.label(place, `${k + 1}`, outside, gap));
   }
 }

@@ -194,7 +194,7 @@ function firstWeights() {
   return data.orthant && choose(answer, equal).best ? equal : sum;
 }
 
-viewSheet.svg.classList.toggle('many', pointCount > 60);
+viewSheet.svg.classList.toggle('many', pointCount > FEW);
 viewSheet.svg.classList.toggle('turns', objectives === 3);
 mapSheet.svg.style.display = mapped ? '' : 'none';
 weigh(linkedWeights(location.href) || firstWeights());

@@ -1,5 +1,5 @@
 // One objective, or four and more: each objective has an axis, and each point is a way from axis to axis.
-const NARROWEST = 56;
+const NARROWEST = 56, BESIDE = objectives === 1 ? 14 : 6;
 
 function drawParallel(sheet) {
   const top = 44, bottom = 30, gap = objectives > 1 ? (sheet.width - 90) / (objectives - 1) : sheet.width;
@@ -17,13 +17,13 @@ function drawParallel(sheet) {
   for (let i = 0; i < objectives; i++) {
     for (const [place, text] of ticksFor(i, 6)) {
       sheet.put('polyline', { points: pathOf([[x(i) - 4, y(place)], [x(i), y(place)]]), class: 'grid' });
-      sheet.label([x(i), y(place)], text, [[-1, 0]], 5);
+      sheet.label([x(i), y(place)], text, [[-1, 0]], BESIDE);
     }
   }
   if (objectives === 1) {
     for (const k of labelOrder()) sheet.put('circle', { cx: x(0), cy: y(data.places[k][0]), 'data-point': k });
   }
   for (const k of labelOrder().slice(0, LABELLED)) {
-    sheet.label([x(objectives - 1), y(data.places[k].at(-1))], `${k + 1}`, [[1, 0]], 6);
+    sheet.label([x(objectives - 1), y(data.places[k].at(-1))], `${k + 1}`, [[1, 0]], BESIDE);
   }
 }

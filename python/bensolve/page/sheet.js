@@ -27,7 +27,7 @@ class Sheet {
   }
 
   clear(width, height) {
-    [this.width, this.height, this.taken] = [width, height, []];
+    [this.width, this.height, this.taken, this.crossed] = [width, height, [], []];
     this.svg.replaceChildren();
     this.svg.setAttribute('viewBox', `0 0 ${width} ${height}`);
   }
@@ -36,27 +36,32 @@ class Sheet {
     return put(this.svg, tag, attributes, text);
   }
 
-  // Keeps labels away from a square around a place.
-  take([x, y], size) {
-    this.taken.push([x - size / 2, y - size / 2, size, size]);
+  // Keeps labels away from a square around a place; where it is only crossed, while there is room elsewhere.
+  take([x, y], size, list = this.taken) {
+    list.push([x - size / 2, y - size / 2, size, size]);
+  }
+
+  takeLine(places, list = this.taken) {
+    for (let i = 1; i < places.length; i++) {
+      const along = moved(places[i], places[i - 1], -1), steps = Math.ceil(Math.hypot(...along) / 6) || 1;
+      for (let step = 0; step <= steps; step++) this.take(moved(places[i - 1], along, step / steps), 4, list);
+    }
   }
 
   // Draws a line, and keeps labels away from it.
   stroke(places, style) {
     this.put('polyline', { points: pathOf(places), class: style });
-    for (let i = 1; i < places.length; i++) {
-      const along = moved(places[i], places[i - 1], -1), steps = Math.ceil(Math.hypot(...along) / 6);
-      for (let step = 0; step <= steps; step++) this.take(moved(places[i - 1], along, step / steps), 4);
-    }
+    this.takeLine(places);
   }
 
   // Writes a text beside a place, at the first of the spots where it meets nothing. Where there is none, it is left out.
-  label([x, y], text, spots, gap = 9) {
+  label([x, y], text, spots, gap = 9, lists = [this.taken]) {
     const width = measure.measureText(text).width + 4;
     for (const [across, down] of spots) {
       const left = x + across * gap - width * (1 - across) / 2, top = y + down * gap - LINE_HEIGHT * (1 - down) / 2;
       if (left < 0 || top < 0 || left + width > this.width || top + LINE_HEIGHT > this.height) continue;
-      if (this.taken.some(([a, b, w, h]) => left < a + w && a < left + width && top < b + h && b < top + LINE_HEIGHT)) continue;
+      const meets = ([a, b, w, h]) => left < a + w && a < left + width && top < b + h && b < top + LINE_HEIGHT;
+      if (lists.some(list => list.some(meets))) continue;
       this.taken.push([left, top, width, LINE_HEIGHT]);
       this.put('text', { x: left + 2, y: top + 11.5 }, text);
       return true;

@@ -1,4 +1,6 @@
 // Three objectives: the surface within a box, seen from where the eye was turned to, and the plane of the best weighed sum.
+const FEW = 60;
+
 class View {
   constructor(sheet) {
     const [turn, tilt] = [state.turn, state.tilt].map(degrees => degrees * Math.PI / 180);
@@ -30,6 +32,7 @@ function drawSurface(sheet) {
   }
   front.forEach(face => drawFace(sheet, view, face));
   if (support && !supportBehind) drawFace(sheet, view, support);
+  if (support && pointCount <= FEW) sheet.takeLine([...support.corners, support.corners[0]].map(view.at), sheet.crossed);
   drawDots(sheet, view.at, hidden);
   labelDots(sheet, view.at, hidden);
 }
@@ -42,8 +45,9 @@ function drawFace(sheet, view, face) {
   polygon.style.fill = `color-mix(in srgb, var(--edge) ${Math.round(8 + 34 * steep)}%, var(--fill))`;
   face.corners.forEach((corner, k) => {
     const next = face.corners[(k + 1) % face.corners.length];
-    const cut = corner.some((x, i) => Math.abs(x) > 1 - 1e-9 && Math.abs(x - next[i]) < 1e-9);
-    sheet.put('polyline', { points: pathOf([corner, next].map(view.at)), class: cut ? 'grid' : 'edge' });
+    const cut = corner.some((x, i) => Math.abs(x) > 1 - 1e-9 && Math.abs(x - next[i]) < 1e-9), line = [corner, next].map(view.at);
+    sheet.put('polyline', { points: pathOf(line), class: cut ? 'grid' : 'edge' });
+    if (!cut && pointCount <= FEW && view.looksAt(face)) sheet.takeLine(line, sheet.crossed);
   });
 }
 
