@@ -16,7 +16,7 @@ from .sheet import AROUND, Sheet, path_of, pixel
 from .texts import Projection, Report, load_any, write_text
 
 IMAGE, EDGE, POINT, ENDLESS, GRID, INK = "#d8e8f5", "#1f5f99", "#123a5e", "#b04a00", "#c9d1d9", "#444"
-LABELLED = 60
+LABELLED, LONGEST_NAME = 60, 40
 
 
 class Scene(NamedTuple):
@@ -62,13 +62,16 @@ def ticks_of(low: Fraction, high: Fraction, most: int):
 
 
 def decimal_text(value: Fraction) -> str:
-    """A multiple of a power of ten as a decimal."""
+    """A multiple of a power of ten as a decimal, as `0.25`, or where that is long and it is shorter as `2.5e9`."""
     places = 0
     while (value * 10 ** places).denominator != 1:
         places += 1
-    digits = str(abs(value.numerator * 10 ** places // value.denominator)).rjust(places + 1, "0")
-    text = digits[:len(digits) - places] + ("." + digits[len(digits) - places:] if places else "")
-    return "-" + text if value < 0 else text
+    digits = str(abs(value.numerator) * 10 ** places // value.denominator)
+    plain = digits.rjust(places + 1, "0")
+    plain = plain[:len(plain) - places] + ("." + plain[len(plain) - places:] if places else "")
+    leading = digits.rstrip("0")
+    short = leading[:1] + ("." + leading[1:] if leading[1:] else "") + f"e{len(digits) - 1 - places}"
+    return ("-" if value < 0 else "") + (short if len(plain) > 7 and len(short) < len(plain) else plain)
 
 
 # ---- two objectives
@@ -340,7 +343,7 @@ def scene_of(answer: Union[Report, Projection], title: str, names: Sequence[str]
         raise ShapeFault(f"there are {axes} axes, and pictures have two or three")
     if names and len(names) != axes:
         raise ShapeFault(f"there are {axes} axes and {len(names)} names")
-    named = ["".join(sign if sign.isprintable() else " " for sign in name) for name in names]
+    named = ["".join(sign if sign.isprintable() else " " for sign in name)[:LONGEST_NAME] for name in names]
     return (projection_scene if isinstance(answer, Projection) else report_scene)(answer, title, named)
 
 

@@ -27,7 +27,7 @@ SAMPLES = Path(__file__).parent / "data"
 SOLVED = [EXAMPLES / name for name in ("energy", "farm", "tradeoff", "transfer", "transport", "prices")]
 SOLVED += [SAMPLES / name for name in ("hostile", "line3", "parts3", "parts5")]
 OTHERS = [EXAMPLES / name for name in ("shortage", "unlimited")]
-TAGS = set("html head meta title style body main h1 h2 p strong b small div section svg label input output span button ul li details summary "
+TAGS = set("html head meta title style body main h1 h2 p strong b small div section svg label input output span button ul li dl details summary "
            "table thead tbody tr th td script".split())
 ATTRIBUTES = set("lang charset name content http-equiv id class tabindex role aria-roledescription aria-labelledby aria-describedby aria-label "
                  "aria-live for type min max autocomplete spellcheck scope open".split())

@@ -35,15 +35,14 @@ function mark() {
 
 // Beside the pictures stands what the table says of one point.
 function showPoint() {
-  const k = state.hot < 0 ? state.chosen : state.hot, list = document.createElement('dl'), head = document.createElement('h2');
-  head.textContent = `Point ${k + 1}`;
-  for (const cell of [...$(`#plans tr[data-point="${k}"]`).cells].slice(1)) {
+  const k = state.hot < 0 ? state.chosen : state.hot;
+  $('#chosen h2').textContent = `Point ${k + 1}`;
+  $('#chosen dl').replaceChildren(...[...$(`#plans tr[data-point="${k}"]`).cells].slice(1).flatMap(cell => {
     const term = document.createElement('dt'), details = document.createElement('dd');
     term.textContent = cell.dataset.label;
     details.append(cell.firstChild.cloneNode(true));
-    list.append(term, details);
-  }
-  $('#chosen').replaceChildren(head, list);
+    return [term, details];
+  }));
 }
 
 function point(k, hot = -1) {
