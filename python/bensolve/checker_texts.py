@@ -185,7 +185,7 @@ def read_problem(lines: Lines) -> Problem:
     return problem
 
 
-_NUMBER = re.compile(r"0|(-?[1-9][0-9]*)(?:/([1-9][0-9]*))?")
+_NUMBER = re.compile(r"0|(-?[1-9][0-9]*)(?:/(?!1\Z)([1-9][0-9]*))?")
 _NATURAL = re.compile(r"0|[1-9][0-9]*")
 
 
@@ -213,7 +213,7 @@ class Words:
         require(len(above) <= 38 and len(below) <= 37, "NumberWide")
         top, bottom = int(above or 0), int(below or 1)
         require(is_held(top) and is_held(bottom), "NumberWide")
-        require(not below or bottom > 1 and gcd(top, bottom) == 1, "BadNumber")
+        require(not below or gcd(top, bottom) == 1, "BadNumber")
         return Fraction(top, bottom) if below else top
 
     def numbers(self, count: int) -> List[Number]:
