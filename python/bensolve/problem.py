@@ -24,6 +24,7 @@ LIMITS = {"rows": 1000, "columns": 1000, "objectives": 20, "cone vectors": 64, "
 LARGEST_COUNT = 2**32 - 1
 LONGEST_LINE = 4096
 DECIMAL = re.compile(r"([+-]?)([0-9]+)?(?:\.([0-9]*))?(?:[eE]([+-]?)([0-9]+))?")
+DIGITS = re.compile("[0-9]+")
 FRACTION = re.compile(r"([+-]?[0-9]+)/([0-9]+)")
 BLANKS = re.compile(r"[ \t]+")
 BOUND_NUMBERS = {"f": 0, "l": 1, "u": 1, "s": 1, "d": 2}
@@ -36,6 +37,8 @@ class NotExact(ValueError):
 
 def exact(value: Any) -> Fraction:
     """The number that a value says."""
+    if type(value) is Fraction:
+        return value
     if isinstance(value, str):
         return _exact_text(value.strip())
     if isinstance(value, Decimal) and value.is_finite():
@@ -64,6 +67,8 @@ def _exact_text(word: str) -> Fraction:
 
 def decimal_value(word: str) -> Fraction:
     """The value of a number of a vlp file. A fault has its kind and a sentence."""
+    if len(word) <= 36 and DIGITS.fullmatch(word):
+        return Fraction(int(word))
     match = DECIMAL.fullmatch(word)
     if not match or not (match.group(2) or match.group(3)):
         raise ValueError("BadNumber", f"`{word}` is no number as 12, -4.5 or 1e-3")
@@ -86,6 +91,8 @@ def decimal_value(word: str) -> Fraction:
 
 def decimal_text(value: Fraction) -> str:
     """A number as a vlp file has it: a whole number, or one with the least power of ten that it needs."""
+    if value.denominator == 1 and abs(value.numerator) < 10**36:
+        return str(value.numerator)
     places = next((k for k in range(37) if 10**k % value.denominator == 0), None)
     if places is not None:
         mantissa = value.numerator * (10**places // value.denominator)
@@ -93,6 +100,14 @@ def decimal_text(value: Fraction) -> str:
         if size < 10**36 or size < 10**37 and size % 10 == 0:
             return f"{mantissa}e-{places}" if places else str(mantissa)
     raise NotExact(f"{value} has no decimal form of at most 36 digits, which a vlp file needs: multiply its row or objective")
+
+
+def _decimal_of(value: Fraction, *place: str) -> str:
+    """The same of a number that stands at this place."""
+    try:
+        return decimal_text(value)
+    except NotExact as why:
+        raise NotExact(f"{', '.join(place)}: {why}") from None
 
 
 class Bound(NamedTuple):
@@ -332,7 +347,11 @@ class Problem(Text):
         for kind in KINDS:
             yield from (f"c {kind} {number} {name}" for number, name in enumerate(self.names[kind], 1) if name is not None)
         a, o = self._cells("a", self.rows), self._cells("o", self.objectives)
-        k = [f"k {place} {j} {decimal_text(value)}" for j, vector in enumerate(self.cone or (), 1) for place, value in sorted(vector.items())]
+        k = [
+            f"k {place} {j} {_decimal_of(value, f'cone vector {j}')}"
+            for j, vector in enumerate(self.cone or (), 1)
+            for place, value in sorted(vector.items())
+        ]
         head = ["p", "vlp", self.direction, len(self.rows), self.columns, len(a), len(self.objectives), len(o)]
         if self.cone is not None:
             head += ["dualcone" if self.dual_form else "cone", len(self.cone), len(k)]
@@ -340,23 +359,21 @@ class Problem(Text):
         yield from a + o
         if self.duality is not None:
             for place in range(1, len(self.objectives) + 1):
-                yield f"k {place} 0 {decimal_text(self.duality.get(place, Fraction(0)))}"
+                yield f"k {place} 0 {_decimal_of(self.duality.get(place, Fraction(0)), 'the duality vector')}"
         yield from k
         for word, bounds in (("i", self.row_bounds), ("j", self.column_bounds)):
             for number, bound in enumerate(bounds, 1):
                 if bound is not None:
-                    yield joined(word, number, bound.kind, *map(decimal_text, bound.numbers()))
+                    of = self.name("row" if word == "i" else "column", number)
+                    yield joined(word, number, bound.kind, *(_decimal_of(value, f"the bound of {of}") for value in bound.numbers()))
         yield "e"
 
     def _cells(self, word: str, rows: Sequence[Sparse]) -> List[str]:
         lines = []
         for number, row in enumerate(rows, 1):
+            of = self.name("row" if word == "a" else "objective", number)
             for place, value in sorted(row.items()):
-                try:
-                    lines.append(f"{word} {number} {place} {decimal_text(value)}")
-                except NotExact as why:
-                    of = self.name("row" if word == "a" else "objective", number)
-                    raise NotExact(f"{of}, {self.name('column', place)}: {why}") from None
+                lines.append(f"{word} {number} {place} {_decimal_of(value, of, self.name('column', place))}")
         return lines
 
 
@@ -420,7 +437,7 @@ class _Draft:
             self.said.append((words[1], int(words[2]), " ".join(words[3:])))
 
     def _natural(self, word: str) -> int:
-        if not re.fullmatch("[0-9]+", word):
+        if not DIGITS.fullmatch(word):
             raise self.fault("BadLine", f"`{word}` is no natural number")
         digits = word.lstrip("0")
         return int(digits or 0) if len(digits) < 11 and int(digits or 0) < LARGEST_COUNT else LARGEST_COUNT

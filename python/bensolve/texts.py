@@ -10,7 +10,8 @@ import re
 import stat
 import tempfile
 from array import array
-from dataclasses import dataclass
+from contextlib import contextmanager
+from dataclasses import dataclass, replace
 from fractions import Fraction
 from math import gcd
 from typing import Callable, Dict, Iterable, Iterator, List, NamedTuple, Optional, Sequence, Tuple, Union
@@ -47,23 +48,28 @@ def read_text(path: Path) -> str:
         return file.read().decode("utf-8", "surrogateescape")
 
 
-def write_text(path: Path, text: str) -> None:
-    """Writes a file whole, or leaves what was there: the name goes to the new text once all of it is written."""
-    data = text.encode("utf-8", "surrogateescape")
+@contextmanager
+def whole_file(path: Path) -> Iterator[str]:
+    """The name of a new file to write. It takes the place of `path` once the block ends, and is gone where it fails."""
     if os.path.exists(path) and not os.path.isfile(path):
-        with open(path, "wb") as device:
-            device.write(data)
+        yield os.fspath(path)
         return
     target = os.path.realpath(path)
     handle, part = tempfile.mkstemp(dir=os.path.dirname(target), prefix=os.path.basename(target) + ".")
+    os.close(handle)
     try:
-        with os.fdopen(handle, "wb") as file:
-            file.write(data)
         os.chmod(part, stat.S_IMODE(os.stat(target).st_mode) if os.path.exists(target) else 0o666 & ~_umask())
+        yield part
         os.replace(part, target)
     except BaseException:
         os.unlink(part)
         raise
+
+
+def write_text(path: Path, text: str) -> None:
+    """Writes a file whole, or leaves what was there."""
+    with whole_file(path) as part, open(part, "wb") as file:
+        file.write(text.encode("utf-8", "surrogateescape"))
 
 
 def _umask() -> int:
@@ -309,6 +315,11 @@ def joined(word: object, *values: object) -> str:
     return " ".join(map(str, (word, *values)))
 
 
+def moved(vector: Sparse, place_of: Callable[[int], int]) -> Sparse:
+    """A sparse vector with its values at other places."""
+    return dict(sorted((place_of(place), value) for place, value in vector.items()))
+
+
 def sparse_words(vector: Sparse) -> List[object]:
     words: List[object] = [len(vector)]
     for place in vector:
@@ -472,6 +483,16 @@ class Projection(Text):
             if any(normal) or side.bound > 0:
                 plain.append(Facet(normal, side.bound))
         return plain
+
+    def renumbered(self, of_column: Callable[[int], int], of_side: Callable[[int], int]) -> "Projection":
+        """The same with other numbers of the columns in the choices, and of the sides in the multipliers."""
+        return replace(
+            self,
+            line_rays=tuple((moved(ray, of_column), moved(back, of_column)) for ray, back in self.line_rays),
+            choices=tuple(moved(choice, of_column) for choice in self.choices),
+            rays=tuple(moved(ray, of_column) for ray in self.rays),
+            multipliers=None if self.multipliers is None else moved(self.multipliers, of_side),
+        )
 
     @classmethod
     def read(cls, text: str) -> "Projection":

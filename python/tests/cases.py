@@ -1,7 +1,9 @@
 """The cases of crates/cases/data as they stand in its lists, with the texts that they name."""
+import functools
+import os
 import re
 from pathlib import Path
-from typing import Dict, Iterator, List, NamedTuple
+from typing import Dict, Iterator, List, NamedTuple, Tuple
 
 TOP = Path(__file__).resolve().parents[2]
 DATA = TOP / "crates" / "cases" / "data"
@@ -49,7 +51,12 @@ def text_of(value: str) -> str:
     return "".join(parts)
 
 
-def all_cases() -> Iterator[Case]:
+@functools.lru_cache(maxsize=None)
+def all_cases() -> Tuple[Case, ...]:
+    return tuple(_all_cases())
+
+
+def _all_cases() -> Iterator[Case]:
     for folder in sorted(DATA.iterdir()):
         if folder.is_dir():
             for line in (folder / "cases").read_text().splitlines():
@@ -60,3 +67,13 @@ def all_cases() -> Iterator[Case]:
                         key, _, value = part.partition("=")
                         keys.setdefault(key, []).append(value)
                     yield Case(f"{folder.name}/{name}", words.split(), keys)
+
+
+def built_program():
+    """The program of BENSOLVE, or the one that is built in this clone; None where there is none. A launcher would build it."""
+    named = os.environ.get("BENSOLVE", "")
+    built = TOP / "crates" / "bensolve" / "out" / "bensolve"
+    return named or (str(built) if built.is_file() else None)
+
+
+NO_PROGRAM = "no built program: set BENSOLVE to one"
