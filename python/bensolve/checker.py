@@ -13,11 +13,10 @@ import io
 import sys
 from typing import BinaryIO, Callable, List, Optional, Tuple
 
-from bensolve.checker_conversion import ConversionCheck
-from bensolve.checker_generators import RULES
-from bensolve.checker_log import ProblemCheck, Upgrade
-from bensolve.checker_texts import (CONVERSION_SHAPES, LOG_SHAPES, Fault, Representation, Wrong, entries_of,
-                                    read_problem)
+from .checker_conversion import ConversionCheck
+from .checker_generators import RULES
+from .checker_log import ProblemCheck, Upgrade
+from .checker_texts import CONVERSION_SHAPES, LOG_SHAPES, Fault, Representation, Wrong, entries_of, read_problem
 
 MOST_FILE_BYTES = 16_777_216
 MOST_LOG_BYTES = 402_653_184
@@ -84,9 +83,11 @@ def main(words: List[str]) -> int:
         print(__doc__, end="", file=sys.stderr)
         return 2
     status, text = run(command, *(lambda path=path: open(path, "rb", buffering=0) for path in words))
+    data = memoryview(text.encode("ascii"))
     try:
-        sys.stdout.buffer.write(text.encode("ascii"))
-        sys.stdout.buffer.flush()
+        with open(sys.stdout.fileno(), "wb", buffering=0, closefd=False) as out:
+            while data:
+                data = data[out.write(data):]
     except OSError:
         return 8
     return status

@@ -1,11 +1,11 @@
 """The rules of the log of a conversion, and the representation that it gives."""
 from typing import Any, List, Optional
 
-from bensolve.checker_generators import LogCheck, Pair, Vector, leading, require_rising
-from bensolve.checker_texts import Number, Representation, require, vector_text
+from .checker_generators import LogCheck, Pair, Vector, leading, require_rising
+from .checker_texts import Number, Representation, require, vector_text
 
-_BEFORE = {"conv": (None,), "line": ("conv", "line"), "start": ("conv", "line"), "add": ("start", "add"),
-           "end": ("start", "add")}
+_AFTER_LINES, _AFTER_START = ("conv", "line"), ("start", "add")
+_BEFORE = {"conv": (None,), "line": _AFTER_LINES, "start": _AFTER_LINES, "add": _AFTER_START, "end": _AFTER_START}
 _BEFORE_WITHOUT_ROWS = {"conv": (None,), "end": ("conv",)}
 
 

@@ -5,10 +5,9 @@ from itertools import product
 from math import gcd
 from typing import Any, Dict, Iterable, Iterator, List, Optional, Sequence, Tuple
 
-from bensolve.checker_texts import LIMIT, Fault, Number, is_held, require
+from .checker_texts import LIMIT, Fault, Number, is_held, require
 
-RULES = ("Version Order Length Index Scaled Interior Sign Balance Cone Bound Side Corner Pairs Facet Missing - "
-         "Hint").split()
+RULES = "Version Order Length Index Scaled Interior Sign Balance Cone Bound Side Corner Pairs Facet Missing - Hint".split()
 _OPERATIONS = {"add": operator.add, "sub": operator.sub, "mul": operator.mul, "div": Fraction}
 Pair = Tuple[int, int]
 

@@ -3,8 +3,8 @@ from collections import Counter
 from functools import partial
 from typing import Any, Dict, List, Optional, Tuple
 
-from bensolve.checker_generators import LogCheck, Pair, Vector, leading, places_in, require_rising
-from bensolve.checker_texts import Number, Problem, Sparse, factors_of, require, sparse_text, vector_text
+from .checker_generators import LogCheck, Pair, Vector, leading, places_in, require_rising
+from .checker_texts import Number, Problem, Sparse, factors_of, require, sparse_text, vector_text
 
 _ONCE = ("duality", "start", "farkas", "whole")
 _BEFORE_DUALITY = ("version", "duality", "farkas", "share", "end")

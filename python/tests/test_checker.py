@@ -5,6 +5,7 @@ import contextlib
 import io
 import os
 import re
+import subprocess
 import sys
 import tempfile
 import unittest
@@ -19,6 +20,11 @@ COMMANDS = ("check", "relog", "reconv")
 # How many cases of each command the lists have at least: fewer would mean that they are not found.
 AT_LEAST = {"check": 1_798, "relog": 654, "reconv": 1_447}
 AT_LEAST_WRITTEN = 20
+AT_LEAST_FILES = {"check": 1_000, "reconv": 800}
+
+# The other commands, by the command of the second checker that reads such a FILE.
+READERS = dict.fromkeys("solve dual weights weigh project associate meet sum join map".split(), "check")
+READERS.update(vertices="reconv", facets="reconv")
 
 
 class Source:
@@ -101,10 +107,11 @@ def fits(form: str, text: str) -> bool:
 
 def main_of(words: List[str]):
     """The exit status of words, and what they print."""
-    out = io.TextIOWrapper(io.BytesIO())
-    with contextlib.redirect_stdout(out), contextlib.redirect_stderr(io.StringIO()):
-        status = checker.main(words)
-    return status, out.buffer.getvalue().decode("ascii")
+    with tempfile.TemporaryFile("w+") as out:
+        with contextlib.redirect_stdout(out), contextlib.redirect_stderr(io.StringIO()):
+            status = checker.main(words)
+        out.seek(0)
+        return status, out.read()
 
 
 class EachCase(unittest.TestCase):
@@ -177,6 +184,35 @@ class EachCase(unittest.TestCase):
         print(f"\nwritten logs of the second checker: {seen}", file=sys.stderr)
         self.assertGreaterEqual(seen, AT_LEAST_WRITTEN)
 
+    def test_files_that_other_commands_read(self):
+        """A problem or representation has the fault that another command tells, and none where that tells none."""
+        seen = collections.Counter()
+        for case in all_cases():
+            command = READERS.get(" ".join(case.words[:1]))
+            statuses = numbers_of(case, "status", "0")
+            is_whole = case.keys.get("each") != ["calls"] and not fails_of(case) and statuses != [2]
+            for most in numbers_of(case, "most", "4096") if command and is_whole else []:
+                for number, trial in enumerate(trials_of(case, most)):
+                    with self.subTest(case=case.name, most=most, number=number):
+                        self.look_at_file(case, statuses, trial._replace(command=command, log=b""))
+                    seen[command] += 1
+        print(f"\nfiles of other commands, read by the second checker: {dict(seen)}", file=sys.stderr)
+        for command, count in AT_LEAST_FILES.items():
+            self.assertGreaterEqual(seen[command], count)
+
+    def look_at_file(self, case, statuses: List[int], trial: Trial):
+        status, text = trial.run()
+        of_file = 3 if trial.command == "check" else 16
+        forms = [text_of(value) for value in case.keys.get("out", [])]
+        is_other_kind = trial.command == "reconv" and forms == ["fault 16 line 1 kind 1 BadLine\n"]
+        if status in (of_file, 10):
+            self.assertIn(status, statuses, text)
+            if status == statuses[0] and forms:
+                self.assertTrue(any(fits(form, text) for form in forms), text)
+        else:
+            self.assertEqual((status, text), (9, "fault 9 line 1 kind 5 NoEnd\n"))
+            self.assertTrue(statuses != [of_file] or is_other_kind)
+
 
 class Words(unittest.TestCase):
     """Runs over files, as a user has them."""
@@ -203,10 +239,16 @@ class Words(unittest.TestCase):
 
     @unittest.skipUnless(os.path.exists("/dev/full"), "needs a file that is always full")
     def test_an_output_that_fails(self):
-        with mock.patch.object(sys, "stdout", mock.Mock(buffer=open("/dev/full", "wb"))) as full:
-            self.assertEqual(checker.main([self.file, self.log]), 8)
-            with self.assertRaises(OSError):
-                full.buffer.close()
+        words = [sys.executable, "-m", "bensolve", "check", self.file, self.log]
+        with open("/dev/full", "wb") as full:
+            ended = subprocess.run(words, cwd=TOP / "python", stdout=full, stderr=subprocess.PIPE)
+        self.assertEqual((ended.returncode, ended.stderr), (8, b""))
+
+    def test_the_command_of_the_package(self):
+        words = [sys.executable, "-m", "bensolve", "check", "--relog", self.file, self.log]
+        ended = subprocess.run(words, cwd=TOP / "python", stdout=subprocess.PIPE, stderr=subprocess.PIPE)
+        self.assertEqual((ended.returncode, ended.stderr), (0, b""))
+        self.assertEqual(ended.stdout, Path(self.log).read_bytes())
 
     def test_lengths_past_a_limit(self):
         file, log = Path(self.file).read_bytes(), Path(self.log).read_bytes()
@@ -224,15 +266,16 @@ class Words(unittest.TestCase):
 
     def test_that_it_stands_alone(self):
         """It imports its own modules and the standard library, and no other reader of this package."""
-        own = set()
+        own, others = set(), set()
         for path in (TOP / "python" / "bensolve").glob("checker*.py"):
             for node in ast.walk(ast.parse(path.read_text())):
-                names = [node.module] if isinstance(node, ast.ImportFrom) else []
-                names += [alias.name for alias in node.names] if isinstance(node, ast.Import) else []
-                own.update(names)
-        self.assertIn("bensolve.checker_texts", own)
-        for name in own:
-            self.assertRegex(name, r"\A(bensolve\.checker\w*|[a-z]+)\Z")
+                if isinstance(node, ast.ImportFrom):
+                    (own if node.level else others).add(node.module)
+                elif isinstance(node, ast.Import):
+                    others.update(alias.name for alias in node.names)
+        self.assertEqual(own, {"checker_texts", "checker_generators", "checker_log", "checker_conversion"})
+        self.assertEqual(others, {"collections", "fractions", "functools", "io", "itertools", "math", "operator", "re",
+                                  "sys", "typing"})
 
 
 if __name__ == "__main__":
