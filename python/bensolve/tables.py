@@ -115,7 +115,13 @@ def facet_table(problem: Problem, report: Report, rows: Sequence[FacetRow]) -> T
     return Table.of(
         ("facet", *objective_names(problem), sign, "touches", "sides"),
         (
-            (row.number, *row.facet.normal, row.facet.bound, " ".join(map(str, row.touches)), "; ".join(f"{name}: {value}" for name, value in row.sides.items()))
+            (
+                row.number,
+                *row.facet.normal,
+                row.facet.bound,
+                " ".join(map(str, row.touches)),
+                "; ".join(f"{name}: {value}" for name, value in row.sides.items()),
+            )
             for row in rows
         ),
     )
@@ -223,7 +229,8 @@ def main_json(words: List[str]) -> int:
 
 def main_adjacency(words: List[str]) -> int:
     """The command `adjacency`."""
-    parser = _parser("adjacency", "the neighbours of each point, direction and facet: of a report, or of sides with the gens that they are")
+    about = "the neighbours of each point, direction and facet: of a report, or of sides with the gens that they are"
+    parser = _parser("adjacency", about)
     parser.add_argument("text", metavar="REPORT|SIDES", nargs="?", help="without it a report from standard input")
     parser.add_argument("gens", metavar="GENS", nargs="?", help="the points, directions and lines of the same set, reduced")
     given = parser.parse_args(words)

@@ -34,20 +34,22 @@ class Registry(unittest.TestCase):
         status, out, err = called("--help")
         self.assertEqual((status, err), (0, ""))
         for name in commands.COMMANDS:
-            self.assertIn(f"python3 -m bensolve {name} ", out)
+            self.assertIn(f"\n  {name} ", out)
         self.assertEqual(called()[0], 2)
         status, out, err = called("plan")
         self.assertEqual((status, out), (2, ""))
         self.assertIn("`plan` is no command", err)
 
     def test_a_command_without_its_module(self):
-        with mock.patch.dict(commands.COMMANDS, {"none": ("bensolve.none", "main", "none")}):
-            self.assertEqual(called("none"), (2, "", "bensolve: the command none is not there: this package has no module bensolve.none\n"))
+        told = "bensolve: the command none is not there: this package has no module bensolve.none\n"
+        with mock.patch.dict(commands.COMMANDS, {"none": ("bensolve.none", "main", "none: nothing")}):
+            self.assertEqual(called("none"), (2, "", told))
 
     def test_the_module_is_called_with_the_words_behind(self):
         module = mock.Mock()
         module.main.return_value = 7
-        with mock.patch.dict(commands.COMMANDS, {"some": ("bensolve.texts", "main", "some")}), mock.patch("importlib.import_module", return_value=module):
+        some = {"some": ("bensolve.texts", "main", "some: words")}
+        with mock.patch.dict(commands.COMMANDS, some), mock.patch("importlib.import_module", return_value=module):
             self.assertEqual(called("some", "a", "b")[0], 7)
         module.main.assert_called_once_with(["a", "b"])
 
@@ -84,7 +86,8 @@ class Commands(unittest.TestCase):
         solved = called("plans", ENERGY)
         self.assertEqual(solved[1].splitlines()[2], "2      28    26         coal=2 gas=8")
         self.assertEqual(called("plans", ENERGY, "--report", REPORT), solved)
-        self.assertEqual(called("plans", ENERGY, "1,2")[1], "value 66\npoint  cost  emissions  plan\n4      42    12         gas=6 wind=4\n")
+        best = "value 66\npoint  cost  emissions  plan\n4      42    12         gas=6 wind=4\n"
+        self.assertEqual(called("plans", ENERGY, "1,2")[1], best)
         self.assertEqual(called("plans", ENERGY, "--csv")[1].splitlines()[1], "1,20,50,10,0,0")
         self.assertIn("demand >= 10: 12/5", called("plans", ENERGY, "--facets")[1])
 
@@ -106,7 +109,8 @@ class Commands(unittest.TestCase):
     def test_adjacency(self):
         self.assertTrue(called("adjacency", REPORT)[1].startswith("points 4\nn 2 2 5\n"))
         pair = called("adjacency", str(EXAMPLES / "alloy2.sides"), str(EXAMPLES / "alloy.gens"))
-        self.assertEqual(pair[1], "points 4\nn 2 2 4\nn 2 1 3\nn 2 2 4\nn 2 1 3\ndirections 0\nfacets 4\nn 2 2 3\nn 2 1 4\nn 2 1 4\nn 2 2 3\n")
+        points = "points 4\nn 2 2 4\nn 2 1 3\nn 2 2 4\nn 2 1 3\n"
+        self.assertEqual(pair[1], points + "directions 0\nfacets 4\nn 2 2 3\nn 2 1 4\nn 2 1 4\nn 2 2 3\n")
         for words in ([str(EXAMPLES / "shortage.report")], [str(EXAMPLES / "alloy2.sides")], [str(EXAMPLES / "alloy.gens")] * 2):
             with self.subTest(words=words):
                 self.assertEqual(called("adjacency", *words)[0], 1)

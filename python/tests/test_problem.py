@@ -95,9 +95,11 @@ class Names(unittest.TestCase):
                 problem.number("column", wrong)
 
     def test_that_are_none(self):
-        for names in (["a", "b"], ["two\nlines", "b", "c"], ["", "b", "c"], [" a", "b", "c"], ["a", "a", "c"], ["a", 2, "c"], ["x" * 4096, "b", "c"]):
-            with self.subTest(names=names), self.assertRaises(ValueError):
-                energy(column_names=names)
+        for first in ("two\nlines", "", " a", "c", 2, "x" * 4096):
+            with self.subTest(first=first), self.assertRaises(ValueError):
+                energy(column_names=[first, "b", "c"])
+        with self.assertRaises(ValueError):
+            energy(column_names=["a", "b"])
 
 
 class Numbers(unittest.TestCase):
@@ -188,8 +190,8 @@ class Shapes(unittest.TestCase):
             energy().with_columns_first(["wind", 3])
 
     def test_a_file_with_many_entries(self):
-        entries = [f"a {i} {j} 1" for i in range(1, 317) for j in range(1, 317)]
-        text = "\n".join([f"p vlp min 316 316 {len(entries)} 1 0", *entries, "e", ""])
+        entries = [f"a {i} {j} 1" for i in range(1, 201) for j in range(1, 201)]
+        text = "\n".join([f"p vlp min 200 200 {len(entries)} 1 0", *entries, "e", ""])
         self.assertEqual(Problem.read(text).text(), text)
 
 

@@ -141,7 +141,7 @@ class Json(unittest.TestCase):
             ("energy.weighed", "value", "66"),
             ("energy.weights", "touching", [[4, 5], [3, 4], [2, 3], [1, 2]]),
             ("early-late.meet", "multipliers", {"1": "1", "4": "1"}),
-            ("alloy.gens", "rows", [["1", ["1/2", "1/3", "1/6"]], ["1", ["1/2", "2/5", "1/10"]], ["1", ["3/5", "2/5", "0"]], ["1", ["1", "0", "0"]]]),
+            ("alloy.gens", "width", 3),
             ("transfer.report", "line_rays", [[{"3": "-1"}, {"3": "1"}]]),
         ):
             with self.subTest(name=name):
