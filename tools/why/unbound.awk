@@ -1,0 +1,25 @@
+# What a problem that was read leaves open, in sentences: rows and columns without a line of bounds, and a file that no `e` line
+# ends.
+
+function numbers(seen, all,    i, out, count) {
+    for (i = 1; i <= all; i++) {
+        if (i in seen) continue
+        count++
+        if (count <= 8) out = out (count > 1 ? ", " : "") i
+    }
+    open = count + 0
+    return out (count > 8 ? " and " count - 8 " more" : "")
+}
+
+{ sub(/\r$/, "") }
+$1 == "p" { rows = $4; columns = $5 }
+$1 == "i" { bounded_rows[$2 + 0] = 1 }
+$1 == "j" { bounded_columns[$2 + 0] = 1 }
+$1 == "e" { ended = 1; exit }
+END {
+    if (!ended) print "no `e` line ends it: if it was cut off, this is the answer of another problem"
+    list = numbers(bounded_rows, rows + 0)
+    if (open) print (open == 1 ? "row " : "rows ") list (open == 1 ? " has" : " have") " no `i` line, and so no bound: " (open == 1 ? "it is" : "they are") " no constraint"
+    list = numbers(bounded_columns, columns + 0)
+    if (open) print (open == 1 ? "column " : "columns ") list (open == 1 ? " has" : " have") " no `j` line, and so no bound: " (open == 1 ? "it" : "they") " may be negative"
+}
