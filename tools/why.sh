@@ -90,7 +90,13 @@ rule_says() {
         Corner) printf 'the first generators lie as they must on the first rows' ;;
         Pairs) printf 'the pairs are exactly those of opposite generators that no third one covers' ;;
         Facet) printf 'it is a facet, and named once' ;;
-        Missing) printf 'nothing is wanting at the end: each generator has its pre-image, and each row in use its facet' ;;
+        Missing)
+            if [ "$command" = reconv ]; then
+                printf 'each row is in use at the end'
+            else
+                printf 'nothing is wanting at the end: each generator has its pre-image, and each row in use its facet'
+            fi
+            ;;
         Hint) printf 'each hint is a generator that covers its pair' ;;
         *) printf 'the entry keeps the rule' ;;
     esac

@@ -1,13 +1,14 @@
 # shellcheck shell=bash disable=SC2034
-# What the tests share: where the repository is, its program if there is one, and how a copy of it is set up.
+# What the tests share: where the repository is, its program if there is one, how a copy of it is set up, and how rows of a table
+# are run.
 set -uo pipefail
 
 top=$(cd "$(dirname "${BASH_SOURCE[0]}")/../.." && pwd)
 tests=$top/tools/tests
 work=$(mktemp -d)
 trap 'rm -rf "$work"' EXIT
-passed=0
-failed=0
+begun=0
+active=0
 
 # The built program: the one that BENSOLVE names, or that of this repository.
 built_program() {
@@ -22,19 +23,33 @@ install_copy() {
     cp "$2" "$1/program"
 }
 
-pass() {
-    passed=$((passed + 1))
+# Runs a function that tests one thing, and says what fails or else nothing.
+run_one() {
+    begun=$((begun + 1))
+    "$@" >"$work/said.$begun"
 }
 
-# Tells a failure, which begins with what failed.
-fail() {
-    failed=$((failed + 1))
-    printf 'FAILED %s\n' "$*"
+# The same, up to four at a time.
+run_beside() {
+    if [ "$active" -ge 4 ]; then
+        wait -n
+        active=$((active - 1))
+    fi
+    begun=$((begun + 1))
+    "$@" >"$work/said.$begun" &
+    active=$((active + 1))
 }
 
-# The last line of a test: what it counted, and its status.
+# Tells what failed, and as the last line how much passed.
 end_of_test() {
-    printf '%s: %d passed, %d failed\n' "$1" "$passed" "$failed"
-    [ "$failed" -eq 0 ] && [ "$passed" -gt 0 ]
+    local i failed=0
+    wait
+    for ((i = 1; i <= begun; i++)); do
+        [ -s "$work/said.$i" ] || continue
+        failed=$((failed + 1))
+        printf 'FAILED %s\n' "$(cat "$work/said.$i")"
+    done
+    printf '%s: %d passed, %d failed\n' "$1" "$((begun - failed))" "$failed"
+    [ "$failed" -eq 0 ] && [ "$begun" -gt 0 ]
     exit
 }

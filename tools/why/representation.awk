@@ -6,7 +6,6 @@ function first_line(    width) {
     if (command == "facets" && $1 == "sides") return "`facets` reads a text that begins with `gens`; `vertices` reads this one"
     if ($1 == "p") return "this is a problem, and no representation: `solve` reads it"
     if ($1 == "version" || $1 == "conv") return "this is a log: the representation is named first, and the log after it"
-    if ($1 ~ /^[HV]-representation/ || $1 == "begin") return "this is a file of lrs or cdd: docs/USING.md, \"For who comes from lrs or cdd\", has what turns it into one"
     if ($1 != "sides" && $1 != "gens") return "the first line is `sides K` or `gens K`, without comments before it"
     if (NF == 1) return "K, the entries of a vector, is wanting after `" $1 "`"
     width = number_fault($2)
@@ -42,9 +41,11 @@ NR == 1 && encoding($0) != "" { say(encoding($0)); exit }
 NR == 1 { text = $1; width = $2 + 0 }
 NR < at && $0 == "end" { ended = 1 }
 NR == at { why = reason(); last = $0 }
+NR < 100 && /^([HV]-representation|begin)/ { foreign = 1 }
 END {
     if (said) exit
     if (kind == "NoEnd") say(NR == 0 ? "the file is empty: it begins with `sides K` or `gens K`" : "the line `end` is wanting: is the file cut off?")
     else if (at == NR && !closed && kind == "BadLine") say(shown(last) ": the last line has no line feed: is the file cut off?")
+    else if (at == 1 && foreign) say(shown(last) ": this is a file of lrs or cdd: docs/USING.md, \"For who comes from lrs or cdd\", has what turns it into one")
     else say(why == "" ? kind : why)
 }

@@ -1,14 +1,17 @@
 # What a problem that was read leaves open, in sentences: rows and columns without a line of bounds, and a file that no `e` line
 # ends.
 
-function numbers(seen, all,    i, out, count) {
+# The numbers up to this one that are not among those seen, by name the first eight.
+function numbers(seen, all,    i, out, last) {
+    open = 0
     for (i = 1; i <= all; i++) {
         if (i in seen) continue
-        count++
-        if (count <= 8) out = out (count > 1 ? ", " : "") i
+        if (++open > 8) continue
+        if (open > 1) out = out (out == "" ? "" : ", ") last
+        last = i
     }
-    open = count + 0
-    return out (count > 8 ? " and " count - 8 " more" : "")
+    if (open > 8) return out ", " last " and " open - 8 " more"
+    return out == "" ? last : out " and " last
 }
 
 { sub(/\r$/, "") }
