@@ -10,10 +10,25 @@ trap 'rm -rf "$work"' EXIT
 begun=0
 active=0
 
-# The built program: the one that BENSOLVE names, or that of this repository.
+# Whether the program of this repository is of its sources, as the launcher's own functions tell: by the sum beside it, and
+# without one by the times of all.
+is_of_sources() {
+    bash -c '
+        . "$1"
+        mapfile -t crates < <(crates_of_program)
+        cd "$top"
+        if [ -f "$program.sum" ]; then ! is_old; else [ -z "$(find_sources -newer "$program" -print -quit)" ]; fi
+    ' - "$top/bensolve"
+}
+
+# The built program: the one that BENSOLVE names, or that of this repository where it is of its sources.
 built_program() {
-    local program=${BENSOLVE:-$top/crates/bensolve/out/bensolve}
-    [ -x "$program" ] && printf '%s' "$program"
+    local program=${BENSOLVE-}
+    if [ -z "$program" ]; then
+        program=$top/crates/bensolve/out/bensolve
+        [ -x "$program" ] && is_of_sources || return 1
+    fi
+    [ -f "$program" ] && [ -x "$program" ] && realpath "$program"
 }
 
 # Makes a folder an installed launcher with this program.
