@@ -40,8 +40,6 @@ function bad_first() {
     if ($1 ~ /^[#*%\/!;]/ || $1 ~ /^c/) return "a comment is a line whose first word is `c` alone"
     if (tolower($1) == "end") return "the last line is `e`"
     if ($0 ~ /[^\t\r -~]/) return "the line has " odd_byte($0)
-    if (tolower($1) ~ /^(minimi[sz]e|maximi[sz]e|min|max|name|rows)$/)
-        return "this is a file of another form; a problem is a vlp file, which begins with a line " p_words()
     return "no line begins with " shown($1) ": the first words are p, a, o, k, i, j, e, and c for a comment"
 }
 
@@ -178,6 +176,11 @@ NR < at && $1 ~ /^[paokij]$/ {
     count[$1]++
     if ($1 == "k" && $3 + 0 == 0) scaled++
 }
+# Where the first line is none of a problem the others may tell what the file is.
+NR < 100 && /^([HV]-representation|begin)/ { foreign = "a file of lrs or cdd, whose polyhedron `vertices` and `facets` read after it was turned as docs/USING.md says" }
+NR < 100 && tolower($1) ~ /^(minimi[sz]e|maximi[sz]e|min|max|subject|rows|columns)$/ { foreign = "a file of another form" }
+NR > at { next }
+NR == at && kind == "BadLine" && !("p" in given) && $1 != "p" { why = shown($0) ": " bad_line(); start = shown($0); next }
 NR == at && kind != "CountWrong" {
     if (kind == "LineLong") say("the line has " length($0) " bytes, and 4,096 is the limit, of comments too" ($0 ~ /\r/ ? "; its lines end with carriage returns alone" : ""))
     else if (kind == "NoProblem") say(shown($0) ": " no_problem())
@@ -194,5 +197,6 @@ NR == at && kind != "CountWrong" {
 END {
     if (kind == "CountWrong") say(wrong_counts())
     else if (kind == "NoProblem") say(no_problem())
-    else say(kind)
+    else if (foreign != "") say(start ": this is " foreign "; a problem is a vlp file, which begins with a line " p_words())
+    else say(why == "" ? kind : why)
 }

@@ -39,15 +39,13 @@ function encoding(first) {
 }
 
 # What a byte of a line is that is no plain ASCII, or nothing.
-function odd_byte(line,    i, byte) {
+function odd_byte(line,    byte) {
+    if (!match(line, /[^\t\r -~]/)) return ""
+    byte = substr(line, RSTART, 1)
     if (line ~ /\302\240/ || line ~ /\240/ && line !~ /[\300-\377]/) return "a hard blank in it: put a blank in its place"
     if (line ~ /\342\210\222/ || line ~ /\342\200[\220-\225]/) return "a typographic minus or dash in it: put a `-` in its place"
     if (line ~ /\342\200[\230-\237]/) return "a typographic quotation mark in it"
-    for (i = 1; i <= length(line); i++) {
-        byte = substr(line, i, 1)
-        if (byte !~ /[\t\r -~]/) return "the byte " sprintf("%02X", byte == "\001" ? 0 : code_of[byte]) " in it, which is no plain ASCII"
-    }
-    return ""
+    return "the byte " sprintf("%02X", byte == "\001" ? 0 : code_of[byte]) " in it, which is no plain ASCII"
 }
 
 # Whether a whole number, without a sign and without zeros in front, is 2^120 or more.
