@@ -11,7 +11,7 @@ from typing import Any, Dict, Iterable, List, NamedTuple, Optional, Sequence, Tu
 
 from . import polyhedron, run
 from .problem import Problem
-from .texts import Entry, Facet, FaultLine, Log, Projection, Report, Representation, Sparse, Text, Vector, Weighed
+from .texts import Entry, Facet, FaultLine, Projection, Report, Representation, Sparse, Text, Vector, Weighed
 from .texts import load_any, read_any
 
 
