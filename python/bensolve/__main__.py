@@ -15,6 +15,7 @@ COMMANDS = {
     "plans": ("bensolve.tables", "main_plans", "plans FILE [W]: the plans of a problem by names; with W the best for these weights"),
     "json": ("bensolve.tables", "main_json", "json [TEXT]: a report or another text of the program as JSON"),
     "adjacency": ("bensolve.tables", "main_adjacency", "adjacency [REPORT | SIDES GENS]: the neighbours of points and facets"),
+    "needed": ("bensolve.redundancy", "main", "needed FILE              sides or gens without the rows that the others imply"),
     "convert": ("bensolve.convert", "main", "convert FROM [KIND] [OUT]: files of lrs, cdd, Normaliz, MPS and LP, and back"),
     "picture": ("bensolve.picture", "main", "picture REPORT [OUT [NAME ..]]: two axes as SVG, three as SVG or OFF"),
     "explore": ("bensolve.explore", "main", "explore FILE REPORT [OUT]: one page to look at an answer"),
