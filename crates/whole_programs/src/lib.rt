@@ -18,6 +18,6 @@ pub use lists::{at, item, put};
 pub use program::{Program, Row, Spot, Term};
 pub use stop::Stop;
 pub use whole::{
-    Divisor, Ratio, StepLength, difference, keep, less_product, negative, plus_product, product,
-    sum,
+    Divisor, Ratio, StepLength, common_divisor, common_multiple, difference, keep, less_product,
+    negative, plus_product, product, quotient, sum,
 };
