@@ -174,7 +174,11 @@ why_left() {
                 cone) where="vectors of the cone" ;;
                 *) where="rows of the representation" ;;
             esac
-            where="where double description over the $where joins the generators ${told[4]} and ${told[5]}" at=7
+            if [ "${told[5]}" = 0 ]; then
+                where="where double description over the $where takes the value of generator ${told[4]}" at=7
+            else
+                where="where double description over the $where joins the generators ${told[4]} and ${told[5]}" at=7
+            fi
             ;;
         exchange) where="in an exchanged row" at=4 ;;
         scale) where="where entry ${told[3]} of a vector is normed" at=4 ;;
