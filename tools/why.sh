@@ -2,13 +2,6 @@
 # Part of the launcher, which reads it at its start: why a run ended as it did, in words. It goes by the status, the fault line,
 # the command, the words that were given and their kinds.
 
-# The word of a kind.
-word_of() {
-    local i
-    i=$(place_of "$1")
-    printf '%s' "${given[${i:-0}]}"
-}
-
 # Says a sentence about a line of a file.
 say_of() {
     say "$1:$2: $3"
