@@ -2,13 +2,6 @@
 # Part of the launcher, which reads it at its start: why a run ended as it did, in words. It goes by the status, the fault line,
 # the command, the words that were given and their kinds.
 
-# The word of a kind.
-word_of() {
-    local i
-    i=$(place_of "$1")
-    printf '%s' "${given[${i:-0}]}"
-}
-
 # Says a sentence about a line of a file.
 say_of() {
     say "$1:$2: $3"
@@ -131,10 +124,10 @@ why_cone() {
     local rest=$((4 + told[3]))
     [ "${told[rest]}" = 0 ] || sums=", as $(combination_at "$rest") shows"
     case $name in
-        NotSolid) say "status 4: the ordering cone of ${given[0]} is flat: all of it is orthogonal to $(vector_at 3)$sums; it needs an interior: give another vector" ;;
-        HasLine) say "status 4: the ordering cone of ${given[0]} contains the line along $(vector_at 3)$sums: take a vector out, or correct its signs" ;;
-        NotInterior) say "status 4: the duality vector of ${given[0]} (its lines \`k i 0\`) is not interior to the ordering cone: its product with $(vector_at 3) of the dual cone is not positive; take another, or leave it out" ;;
-        *) say "status 4: the last entry of a duality vector is positive, and of ${given[0]} it is not so: put an objective last in which all vectors of the cone can be positive, or give another vector by lines \`k i 0\`" ;;
+        NotSolid) say "status 4: the ordering cone of \`${given[0]}\` is flat: all of it is orthogonal to $(vector_at 3)$sums; it needs an interior: give another vector" ;;
+        HasLine) say "status 4: the ordering cone of \`${given[0]}\` contains the line along $(vector_at 3)$sums: take a vector out, or correct its signs" ;;
+        NotInterior) say "status 4: the duality vector of \`${given[0]}\` (its lines \`k i 0\`) is not interior to the ordering cone: its product with $(vector_at 3) of the dual cone is not positive; take another, or leave it out" ;;
+        *) say "status 4: the last entry of the duality vector is positive in no vector that \`${given[0]}\` allows: put another objective last, or give another vector (lines \`k i 0\`)" ;;
     esac
 }
 
@@ -174,7 +167,11 @@ why_left() {
                 cone) where="vectors of the cone" ;;
                 *) where="rows of the representation" ;;
             esac
-            where="where double description over the $where joins the generators ${told[4]} and ${told[5]}" at=7
+            if [ "${told[5]}" = 0 ]; then
+                where="where double description over the $where takes the value of generator ${told[4]}" at=7
+            else
+                where="where double description over the $where joins the generators ${told[4]} and ${told[5]}" at=7
+            fi
             ;;
         exchange) where="in an exchanged row" at=4 ;;
         scale) where="where entry ${told[3]} of a vector is normed" at=4 ;;
