@@ -511,15 +511,18 @@ class _Draft:
             if count != wanted and not (word == "k" and without_duality == wanted):
                 raise self.fault("CountWrong", f"the `p` line says {wanted} `{word}` lines, and there are {count}")
 
-    def _rows(self, word: str, count: int, by_column: bool = False) -> List[Sparse]:
+    def _rows(self, word: str, count: int) -> List[Sparse]:
         rows: List[Sparse] = [{} for _ in range(count)]
-        for (i, j), value in sorted(self.entries[word].items()):
-            if value and not (by_column and not j):
-                if by_column:
-                    rows[j - 1][i] = value
-                else:
-                    rows[i - 1][j] = value
+        for (i, j), value in self.entries[word].items():
+            rows[i - 1][j] = value
         return rows
+
+    def _cone_vectors(self) -> List[Sparse]:
+        """The duality vector, empty where none is given, and the vectors of the ordering cone."""
+        vectors: List[Sparse] = [{} for _ in range(self.vectors + 1)]
+        for (i, j), value in self.entries["k"].items():
+            vectors[j][i] = value
+        return vectors
 
     def _names_of(self, kind: str, count: int) -> Optional[List[Optional[str]]]:
         """The names that comments give. A second name of one thing, and one that is taken, is a comment and no more."""
@@ -532,7 +535,7 @@ class _Draft:
         return names
 
     def problem(self) -> Problem:
-        duality = {i: value for (i, j), value in self.entries["k"].items() if not j}
+        duality, *vectors = self._cone_vectors()
         return Problem(
             self.head[2],
             self._rows("o", self.objective_count),
@@ -540,9 +543,9 @@ class _Draft:
             columns=self.columns,
             row_bounds=[self.bounds["i"].get(number) for number in range(1, self.row_count + 1)],
             column_bounds=[self.bounds["j"].get(number) for number in range(1, self.columns + 1)],
-            cone=self._rows("k", self.vectors, by_column=True) if self.vectors else None,
+            cone=vectors or None,
             dual_form=self.head[8:9] == ["dualcone"],
-            duality=duality if any(not j for _, j in self.entries["k"]) else None,
+            duality=duality or None,
             row_names=self._names_of("row", self.row_count),
             column_names=self._names_of("column", self.columns),
             objective_names=self._names_of("objective", self.objective_count),

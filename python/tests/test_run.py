@@ -14,7 +14,7 @@ from tests.cases import DATA, EXAMPLES, NO_PROGRAM, TOP, all_cases, built_progra
 from tests.stand_in import StandIn
 
 ENERGY = EXAMPLES / "energy.vlp"
-SCRIPT = """import sys
+SCRIPT = """import os, sys
 words = sys.argv[1:]
 if words[0] == "solve":
     sys.stdout.write(open({report!r}).read())
@@ -25,6 +25,8 @@ elif words[0] == "weigh":
     sys.exit(18)
 elif words[0] == "check":
     sys.exit(6)
+elif words[0] == "map":
+    os.kill(os.getpid(), 9)
 else:
     sys.exit(99)
 """
@@ -181,8 +183,10 @@ class Processes(unittest.TestCase):
         with self.assertRaises(statuses.NoMemory) as ended:
             run.check(ENERGY, log)
         self.assertIsNone(ended.exception.line)
-        with self.assertRaises(statuses.Ended):
-            run.dual(ENERGY)
+        for call, status in ((run.dual, 99), (run.map, -9)):
+            with self.assertRaises(statuses.Ended) as ended:
+                call(ENERGY)
+            self.assertEqual(ended.exception.status, status)
 
     def test_a_program_that_is_not_there(self):
         with mock.patch.dict(os.environ, {"BENSOLVE": os.path.join(self.folder, "none")}), self.assertRaises(run.NoProgram):

@@ -223,6 +223,14 @@ class Files(unittest.TestCase):
             self.assertEqual(stat.S_IMODE(os.stat(path).st_mode), 0o640)
             self.assertEqual(os.listdir(folder), ["x"])
 
+    def test_another_name_of_the_old_file_keeps_the_old_text(self):
+        with tempfile.TemporaryDirectory() as folder:
+            path, other = os.path.join(folder, "x"), os.path.join(folder, "y")
+            texts.write_text(path, "one\n")
+            os.link(path, other)
+            texts.write_text(path, "two\n")
+            self.assertEqual([texts.read_text(path), texts.read_text(other)], ["two\n", "one\n"])
+
 
 if __name__ == "__main__":
     unittest.main()
