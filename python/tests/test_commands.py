@@ -12,7 +12,7 @@ from unittest import mock
 from bensolve import __main__ as commands
 from bensolve import statuses
 from bensolve.problem import Problem
-from tests.cases import EXAMPLES, TOP
+from tests.cases import DATA, EXAMPLES, TOP
 from tests.stand_in import StandIn
 
 ENERGY, REPORT = str(EXAMPLES / "energy.vlp"), str(EXAMPLES / "energy.report")
@@ -88,12 +88,17 @@ class Commands(unittest.TestCase):
         self.assertEqual(called("plans", ENERGY, "--report", REPORT), solved)
         best = "value 66\npoint  cost  emissions  plan\n4      42    12         gas=6 wind=4\n"
         self.assertEqual(called("plans", ENERGY, "1,2")[1], best)
+        unbounded = called("plans", str(DATA / "check" / "plane.vlp"), "-0.5,1.5", "--report", str(DATA / "check" / "plane.report"))
+        self.assertEqual(unbounded[:2], (0, "unbounded: the weighed sum has no end along 1 0\n"))
         self.assertEqual(called("plans", ENERGY, "--csv")[1].splitlines()[1], "1,20,50,10,0,0")
         self.assertIn("demand >= 10: 12/5", called("plans", ENERGY, "--facets")[1])
 
     def test_plans_of_other_answers(self):
         self.assertIn("x1 <= 5      1\n", called("plans", str(EXAMPLES / "shortage.vlp"))[1])
         self.assertIn("without end along x2=1", called("plans", str(EXAMPLES / "unlimited.vlp"))[1])
+        transfer = called("plans", str(EXAMPLES / "transfer.vlp"))[1].splitlines()
+        self.assertEqual(transfer[0], "line 1 -1: both ways, by x3=-1")
+        self.assertEqual(transfer[2].split(), ["1", "0", "16", "x1=8", "x3=16"])
 
     def test_a_status_of_the_program_is_that_of_the_command(self):
         told = "fault 5 exchange 2 mul 1/2 7\n"

@@ -68,6 +68,11 @@ class Faults(unittest.TestCase):
             self.assertIn(told, str(refused.exception))
             self.assertEqual(refused.exception.line, line)
 
+    def test_the_line_behind_a_cell_of_two_lines(self):
+        with self.assertRaises(TextFault) as refused:
+            problem_of_table('p,min cost\n"two\nlines",1\nq,x\n')
+        self.assertEqual(refused.exception.line, 4)
+
     def test_a_turned_table(self):
         with self.assertRaises(TextFault) as refused:
             problem_of_table(turned(TABLE.replace("gas,3", "gas,x")))

@@ -126,6 +126,9 @@ class Neighbours(WithStandIn):
     def test_directions_alone_are_no_edge_and_no_ridge(self):
         found = adjacency(1, 3, [(1, 2, 3), (1, 3, 4), (1, 2, 4)])
         self.assertEqual(found, Adjacency(((2, 3, 4),), ((1,), (1,), (1,)), ((2, 3), (1, 3), (1, 2))))
+        slab = adjacency(2, 2, [(1, 3, 4), (2, 3, 4), (1, 2, 4), (1, 2, 3)])
+        self.assertEqual((slab.points, slab.directions), (((2, 3, 4), (1, 3, 4)), ((1, 2), (1, 2))))
+        self.assertEqual(slab.facets, ((3, 4), (3, 4), (1, 2, 4), (1, 2, 3)))
         strip = adjacency(2, 1, [(1, 3), (2, 3), (1, 2)])
         self.assertEqual(strip.facets, ((3,), (3,), (1, 2)))
 
@@ -144,6 +147,8 @@ class Neighbours(WithStandIn):
     def test_incidence(self):
         sides, gens = Representation.load(EXAMPLES / "alloy2.sides"), Representation.load(EXAMPLES / "alloy.gens")
         self.assertEqual(incidence(sides, gens), [(2, 3), (1, 2), (3, 4), (1, 4)])
+        corner = Representation.read("gens 2\n1 1/2 3\n0 0 1\n0 1 0\nend\n")
+        self.assertEqual(incidence(Representation.read("sides 2\nh 0 1 3\nh 2 0 1\nend\n"), corner), [(1, 3), (1, 2)])
 
 
 @unittest.skipUnless(built_program(), NO_PROGRAM)

@@ -5,9 +5,9 @@ import unittest
 from decimal import Decimal
 from fractions import Fraction
 
-from bensolve.problem import Bound, NotExact, Problem, Side, exact
+from bensolve.problem import Bound, NotExact, Problem, Side, decimal_text, decimal_value, exact
 from bensolve.texts import TextFault
-from tests.cases import DATA, EXAMPLES, all_cases, text_of
+from tests.cases import EXAMPLES, all_cases
 
 
 def energy(**changes):
@@ -116,6 +116,18 @@ class Numbers(unittest.TestCase):
             with self.subTest(value=value), self.assertRaises(NotExact):
                 exact(value)
 
+    def test_at_the_limits_of_a_file(self):
+        self.assertEqual(decimal_value("8e-36"), Fraction(8, 10**36))
+        for word, kind in (("8e-37", "NumberWide"), ("1e37", "NumberWide"), ("1" * 37, "Digits"), ("2" + "0" * 36, "NumberWide")):
+            with self.subTest(word=word), self.assertRaises(ValueError) as refused:
+                decimal_value(word)
+            self.assertEqual(refused.exception.args[0], kind)
+        longest = 123456789012345678901234567890123456
+        self.assertEqual([decimal_text(Fraction(longest)), decimal_text(Fraction(10 * longest))], [str(longest), f"{longest}0"])
+        for number in (Fraction(10 * longest + 1), Fraction(1, 3), Fraction(1, 2**37)):
+            with self.subTest(number=number), self.assertRaises(NotExact):
+                decimal_text(number)
+
     def test_how_a_float_is_to_be_written(self):
         with self.assertRaises(NotExact) as refused:
             Problem("min", [[0.1]])
@@ -186,6 +198,7 @@ class Shapes(unittest.TestCase):
         self.assertEqual(moved.names["column"], ("wind", "coal", "gas"))
         self.assertEqual(moved.objectives, ({1: 6, 2: 2, 3: 3}, {2: 5, 3: 2}))
         self.assertEqual(moved.column_bounds[0], Bound("d", Fraction(0), Fraction(4)))
+        self.assertEqual(Problem("min", [[1, 2, 3, 4]]).with_columns_first([3])[1], [3, 1, 2, 4])
         with self.assertRaises(ValueError):
             energy().with_columns_first(["wind", 3])
 

@@ -4,12 +4,12 @@ import unittest
 from fractions import Fraction
 from unittest import mock
 
-from bensolve import run, sets
+from bensolve import sets
 from bensolve.polyhedron import Polyhedron
 from bensolve.problem import Bound, Problem
-from bensolve.texts import Projection, Representation
+from bensolve.texts import Facet, Projection, Representation
 from tests.cases import EXAMPLES, NO_PROGRAM, built_program
-from tests.stand_in import StandIn, bench, same_problem
+from tests.stand_in import StandIn, bench
 
 EARLY, LATE = EXAMPLES / "early.vlp", EXAMPLES / "late.vlp"
 
@@ -81,6 +81,12 @@ class Feasible(unittest.TestCase):
     def test_of_what_is_empty(self):
         found = sets.feasible(Projection.load(EXAMPLES / "early-late.meet"))
         self.assertEqual((found.rows, found.row_bounds), (({},), (Bound("l", Fraction(1)),)))
+
+    def test_a_side_without_columns_is_left_out_where_it_holds(self):
+        half = Fraction(1, 2)
+        for bound, count in ((Fraction(0), 0), (Fraction(-1), 0), (Fraction(1), 1)):
+            told = Projection("solved", 1, points=((Fraction(0),),), sides=(Facet((half, half), bound),), choices=({},))
+            self.assertEqual(len(sets.feasible(told).rows), count)
 
     def test_of_sides(self):
         found = sets.feasible(Representation.load(EXAMPLES / "alloy.sides"))

@@ -141,6 +141,13 @@ class FaultsOfTexts(unittest.TestCase):
                     Report.read(changed)
                 self.assertEqual(refused.exception.line, line if line < 44 else 44)
 
+    def test_faults_of_weights(self):
+        told = (EXAMPLES / "energy.weights").read_text()
+        for line, old, new in ((5, "n 2 4 5", "n 2 4 6"), (5, "n 2 4 5", "n 2 5 4"), (4, "1 20 50", "1"), (6, "1 28 26", "1 28")):
+            with self.subTest(new=new), self.assertRaises(TextFault) as refused:
+                Weights.read(told.replace(f"{old}\n", f"{new}\n"))
+            self.assertEqual(refused.exception.line, line)
+
     def test_a_fault_of_a_file_names_the_file(self):
         with tempfile.TemporaryDirectory() as folder:
             path = os.path.join(folder, "x.report")
