@@ -1,7 +1,7 @@
 """The rules of the log of a conversion, and the representation that it gives."""
 from typing import Any, List, Optional
 
-from .checker_generators import LogCheck, Pair, Vector, leading, require_rising
+from .checker_generators import LogCheck, Pair, leading, require_rising
 from .checker_texts import Number, Representation, require, vector_text
 
 _AFTER_LINES, _AFTER_START = ("conv", "line"), ("start", "add")
@@ -47,7 +47,7 @@ class ConversionCheck(LogCheck):
 
     def take_add(self, row: int, pairs: List[Pair]) -> None:
         require(row < len(self.given.rows) and row not in self.in_use, "Index")
-        self.add(Vector(self.given.rows[row]), pairs, None, True)
+        self.add(self.given.rows[row], None, pairs, None)
         self.in_use[row] = len(self.in_use)
 
     def take_end(self) -> None:

@@ -32,17 +32,11 @@ def leading(vector: Sequence[Number]) -> Number:
     return next(filter(None, vector), 0)
 
 
-class Vector:
-    """A row, or a generator with the rows in use that are tight at it, as bits; and as ints over one denominator."""
+class Generator:
+    """A generator, the rows in use that are tight at it, as bits, and its pre-image."""
 
-    def __init__(self, entries: List[Number], bound: Optional[Number] = None, rows: int = 0):
-        self.normal, self.bound, self.rows, self.preimage = entries, bound, rows, None
-        self.entries, self.bottom = entries + ([] if bound is None else [-bound]), 1
-        for entry in self.entries:
-            self.bottom *= entry.denominator // gcd(self.bottom, entry.denominator)
-        self.tops = [entry.numerator * (self.bottom // entry.denominator) for entry in self.entries]
-        self.size = max(map(abs, self.tops)) * len(self.tops)
-        self.places = sum(1 << place for place, entry in enumerate(entries) if entry)
+    def __init__(self, entries: List[Number], rows: int):
+        self.entries, self.rows, self.preimage = entries, rows, None
 
 
 class LogCheck:
@@ -55,7 +49,7 @@ class LogCheck:
         self.entry, self.steps = 0, 0  # the number of the entry, and its steps so far
         self.lines: Dict[int, Any] = {}  # by their places, rising
         self.in_use: Dict[int, int] = {}  # the number in use of each cut, or row of a conversion
-        self.live: Dict[int, Vector] = {}
+        self.live: Dict[int, Generator] = {}
         self.live_bits, self.made = 0, 0
         self.tight: List[int] = []  # of each row in use the generators, as bits
         self.keeps_covers, self.covers = False, []  # the least covers of the last addition without hints
@@ -70,23 +64,25 @@ class LogCheck:
 
     def product(self, factors: Iterable[Tuple[Number, Number]]) -> Number:
         """The sum of products of these factors; a place with a factor 0 takes no step."""
-        total: Number = 0
+        factors = [pair for pair in factors if pair[0] and pair[1]]
+        parts = [(first.numerator * second.numerator, first.denominator * second.denominator) for first, second in factors]
+        bottom = 1
+        for _, under in parts:
+            bottom = bottom if bottom % under == 0 or bottom >= LIMIT else bottom // gcd(bottom, under) * under
+        if bottom < LIMIT and sum(abs(top) * (bottom // under) for top, under in parts) < LIMIT:
+            # All steps are held: what each gives is at most such a sum, over this denominator.
+            self.steps += 2 * len(parts)
+            total = sum(top * (bottom // under) for top, under in parts)
+            return total if bottom == 1 else Fraction(total, bottom)
+        total = 0
         for first, second in factors:
-            if first and second:
-                total = self.step("add", total, self.step("mul", first, second))
+            total = self.step("add", total, self.step("mul", first, second))
         return total
 
-    def value(self, row: Vector, generator: Vector) -> Pair:
-        """The value of a row at a generator, as two ints, of which the second is positive."""
-        ends = row.bound is not None and generator.entries[-1] != 0
-        bottom = row.bottom * generator.bottom
-        if row.size * generator.size < LIMIT and bottom < LIMIT:
-            # All steps are held: what each gives is at most such a sum, over this denominator.
-            self.steps += 2 * bin(row.places & generator.places).count("1") + ends
-            return (sum(map(operator.mul, row.tops, generator.tops)), bottom)
-        value = self.product(zip(row.normal, generator.entries))
-        value = self.step("sub", value, row.bound) if ends else value
-        return (value.numerator, value.denominator)
+    def value(self, normal: List[Number], bound: Optional[Number], generator: Generator) -> Number:
+        """The value of a row at a generator; without a bound the row has all entries."""
+        value = self.product(zip(normal, generator.entries))
+        return value if bound is None or not generator.entries[-1] else self.step("sub", value, bound)
 
     def test_line(self, line: List[Number], length: int) -> int:
         """That a vector is in reduced echelon form with the lines before; the answer is its place."""
@@ -102,7 +98,7 @@ class LogCheck:
     def make(self, entries: List[Number], rows: int) -> None:
         """Makes a generator at which these rows are tight."""
         self.made += 1
-        self.live[self.made] = Vector(entries, rows=rows)
+        self.live[self.made] = Generator(entries, rows)
         self.live_bits |= 1 << self.made
         for row in places_in(rows):
             self.tight[row] |= 1 << self.made
@@ -120,20 +116,20 @@ class LogCheck:
             found &= self.tight[row]
         return (found & -found).bit_length() - 1 if found else 0
 
-    def add(self, row: Vector, pairs: List[Pair], hints: Optional[List[int]], divides_last: bool) -> None:
+    def add(self, normal: List[Number], bound: Optional[Number], pairs: List[Pair], hints: Optional[List[int]]) -> None:
         """Brings a row into use, after the tests of the pairs and hints."""
-        values = {number: self.value(row, generator) for number, generator in self.live.items()}
-        inside = [number for number, value in values.items() if value[0] > 0]
-        outside = [number for number, value in values.items() if value[0] < 0]
+        values = {number: self.value(normal, bound, generator) for number, generator in self.live.items()}
+        inside = [number for number, value in values.items() if value > 0]
+        outside = [number for number, value in values.items() if value < 0]
         (self._test_pairs if hints is None else self._test_hints)(pairs, hints, inside, outside)
         new = 1 << len(self.tight)
-        made = [(self._meet(pair, values, divides_last), self.common(pair) | new) for pair in pairs]
+        made = [(self._meet(pair, values, bound is None), self.common(pair) | new) for pair in pairs]
         self.tight.append(0)
         for number, value in values.items():
-            if value[0] < 0:
+            if value < 0:
                 del self.live[number]
                 self.live_bits ^= 1 << number
-            elif value[0] == 0:
+            elif value == 0:
                 self.live[number].rows |= new
                 self.tight[-1] |= 1 << number
         for entries, rows in made:
@@ -159,9 +155,9 @@ class LogCheck:
             common = self.common(pair)
             require(third in self.live and third not in pair and self.live[third].rows & common == common, "Hint")
 
-    def _meet(self, pair: Pair, values: Dict[int, Pair], divides_last: bool) -> List[Number]:
+    def _meet(self, pair: Pair, values: Dict[int, Number], divides_last: bool) -> List[Number]:
         """The generator of a pair at which the new row is 0."""
-        quotient = self.step("div", Fraction(*values[pair[0]]), -Fraction(*values[pair[1]]))
+        quotient = self.step("div", values[pair[0]], -values[pair[1]])
         met = [self.step("add", first, self.step("mul", quotient, second))
                for first, second in zip(self.live[pair[0]].entries, self.live[pair[1]].entries)]
         norm = abs(met[-1] or leading(met))

@@ -3,7 +3,7 @@ from collections import Counter
 from functools import partial
 from typing import Any, Dict, List, Optional, Tuple
 
-from .checker_generators import LogCheck, Pair, Vector, leading, places_in, require_rising
+from .checker_generators import LogCheck, Pair, leading, places_in, require_rising
 from .checker_texts import Number, Problem, Sparse, factors_of, require, sparse_text, vector_text
 
 _ONCE = ("duality", "start", "farkas", "whole")
@@ -22,7 +22,7 @@ class ProblemCheck(LogCheck):
         self.shared: List[Sparse] = []
         self.take_share, self.take_addh = self.shared.append, self.take_add
         self.take_ray = partial(self.take_point, last=0)
-        self.cuts: List[Tuple[Vector, Sparse]] = []
+        self.cuts: List[Tuple[List[Number], Number, Sparse]] = []  # normal, bound and multipliers
         self.facets: Dict[int, int] = {}  # the number in use of each cut that a `facet` names
         self.facet_sets: set = set()
 
@@ -104,7 +104,7 @@ class ProblemCheck(LogCheck):
         self.test_cone(w, multipliers, "dualcone")
         require(self.product(zip(w, self.seen["duality"][0])) == 1, "Scaled")
         require(self.bound_of(sides) == gamma, "Bound")
-        self.cuts.append((Vector(w, gamma), sides))
+        self.cuts.append((w, gamma, sides))
 
     def take_farkas(self, sides: Sparse) -> None:
         self.test_multipliers(sides, len(self.problem.bounds))
@@ -145,12 +145,12 @@ class ProblemCheck(LogCheck):
         directions = [entries[at:at + size] for at in range(0, count * size, size)]
         require(self.is_reduced(point) and all(map(self.is_reduced, directions)), "Corner")
         require(all(abs(leading(vector)) == 1 for vector in directions), "Corner")
-        rows = [self.cuts[cut - 1][0] for cut in cuts]
-        for row in rows:
-            require(self.product(zip(row.normal, point)) == row.bound, "Corner")
-        for own, row in enumerate(rows):
+        rows = [self.cuts[cut - 1] for cut in cuts]
+        for normal, bound, _ in rows:
+            require(self.product(zip(normal, point)) == bound, "Corner")
+        for own, (normal, _, _) in enumerate(rows):
             for place, vector in enumerate(directions):
-                value = self.product(zip(row.normal, vector))
+                value = self.product(zip(normal, vector))
                 require(value > 0 if place == own else value == 0, "Corner")
         self.in_use = {cut: number for number, cut in enumerate(cuts, 1)}
         self.tight = [0] * (count + 1)
@@ -161,7 +161,7 @@ class ProblemCheck(LogCheck):
 
     def take_add(self, cut: int, pairs: List[Pair], hints: Optional[List[int]] = None) -> None:
         require(1 <= cut <= len(self.cuts) and cut not in self.in_use, "Index")
-        self.add(self.cuts[cut - 1][0], pairs, hints, False)
+        self.add(*self.cuts[cut - 1][:2], pairs, hints)
         self.in_use[cut] = len(self.in_use) + 1
 
     def take_point(self, number: int, x: Sparse, multipliers: Sparse, last: int = 1) -> None:
@@ -214,8 +214,7 @@ class ProblemCheck(LogCheck):
         sign = -1 if self.problem.maximises else 1
         points, rays = (sorted(([sign * entry for entry in one.entries[:-1]], number)
                                for number, one in self.live.items() if one.entries[-1] == last) for last in (1, 0))
-        facets = sorted((row.normal + [sign * row.bound], cut)
-                        for cut, row in ((cut, self.cuts[cut - 1][0]) for cut in self.facets))
+        facets = sorted((self.cuts[cut - 1][0] + [sign * self.cuts[cut - 1][1]], cut) for cut in self.facets)
         out = [f"lines {len(self.lines)}"] if self.lines else []
         out += ["l " + vector_text(d) for d, _, _ in self.lines.values()]
         for name, mark, vectors in (("points", "1 ", points), ("directions", "0 ", rays), ("facets", "f ", facets)):
@@ -231,7 +230,7 @@ class ProblemCheck(LogCheck):
             out += ["r " + sparse_text(way) for way in (there, back)[::sign]]
         for mark, vectors in (("x ", points), ("r ", rays)):
             out += [mark + sparse_text(self.live[number].preimage) for _, number in vectors]
-        return out + ["u " + sparse_text(self.cuts[cut - 1][1]) for _, cut in facets]
+        return out + ["u " + sparse_text(self.cuts[cut - 1][2]) for _, cut in facets]
 
 
 class Upgrade:
