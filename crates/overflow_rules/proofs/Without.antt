@@ -32,7 +32,7 @@ is_known : {A : Type 0} → Option A → Bool
 is_known None = false
 is_known (Some x) = true
 
-unknown : {A : Type 0} (x : A) → None ≡ Some x → ⊥
+pub unknown : {A : Type 0} (x : A) → None ≡ Some x → ⊥
 unfolding is_known
 unknown x h = true≢false (sym (ap is_known h))
 

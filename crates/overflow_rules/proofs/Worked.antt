@@ -81,7 +81,7 @@ start_dictionary s h = record {
   dictionary = starts (right_column s) (table_of s) [] (wide_test (right_column s) (table_of s) h) no_names;
 }
 
-first_dictionary : IsDictionaryOf feasible [] (table_of feasible)
+pub first_dictionary : IsDictionaryOf feasible [] (table_of feasible)
 unfolding whole fraction gcd ◌+ℚ◌ ◌*ℚ◌ neg_ℚ inverse_ℚ le_ℚ
 first_dictionary = start_dictionary feasible refl
 

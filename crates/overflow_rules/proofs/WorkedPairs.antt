@@ -96,7 +96,7 @@ bounds = overflow_laws.term is_few in_narrow [] [] (n 3 ∷ []) (n 2 ∷ []) 1 (
 
 -- ---- weights: the entries of a w sum to 1
 -- u, the two lists of w, and the two unknowns after them
-seven : (P : List ℚ → Type 0) → ((u a b c d k l : ℚ) → P (u ∷ a ∷ b ∷ c ∷ d ∷ k ∷ l ∷ [])) → (z : List ℚ) → length z ≡ 7 → P z
+pub seven : (P : List ℚ → Type 0) → ((u a b c d k l : ℚ) → P (u ∷ a ∷ b ∷ c ∷ d ∷ k ∷ l ∷ [])) → (z : List ℚ) → length z ≡ 7 → P z
 seven P h (u ∷ a ∷ b ∷ c ∷ d ∷ k ∷ l ∷ []) e = h u a b c d k l
 seven P h [] e = absurd (omega (arith, e))
 seven P h (u ∷ []) e = absurd (omega (arith, e))
@@ -292,7 +292,7 @@ unfolding whole fraction gcd ◌+ℚ◌ ◌*ℚ◌ neg_ℚ inverse_ℚ le_ℚ
 no_choice h = elim (one (n 2) (minus 3 ∷ []) h) [ inl b ↦ apart (n 2) (n 3) refl b.0 | inr b ↦ no_x (minus 3) refl refl b ]
 
 -- with c only a w is multiplied
-with_c : (ys : List ℚ) → AreMultiplied in_narrow ones ys → IsBaseW in_narrow ys
+pub with_c : (ys : List ℚ) → AreMultiplied in_narrow ones ys → IsBaseW in_narrow ys
 unfolding whole fraction gcd ◌+ℚ◌ ◌*ℚ◌ neg_ℚ inverse_ℚ le_ℚ
 with_c ys h = elim (two (n 1) (n 1) ys h) [
   | inl b ↦ b.1

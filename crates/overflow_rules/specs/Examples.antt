@@ -1,6 +1,6 @@
 -- Overflows that are licensed in a small file, and near ones that are not: each example would fail
 -- if a definition were wrong.
-use Rattle.std.specs.Prelude.{ℕ, ◌-◌, ℤ, pos, negsuc, codes, Bool, false, true, ◌||◌, IsTrue, List, [], ◌∷◌, ◌++◌, map, All, Option, None, Some, refl}
+use Rattle.std.specs.Prelude.{ℕ, ◌-◌, ℤ, pos, negsuc, codes, Bool, false, true, ◌||◌, IsTrue, List, [], ◌∷◌, ◌++◌, All, Option, None, Some, refl}
 use Rattle.std.proofs.Math.Dec.{lit≤, lit<}
 use Rattle.exact_field.specs.Rational.{ℚ, one_ℚ, whole, fraction}
 use Rattle.exact_field.specs.Order.{same_ℚ}

@@ -7,6 +7,7 @@ ghost use Rattle.overflow_rules.specs.Laws.{GeneratorLaws, LicenceLaws, Orthogon
 ghost use Rattle.overflow_rules.specs.ImageExamples.{WorkedImages};
 ghost use Rattle.overflow_rules.specs.LineExamples.{LineExamples};
 ghost use Rattle.overflow_rules.specs.PairExamples.{WorkedPairs};
+ghost use Rattle.overflow_rules.specs.FeasibleExamples.{WorkedFeasible};
 ghost use Rattle.overflow_rules.specs.Turns.{CutsAreBase, CutTurnsEnd, RowTurnsEnd};
 
 /// How trails begin and grow, and what they stand for.
@@ -67,4 +68,10 @@ pub fn worked_images()
 /// Rows, generators and sums of an image with a line, and near ones that are none.
 pub fn worked_lines()
     ensures { LineExamples }
+{}
+
+/// Feasible things that are no base things, and overflows with operands of their place that nothing
+/// licenses.
+pub fn worked_feasible()
+    ensures { WorkedFeasible }
 {}
