@@ -12,6 +12,7 @@ from .run import associate, check, dual, facets, map, project, reconv, relog, so
 from .sets import join, meet, sum
 from .texts import FaultLine, Log, Projection, Report, Representation, TextFault, Weighed, Weights, load_any, read_any
 
+# Without `map` and `sum`, so that `from bensolve import *` leaves those of Python as they are.
 __all__ = [
     "FaultLine",
     "Log",
@@ -29,14 +30,12 @@ __all__ = [
     "facets",
     "join",
     "load_any",
-    "map",
     "meet",
     "project",
     "read_any",
     "reconv",
     "relog",
     "solve",
-    "sum",
     "vertices",
     "weigh",
     "weights",

@@ -6,24 +6,28 @@ from typing import List
 
 from .run import NoProgram
 from .statuses import Status
-from .texts import TextFault
+from .texts import TextFault, whole_text
 
-# The name of a command, with its module, the function in it that takes the words after the name and gives the status, and the usage.
+# The name of a command, with its module, the function in it that takes the words after the name and gives the status, and
+# the usage: its words, and what it does.
 COMMANDS = {
-    "problem": ("bensolve.costs", "main", "problem TABLE            the vlp file of a table of costs with comma-separated values"),
-    "plans": ("bensolve.tables", "main_plans", "plans FILE [W]           the plans of a problem by names; with W the best for these weights"),
-    "json": ("bensolve.tables", "main_json", "json [TEXT]              a report or another text of the program as JSON"),
-    "adjacency": ("bensolve.tables", "main_adjacency", "adjacency [REPORT]       the neighbours of points and facets; of SIDES GENS too"),
-    "convert": ("bensolve.convert", "main", "convert ..               files of other programs, and sets as problems"),
-    "picture": ("bensolve.picture", "main", "picture ..               a report of two or three objectives as a picture"),
-    "explore": ("bensolve.explore", "main", "explore ..               a report in a browser"),
-    "check": ("bensolve.checker", "main", "check FILE LOG           the report that a log proves, by Python alone"),
+    "problem": ("bensolve.costs", "main", "problem TABLE: the vlp file of a table of costs, as a spreadsheet writes it"),
+    "plans": ("bensolve.tables", "main_plans", "plans FILE [W]: the plans of a problem by names; with W the best for these weights"),
+    "json": ("bensolve.tables", "main_json", "json [TEXT]: a report or another text of the program as JSON"),
+    "adjacency": ("bensolve.tables", "main_adjacency", "adjacency [REPORT | SIDES GENS]: the neighbours of points and facets"),
+    "convert": ("bensolve.convert", "main", "convert FROM [KIND] [OUT]: files of lrs, cdd, Normaliz, MPS and LP, and back"),
+    "picture": ("bensolve.picture", "main", "picture REPORT [OUT [NAME ..]]: two axes as SVG, three as SVG or OFF"),
+    "explore": ("bensolve.explore", "main", "explore FILE REPORT [OUT]: one page to look at an answer"),
+    "check": ("bensolve.checker", "main", "check FILE LOG: the report that LOG proves, by a checker apart from the program"),
 }
 
 
 def usage() -> str:
-    lines = [line for _, _, line in COMMANDS.values()]
-    return "".join(f"{'usage:' if not number else '      '} python3 -m bensolve {line}\n" for number, line in enumerate(lines))
+    lines = ["python3 -m bensolve COMMAND .., where COMMAND is one of these; COMMAND --help tells more of it"]
+    for _, _, told in COMMANDS.values():
+        words, _, about = told.partition(": ")
+        lines.append(f"  {words:<33}{about}")
+    return whole_text(lines)
 
 
 def say(sentence: object) -> None:
@@ -54,7 +58,7 @@ def main(words: List[str]) -> int:
         sys.stdout.flush()
         return status
     except Status as ended:
-        say(ended)
+        print(ended, file=sys.stderr)
         return ended.code
     except BrokenPipeError:
         sys.stdout = None
@@ -65,4 +69,6 @@ def main(words: List[str]) -> int:
 
 
 if __name__ == "__main__":
+    # Names are as the files have them, whatever the terminal is set to.
+    sys.stdout.reconfigure(encoding="utf-8", errors="surrogateescape")
     sys.exit(main(sys.argv[1:]))

@@ -75,17 +75,22 @@ def heading_of(cell: Cell) -> Heading:
         return Heading(cell.text, cell.text)
     row = ROW.fullmatch(cell.text)
     if not row or row["lower"] and row["sign"] != "<=":
-        raise TextFault(cell.line, "BadLine", f"`{cell.text}` is no heading: min NAME, max NAME, NAME >= NUMBER, <=, =, lower or upper")
+        headings = "min NAME, max NAME, NAME >= NUMBER, <=, =, lower or upper"
+        raise TextFault(cell.line, "BadLine", f"`{cell.text}` is no heading: {headings}")
     bound = _number(Cell(row["bound"], cell.line), cell.text)
     lower = _number(Cell(row["lower"], cell.line), cell.text) if row["lower"] else None
     bounds = bound if row["sign"] == "=" else (bound, None) if row["sign"] == ">=" else (lower, bound)
     return Heading("row", row["name"], bounds)
 
 
+def _has_objective(cells: List[Cell]) -> bool:
+    return any(OBJECTIVE.fullmatch(cell.text) for cell in cells[1:])
+
+
 def problem_of_table(text: str) -> Problem:
     """The problem that a table says."""
     cells = cells_of(text)
-    if not any(OBJECTIVE.fullmatch(cell.text) for cell in cells[0][1:]) and any(OBJECTIVE.fullmatch(row[0].text) for row in cells):
+    if not _has_objective(cells[0]) and _has_objective([row[0] for row in cells]):
         cells = [list(column) for column in zip(*cells)]
     corner, *plans = (row[0] for row in cells)
     objectives: Dict[str, List[Fraction]] = {}

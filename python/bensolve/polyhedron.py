@@ -99,7 +99,8 @@ def _whole(numbers: Sequence[Fraction]) -> List[int]:
 
 def incidence(sides: Representation, gens: Representation) -> List[Tuple[int, ...]]:
     """For each inequality of `sides` the points and directions of `gens` at which it is an equation, numbered through both."""
-    generators = [_whole((*point, Fraction(-1))) for point in gens.of("1")] + [_whole((*d, Fraction(0))) for d in gens.of("0")]
+    ends = (("1", Fraction(-1)), ("0", Fraction(0)))
+    generators = [_whole((*vector, last)) for word, last in ends for vector in gens.of(word)]
     found = []
     for row in map(_whole, sides.of("h")):
         products = (sum(a * b for a, b in zip(row, generator)) for generator in generators)
@@ -122,16 +123,17 @@ class Polyhedron:
         self._gens: Optional[Representation] = None
 
     @classmethod
-    def of_inequalities(cls, inequalities: Sequence[Tuple[Any, Any]], equations: Sequence[Tuple[Any, Any]] = ()) -> "Polyhedron":
+    def of_inequalities(cls, inequalities: Sequence[Any], equations: Sequence[Any] = ()) -> "Polyhedron":
         """All z with `normal . z >= bound` for each pair of them, and `normal . z = bound` for the equations."""
-        rows = [(word, (*map(exact, normal), exact(bound))) for word, pairs in (("h", inequalities), ("e", equations)) for normal, bound in pairs]
+        kinds = (("h", inequalities), ("e", equations))
+        rows = [(word, (*map(exact, normal), exact(bound))) for word, pairs in kinds for normal, bound in pairs]
         return cls._of_rows("sides", rows)
 
     @classmethod
     def of_points(cls, points: Sequence[Any], directions: Sequence[Any] = (), lines: Sequence[Any] = ()) -> "Polyhedron":
         """All means of the points plus combinations of the directions, and of the lines both ways."""
-        rows = [(word, tuple(map(exact, vector))) for word, vectors in (("1", points), ("0", directions), ("l", lines)) for vector in vectors]
-        return cls._of_rows("gens", rows)
+        kinds = (("1", points), ("0", directions), ("l", lines))
+        return cls._of_rows("gens", [(word, tuple(map(exact, vector))) for word, vectors in kinds for vector in vectors])
 
     @classmethod
     def of_projection(cls, projection: Projection) -> "Polyhedron":
@@ -147,8 +149,8 @@ class Polyhedron:
 
     @classmethod
     def _of_lists(cls, width: int, lines: Sequence[Vector], points: Sequence[Vector], directions: Sequence[Vector]) -> "Polyhedron":
-        rows = [(word, vector) for word, vectors in (("l", lines), ("1", points), ("0", directions)) for vector in vectors]
-        return cls(Representation("gens", width, tuple(rows)))
+        kinds = (("l", lines), ("1", points), ("0", directions))
+        return cls(Representation("gens", width, tuple((word, vector) for word, vectors in kinds for vector in vectors)))
 
     @classmethod
     def _of_rows(cls, kind: str, rows: List[Tuple[str, Vector]]) -> "Polyhedron":

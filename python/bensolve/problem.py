@@ -51,7 +51,8 @@ def exact(value: Any) -> Fraction:
         value = float(value)
         if value.is_integer() and abs(value) < 2**53:
             return Fraction(int(value))
-        raise NotExact(f"the float {value!r} is not exactly the number that it shows: write it as text, \"{value!r}\", or as Fraction")
+        how = f'write it as text, "{value!r}", or as Fraction'
+        raise NotExact(f"the float {value!r} is not exactly the number that it shows: {how}")
     raise NotExact(f"{value!r} is no number")
 
 
@@ -454,7 +455,8 @@ class _Draft:
 
     def _take_head(self, words: List[str]) -> None:
         if len(words) not in (8, 11) or words[1] != "vlp" or words[2] not in ("min", "max"):
-            raise self.fault("BadLine", "the `p` line is `p vlp min` or `p vlp max` and 5 numbers, and then maybe a cone and 2 more")
+            form = "`p vlp min` or `p vlp max` and 5 numbers, and then maybe a cone and 2 more"
+            raise self.fault("BadLine", f"the `p` line is {form}")
         if len(words) == 11 and words[8] not in ("cone", "dualcone"):
             raise self.fault("BadLine", f"`{words[8]}` stands where `cone` or `dualcone` is wanted")
         rows, columns, a, objectives, o = (self._natural(word) for word in words[3:8])

@@ -71,7 +71,12 @@ def stacked(problems: Sequence[Problem]) -> Problem:
         row_bounds += [*problem.row_bounds, *problem.column_bounds]
     last = problems[-1]
     return Problem(
-        "min", [{}], rows + list(last.rows), columns=width, row_bounds=row_bounds + list(last.row_bounds), column_bounds=last.column_bounds
+        "min",
+        [{}],
+        [*rows, *last.rows],
+        columns=width,
+        row_bounds=[*row_bounds, *last.row_bounds],
+        column_bounds=last.column_bounds,
     )
 
 

@@ -4,13 +4,14 @@ import csv
 import dataclasses
 import io
 import json
+import re
 import sys
 from fractions import Fraction
 from typing import Any, Dict, Iterable, List, NamedTuple, Optional, Sequence, Tuple
 
 from . import polyhedron, run
 from .problem import Problem
-from .texts import Entry, Facet, FaultLine, Log, Projection, Report, Representation, Sparse, Text, Vector, Weighed
+from .texts import Entry, Facet, FaultLine, Projection, Report, Representation, Sparse, Text, Vector, Weighed
 from .texts import load_any, read_any
 
 
@@ -115,7 +116,13 @@ def facet_table(problem: Problem, report: Report, rows: Sequence[FacetRow]) -> T
     return Table.of(
         ("facet", *objective_names(problem), sign, "touches", "sides"),
         (
-            (row.number, *row.facet.normal, row.facet.bound, " ".join(map(str, row.touches)), "; ".join(f"{name}: {value}" for name, value in row.sides.items()))
+            (
+                row.number,
+                *row.facet.normal,
+                row.facet.bound,
+                " ".join(map(str, row.touches)),
+                "; ".join(f"{name}: {value}" for name, value in row.sides.items()),
+            )
             for row in rows
         ),
     )
@@ -185,7 +192,8 @@ def main_plans(words: List[str]) -> int:
     parser.add_argument("--report", metavar="REPORT", help="its report, where it is there: nothing is solved")
     parser.add_argument("--facets", action="store_true", help="the facets with their sides, in place of the plans")
     parser.add_argument("--csv", action="store_true", help="comma-separated, with a column for each column of the problem")
-    given = parser.parse_args(words)
+    # Weights as -1,2 are no option: the blank, which their reading passes over, has argparse see that.
+    given = parser.parse_args([f" {word}" if re.match("-[0-9.]", word) else word for word in words])
     problem = Problem.load(given.file)
     report = Report.load(given.report) if given.report else run.solve(given.file)
     weighed = run.weigh(given.file, given.weights.split(",")) if given.weights else None
@@ -205,9 +213,17 @@ def _told_answer(problem: Problem, report: Report, weighed: Optional[Weighed], w
     elif with_facets:
         table = facet_table(problem, report, facets(problem, report))
     else:
-        heading = f"value {weighed.value}\n" if weighed is not None and not as_csv else ""
+        if not as_csv:
+            heading = _heading(problem, report, weighed)
         table = (plan_columns if as_csv else plan_table)(problem, plans(problem, report, weighed))
     return heading + ("" if table is None else table.csv() if as_csv else table.text())
+
+
+def _heading(problem: Problem, report: Report, weighed: Optional[Weighed]) -> str:
+    """What stands above a table of plans: the lines of the image, whose points are reduced, and the value of the weights."""
+    both_ways = zip(report.lines, report.line_rays)
+    lines = [f"line {' '.join(map(str, line))}: both ways, by {told(by_columns(problem, ray))}\n" for line, (ray, _) in both_ways]
+    return "".join(lines) + (f"value {weighed.value}\n" if weighed is not None else "")
 
 
 def main_json(words: List[str]) -> int:
@@ -223,7 +239,8 @@ def main_json(words: List[str]) -> int:
 
 def main_adjacency(words: List[str]) -> int:
     """The command `adjacency`."""
-    parser = _parser("adjacency", "the neighbours of each point, direction and facet: of a report, or of sides with the gens that they are")
+    about = "the neighbours of each point, direction and facet: of a report, or of sides with the gens that they are"
+    parser = _parser("adjacency", about)
     parser.add_argument("text", metavar="REPORT|SIDES", nargs="?", help="without it a report from standard input")
     parser.add_argument("gens", metavar="GENS", nargs="?", help="the points, directions and lines of the same set, reduced")
     given = parser.parse_args(words)

@@ -1,16 +1,17 @@
 """The texts of the program: each is read here, in one way, and printed again byte for byte.
 
-`Report`, `Projection`, `Weights`, `Weighed`, `Representation`, `Log` and `FaultLine` each have `read(text)`, `load(path)`,
-`text()` and `write(path)`. Numbers are `fractions.Fraction`, and vectors are tuples of them. Rows, columns, sides, points and facets are numbered
-from 1, as in the texts; a sparse vector is a dictionary from places to the values that are not 0. What is not of the form that
-docs/FORMATS.md gives is refused by a `TextFault` with its line, and with the kind that the program tells of such a line.
+`Report`, `Projection`, `Weights`, `Weighed`, `Summary`, `Representation`, `Log` and `FaultLine` each have `read(text)`,
+`load(path)`, `text()` and `write(path)`. Numbers are `fractions.Fraction`, and vectors are tuples of them. Rows, columns, sides,
+points and facets are numbered from 1, as in the texts; a sparse vector is a dictionary from places to the values that are not 0.
+What is not of the form that docs/FORMATS.md gives is refused by a `TextFault` with its line, and with the kind that the program
+tells of such a line.
 """
 import os
 import re
 import stat
 import tempfile
 from array import array
-from contextlib import contextmanager
+from contextlib import contextmanager, suppress
 from dataclasses import dataclass, replace
 from fractions import Fraction
 from math import gcd
@@ -62,7 +63,8 @@ def whole_file(path: Path) -> Iterator[str]:
         yield part
         os.replace(part, target)
     except BaseException:
-        os.unlink(part)
+        with suppress(FileNotFoundError):
+            os.unlink(part)
         raise
 
 
@@ -613,6 +615,29 @@ class Weighed(Text):
 
 
 @dataclass(frozen=True)
+class Summary(Text):
+    """What `sample` prints: how many vertices, extreme directions and facets the image of the sample file of a number has."""
+
+    number: int
+    points: int
+    directions: int
+    facets: int
+
+    @classmethod
+    def read(cls, text: str) -> "Summary":
+        lines = Lines(text)
+        number = lines.only("sample", lambda words: words.place(0))
+        lines.only("answer", lambda words: words.one_of(["solved"]))
+        found = cls(number, *(lines.only(word, Words.natural) for word in ("points", "directions", "facets")))
+        lines.finish()
+        return found
+
+    def text(self) -> str:
+        counts = (f"{word} {getattr(self, word)}" for word in ("points", "directions", "facets"))
+        return whole_text([f"sample {self.number}", "answer solved", *counts])
+
+
+@dataclass(frozen=True)
 class Representation(Text):
     """A polyhedron by inequalities and equations (`sides`), or by points, directions and lines (`gens`).
 
@@ -860,6 +885,7 @@ TEXTS = {
     "projection": Projection,
     "weights": Weights,
     "weigh": Weighed,
+    "sample": Summary,
     "sides": Representation,
     "gens": Representation,
     "version": Log,

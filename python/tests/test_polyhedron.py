@@ -57,10 +57,11 @@ class Polyhedra(WithStandIn):
         self.assertEqual(len(ray.equations()), 1)
 
     def test_what_is_empty(self):
-        for empty in (Polyhedron.of_inequalities([([1], 1), ([-1], 0)]), Polyhedron.of_points([], directions=[[1]]), Polyhedron(Representation("gens", 1, ()))):
+        nothing = Polyhedron(Representation("gens", 1, ()))
+        for empty in (Polyhedron.of_inequalities([([1], 1), ([-1], 0)]), Polyhedron.of_points([], directions=[[1]]), nothing):
             self.assertTrue(empty.is_empty)
             self.assertFalse(empty.contains([0]))
-            self.assertEqual(empty, Polyhedron(Representation("gens", 1, ())))
+            self.assertEqual(empty, nothing)
         self.assertNotEqual(empty, Polyhedron.of_points([[0]]))
 
     def test_of_what_the_program_tells(self):
@@ -75,9 +76,9 @@ class Polyhedra(WithStandIn):
             Polyhedron.of_report(Report.load(EXAMPLES / "shortage.report"))
 
     def test_rows_that_do_not_fit(self):
-        for make in (lambda: Polyhedron.of_points([[1], [1, 2]]), lambda: Polyhedron.of_points([]), lambda: Polyhedron.of_points([[0] * 20])):
+        for points in ([[1], [1, 2]], [], [[0] * 20]):
             with self.assertRaises(ValueError):
-                make()
+                Polyhedron.of_points(points)
 
     def test_each_is_found_once(self):
         square = cube(2)
@@ -118,12 +119,16 @@ class Neighbours(WithStandIn):
         for shape in (Polyhedron.of_points([[0, 0, 0], [2, 0, 0], [0, 2, 0], [2, 2, 0], [1, 1, 1], [1, 0, 2]]), cube(3)):
             vertices, facets, told = shape.vertices(), shape.facets(), shape.adjacency()
             for i, j in itertools.combinations(range(len(vertices)), 2):
-                tight = [f.normal for f in facets if all(sum(a * b for a, b in zip(f.normal, vertices[k])) == f.bound for k in (i, j))]
+                on = lambda k, facet: sum(a * b for a, b in zip(facet.normal, vertices[k])) == facet.bound
+                tight = [facet.normal for facet in facets if on(i, facet) and on(j, facet)]
                 self.assertEqual(j + 1 in told.points[i], rank(tight) == 2, (i, j))
 
     def test_directions_alone_are_no_edge_and_no_ridge(self):
         found = adjacency(1, 3, [(1, 2, 3), (1, 3, 4), (1, 2, 4)])
         self.assertEqual(found, Adjacency(((2, 3, 4),), ((1,), (1,), (1,)), ((2, 3), (1, 3), (1, 2))))
+        slab = adjacency(2, 2, [(1, 3, 4), (2, 3, 4), (1, 2, 4), (1, 2, 3)])
+        self.assertEqual((slab.points, slab.directions), (((2, 3, 4), (1, 3, 4)), ((1, 2), (1, 2))))
+        self.assertEqual(slab.facets, ((3, 4), (3, 4), (1, 2, 4), (1, 2, 3)))
         strip = adjacency(2, 1, [(1, 3), (2, 3), (1, 2)])
         self.assertEqual(strip.facets, ((3,), (3,), (1, 2)))
 
@@ -142,6 +147,8 @@ class Neighbours(WithStandIn):
     def test_incidence(self):
         sides, gens = Representation.load(EXAMPLES / "alloy2.sides"), Representation.load(EXAMPLES / "alloy.gens")
         self.assertEqual(incidence(sides, gens), [(2, 3), (1, 2), (3, 4), (1, 4)])
+        corner = Representation.read("gens 2\n1 1/2 3\n0 0 1\n0 1 0\nend\n")
+        self.assertEqual(incidence(Representation.read("sides 2\nh 0 1 3\nh 2 0 1\nend\n"), corner), [(1, 3), (1, 2)])
 
 
 @unittest.skipUnless(built_program(), NO_PROGRAM)

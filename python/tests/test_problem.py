@@ -5,9 +5,9 @@ import unittest
 from decimal import Decimal
 from fractions import Fraction
 
-from bensolve.problem import Bound, NotExact, Problem, Side, exact
+from bensolve.problem import Bound, NotExact, Problem, Side, decimal_text, decimal_value, exact
 from bensolve.texts import TextFault
-from tests.cases import DATA, EXAMPLES, all_cases, text_of
+from tests.cases import EXAMPLES, all_cases
 
 
 def energy(**changes):
@@ -95,9 +95,11 @@ class Names(unittest.TestCase):
                 problem.number("column", wrong)
 
     def test_that_are_none(self):
-        for names in (["a", "b"], ["two\nlines", "b", "c"], ["", "b", "c"], [" a", "b", "c"], ["a", "a", "c"], ["a", 2, "c"], ["x" * 4096, "b", "c"]):
-            with self.subTest(names=names), self.assertRaises(ValueError):
-                energy(column_names=names)
+        for first in ("two\nlines", "", " a", "c", 2, "x" * 4096):
+            with self.subTest(first=first), self.assertRaises(ValueError):
+                energy(column_names=[first, "b", "c"])
+        with self.assertRaises(ValueError):
+            energy(column_names=["a", "b"])
 
 
 class Numbers(unittest.TestCase):
@@ -113,6 +115,18 @@ class Numbers(unittest.TestCase):
         for value in (0.1, 2.0**53, float("inf"), float("nan"), Decimal("NaN"), True, None, "1/0", "0,5", "1 2", "", [1], "\u0661"):
             with self.subTest(value=value), self.assertRaises(NotExact):
                 exact(value)
+
+    def test_at_the_limits_of_a_file(self):
+        self.assertEqual(decimal_value("8e-36"), Fraction(8, 10**36))
+        for word, kind in (("8e-37", "NumberWide"), ("1e37", "NumberWide"), ("1" * 37, "Digits"), ("2" + "0" * 36, "NumberWide")):
+            with self.subTest(word=word), self.assertRaises(ValueError) as refused:
+                decimal_value(word)
+            self.assertEqual(refused.exception.args[0], kind)
+        longest = 123456789012345678901234567890123456
+        self.assertEqual([decimal_text(Fraction(longest)), decimal_text(Fraction(10 * longest))], [str(longest), f"{longest}0"])
+        for number in (Fraction(10 * longest + 1), Fraction(1, 3), Fraction(1, 2**37)):
+            with self.subTest(number=number), self.assertRaises(NotExact):
+                decimal_text(number)
 
     def test_how_a_float_is_to_be_written(self):
         with self.assertRaises(NotExact) as refused:
@@ -184,12 +198,13 @@ class Shapes(unittest.TestCase):
         self.assertEqual(moved.names["column"], ("wind", "coal", "gas"))
         self.assertEqual(moved.objectives, ({1: 6, 2: 2, 3: 3}, {2: 5, 3: 2}))
         self.assertEqual(moved.column_bounds[0], Bound("d", Fraction(0), Fraction(4)))
+        self.assertEqual(Problem("min", [[1, 2, 3, 4]]).with_columns_first([3])[1], [3, 1, 2, 4])
         with self.assertRaises(ValueError):
             energy().with_columns_first(["wind", 3])
 
     def test_a_file_with_many_entries(self):
-        entries = [f"a {i} {j} 1" for i in range(1, 317) for j in range(1, 317)]
-        text = "\n".join([f"p vlp min 316 316 {len(entries)} 1 0", *entries, "e", ""])
+        entries = [f"a {i} {j} 1" for i in range(1, 201) for j in range(1, 201)]
+        text = "\n".join([f"p vlp min 200 200 {len(entries)} 1 0", *entries, "e", ""])
         self.assertEqual(Problem.read(text).text(), text)
 
 

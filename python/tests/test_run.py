@@ -190,7 +190,8 @@ class Processes(unittest.TestCase):
 
     def test_where_it_is_sought(self):
         clone, path = os.path.join(self.folder, "clone"), os.path.join(self.folder, "path")
-        places = [os.path.join(clone, "bensolve"), os.path.join(path, "bensolve"), os.path.join(clone, "crates", "bensolve", "out", "bensolve")]
+        built = os.path.join(clone, "crates", "bensolve", "out", "bensolve")
+        places = [os.path.join(clone, "bensolve"), os.path.join(path, "bensolve"), built]
         with mock.patch.dict(os.environ, {"BENSOLVE": "", "PATH": path}), mock.patch("bensolve.run.CLONE", clone):
             with self.assertRaises(run.NoProgram):
                 run.find_program()

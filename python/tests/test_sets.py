@@ -4,12 +4,12 @@ import unittest
 from fractions import Fraction
 from unittest import mock
 
-from bensolve import run, sets
+from bensolve import sets
 from bensolve.polyhedron import Polyhedron
 from bensolve.problem import Bound, Problem
-from bensolve.texts import Projection, Representation
+from bensolve.texts import Facet, Projection, Representation
 from tests.cases import EXAMPLES, NO_PROGRAM, built_program
-from tests.stand_in import StandIn, bench, same_problem
+from tests.stand_in import StandIn, bench
 
 EARLY, LATE = EXAMPLES / "early.vlp", EXAMPLES / "late.vlp"
 
@@ -19,7 +19,8 @@ def random_problems(seed, count):
     draw = random.Random(seed)
     number = lambda: Fraction(draw.randint(-6, 6), draw.choice((1, 1, 2)))
     size = lambda: abs(number())
-    bound = lambda: draw.choice([None, (None, None), (-size(), None), (None, size()), (-size(), size()), (-size(), size()), 0, (number(), None)])
+    both = lambda: (-size(), size())
+    bound = lambda: draw.choice([None, (None, None), (-size(), None), (None, size()), both(), both(), 0, (number(), None)])
     for _ in range(count):
         rows = [[number(), number()] for _ in range(draw.randint(0, 2))]
         yield Problem("min", [{}], rows, columns=2, row_bounds=[bound() for _ in rows], column_bounds=[bound(), bound()])
@@ -41,11 +42,12 @@ class MadeProblems(unittest.TestCase):
 
     def test_a_sum_of_three(self):
         oracle, solved = bench("sets"), 0
-        for parts in zip(random_problems(3, 12), random_problems(4, 12), random_problems(5, 12)):
+        for parts in zip(random_problems(3, 9), random_problems(4, 9), random_problems(5, 9)):
             made = oracle.projection(hull(sets.summed(parts)), 2)
             first, second, third = map(oracle.feasible, map(hull, parts))
             points = [oracle.plus(oracle.plus(x, y), z) for x in first.points for y in second.points for z in third.points]
-            wanted = oracle.Hull(2, points, *([v for part in (first, second, third) for v in getattr(part, name)] for name in ("directions", "lines")))
+            directions = first.directions + second.directions + third.directions
+            wanted = oracle.Hull(2, points, directions, first.lines + second.lines + third.lines)
             self.assertEqual(lines_of(made), lines_of(wanted))
             solved += bool(points)
         self.assertGreater(solved, 3)
@@ -80,6 +82,12 @@ class Feasible(unittest.TestCase):
         found = sets.feasible(Projection.load(EXAMPLES / "early-late.meet"))
         self.assertEqual((found.rows, found.row_bounds), (({},), (Bound("l", Fraction(1)),)))
 
+    def test_a_side_without_columns_is_left_out_where_it_holds(self):
+        half = Fraction(1, 2)
+        for bound, count in ((Fraction(0), 0), (Fraction(-1), 0), (Fraction(1), 1)):
+            told = Projection("solved", 1, points=((Fraction(0),),), sides=(Facet((half, half), bound),), choices=({},))
+            self.assertEqual(len(sets.feasible(told).rows), count)
+
     def test_of_sides(self):
         found = sets.feasible(Representation.load(EXAMPLES / "alloy.sides"))
         self.assertEqual(found.rows[0], {1: 1, 2: 1, 3: 1})
@@ -107,7 +115,8 @@ class Commands(unittest.TestCase):
         with mock.patch("bensolve.run.pair", return_value=told) as pair:
             self.assertEqual(sets.join(EARLY, LATE, EARLY), told)
             early = Problem.load(EARLY)
-            self.assertEqual([call[0] for call in pair.call_args_list], [("join", early, Problem.load(LATE)), ("join", sets.feasible(told), early)])
+            steps = [("join", early, Problem.load(LATE)), ("join", sets.feasible(told), early)]
+            self.assertEqual([call[0] for call in pair.call_args_list], steps)
             sets.meet(EARLY, LATE, EARLY)
             self.assertEqual(pair.call_args[0], ("meet", early, sets.stacked([Problem.load(LATE), early])))
         with mock.patch("bensolve.run.project", return_value=told) as project:
@@ -129,11 +138,12 @@ class ByTheProgram(unittest.TestCase):
 
     def test_random_sets(self):
         oracle = bench("sets")
-        for parts in zip(random_problems(3, 6), random_problems(4, 6), random_problems(5, 6)):
+        for parts in zip(random_problems(3, 3), random_problems(4, 3), random_problems(5, 3)):
             made = sets.sum(*parts)
             wanted = lines_of(oracle.projection(hull(sets.summed(parts)), 2))
             self.assertEqual(made.text().split("\nwitnesses\n")[0].splitlines(), wanted)
-            self.assertEqual(Polyhedron.of_projection(made), Polyhedron.of_projection(sets.sum(parts[2], sets.sum(parts[0], parts[1]))))
+            chained = sets.sum(parts[2], sets.sum(parts[0], parts[1]))
+            self.assertEqual(Polyhedron.of_projection(made), Polyhedron.of_projection(chained))
 
 
 if __name__ == "__main__":

@@ -7,11 +7,11 @@ import unittest
 
 from bensolve import texts
 from bensolve.problem import Problem
-from bensolve.texts import FaultLine, Log, Projection, Report, Representation, TextFault, Weighed, Weights
+from bensolve.texts import FaultLine, Log, Projection, Report, Representation, Summary, TextFault, Weighed, Weights
 from tests.cases import DATA, EXAMPLES, all_cases
 
 # How many texts of each kind the lists have at least: fewer would mean that they are not found.
-AT_LEAST = {Report: 60, Projection: 50, Weights: 15, Weighed: 50, Representation: 300, Log: 40, FaultLine: 1000}
+AT_LEAST = {Report: 60, Projection: 50, Weights: 15, Weighed: 50, Summary: 1, Representation: 300, Log: 40, FaultLine: 1000}
 
 
 def is_cut(case):
@@ -21,7 +21,7 @@ def is_cut(case):
 
 def output_text(case, key, text):
     """An output of a case as a text of this package, or None where it is none."""
-    if not text or case.words[:1] in (["sample"], ["associate"]) or case.words[:2] in (["print", "problem"], ["print", "sample"]):
+    if not text or case.words[:1] == ["associate"] or case.words[:2] in (["print", "problem"], ["print", "sample"]):
         return None
     if case.words[:2] == ["print", "log"]:
         return Log.read(text)
@@ -47,7 +47,7 @@ class EachText(unittest.TestCase):
     def test_files_of_examples(self):
         seen = 0
         for path in sorted(EXAMPLES.iterdir()):
-            if path.suffix not in (".vlp", ".svg", "") and path.name != "cases":
+            if path.suffix not in (".vlp", ".svg", ".csv", "") and path.name != "cases":
                 with self.subTest(path=path.name):
                     self.assertEqual(texts.load_any(path).text(), path.read_text())
                     seen += 1
@@ -141,6 +141,13 @@ class FaultsOfTexts(unittest.TestCase):
                     Report.read(changed)
                 self.assertEqual(refused.exception.line, line if line < 44 else 44)
 
+    def test_faults_of_weights(self):
+        told = (EXAMPLES / "energy.weights").read_text()
+        for line, old, new in ((5, "n 2 4 5", "n 2 4 6"), (5, "n 2 4 5", "n 2 5 4"), (4, "1 20 50", "1"), (6, "1 28 26", "1 28")):
+            with self.subTest(new=new), self.assertRaises(TextFault) as refused:
+                Weights.read(told.replace(f"{old}\n", f"{new}\n"))
+            self.assertEqual(refused.exception.line, line)
+
     def test_a_fault_of_a_file_names_the_file(self):
         with tempfile.TemporaryDirectory() as folder:
             path = os.path.join(folder, "x.report")
@@ -164,9 +171,19 @@ class FaultLines(unittest.TestCase):
         self.assertEqual((line.parts["name"], line.parts["vector"], sorted(line.parts["multipliers"])), ("HasLine", (1, 0), [1, 2]))
 
     def test_what_is_none(self):
-        for text in ("fault 1\n", "fault 6\n", "fault 12 3\n", "fault 12 3 2 1\n", "fault 5 walk 1\n", "fault 12 3 2", "fault 12 3 2\n\n"):
-            with self.subTest(text=text), self.assertRaises(TextFault):
-                FaultLine.read(text)
+        for words in ("1\n", "6\n", "12 3\n", "12 3 2 1\n", "5 walk 1\n", "5\n", "12 3 2", "12 3 2\n\n"):
+            with self.subTest(words=words), self.assertRaises(TextFault):
+                FaultLine.read("fault " + words)
+
+
+class Summaries(unittest.TestCase):
+    def test_of_another_sample(self):
+        text = "sample 9\nanswer solved\npoints 3\ndirections 3\nfacets 5\n"
+        self.assertEqual(Summary.read(text), Summary(9, 3, 3, 5))
+        self.assertEqual(Summary.read(text).text(), text)
+        for changed in (text.replace("sample 9", "sample 0"), text.replace("solved", "whole"), text + "end\n", text[:-9]):
+            with self.assertRaises(TextFault):
+                Summary.read(changed)
 
 
 class LongLogs(unittest.TestCase):
