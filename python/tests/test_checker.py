@@ -3,6 +3,7 @@ import ast
 import collections
 import contextlib
 import io
+import multiprocessing
 import os
 import re
 import subprocess
@@ -17,10 +18,9 @@ from bensolve import checker
 from tests.cases import EXAMPLES, TOP, all_cases, text_of
 
 COMMANDS = ("check", "relog", "reconv")
-# How many cases of each command the lists have at least: fewer would mean that they are not found.
-AT_LEAST = {"check": 1_798, "relog": 654, "reconv": 1_447}
-AT_LEAST_WRITTEN = 20
-AT_LEAST_FILES = {"check": 1_000, "reconv": 800}
+# How many runs of each kind the lists have at least: fewer would mean that they are not found.
+AT_LEAST = {"check": 1_798, "relog": 654, "reconv": 1_447, "files for check": 1_321, "files for reconv": 845,
+            "written logs": 19}
 
 # The other commands, by the command of the second checker that reads such a FILE.
 READERS = dict.fromkeys("solve dual weights weigh project associate meet sum join map".split(), "check")
@@ -114,104 +114,103 @@ def main_of(words: List[str]):
         return status, out.read()
 
 
+def expect(holds: bool, what: object) -> None:
+    if not holds:
+        raise AssertionError(what)
+
+
+def look_at_words(case) -> None:
+    options = [] if case.words[0] == "check" else ["--" + case.words[0]]
+    expect(case.keys["status"] == ["2"], "the words have a shape")
+    expect(main_of(options + case.words[1:]) == (2, ""), "the status or the output")
+
+
+def is_wanted(case, status: int, text: str) -> bool:
+    statuses, forms = numbers_of(case, "status", "0"), [text_of(value) for value in case.keys.get("out", [])]
+    return status in statuses and (status != statuses[0] or not forms or any(fits(form, text) for form in forms))
+
+
+def look_at(case, trial: Trial) -> None:
+    """That a run comes out as its case says, and the log that it writes says the same."""
+    status, text = trial.run()
+    expect(is_wanted(case, status, text), (status, text))
+    if status in (6, 7):
+        expect(text == "", text)
+    elif status:
+        expect(re.fullmatch(rf"fault {status} [^\n]+\n", text), text)
+    elif trial.command == "relog":
+        new, check = trial._replace(log=text.encode("ascii"), fails={}), trial._replace(command="check", fails={}).run()
+        expect(new.run() == (0, text), "the log of the new log")
+        expect(check[0] == 0 and new._replace(command="check").run() == check, "what the new log proves")
+
+
+def look_at_file(case, trial: Trial) -> None:
+    """That FILE has the fault that another command tells, and none where that tells none."""
+    status, text = trial.run()
+    is_other_kind = trial.command == "reconv" and case.keys.get("out") == ["fault 16 line 1 kind 1 BadLine"]
+    if status in (3, 10, 16):
+        expect(is_wanted(case, status, text), (status, text))
+    else:
+        expect((status, text) == (9, "fault 9 line 1 kind 5 NoEnd\n"), (status, text))
+        expect(case.keys.get("status") not in (["3"], ["16"]) or is_other_kind, "no fault is found")
+
+
+def look_at_written(case, trial: Trial) -> None:
+    """That a log which another command writes gives what that prints, and is its own upgrade."""
+    expect(trial.run() == (0, case.texts("out")[0]), "what the log gives")
+    if trial.command == "check":
+        expect(trial._replace(command="relog").run() == (0, case.texts("log_out")[0]), "its upgrade")
+
+
+def looks_at(case) -> Iterator[tuple]:
+    """What is looked at for a line of a list: what it counts as, the function and what it takes."""
+    command = " ".join(case.words[:1])
+    mosts, is_calls = numbers_of(case, "most", "4096"), case.keys.get("each") == ["calls"]
+    if command in COMMANDS and (len(case.words) != 3 or case.words[1] == case.words[2]):
+        yield command, look_at_words, case
+    elif command in COMMANDS:
+        for most in mosts:
+            for trial in trials_of(case, most) if "out" not in fails_of(case) else ():
+                yield command, look_at, case, trial
+            for _ in range(20 if is_calls else 1 if "out" in fails_of(case) else 0):
+                yield f"left out: {case.name}", lambda _: None, case
+    elif command in READERS and not is_calls and not fails_of(case) and case.keys.get("status") != ["2"]:
+        reader = READERS[command]
+        for most in mosts:
+            for trial in trials_of(case, most):
+                yield f"files for {reader}", look_at_file, case, trial._replace(command=reader, log=b"")
+        logs = case.texts("log_out")
+        is_whole = case.keys.get("status") == ["0"] and len(logs) == len(case.texts("out")) == 1 and logs[0]
+        if command in ("solve", "dual", "vertices", "facets") and len(case.words) == 3 and is_whole:
+            written = Trial(reader, bytes_of(case, "file"), logs[0].encode("ascii"), 4_096, {})
+            yield "written logs", look_at_written, case, written
+
+
+def outcome_of(case):
+    """How many runs of each kind a line stands for, and what comes out otherwise."""
+    seen, wrong = collections.Counter(), []
+    for number, (kind, look, *given) in enumerate(looks_at(case)):
+        seen[kind] += 1
+        try:
+            look(*given)
+        except AssertionError as error:
+            wrong.append(f"{case.name}, {number}: {error}")
+    return seen, wrong
+
+
 class EachCase(unittest.TestCase):
     def test_cases_of_the_lists(self):
-        seen, left = collections.Counter(), collections.Counter()
-        for case in all_cases():
-            if not case.words or case.words[0] not in COMMANDS:
-                continue
-            if len(case.words) != 3 or case.words[1] == case.words[2]:
-                self.look_at_words(case)
-                seen[case.words[0]] += 1
-                continue
-            mosts = numbers_of(case, "most", "4096")
-            if "out" in fails_of(case):
-                left[case.name] += len(mosts)
-                continue
-            if case.keys.get("each") == ["calls"]:
-                left[case.name] += 20 * len(mosts)
-            for most in mosts:
-                for number, trial in enumerate(trials_of(case, most)):
-                    with self.subTest(case=case.name, most=most, number=number):
-                        self.look_at(case, trial)
-                    seen[trial.command] += 1
-        print(f"\ncases of the second checker: {sum(seen.values())}, {dict(seen)}; "
-              f"left out, as the output fails: {sum(left.values())}, {dict(left)}", file=sys.stderr)
-        for command, count in AT_LEAST.items():
-            self.assertGreaterEqual(seen[command], count)
-
-    def look_at_words(self, case):
-        options = [] if case.words[0] == "check" else ["--" + case.words[0]]
-        self.assertEqual(main_of(options + case.words[1:]), (2, ""), case.name)
-        self.assertEqual(case.keys["status"], ["2"])
-
-    def look_at(self, case, trial: Trial):
-        status, text = trial.run()
-        statuses = numbers_of(case, "status", "")
-        forms = [text_of(value) for value in case.keys.get("out", [])]
-        self.assertIn(status, statuses, text)
-        if status == statuses[0] and forms:
-            self.assertTrue(any(fits(form, text) for form in forms), text)
-        if status in (6, 7):
-            self.assertEqual(text, "")
-        elif status:
-            self.assertRegex(text, rf"\Afault {status} [^\n]+\n\Z")
-        elif trial.command == "relog":
-            self.look_at_upgrade(trial, text)
-
-    def look_at_upgrade(self, trial: Trial, text: str):
-        """The new log proves the same, and is its own upgrade."""
-        new = trial._replace(log=text.encode("ascii"), fails={})
-        self.assertEqual(new.run(), (0, text))
-        check = trial._replace(command="check", fails={}).run()
-        self.assertEqual(check[0], 0)
-        self.assertEqual(new._replace(command="check").run(), check)
-
-    def test_logs_that_other_commands_write(self):
-        """The log of `solve`, `dual`, `vertices` and `facets` gives what these print, and so does its upgrade."""
-        seen = 0
-        for case in all_cases():
-            logs, outs = case.texts("log_out"), case.texts("out")
-            command = {"solve": "check", "dual": "check", "vertices": "reconv", "facets": "reconv"}.get(" ".join(case.words[:1]))
-            is_whole = case.keys.get("status") == ["0"] and len(logs) == len(outs) == 1 and logs[0] != ""
-            if command and len(case.words) == 3 and is_whole:
-                trial = Trial(command, bytes_of(case, "file"), logs[0].encode("ascii"), 4_096, {})
-                with self.subTest(case=case.name):
-                    self.assertEqual(trial.run(), (0, outs[0]))
-                    if command == "check":
-                        self.assertEqual(trial._replace(command="relog").run(), (0, logs[0]))
-                seen += 1
-        print(f"\nwritten logs of the second checker: {seen}", file=sys.stderr)
-        self.assertGreaterEqual(seen, AT_LEAST_WRITTEN)
-
-    def test_files_that_other_commands_read(self):
-        """A problem or representation has the fault that another command tells, and none where that tells none."""
-        seen = collections.Counter()
-        for case in all_cases():
-            command = READERS.get(" ".join(case.words[:1]))
-            statuses = numbers_of(case, "status", "0")
-            is_whole = case.keys.get("each") != ["calls"] and not fails_of(case) and statuses != [2]
-            for most in numbers_of(case, "most", "4096") if command and is_whole else []:
-                for number, trial in enumerate(trials_of(case, most)):
-                    with self.subTest(case=case.name, most=most, number=number):
-                        self.look_at_file(case, statuses, trial._replace(command=command, log=b""))
-                    seen[command] += 1
-        print(f"\nfiles of other commands, read by the second checker: {dict(seen)}", file=sys.stderr)
-        for command, count in AT_LEAST_FILES.items():
-            self.assertGreaterEqual(seen[command], count)
-
-    def look_at_file(self, case, statuses: List[int], trial: Trial):
-        status, text = trial.run()
-        of_file = 3 if trial.command == "check" else 16
-        forms = [text_of(value) for value in case.keys.get("out", [])]
-        is_other_kind = trial.command == "reconv" and forms == ["fault 16 line 1 kind 1 BadLine\n"]
-        if status in (of_file, 10):
-            self.assertIn(status, statuses, text)
-            if status == statuses[0] and forms:
-                self.assertTrue(any(fits(form, text) for form in forms), text)
-        else:
-            self.assertEqual((status, text), (9, "fault 9 line 1 kind 5 NoEnd\n"))
-            self.assertTrue(statuses != [of_file] or is_other_kind)
+        """Each case comes out as its list says; they are looked at side by side."""
+        seen, wrong = collections.Counter(), []
+        with multiprocessing.Pool() as pool:
+            for more, others in pool.imap(outcome_of, all_cases(), chunksize=32):
+                seen.update(more)
+                wrong += others
+        print("\nruns of the second checker:", *(f"{count} {kind}" for kind, count in seen.items()), sep="\n  ",
+              file=sys.stderr)
+        self.assertEqual(wrong, [])
+        for kind, count in AT_LEAST.items():
+            self.assertGreaterEqual(seen[kind], count, kind)
 
 
 class Words(unittest.TestCase):
