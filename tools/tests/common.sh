@@ -44,9 +44,9 @@ run_one() {
     "$@" >"$work/said.$begun"
 }
 
-# The same, up to four at a time.
+# The same, up to twelve at a time.
 run_beside() {
-    if [ "$active" -ge 4 ]; then
+    if [ "$active" -ge 12 ]; then
         wait -n
         active=$((active - 1))
     fi
