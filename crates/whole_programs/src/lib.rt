@@ -9,6 +9,7 @@ mod limits;
 mod line;
 mod lists;
 mod program;
+mod simplex;
 mod stop;
 mod whole;
 
@@ -16,6 +17,7 @@ pub use limits::{Limits, boxes_of};
 pub use line::Line;
 pub use lists::{at, item, put};
 pub use program::{Program, Row, Spot, Term};
+pub use simplex::{Failing, Place, Simplex};
 pub use stop::Stop;
 pub use whole::{
     Divisor, Ratio, StepLength, difference, keep, less_product, negative, plus_product, product,
