@@ -1,4 +1,6 @@
+pub mod Ends
 pub mod Optima
 pub mod Ranks
 pub mod Solving
+pub mod Whole
 mod Worked

@@ -1,29 +1,26 @@
 -- What passes the test is optimal, and is what the dictionary at the columns says.
 use Rattle.std.proofs.Common.{◌≡◌, ℕ, suc, List, [], ◌∷◌, length, map, refl, sym, ap, ap₂, ◌∙◌, subst, arith, ◌<◌, ◌≤◌, ◌-◌, ◌+◌, slice_index_or}
-use Rattle.std.proofs.lemmas.List.{get_or-map, length-map}
 use Rattle.std.proofs.lemmas.List.Elements.{All-get_or}
 use Rattle.exact_field.specs.Rational.{ℚ, zero_ℚ, ◌≤ℚ◌}
 use Rattle.exact_field.specs.Vector.{entry, dot}
-use Rattle.polyhedra.specs.Vectors.{AreWide, values, combination}
+use Rattle.polyhedra.specs.Vectors.{values, combination}
 use Rattle.polyhedra.specs.Cone.{HasFullRank}
-use Rattle.polyhedra.proofs.Linear.{dot_comm, dot-combination}
 use Rattle.tableaux.specs.Chosen.{chosen, name_of, named}
 use Rattle.tableaux.specs.Dictionary.{basic_column, value_of_column}
 use Rattle.tableaux.specs.Optimum.{AreColumns, ArePrices, IsAllowed, IsSolved, beside_right, equation_table, equations_at, value_at}
 use Rattle.tableaux.specs.Simplex.{BoundsColumns, OptimalAt}
-use Rattle.tableaux.specs.Table.{Table, System, IsSystem, column_of, list_from, listed, unit, equation_count, unknown_count, right_column}
+use Rattle.tableaux.specs.Table.{Table, System, IsSystem, column_of, list_from, listed, equation_count, unknown_count, right_column}
 use Rattle.tableaux.proofs.AddedRow.{long_more, more_last}
-use Rattle.tableaux.proofs.Definition.{slice_eq, unit_entry, value_at as value_place}
+use Rattle.tableaux.proofs.Definition.{slice_eq}
 use Rattle.tableaux.proofs.Ends.{ends_are_right}
-use Rattle.tableaux.proofs.Entries.{equation-right}
-use Rattle.tableaux.proofs.Optima.{optimum_read, column-at, column-long_m}
-use Rattle.tableaux.proofs.Places.{length-list_from, delta}
+use Rattle.tableaux.proofs.Optima.{optimum_read}
+use Rattle.tableaux.proofs.Places.{length-list_from}
 use Rattle.tableaux.proofs.Ties.{column_entry}
-use Rattle.tableaux.proofs.Unique.{column-long, dot-unit}
+use Rattle.tableaux.proofs.Unique.{column-long}
 use Rattle.shown_bases.specs.Laws.{AreValues, OptimumIsShown, vectors_at, in_order, spread}
 use Rattle.shown_bases.specs.Orders.{Order, ShowsRank}
-use Rattle.shown_bases.proofs.Ranks.{order_shows_rank}
-use Rattle.shown_bases.proofs.Solving.{chosen_column, multipliers_of, multipliers_meet, solved_row, solved_table, solved-entry, solved}
+use Rattle.shown_bases.proofs.Solving.{chosen_column, multipliers_of, solved_row, solved_table, solved-entry, solved}
+use Rattle.shown_bases.proofs.Whole.{full_rank, right_is as right_sides, shares_read}
 
 next : (k : ℕ) → 1 + k - 1 ≡ k
 next k = omega arith
@@ -45,18 +42,8 @@ module _ (s : System) (columns : List ℕ) (order : Order) (vs y : List ℚ) (ok
   abbrev c : Table
   c = vectors_at s columns
 
-  c_wide : AreWide m c
-  c_wide = record {
-    wide = λ i e l.
-        let inside : i < length columns = omega (arith, l, length-map columns (equations_at s)) in
-        ap length (get_or-map (equations_at s) columns i 0 e inside) ∙ column-long_m s ok (slice_index_or columns i 0);
-  }
-
-  c_long : length c ≡ m
-  c_long = length-map columns (equations_at s) ∙ h.one_each
-
   rank : HasFullRank m c
-  rank = order_shows_rank m c order c_wide shown
+  rank = full_rank s columns order ok shown
 
   abbrev d : Table
   d = solved_table s columns ok h rank
@@ -75,34 +62,13 @@ module _ (s : System) (columns : List ℕ) (order : Order) (vs y : List ℚ) (ok
   right_is =
       chosen_column (beside_right s columns) (equation_table s) (suc m) (omega arith) (omega (arith, long_more columns (right_column s), h.one_each))
       ∙ ap (equations_at s) (more_last columns (right_column s) 0 (suc m) (omega (arith, h.one_each)))
-      ∙ slice_eq (equations_at s (right_column s)) s.right (column-long_m s ok (right_column s) ∙ sym ok.right_each)
-      (λ k l.
-      let inside : k < m = omega (arith, l, column-long_m s ok (right_column s)) in
-      ap (λ i. slice_index_or (equations_at s (right_column s)) i zero_ℚ) (sym (next k))
-      ∙ column-at s ok (1 + k) (right_column s) (omega arith) (omega (arith, inside)) ∙ equation-right s ok (1 + k) (omega arith) (omega (arith, inside))
-      ∙ ap (λ i. slice_index_or s.right i zero_ℚ) (next k))
+      ∙ right_sides s ok
       ∙ sym good.solve
 
   value_is : (i : ℕ) → 1 ≤ i → i ≤ m → value_at s d i ≡ entry vs i
   value_is i l u =
       solved-entry s columns ok h rank i (suc m) l u ∙ ap (dot (multipliers_of s columns ok h rank i)) right_is
-      ∙ dot-combination m (multipliers_of s columns ok h rank i) vs c
-      ∙ ap (dot vs) products ∙ dot_comm vs (unit m i) ∙ dot-unit m i vs l u
-    where
-      products : values c (multipliers_of s columns ok h rank i) ≡ unit m i
-      products =
-          let ms : List ℚ = multipliers_of s columns ok h rank i in
-          slice_eq (values c ms) (unit m i) (length-map c (λ r. dot r ms) ∙ c_long ∙ sym (length-list_from 1 m (λ j. delta j i)))
-          (λ k a.
-          let inside : k < m = omega (arith, a, length-map c (λ r. dot r ms), c_long) in
-          let column : ℕ = slice_index_or columns k 0 in
-          value_place c ms k (omega (arith, inside, c_long))
-          ∙ ap (λ v. dot v ms) (get_or-map (equations_at s) columns k 0 [] (omega (arith, inside, h.one_each)))
-          ∙ dot_comm (equations_at s column) ms
-          ∙ ap (λ j. dot ms (equations_at s (slice_index_or columns j 0))) (sym (next k))
-          ∙ multipliers_meet s columns ok h rank i (1 + k) l u (omega arith) (omega (arith, inside))
-          ∙ sym (unit_entry m i (1 + k) (omega arith) (omega (arith, inside)))
-          ∙ ap (λ j. slice_index_or (unit m i) j zero_ℚ) (next k))
+      ∙ shares_read s columns ok h rank vs i l u
 
   allowed : IsAllowed s (named columns (in_order m)) d
   allowed = record {

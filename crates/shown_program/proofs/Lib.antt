@@ -1,9 +1,3 @@
-pub mod Assembled
-pub mod BensonRows
-pub mod Entered
-pub mod GivenRows
-pub mod Listed
-pub mod Multiples
 pub mod Orders
 pub mod Priced
 pub mod Shows

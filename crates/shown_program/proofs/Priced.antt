@@ -5,9 +5,9 @@ use Rattle.std.proofs.lemmas.List.{get_or_append_left, get_or_push, length_push}
 use Rattle.exact_field.specs.Rational.{ℚ, ◌≤ℚ◌}
 use Rattle.exact_field.specs.Vector.{entry, dot}
 use Rattle.shown_program.specs.Marks.{mark_at}
-use Rattle.shown_program.specs.Program.{column_in}
-use Rattle.shown_program.specs.Tests.{AreInRange, ArePriced, Bound, IsTight}
-use Rattle.shown_program.specs.declared.columns.Columns.{Columns}
+use Rattle.program_columns.specs.Program.{AreInRange, column_in}
+use Rattle.shown_program.specs.Tests.{ArePriced, Bound, IsTight}
+use Rattle.program_columns.specs.declared.columns.Columns.{Columns}
 
 module _ {F : Type 0} (value : F → ℚ) (p : Columns F) (y : List ℚ) where
   pub priced_none : ArePriced value p y 0 []

@@ -1,13 +1,19 @@
-//! An exact test of a guessed optimum of a named program, which is not written for it: its columns
-//! are taken as they lie in the data, and nothing is eliminated but a small part of a basis.
+//! Exact tests of guessed ends of a named program, which is not written for them: its columns are
+//! taken as they lie in the data, and nothing is eliminated but a small part of a basis.
 #![tactic(auto)]
 
-mod columns;
+mod direction;
+mod empty;
+mod farkas;
+mod lists;
 mod order;
 mod prices;
+mod range;
+mod ray;
 mod shown;
 mod solution;
 mod sparse;
-mod written;
 
+pub use empty::contradiction_of;
+pub use ray::ray_of;
 pub use shown::optimum_of;

@@ -3,17 +3,17 @@ ghost use Rattle.std.specs.Prelude.{◌≡◌, ◌+◌, ◌≤◌, ◌<◌, ℕ,
 ghost use Rattle.exact_field.specs.Rational.{◌<ℚ◌, ◌≤ℚ◌};
 ghost use Rattle.exact_field.specs.Vector.{dot, entry};
 ghost use Rattle.shown_program.specs.Marks.{mark_at};
-ghost use Rattle.shown_program.specs.Program.{column_in};
-ghost use Rattle.shown_program.specs.Tests.{ArePriced, AreInRange, Bound, IsTight};
+ghost use Rattle.program_columns.specs.Program.{AreInRange, column_in};
+ghost use Rattle.shown_program.specs.Tests.{ArePriced, Bound, IsTight};
 
-use crate::columns::Columns;
 use crate::sparse::product;
 use exact_field::Field;
+use program_columns::Columns;
 use src_sink::NoMemory;
 use std::alloc::Global;
 
 /// Whether two numbers are one.
-fn is_same<F: Field>(a: F, b: F) -> bool
+pub(crate) fn is_same<F: Field>(a: F, b: F) -> bool
     ensures { IsTrue result → F.value a ≡ F.value b }
 {
     a == b

@@ -1,55 +1,26 @@
-//! The test of a guess.
-ghost use Rattle.std.specs.Prelude.{◌≡◌, ◌≤◌, length, map, All, IsTrue, IfOk, IfSome};
+//! The test of a guess of an optimum.
+ghost use Rattle.std.specs.Prelude.{◌≡◌, length, map, IsTrue, IfOk, IfSome};
 ghost use Rattle.tableaux.specs.Simplex.{IsOptimal, OptimalAt};
 ghost use Rattle.tableaux.specs.Table.{System, Table};
 ghost use Rattle.vlp_problem.specs.declared.problem.Problem.{Problem as File};
 ghost use Rattle.lp_form.specs.Data.{IsDataOf};
 ghost use Rattle.lp_form.specs.Names.{HasWidths, named};
 ghost use Rattle.lp_form.specs.Programs.{named_system};
+ghost use Rattle.program_columns.specs.Program.{IsProgramOf};
 ghost use Rattle.shown_program.specs.Guesses.{order_of};
-ghost use Rattle.shown_program.specs.Program.{IsProgramOf};
-ghost use Rattle.shown_program.specs.Tests.{AreInRange, Passes};
+ghost use Rattle.shown_program.specs.Tests.{Passes};
 
-use crate::columns::Columns;
+use crate::lists::copy_items;
 use crate::order::is_shown;
 use crate::prices::are_prices;
-use crate::solution::{are_allowed, solve, spread};
-use crate::written::columns_of;
+use crate::range::are_in_range;
+use crate::solution::{are_allowed, spread, sum_to};
 use exact_field::Field;
 use lp_form::{Data, LpName};
+use program_columns::{Columns, columns_of};
 use shown_bases::{Guess, Optimum};
-use src_sink::{Items, NoMemory};
+use src_sink::NoMemory;
 use std::alloc::Global;
-
-/// Whether a number is one from 1 to another.
-fn is_number(k: usize, most: usize) -> bool
-    ensures { IsTrue result → (1 ≤ k) × (k ≤ most) }
-{
-    k >= 1 && k <= most
-}
-
-/// Whether each is from 1 to `most`.
-fn are_numbers(columns: &[u32], most: usize) -> bool
-    ensures low { IsTrue result → All (λ c. 1 ≤ c) columns.now }
-    ensures high { IsTrue result → All (λ c. c ≤ most) columns.now }
-{
-    for column in columns {
-        if !is_number(*column as usize, most) {
-            return false;
-        }
-    }
-    true
-}
-
-/// Whether there are as many columns as equations, and each is one of the program.
-fn are_in_range<F: Field>(program: &Columns<'_, F>, columns: &[u32]) -> bool
-    ensures { IsTrue result → AreInRange program.now columns.now }
-{
-    if columns.len() != program.right.len() {
-        return false;
-    }
-    are_numbers(columns, program.cost.len() + program.right.len())
-}
 
 /// Whether a guess passes all tests.
 fn passes<F: Field>(
@@ -76,21 +47,13 @@ fn passes<F: Field>(
     if !are_allowed(columns, x, program.cost.len()) {
         return Ok(false);
     }
-    if !solve(alloc, program, columns, x)? {
+    if !sum_to(alloc, program, columns, x, program.right.as_slice())? {
         return Ok(false);
     }
     if !are_prices(alloc, program, columns, y)? {
         return Ok(false);
     }
     is_shown(alloc, program, columns, &guess.order)
-}
-
-fn copy_items<T: Copy>(alloc: Global, list: &[T]) -> Result<Items<T>, NoMemory>
-    ensures { IfOk result (λ copy. copy ≡ list.now) }
-{
-    let mut copy = Items::new(alloc);
-    copy.append(list)?;
-    Ok(copy)
 }
 
 /// The optimum that a guess shows, if it passes all tests.

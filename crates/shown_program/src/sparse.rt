@@ -3,7 +3,7 @@ ghost use Rattle.std.specs.Prelude.{◌≡◌, ◌-◌, ◌≤◌, length, map, 
 ghost use Rattle.exact_field.specs.Vector.{dot, entry};
 ghost use Rattle.polyhedra.specs.Vectors.{plus, scaled};
 ghost use Rattle.lp_form.specs.Shapes.{are_places};
-ghost use Rattle.shown_program.specs.Columns.{filled};
+ghost use Rattle.program_columns.specs.Columns.{filled};
 
 use exact_field::{Field, is_zero};
 use lin_rows::add_product;

@@ -4,8 +4,8 @@ use Rattle.exact_field.specs.Rational.{◌+ℚ◌, ◌*ℚ◌}
 use Rattle.exact_field.proofs.Rationals.{mul-zero_ℚ, zero-mul_ℚ}
 use Rattle.lin_rows.specs.Lines.{entries, sum_at}
 use Rattle.lin_rows.specs.declared.spots.Spot.{Spot}
-use Rattle.shown_program.proofs.Listed.{place_in}
-use Rattle.shown_program.proofs.Multiples.{AreAdded, added_end, added_more, added_none}
+use Rattle.program_columns.proofs.Listed.{place_in}
+use Rattle.program_columns.proofs.Multiples.{AreAdded, added_end, added_more, added_none}
 use Rattle.shown_program.proofs.sparse.add_multiple.Goals as goal
 
 pub returns-then-is_zero : goal.returns-then-is_zero

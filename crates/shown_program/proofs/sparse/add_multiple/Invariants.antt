@@ -1,6 +1,6 @@
 use Rattle.std.proofs.Common.{drop, map}
 use Rattle.lin_rows.specs.Lines.{entries}
-use Rattle.shown_program.proofs.Multiples.{AreAdded}
+use Rattle.program_columns.proofs.Multiples.{AreAdded}
 use Rattle.shown_program.proofs.sparse.add_multiple.Given as goal
 
 abbrev pub invariant-loop-spot : goal.invariant-loop-spot

@@ -2,8 +2,8 @@ use Rattle.std.proofs.Common.{◌∙◌, ap, arith, length, map}
 use Rattle.exact_field.specs.Rational.{◌+ℚ◌, ◌*ℚ◌}
 use Rattle.exact_field.proofs.Rationals.{zero-add_ℚ}
 use Rattle.lin_rows.specs.Lines.{entries}
-use Rattle.shown_program.proofs.Listed.{place_in}
-use Rattle.shown_program.proofs.Multiples.{weighed, weighed_end, weighed_more}
+use Rattle.program_columns.proofs.Listed.{place_in}
+use Rattle.program_columns.proofs.Multiples.{weighed, weighed_end, weighed_more}
 use Rattle.shown_program.proofs.sparse.product.Goals as goal
 
 pub loop-spot-init : goal.loop-spot-init

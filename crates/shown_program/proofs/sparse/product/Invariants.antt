@@ -1,7 +1,7 @@
 use Rattle.std.proofs.Common.{◌≡◌, drop, map}
 use Rattle.exact_field.specs.Rational.{◌+ℚ◌}
 use Rattle.lin_rows.specs.Lines.{entries}
-use Rattle.shown_program.proofs.Multiples.{weighed}
+use Rattle.program_columns.proofs.Multiples.{weighed}
 use Rattle.shown_program.proofs.sparse.product.Given as goal
 
 abbrev pub invariant-loop-spot : goal.invariant-loop-spot
