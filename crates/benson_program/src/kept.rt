@@ -1,19 +1,18 @@
-//! What is kept from one program of the sides to the next, and the optima that guesses show.
-ghost use Rattle.std.specs.Prelude.{◌≡◌, map, length, IfOk, IfSome};
-ghost use Rattle.exact_simplex.specs.Ends.{IsCertified};
+//! What is kept from one program of the sides to the next, and the ends that guesses show.
+ghost use Rattle.std.specs.Prelude.{map, length, IfOk, IfSome};
+ghost use Rattle.exact_simplex.specs.Ends.{IsCertified, IsReadOff};
 ghost use Rattle.lp_form.specs.Data.{IsDataOf};
 ghost use Rattle.lp_form.specs.Names.{HasWidths, named};
 ghost use Rattle.lp_form.specs.Programs.{named_system};
-ghost use Rattle.tableaux.specs.Simplex.{IsOptimal, OptimalAt};
-ghost use Rattle.tableaux.specs.Table.{Table};
 ghost use Rattle.vlp_problem.specs.declared.problem.Problem.{Problem as File};
 
 use crate::written::Written;
 use bounded_simplex::Engine;
 use exact_field::Field;
+use exact_simplex::LpEnd;
 use lp_form::{Data, LpName};
-use shown_bases::{Guess, Optimum};
-use shown_program::optimum_of;
+use shown_bases::{Contradiction, EmptyGuess, EndGuess, Guess, Optimum, Ray, RayGuess};
+use shown_program::{contradiction_of, optimum_of, ray_of};
 use src_sink::NoMemory;
 use std::alloc::Global;
 
@@ -24,7 +23,7 @@ const MOST_IN_VAIN: u32 = 8;
 /// speaks of it: that of another problem shortens nothing.
 #[derive(Drop)]
 pub struct Kept<F: Field> {
-    /// What guesses optima.
+    /// What guesses ends.
     engine: Engine,
     /// How many guesses in a row showed nothing.
     in_vain: u32,
@@ -42,13 +41,13 @@ impl<F: Field> Kept<F> {
         }
     }
 
-    /// A guess at the optimum of a named program, if one is asked for and there is one.
+    /// A guess at how a named program ends, if one is asked for and there is one.
     fn guess(
         &mut self,
         form: &Data<F>,
         c: &[F],
         name: &LpName<F>,
-    ) -> Result<Option<Guess<F>>, NoMemory> {
+    ) -> Result<Option<EndGuess<F>>, NoMemory> {
         if self.in_vain >= MOST_IN_VAIN {
             return Ok(None);
         }
@@ -60,7 +59,7 @@ impl<F: Field> Kept<F> {
         }
     }
 
-    /// Takes note of whether a guess was shown to be an optimum.
+    /// Takes note of whether a guess was shown to be right.
     fn note(&mut self, is_shown: bool) {
         if is_shown {
             self.in_vain = 0;
@@ -70,51 +69,115 @@ impl<F: Field> Kept<F> {
         }
     }
 
-    /// The optimum of a named program that a guess shows, if one does.
-    pub fn guessed_optimum(
+    /// How a named program ends, if a guess shows it.
+    pub fn guessed_end(
         &mut self,
         alloc: Global,
         form: &Data<F>,
         c: &[F],
         name: &LpName<F>,
-    ) -> Result<Option<Optimum<F>>, NoMemory>
+    ) -> Result<Option<LpEnd<F>>, NoMemory>
         requires { HasWidths (length form.now.p) c.now name.now }
         ensures certified { (file : File) → IsDataOf F.value file form.now
-            → IfOk result (λ o. IfSome o (λ e. IsOptimal
-            (named_system file (map F.value c.now) (named F.value name.now)) (map F.value e.x)
-            (map F.value e.dual))) }
+            → IfOk result (λ o. IfSome o (IsCertified F.value
+            (named_system file (map F.value c.now) (named F.value name.now)))) }
         ensures read_off { (file : File) → IsDataOf F.value file form.now
-            → IfOk result (λ o. IfSome o (λ e. (d : Table)
-            × OptimalAt (named_system file (map F.value c.now) (named F.value name.now)) e.basis
-            d (map F.value e.x) (map F.value e.dual))) }
+            → IfOk result (λ o. IfSome o (IsReadOff F.value
+            (named_system file (map F.value c.now) (named F.value name.now)))) }
     {
         let guess = self.guess(form, c, name)?;
-        let optimum = test_guess(alloc, form, c, name, guess)?;
-        self.note(optimum.is_some());
-        Ok(optimum)
+        let end = tested(alloc, form, c, name, guess)?;
+        self.note(end.is_some());
+        Ok(end)
     }
 }
 
-/// The optimum that a guess shows, if there is a guess and it passes the test.
-fn test_guess<F: Field>(
+/// The optimum that a guess shows, if it passes the test.
+fn optimal_end<F: Field>(
     alloc: Global,
     form: &Data<F>,
     c: &[F],
     name: &LpName<F>,
-    guess: Option<Guess<F>>,
-) -> Result<Option<Optimum<F>>, NoMemory>
+    guess: &Guess<F>,
+) -> Result<Option<LpEnd<F>>, NoMemory>
     requires { HasWidths (length form.now.p) c.now name.now }
     ensures certified { (file : File) → IsDataOf F.value file form.now
-        → IfOk result (λ o. IfSome o (λ e. IsOptimal
-        (named_system file (map F.value c.now) (named F.value name.now)) (map F.value e.x)
-        (map F.value e.dual))) }
+        → IfOk result (λ o. IfSome o (IsCertified F.value
+        (named_system file (map F.value c.now) (named F.value name.now)))) }
     ensures read_off { (file : File) → IsDataOf F.value file form.now
-        → IfOk result (λ o. IfSome o (λ e. (d : Table)
-        × OptimalAt (named_system file (map F.value c.now) (named F.value name.now)) e.basis d
-        (map F.value e.x) (map F.value e.dual))) }
+        → IfOk result (λ o. IfSome o (IsReadOff F.value
+        (named_system file (map F.value c.now) (named F.value name.now)))) }
+{
+    match optimum_of(alloc, form, c, name, guess)? {
+        None => Ok(None),
+        Some(Optimum { x, dual, basis }) => Ok(Some(LpEnd::Optimal { x, dual, basis })),
+    }
+}
+
+/// The multipliers that a guess shows, if it passes the test.
+fn infeasible_end<F: Field>(
+    alloc: Global,
+    form: &Data<F>,
+    c: &[F],
+    name: &LpName<F>,
+    guess: &EmptyGuess<F>,
+) -> Result<Option<LpEnd<F>>, NoMemory>
+    requires { HasWidths (length form.now.p) c.now name.now }
+    ensures certified { (file : File) → IsDataOf F.value file form.now
+        → IfOk result (λ o. IfSome o (IsCertified F.value
+        (named_system file (map F.value c.now) (named F.value name.now)))) }
+    ensures read_off { (file : File) → IsDataOf F.value file form.now
+        → IfOk result (λ o. IfSome o (IsReadOff F.value
+        (named_system file (map F.value c.now) (named F.value name.now)))) }
+{
+    match contradiction_of(alloc, form, c, name, guess)? {
+        None => Ok(None),
+        Some(Contradiction { farkas, basis }) => Ok(Some(LpEnd::Infeasible { farkas, basis })),
+    }
+}
+
+/// The ray that a guess shows, if it passes the test.
+fn unbounded_end<F: Field>(
+    alloc: Global,
+    form: &Data<F>,
+    c: &[F],
+    name: &LpName<F>,
+    guess: &RayGuess<F>,
+) -> Result<Option<LpEnd<F>>, NoMemory>
+    requires { HasWidths (length form.now.p) c.now name.now }
+    ensures certified { (file : File) → IsDataOf F.value file form.now
+        → IfOk result (λ o. IfSome o (IsCertified F.value
+        (named_system file (map F.value c.now) (named F.value name.now)))) }
+    ensures read_off { (file : File) → IsDataOf F.value file form.now
+        → IfOk result (λ o. IfSome o (IsReadOff F.value
+        (named_system file (map F.value c.now) (named F.value name.now)))) }
+{
+    match ray_of(alloc, form, c, name, guess)? {
+        None => Ok(None),
+        Some(Ray { x, ray, basis }) => Ok(Some(LpEnd::Unbounded { x, ray, basis })),
+    }
+}
+
+/// The end that a guess shows, if there is a guess and it passes the test.
+fn tested<F: Field>(
+    alloc: Global,
+    form: &Data<F>,
+    c: &[F],
+    name: &LpName<F>,
+    guess: Option<EndGuess<F>>,
+) -> Result<Option<LpEnd<F>>, NoMemory>
+    requires { HasWidths (length form.now.p) c.now name.now }
+    ensures certified { (file : File) → IsDataOf F.value file form.now
+        → IfOk result (λ o. IfSome o (IsCertified F.value
+        (named_system file (map F.value c.now) (named F.value name.now)))) }
+    ensures read_off { (file : File) → IsDataOf F.value file form.now
+        → IfOk result (λ o. IfSome o (IsReadOff F.value
+        (named_system file (map F.value c.now) (named F.value name.now)))) }
 {
     match guess {
         None => Ok(None),
-        Some(guess) => optimum_of(alloc, form, c, name, &guess),
+        Some(EndGuess::Optimum(guess)) => optimal_end(alloc, form, c, name, &guess),
+        Some(EndGuess::Empty(guess)) => infeasible_end(alloc, form, c, name, &guess),
+        Some(EndGuess::Ray(guess)) => unbounded_end(alloc, form, c, name, &guess),
     }
 }

@@ -19,7 +19,6 @@ use exact_field::Field;
 use exact_simplex::{LpEnd, LpFault, solve_lp};
 use lp_form::{Data, LpName, program};
 use overflows::{SolveFault, program_fault};
-use shown_bases::Optimum;
 use src_sink::{Items, NoMemory};
 use std::alloc::Global;
 
@@ -79,7 +78,7 @@ fn pivot_end<F: Field>(
     }
 }
 
-/// How a named program ends: with the optimum that a guess shows, or else by the table.
+/// How a named program ends: as a guess shows, or else by the table.
 fn named_end<F: Field>(
     alloc: Global,
     form: &Data<F>,
@@ -102,8 +101,8 @@ fn named_end<F: Field>(
     ensures place { name.now ≡ name_of.Feasible →
         IfErr result (λ fault. OnLicence fault (λ l. IsPivotOfFeasible l.place)) }
 {
-    match kept.guessed_optimum(alloc, form, c, name)? {
-        Some(Optimum { x, dual, basis }) => Ok(LpEnd::Optimal { x, dual, basis }),
+    match kept.guessed_end(alloc, form, c, name)? {
+        Some(end) => Ok(end),
         None => pivot_end(alloc, form, c, name, &mut kept.written),
     }
 }

@@ -1,20 +1,11 @@
 //! The duals of Benson's program and of that of a weight, and their part on the sides alone.
 use crate::meaning::{Bound, Dual, Kind, Meaning};
-use exact_field::Field;
+use exact_field::{Field, is_zero};
+use listed_columns::place_of;
 use lp_form::{At, ConeOf, Data, SideOf};
 use src_sink::Items;
 use std::alloc::Global;
-use whole_programs::{Program, Ratio, Stop, Term, at, item, put};
-use whole_simplex::Solver;
-
-pub(crate) fn is_zero<F: Field>(x: F) -> bool {
-    x.sign() == 0
-}
-
-/// The place of a spot, from 0.
-pub(crate) fn place_of<F: Field>(spot: &At<F>) -> usize {
-    (spot.at as usize).saturating_sub(1)
-}
+use whole_programs::{Program, Ratio, Simplex, Stop, Term, at, item, put};
 
 /// Whether a vector is the negative of another.
 fn are_opposite<F: Field>(one: &[At<F>], other: &[At<F>]) -> bool {
@@ -80,6 +71,15 @@ fn push_generators<F: Field>(
     Ok(())
 }
 
+/// What was calculated: none where it was declined.
+fn unless_declined<T>(value: Result<T, Stop>) -> Result<Option<T>, Stop> {
+    match value {
+        Ok(value) => Ok(Some(value)),
+        Err(Stop::Declined) => Ok(None),
+        Err(Stop::NoMemory) => Err(Stop::NoMemory),
+    }
+}
+
 /// A program that is being written, with what its variables stand for.
 #[derive(Debug, Drop)]
 struct Draft {
@@ -89,19 +89,22 @@ struct Draft {
 }
 
 /// The part of the dual that is on the sides alone, which minimises nothing.
-pub(crate) fn dual_of_sides<F: Field>(alloc: Global, form: &Data<F>) -> Result<Dual, Stop> {
+pub(crate) fn dual_of_sides<F: Field, S: Simplex<F> + Drop>(
+    alloc: Global,
+    form: &Data<F>,
+) -> Result<Dual<S>, Stop> {
     let mut draft = Draft::new(alloc);
     draft.push_variables(Kind::Column, form.cols as usize)?;
     draft.push_sides(form)?;
-    draft.dual(0, 0)
+    draft.dual::<F, S>(0, 0)
 }
 
 /// The dual of Benson's program, which minimises the share of the duality vector.
-pub(crate) fn dual_of_benson<F: Field>(
+pub(crate) fn dual_of_benson<F: Field, S: Simplex<F> + Drop>(
     alloc: Global,
     form: &Data<F>,
     c: &[F],
-) -> Result<Dual, Stop> {
+) -> Result<Dual<S>, Stop> {
     let share = form.cols as usize;
     let mut draft = Draft::new(alloc);
     draft.push_variables(Kind::Column, share)?;
@@ -111,20 +114,23 @@ pub(crate) fn dual_of_benson<F: Field>(
     draft.push_sides(form)?;
     let objectives = draft.meanings.len();
     draft.push_cone(form, c, multipliers)?;
-    let mut dual = draft.dual(multipliers, objectives)?;
+    let mut dual = draft.dual::<F, S>(multipliers, objectives)?;
     dual.solver.minimise(share)?;
     Ok(dual)
 }
 
 /// The dual of the program of a weight, which minimises a sum of the objectives. The sum is not set
 /// yet.
-pub(crate) fn dual_of_weight<F: Field>(alloc: Global, form: &Data<F>) -> Result<Dual, Stop> {
+pub(crate) fn dual_of_weight<F: Field, S: Simplex<F> + Drop>(
+    alloc: Global,
+    form: &Data<F>,
+) -> Result<Dual<S>, Stop> {
     let mut draft = Draft::new(alloc);
     draft.push_variables(Kind::Column, form.cols as usize)?;
     draft.push_sides(form)?;
     let objectives = draft.meanings.len();
     draft.push_values(form)?;
-    draft.dual(0, objectives)
+    draft.dual::<F, S>(0, objectives)
 }
 
 impl Draft {
@@ -137,14 +143,19 @@ impl Draft {
     }
 
     /// The program at the basis of its rows' variables.
-    fn dual(self, multipliers: usize, objectives: usize) -> Result<Dual, Stop> {
+    fn dual<F: Field, S: Simplex<F> + Drop>(
+        self,
+        multipliers: usize,
+        objectives: usize,
+    ) -> Result<Dual<S>, Stop> {
         let Draft {
             alloc,
             program,
             meanings,
         } = self;
         Ok(Dual {
-            solver: Solver::new(alloc, program)?,
+            alloc,
+            solver: S::new(alloc, program)?,
             meanings,
             multipliers,
             objectives,
@@ -167,8 +178,9 @@ impl Draft {
         number: usize,
         terms: &[Term<F>],
     ) -> Result<usize, Stop> {
+        let variable = self.program.push_row(terms)?;
         self.meanings.push(Meaning::new(kind, number))?;
-        self.program.push_row(terms)
+        Ok(variable)
     }
 
     fn push_multipliers<F: Field>(&mut self, cone: &ConeOf<F>) -> Result<(), Stop> {
@@ -192,7 +204,7 @@ impl Draft {
     }
 
     /// The sides, of which two that bound one product from both ends are one row, and one that
-    /// bounds a column is none.
+    /// bounds a column is none. One with a number that is too long is left out.
     fn push_sides<F: Field>(&mut self, form: &Data<F>) -> Result<(), Stop> {
         let mut last = None;
         for (h, side) in form.sides.as_slice().iter().enumerate() {
@@ -221,7 +233,9 @@ impl Draft {
         }
         let mut terms = Vec::new(self.alloc);
         push_vector(&mut terms, g)?;
-        let variable = self.push_row(Kind::Side, h, &terms)?;
+        let Some(variable) = unless_declined(self.push_row(Kind::Side, h, &terms))? else {
+            return Ok(None);
+        };
         self.bound(variable, h, side.beta, true)?;
         Ok(Some((variable, g)))
     }
@@ -241,7 +255,8 @@ impl Draft {
         Ok(true)
     }
 
-    /// Gives a variable the bound of a side, which is one from above of its negative otherwise.
+    /// Gives a variable the bound of a side, which is one from above of its negative otherwise,
+    /// unless the bound is too long.
     fn bound<F: Field>(
         &mut self,
         variable: usize,
@@ -251,12 +266,15 @@ impl Draft {
     ) -> Result<(), Stop> {
         let mut meaning = at(&self.meanings, variable)?;
         let scale = self.program.scale(variable)?;
+        let beta = if below { beta } else { beta.neg() };
+        let Some(value) = unless_declined(Ratio::times(beta, scale))? else {
+            return Ok(());
+        };
+        let bound = Some(Bound { side, value });
         if below {
-            let value = Ratio::times(beta, scale)?;
-            meaning.low = Some(Bound { side, value });
+            meaning.low = bound;
         } else {
-            let value = Ratio::times(beta.neg(), scale)?;
-            meaning.high = Some(Bound { side, value });
+            meaning.high = bound;
         }
         put(&mut self.meanings, variable, meaning)
     }

@@ -1,9 +1,9 @@
-//! The bounds of the variables at a question, which alone change from one to the next.
-use crate::building::is_zero;
+//! The bounds of the variables at a question, which alone change from one to the next, and those of
+//! the first phase.
 use crate::meaning::{Bound, Dual, Kind, Meaning};
-use exact_field::Field;
+use exact_field::{Field, is_zero};
 use lp_form::{ConeOf, Data};
-use whole_programs::{Limits, Ratio, Stop, at, item};
+use whole_programs::{Limits, Ratio, Simplex, Stop, at, item, negative, put};
 
 /// A side's bound, which is 0 where the question is asked at a direction.
 fn side_limit(bound: Option<Bound>, t: bool) -> Option<Ratio> {
@@ -53,8 +53,8 @@ fn objective_limits<F: Field>(
 }
 
 /// The bounds of a variable.
-fn limits_of<F: Field>(
-    dual: &Dual,
+fn limits_of<F: Field, S: Simplex<F> + Drop>(
+    dual: &Dual<S>,
     form: &Data<F>,
     v: &[F],
     t: bool,
@@ -75,22 +75,71 @@ fn limits_of<F: Field>(
             high: None,
         }),
         Kind::Objective => {
-            let scale = dual.solver.program.scale(variable)?;
+            let scale = dual.solver.program().scale(variable)?;
             objective_limits(form, v, meaning.number, scale)
         }
     }
 }
 
 /// The bounds of each variable at a question.
-pub(crate) fn limits_at<F: Field>(
-    dual: &Dual,
+pub(crate) fn limits_at<F: Field, S: Simplex<F> + Drop>(
+    dual: &Dual<S>,
     form: &Data<F>,
     v: &[F],
     t: bool,
 ) -> Result<Vec<Limits>, Stop> {
-    let mut limits = Vec::new(dual.solver.alloc);
+    let mut limits = Vec::new(dual.alloc);
     for (variable, meaning) in dual.meanings.iter().enumerate() {
         limits.push(limits_of(dual, form, v, t, variable, meaning)?)?;
+    }
+    Ok(limits)
+}
+
+/// The bounds of a variable in the first phase, where it has none in the program: that of the
+/// artificial column of its equation, by the sign of its right side.
+fn artificial_limits(scale: i128, is_negative: bool) -> Result<Limits, Stop> {
+    if is_negative {
+        return Ok(Limits {
+            low: None,
+            high: Some(Ratio::whole(scale)),
+        });
+    }
+    Ok(Limits {
+        low: Some(Ratio::whole(negative(scale)?)),
+        high: None,
+    })
+}
+
+/// Whether the equation of a variable has a right side below 0: only those of a weight's entries
+/// may have one.
+fn has_negative_right<F: Field>(meaning: &Meaning, w: &[F]) -> Result<bool, Stop> {
+    if meaning.kind != Kind::Value {
+        return Ok(false);
+    }
+    Ok(at(w, meaning.number)?.sign() < 0)
+}
+
+/// The bounds of each variable in the first phase, where `w` are the weights, if there are any: the
+/// bounds that are there are 0, and a variable without bounds has one, at which it names an
+/// artificial column.
+pub(crate) fn first_limits<F: Field, S: Simplex<F> + Drop>(
+    dual: &Dual<S>,
+    form: &Data<F>,
+    w: &[F],
+) -> Result<Vec<Limits>, Stop> {
+    let v = vec![in dual.alloc; F::zero(); form.p.len()]?;
+    let mut limits = limits_at(dual, form, &v, false)?;
+    for (variable, meaning) in dual.meanings.iter().enumerate() {
+        let own = at(&limits, variable)?;
+        if own.low.is_none() && own.high.is_none() {
+            let scale = dual.solver.program().scale(variable)?;
+            let is_negative = has_negative_right(meaning, w)?;
+            put(
+                &mut limits,
+                variable,
+                artificial_limits(scale, is_negative)?,
+            )?;
+        }
     }
     Ok(limits)
 }

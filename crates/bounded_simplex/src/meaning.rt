@@ -1,6 +1,6 @@
 //! What the variables of the duals stand for.
+use std::alloc::Global;
 use whole_programs::Ratio;
-use whole_simplex::Solver;
 
 /// What a variable stands for.
 #[derive(Clone, Copy, Debug, PartialEq, Eq)]
@@ -52,10 +52,12 @@ impl Meaning {
     }
 }
 
-/// The dual of Benson's program or of that of a weight, or its part on the sides alone, at a basis.
+/// The dual of Benson's program or of that of a weight, or its part on the sides alone, at a basis
+/// of a solver.
 #[derive(Debug, Drop)]
-pub(crate) struct Dual {
-    pub(crate) solver: Solver,
+pub(crate) struct Dual<S: Drop> {
+    pub(crate) alloc: Global,
+    pub(crate) solver: S,
     /// One for each variable.
     pub(crate) meanings: Vec<Meaning>,
     /// The first of the multipliers, and the first of the variables of the objectives.

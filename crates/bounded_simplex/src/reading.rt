@@ -1,14 +1,11 @@
 //! The basis of the large program that a basis of the small one names, and what is read off it.
-use crate::building::{is_zero, place_of};
-use crate::lists::part;
 use crate::meaning::{Bound, Dual, Kind, Meaning};
-use crate::table::{Basis, Layout, magnitude};
-use exact_field::Field;
+use exact_field::{Field, is_zero};
+use listed_columns::{Basis, Layout, Ordered, magnitude, number_of, part, place_of};
 use lp_form::{ConeOf, Data};
-use shown_bases::Guess;
+use shown_bases::{EmptyGuess, EndGuess, Guess, RayGuess};
 use src_sink::Items;
-use whole_programs::{Stop, at, item, put};
-use whole_simplex::Place;
+use whole_programs::{Failing, Place, Simplex, Stop, at, item, put};
 
 /// The side of two bounds that a cost asks for, or that a variable stands at.
 fn side_of(low: Option<Bound>, high: Option<Bound>, sign: i8, place: Place) -> Option<usize> {
@@ -47,17 +44,22 @@ fn add_weights<F: Field>(
     Ok(())
 }
 
-impl Dual {
-    /// The columns of the large program that the variables outside the basis name.
+impl<S: Drop> Dual<S> {
+    /// The columns of the large program that the variables outside the basis name, with the number
+    /// of each variable.
     fn basis<'a, F: Field>(
         &self,
         form: &'a Data<F>,
         c: &[F],
         layout: Layout,
-    ) -> Result<Basis<'a, F>, Stop> {
-        let mut basis = Basis::new(self.solver.alloc, form, layout);
-        let mut weights = vec![in self.solver.alloc; F::zero(); form.p.len()]?;
-        self.push_columns(&mut basis, c, &mut weights)?;
+        numbers: &[F],
+    ) -> Result<Basis<'a, F>, Stop>
+    where
+        S: Simplex<F>,
+    {
+        let mut basis = Basis::new(self.alloc, form, layout);
+        let mut weights = vec![in self.alloc; F::zero(); form.p.len()]?;
+        self.push_columns(&mut basis, c, &mut weights, numbers)?;
         if layout.equations > layout.cone {
             push_all_weights(&mut basis, c, &weights)?;
         }
@@ -66,10 +68,18 @@ impl Dual {
 
     /// The columns of the program of a weight that the variables outside the basis name, and those
     /// of the weight.
-    fn basis_at<'a, F: Field>(&self, form: &'a Data<F>, w: &[F]) -> Result<Basis<'a, F>, Stop> {
-        let mut basis = Basis::new(self.solver.alloc, form, Layout::of_weight(form));
-        let mut no_weights = Vec::new(self.solver.alloc);
-        self.push_columns(&mut basis, &[], &mut no_weights)?;
+    fn basis_at<'a, F: Field>(
+        &self,
+        form: &'a Data<F>,
+        w: &[F],
+        numbers: &[F],
+    ) -> Result<Basis<'a, F>, Stop>
+    where
+        S: Simplex<F>,
+    {
+        let mut basis = Basis::new(self.alloc, form, Layout::of_weight(form));
+        let mut no_weights = Vec::new(self.alloc);
+        self.push_columns(&mut basis, &[], &mut no_weights, numbers)?;
         for (i, weight) in w.iter().enumerate() {
             basis.push_given(i, *weight)?;
         }
@@ -82,48 +92,66 @@ impl Dual {
         basis: &mut Basis<'_, F>,
         c: &[F],
         weights: &mut [F],
-    ) -> Result<(), Stop> {
+        numbers: &[F],
+    ) -> Result<(), Stop>
+    where
+        S: Simplex<F>,
+    {
         for (variable, meaning) in self.meanings.iter().enumerate() {
-            self.push_column(basis, c, weights, variable, meaning)?;
+            let place = self.solver.place(variable)?;
+            if place != Place::Basic {
+                push_column(basis, c, weights, meaning, place, at(numbers, variable)?)?;
+            }
         }
         Ok(())
     }
 
-    /// The column that a variable names, if it is not basic.
-    fn push_column<F: Field>(
-        &self,
-        basis: &mut Basis<'_, F>,
-        c: &[F],
-        weights: &mut [F],
-        variable: usize,
-        meaning: &Meaning,
-    ) -> Result<(), Stop> {
-        let place = self.solver.place(variable)?;
-        if place == Place::Basic {
-            return Ok(());
+    /// The cost of each variable that is not basic.
+    fn costs<F: Field>(&self) -> Result<Vec<F>, Stop>
+    where
+        S: Simplex<F>,
+    {
+        let mut costs = Vec::new(self.alloc);
+        for variable in 0..self.meanings.len() {
+            let cost = if self.solver.place(variable)? == Place::Basic {
+                F::zero()
+            } else {
+                self.solver.cost(variable)?
+            };
+            costs.push(cost)?;
         }
-        let number = meaning.number;
-        let cost: F = self.solver.cost(variable)?;
-        match meaning.kind {
-            Kind::Column | Kind::Side => {
-                match side_of(meaning.low, meaning.high, cost.sign(), place) {
-                    Some(side) => basis.push_side(side, magnitude(cost)),
-                    None => basis.push_artificial(number),
-                }
-            }
-            Kind::Share => {
-                let last = basis.layout.equations.saturating_sub(1);
-                basis.push_artificial(last)
-            }
-            Kind::Multiplier => basis.push_unknown(number, cost),
-            Kind::Objective => push_objective(basis, c, weights, number, cost.neg()),
-            Kind::Value => Err(Stop::Declined),
+        Ok(costs)
+    }
+
+    /// A 0 for each variable.
+    fn zeros<F: Field>(&self) -> Result<Vec<F>, Stop> {
+        Ok(vec![in self.alloc; F::zero(); self.meanings.len()]?)
+    }
+
+    /// What each variable that is not basic has in the row of a failing one, with the sign that is
+    /// above 0 where the bound from below holds the failing one back.
+    fn entries<F: Field>(&self, failing: Failing) -> Result<Vec<F>, Stop>
+    where
+        S: Simplex<F>,
+    {
+        let mut entries = Vec::new(self.alloc);
+        for variable in 0..self.meanings.len() {
+            let entry = if self.solver.place(variable)? == Place::Basic {
+                F::zero()
+            } else {
+                self.solver.entry(failing, variable)?
+            };
+            entries.push(if failing.below { entry } else { entry.neg() })?;
         }
+        Ok(entries)
     }
 
     /// The value of each variable but those of sides, for which it is 0.
-    fn values<F: Field>(&self) -> Result<Vec<F>, Stop> {
-        let mut asked = Vec::new(self.solver.alloc);
+    fn values<F: Field>(&self) -> Result<Vec<F>, Stop>
+    where
+        S: Simplex<F>,
+    {
+        let mut asked = Vec::new(self.alloc);
         for meaning in &self.meanings {
             asked.push(meaning.kind != Kind::Side)?;
         }
@@ -132,13 +160,16 @@ impl Dual {
 
     /// The multipliers of the equations of the file's columns.
     fn choice<F: Field>(&self, form: &Data<F>, values: &[F]) -> Result<Items<F>, Stop> {
-        let mut y = Items::new(self.solver.alloc);
+        let mut y = Items::new(self.alloc);
         y.append(part(values, 0, form.cols as usize)?)?;
         Ok(y)
     }
 
     /// The multipliers of the equations of Benson's program.
-    fn multipliers<F: Field>(&self, form: &Data<F>, c: &[F], v: &[F]) -> Result<Items<F>, Stop> {
+    fn multipliers<F: Field>(&self, form: &Data<F>, c: &[F], v: &[F]) -> Result<Items<F>, Stop>
+    where
+        S: Simplex<F>,
+    {
         let values = self.values()?;
         let mut y = self.choice(form, &values)?;
         let share = at(&values, form.cols as usize)?;
@@ -165,7 +196,10 @@ impl Dual {
 
     /// The multipliers of the equations of the program of a weight: those of the entries of w are
     /// the values of the objectives.
-    fn multipliers_of_weight<F: Field>(&self, form: &Data<F>) -> Result<Items<F>, Stop> {
+    fn multipliers_of_weight<F: Field>(&self, form: &Data<F>) -> Result<Items<F>, Stop>
+    where
+        S: Simplex<F>,
+    {
         let values = self.values()?;
         let mut y = self.choice(form, &values)?;
         y.append(part(&values, self.objectives, form.p.len())?)?;
@@ -173,9 +207,31 @@ impl Dual {
     }
 
     /// The guess at the optimum of the program of a weight.
-    pub(crate) fn guess_weight<F: Field>(&self, form: &Data<F>, w: &[F]) -> Result<Guess<F>, Stop> {
+    pub(crate) fn guess_weight<F: Field>(
+        &self,
+        form: &Data<F>,
+        w: &[F],
+    ) -> Result<EndGuess<F>, Stop>
+    where
+        S: Simplex<F>,
+    {
         let y = self.multipliers_of_weight(form)?;
-        self.basis_at(form, w)?.guess(self.solver.alloc, y)
+        let basis = self.basis_at(form, w, &self.costs()?)?;
+        Ok(optimum(basis.ordered(self.alloc)?, y))
+    }
+
+    /// The guess that the program of a weight has no solution, from the end of the first phase.
+    pub(crate) fn guess_no_weight<F: Field>(
+        &self,
+        form: &Data<F>,
+        w: &[F],
+    ) -> Result<EndGuess<F>, Stop>
+    where
+        S: Simplex<F>,
+    {
+        let y = self.multipliers_of_weight(form)?;
+        let basis = self.basis_at(form, w, &self.zeros()?)?;
+        Ok(empty(basis.ordered(self.alloc)?, y))
     }
 
     /// The guess at the optimum of Benson's program.
@@ -184,17 +240,127 @@ impl Dual {
         form: &Data<F>,
         c: &[F],
         v: &[F],
-    ) -> Result<Guess<F>, Stop> {
+    ) -> Result<EndGuess<F>, Stop>
+    where
+        S: Simplex<F>,
+    {
         let y = self.multipliers(form, c, v)?;
-        self.basis(form, c, Layout::of_benson(form))?
-            .guess(self.solver.alloc, y)
+        let basis = self.basis(form, c, Layout::of_benson(form), &self.costs()?)?;
+        Ok(optimum(basis.ordered(self.alloc)?, y))
+    }
+
+    /// The guess that Benson's program has no solution, from the end of the first phase.
+    pub(crate) fn guess_none<F: Field>(&self, form: &Data<F>, c: &[F]) -> Result<EndGuess<F>, Stop>
+    where
+        S: Simplex<F>,
+    {
+        let v = vec![in self.alloc; F::zero(); form.p.len()]?;
+        let y = self.multipliers(form, c, &v)?;
+        let basis = self.basis(form, c, Layout::of_benson(form), &self.zeros()?)?;
+        Ok(empty(basis.ordered(self.alloc)?, y))
     }
 
     /// The guess at a point of the sides.
-    pub(crate) fn guess_feasible<F: Field>(&self, form: &Data<F>) -> Result<Guess<F>, Stop> {
+    pub(crate) fn guess_point<F: Field>(&self, form: &Data<F>) -> Result<EndGuess<F>, Stop>
+    where
+        S: Simplex<F>,
+    {
         let y = self.choice(form, &self.values()?)?;
-        self.basis(form, &[], Layout::of_sides(form))?
-            .guess(self.solver.alloc, y)
+        let basis = self.basis(form, &[], Layout::of_sides(form), &self.costs()?)?;
+        Ok(optimum(basis.ordered(self.alloc)?, y))
+    }
+
+    /// The guess that the sides contradict each other, by the row of a failing variable: the side
+    /// of its bound, and those of the variables that hold it back.
+    pub(crate) fn guess_contradiction<F: Field>(
+        &self,
+        form: &Data<F>,
+        failing: Failing,
+    ) -> Result<EndGuess<F>, Stop>
+    where
+        S: Simplex<F>,
+    {
+        let col = number_of(0, self.failing_side(failing)?)?;
+        let basis = self.basis(form, &[], Layout::of_sides(form), &self.entries(failing)?)?;
+        let Ordered {
+            columns,
+            numbers,
+            order,
+        } = basis.ordered(self.alloc)?;
+        let mut x = Items::new(self.alloc);
+        for _k in 0..columns.len() {
+            x.push(F::zero())?;
+        }
+        Ok(EndGuess::Ray(RayGuess {
+            columns,
+            x,
+            col,
+            changes: numbers,
+            order,
+        }))
+    }
+
+    /// The side of the bound that a variable is beyond.
+    fn failing_side(&self, failing: Failing) -> Result<usize, Stop> {
+        let meaning = at(&self.meanings, failing.variable)?;
+        let bound = if failing.below {
+            meaning.low
+        } else {
+            meaning.high
+        };
+        Ok(bound.ok_or(Stop::Declined)?.side)
+    }
+}
+
+/// The guess of an optimum.
+fn optimum<F: Field>(ordered: Ordered<F>, y: Items<F>) -> EndGuess<F> {
+    let Ordered {
+        columns,
+        numbers,
+        order,
+    } = ordered;
+    EndGuess::Optimum(Guess {
+        columns,
+        x: numbers,
+        y,
+        order,
+    })
+}
+
+/// The guess that there is no solution.
+fn empty<F: Field>(ordered: Ordered<F>, y: Items<F>) -> EndGuess<F> {
+    let Ordered {
+        columns,
+        numbers: _,
+        order,
+    } = ordered;
+    EndGuess::Empty(EmptyGuess { columns, y, order })
+}
+
+/// The column that a variable outside the basis names, with its number.
+fn push_column<F: Field>(
+    basis: &mut Basis<'_, F>,
+    c: &[F],
+    weights: &mut [F],
+    meaning: &Meaning,
+    place: Place,
+    value: F,
+) -> Result<(), Stop> {
+    let number = meaning.number;
+    match meaning.kind {
+        Kind::Column | Kind::Side => {
+            match side_of(meaning.low, meaning.high, value.sign(), place) {
+                Some(side) => basis.push_side(side, magnitude(value)),
+                None => basis.push_artificial(number),
+            }
+        }
+        Kind::Share => {
+            let last = basis.layout.equations.saturating_sub(1);
+            basis.push_artificial(last)
+        }
+        Kind::Multiplier => basis.push_unknown(number, value),
+        Kind::Objective => push_objective(basis, c, weights, number, value.neg()),
+        Kind::Value => basis.push_artificial(basis.layout.cone.saturating_add(number)),
     }
 }
 

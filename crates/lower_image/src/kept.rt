@@ -8,7 +8,7 @@ use std::alloc::Global;
 /// speaks of it: that of another problem shortens nothing.
 #[derive(Drop)]
 pub struct KeptWeights<F: Field> {
-    /// What guesses optima.
+    /// What guesses ends.
     pub(crate) guesses: Kept<F>,
     /// The basis at which the last program ended.
     pub(crate) basis: Items<u32>,

@@ -19,7 +19,6 @@ use exact_field::Field;
 use exact_simplex::{LpEnd, solve_lp_from};
 use lp_form::{Data, LpName, program};
 use overflows::{SolveFault, program_fault};
-use shown_bases::Optimum;
 use src_sink::{Items, NoMemory};
 use std::alloc::Global;
 
@@ -52,8 +51,7 @@ fn pivoted_end<F: Field>(
     }
 }
 
-/// How a named program ends: with the optimum that a guess shows, or else by pivots, from the last
-/// basis.
+/// How a named program ends: as a guess shows, or else by pivots, from the last basis.
 fn named_end<F: Field>(
     alloc: Global,
     form: &Data<F>,
@@ -75,8 +73,8 @@ fn named_end<F: Field>(
         (named F.value name.now)
         → IfErr result (Overflows F.holds s []) }
 {
-    match kept.guesses.guessed_optimum(alloc, form, c, name)? {
-        Some(Optimum { x, dual, basis }) => Ok(LpEnd::Optimal { x, dual, basis }),
+    match kept.guesses.guessed_end(alloc, form, c, name)? {
+        Some(end) => Ok(end),
         None => pivoted_end(alloc, form, c, name, kept.basis.as_slice()),
     }
 }
@@ -91,8 +89,8 @@ pub(crate) fn weight_name<F: Field>(alloc: Global, w: &[F]) -> Result<LpName<F>,
 }
 
 /// How the program of the weight `w` ends. `c` is the duality vector. From what is kept of the
-/// program of another weight an optimum is guessed; where the guess is not shown to be one, the
-/// table is pivoted from the last basis on, since w stands on the right side alone.
+/// program of another weight the end is guessed; where no guess is shown to be right, the table is
+/// pivoted from the last basis on, since w stands on the right side alone.
 pub fn weight_end<F: Field>(
     alloc: Global,
     form: &Data<F>,

@@ -49,6 +49,21 @@ fn scale_of<F: Field>(terms: &[Term<F>]) -> Result<i128, Stop> {
     Ok(scale)
 }
 
+/// The terms of a row, made whole.
+fn spots_of<F: Field>(
+    alloc: Global,
+    terms: &[Term<F>],
+    scale: i128,
+) -> Result<Vec<Spot>, Stop> {
+    let mut spots = Vec::new(alloc);
+    for term in terms {
+        let at = term.at;
+        let value = entry(Ratio::times(term.value, scale)?.at_unit(1)?)?;
+        spots.push(Spot { at, value })?;
+    }
+    Ok(spots)
+}
+
 /// Appends a spot to a column.
 fn push_at(columns: &mut [Vec<Spot>], at: usize, spot: Spot) -> Result<(), Stop> {
     if at < columns.len() {
@@ -108,16 +123,14 @@ impl Program {
     }
 
     /// Appends a row with its variable, and answers the variable. It declines where a value is too
-    /// long once the row's are whole.
+    /// long once the row's are whole, and then the program stays as it is.
     pub fn push_row<F: Field>(&mut self, terms: &[Term<F>]) -> Result<usize, Stop> {
         let scale = scale_of(terms)?;
+        let spots = spots_of(self.alloc, terms, scale)?;
         let row = self.rows.len();
-        let mut spots = Vec::new(self.alloc);
-        for term in terms {
-            let at = term.at;
-            let value = entry(Ratio::times(term.value, scale)?.at_unit(1)?)?;
-            spots.push(Spot { at, value })?;
-            push_at(&mut self.columns, at, Spot { at: row, value })?;
+        for spot in &spots {
+            let value = spot.value;
+            push_at(&mut self.columns, spot.at, Spot { at: row, value })?;
         }
         let variable = self.push_own(Some(row))?;
         self.rows.push(Row {

@@ -25,7 +25,7 @@ fn add_multiple(total: &mut [i128], factor: i128, line: &[i128]) {
 impl Solver {
     /// Makes a sum of multiples of variables what is minimised. The cost is that of a row of the
     /// tableau, and of a row of the inverse for each variable of the sum that is basic.
-    pub fn minimise_sum<F: Field>(&mut self, terms: &[Term<F>]) -> Result<(), Stop> {
+    pub(crate) fn set_sum<F: Field>(&mut self, terms: &[Term<F>]) -> Result<(), Stop> {
         let factors = self.factors(terms)?;
         let multipliers = self.multipliers(&factors)?;
         write_sum(&mut self.row, &self.program, &self.variables, &multipliers)?;

@@ -25,7 +25,7 @@ impl Solver {
     /// values keep the bounds, and answers whether there is one: if not, the sum has no least
     /// value. Declines where a number is too long, or the steps are too many; then the solver is
     /// given up.
-    pub fn improve(&mut self) -> Result<bool, Stop> {
+    pub(crate) fn go_to_best(&mut self) -> Result<bool, Stop> {
         for _turn in 0..self.most_turns() {
             let Some(variable) = self.find_gaining() else {
                 return Ok(true);

@@ -162,20 +162,20 @@ impl Solver {
     /// The variable with the shortest step that brings the row's variable to its bound; those
     /// before it change to their other bounds. There is none where no variable moves it the right
     /// way.
-    pub(crate) fn find_entering(&self, leaving: Leaving) -> Result<Entering, Stop> {
+    pub(crate) fn find_entering(&self, leaving: Leaving) -> Result<Option<Entering>, Stop> {
         let mut list = self.candidates(leaving.below)?;
         let mut far = leaving.far;
         let mut flipped = Vec::new(self.alloc);
         for _turn in 0..list.len() {
             let Some((place, best)) = best_of(&list) else {
-                return Err(Stop::Declined);
+                return Ok(None);
             };
             let variable = best.variable;
             if list.len() == 1 {
-                return Ok(Entering { variable, flipped });
+                return Ok(Some(Entering { variable, flipped }));
             }
             match after_flip(item(&self.variables, variable)?, best.length.size, far)? {
-                None => return Ok(Entering { variable, flipped }),
+                None => return Ok(Some(Entering { variable, flipped })),
                 Some(rest) => {
                     far = rest;
                     flipped.push(variable)?;
@@ -183,7 +183,7 @@ impl Solver {
                 }
             }
         }
-        Err(Stop::Declined)
+        Ok(None)
     }
 
     /// A column of the tableau, over `by`.

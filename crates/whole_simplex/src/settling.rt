@@ -1,8 +1,10 @@
 //! The values at a new question.
 use crate::solver::Solver;
-use crate::variable::{Place, Variable};
+use crate::variable::Variable;
 use std::alloc::Global;
-use whole_programs::{Limits, Program, Ratio, Spot, Stop, at, difference, item, plus_product, put};
+use whole_programs::{
+    Limits, Place, Program, Ratio, Spot, Stop, at, difference, item, plus_product, put,
+};
 
 /// A multiple of a unit that is one of a bound's denominator too.
 fn unit_with(unit: i128, limit: Option<Ratio>) -> Result<i128, Stop> {

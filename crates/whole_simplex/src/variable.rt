@@ -1,18 +1,6 @@
 //! Where the variables stand at a question.
 use std::alloc::Global;
-use whole_programs::{Program, Stop};
-
-/// Where a variable stands.
-#[derive(Clone, Copy, Debug, PartialEq, Eq)]
-pub enum Place {
-    Basic,
-    /// At its bound from below.
-    Low,
-    /// At its bound from above.
-    High,
-    /// At 0, since it has no bound.
-    Free,
-}
+use whole_programs::{Place, Program, Stop};
 
 /// A variable at a question, by whole numbers over one unit.
 #[derive(Clone, Copy, Debug)]

@@ -1,9 +1,16 @@
 //! Lists of places, one after the other.
+use exact_field::Field;
+use lp_form::At;
 use std::alloc::Global;
 use whole_programs::{Stop, at, put};
 
+/// The place of a spot, from 0.
+pub fn place_of<F: Field>(spot: &At<F>) -> usize {
+    (spot.at as usize).saturating_sub(1)
+}
+
 /// The sum of a first number and a place after it, as a number from 1.
-pub(crate) fn number_of(base: usize, i: usize) -> Result<u32, Stop> {
+pub fn number_of(base: usize, i: usize) -> Result<u32, Stop> {
     let k = base.saturating_add(i);
     if k < 4_294_967_294 {
         Ok(k as u32 + 1)
@@ -13,7 +20,7 @@ pub(crate) fn number_of(base: usize, i: usize) -> Result<u32, Stop> {
 }
 
 /// So many items of a list, from a first one on, or a decline.
-pub(crate) fn part<T>(list: &[T], first: usize, count: usize) -> Result<&[T], Stop> {
+pub fn part<T>(list: &[T], first: usize, count: usize) -> Result<&[T], Stop> {
     if first <= list.len() && count <= list.len() - first {
         Ok(&list[first..first + count])
     } else {
@@ -23,14 +30,14 @@ pub(crate) fn part<T>(list: &[T], first: usize, count: usize) -> Result<&[T], St
 
 /// Lists of places, from 0.
 #[derive(Debug, Drop)]
-pub(crate) struct Lists {
+pub struct Lists {
     members: Vec<usize>,
     /// For each list the place after its last member.
     ends: Vec<usize>,
 }
 
 impl Lists {
-    pub(crate) fn new(alloc: Global) -> Lists {
+    pub fn new(alloc: Global) -> Lists {
         Lists {
             members: Vec::new(alloc),
             ends: Vec::new(alloc),
@@ -38,32 +45,32 @@ impl Lists {
     }
 
     /// How many lists there are.
-    pub(crate) fn count(&self) -> usize {
+    pub fn count(&self) -> usize {
         self.ends.len()
     }
 
     /// Appends a member to the list that is being written.
-    pub(crate) fn push(&mut self, member: usize) -> Result<(), Stop> {
+    pub fn push(&mut self, member: usize) -> Result<(), Stop> {
         self.members.push(member)?;
         Ok(())
     }
 
     /// Ends the list that is being written.
-    pub(crate) fn end(&mut self) -> Result<(), Stop> {
+    pub fn end(&mut self) -> Result<(), Stop> {
         let end = self.members.len();
         self.ends.push(end)?;
         Ok(())
     }
 
     /// List `k`, from 0.
-    pub(crate) fn list(&self, k: usize) -> Result<&[usize], Stop> {
+    pub fn list(&self, k: usize) -> Result<&[usize], Stop> {
         let start = start_of(&self.ends, k)?;
         let count = at(&self.ends, k)?.saturating_sub(start);
         part(&self.members, start, count)
     }
 
     /// For each of the places below `n` the lists that have it.
-    pub(crate) fn transpose(&self, alloc: Global, n: usize) -> Result<Lists, Stop> {
+    pub fn transpose(&self, alloc: Global, n: usize) -> Result<Lists, Stop> {
         let mut next = starts(alloc, &self.members, n)?;
         let mut ends = Vec::new(alloc);
         for end in next.iter().skip(1) {

@@ -1,10 +1,9 @@
 //! The columns of a program, as a guess lists them.
-use crate::building::{is_zero, place_of};
-use crate::lists::{Lists, number_of};
+use crate::lists::{Lists, number_of, place_of};
 use crate::ordering::order_of;
-use exact_field::Field;
+use exact_field::{Field, is_zero};
 use lp_form::{At, ConeOf, Data};
-use shown_bases::Guess;
+use shown_bases::Order;
 use src_sink::Items;
 use std::alloc::Global;
 use whole_programs::{Stop, at, item};
@@ -12,14 +11,14 @@ use whole_programs::{Stop, at, item};
 /// How the large program is laid out: the first number, from 0, of each kind of column, and how
 /// many equations there are.
 #[derive(Clone, Copy, Debug)]
-pub(crate) struct Layout {
+pub struct Layout {
     weights: usize,
     negatives: usize,
     unknowns: usize,
     artificial: usize,
     /// The first equation of the cone.
-    pub(crate) cone: usize,
-    pub(crate) equations: usize,
+    pub cone: usize,
+    pub equations: usize,
 }
 
 impl Layout {
@@ -39,18 +38,18 @@ impl Layout {
     }
 
     /// That of the program of the sides alone.
-    pub(crate) fn of_sides<F: Field>(form: &Data<F>) -> Layout {
+    pub fn of_sides<F: Field>(form: &Data<F>) -> Layout {
         Layout::new(form.sides.len(), 0, 0, form.cols as usize, 0)
     }
 
     /// That of the program of a weight, where the cone is not in dual form.
-    pub(crate) fn of_weight<F: Field>(form: &Data<F>) -> Layout {
+    pub fn of_weight<F: Field>(form: &Data<F>) -> Layout {
         let q = form.p.len();
         Layout::new(form.sides.len(), q, 0, form.cols as usize, q)
     }
 
     /// That of Benson's program.
-    pub(crate) fn of_benson<F: Field>(form: &Data<F>) -> Layout {
+    pub fn of_benson<F: Field>(form: &Data<F>) -> Layout {
         let q = form.p.len();
         let (unknowns, equations) = match &form.cone {
             ConeOf::Orthant => (q, q),
@@ -63,7 +62,7 @@ impl Layout {
 }
 
 /// The magnitude of a number.
-pub(crate) fn magnitude<F: Field>(x: F) -> F {
+pub fn magnitude<F: Field>(x: F) -> F {
     if x.sign() < 0 { x.neg() } else { x }
 }
 
@@ -85,37 +84,45 @@ fn push_nonzero<F: Field>(lists: &mut Lists, base: usize, vector: &[F]) -> Resul
     Ok(())
 }
 
-/// The columns of a basis with their values, and the equations in which they have entries.
+/// The columns of a basis with a number for each, and an order that shows them to be independent.
 #[derive(Drop)]
-pub(crate) struct Basis<'a, F: Field> {
-    pub(crate) form: &'a Data<F>,
-    pub(crate) layout: Layout,
+pub struct Ordered<F: Drop> {
+    pub columns: Items<u32>,
+    pub numbers: Items<F>,
+    pub order: Order,
+}
+
+/// The columns of a basis with a number for each, and the equations in which they have entries.
+#[derive(Drop)]
+pub struct Basis<'a, F: Field> {
+    pub form: &'a Data<F>,
+    pub layout: Layout,
     columns: Items<u32>,
-    x: Items<F>,
+    numbers: Items<F>,
     lists: Lists,
 }
 
 impl<'a, F: Field> Basis<'a, F> {
-    pub(crate) fn new(alloc: Global, form: &'a Data<F>, layout: Layout) -> Basis<'a, F> {
+    pub fn new(alloc: Global, form: &'a Data<F>, layout: Layout) -> Basis<'a, F> {
         Basis {
             form,
             layout,
             columns: Items::new(alloc),
-            x: Items::new(alloc),
+            numbers: Items::new(alloc),
             lists: Lists::new(alloc),
         }
     }
 
-    /// Ends the list of equations of a column, and appends it with its value.
+    /// Ends the list of equations of a column, and appends it with its number.
     fn push(&mut self, base: usize, number: usize, value: F) -> Result<(), Stop> {
         self.lists.end()?;
         self.columns.push(number_of(base, number)?)?;
-        self.x.push(value)?;
+        self.numbers.push(value)?;
         Ok(())
     }
 
     /// The column of a side's multiplier.
-    pub(crate) fn push_side(&mut self, side: usize, value: F) -> Result<(), Stop> {
+    pub fn push_side(&mut self, side: usize, value: F) -> Result<(), Stop> {
         let form = self.form;
         push_places(
             &mut self.lists,
@@ -125,14 +132,14 @@ impl<'a, F: Field> Basis<'a, F> {
     }
 
     /// The artificial column of an equation.
-    pub(crate) fn push_artificial(&mut self, equation: usize) -> Result<(), Stop> {
+    pub fn push_artificial(&mut self, equation: usize) -> Result<(), Stop> {
         let base = self.layout.artificial;
         self.lists.push(equation)?;
         self.push(base, equation, F::zero())
     }
 
     /// The column of an entry of the weight vector, by its sign.
-    pub(crate) fn push_weight(&mut self, c: &[F], i: usize, value: F) -> Result<(), Stop> {
+    pub fn push_weight(&mut self, c: &[F], i: usize, value: F) -> Result<(), Stop> {
         let form = self.form;
         push_places(&mut self.lists, item(form.p.as_slice(), i)?.as_slice())?;
         self.push_members(i)?;
@@ -144,7 +151,7 @@ impl<'a, F: Field> Basis<'a, F> {
 
     /// The same where the entry is given: it is in the equation that says so, and in none of the
     /// cone.
-    pub(crate) fn push_given(&mut self, i: usize, value: F) -> Result<(), Stop> {
+    pub fn push_given(&mut self, i: usize, value: F) -> Result<(), Stop> {
         let form = self.form;
         push_places(&mut self.lists, item(form.p.as_slice(), i)?.as_slice())?;
         self.lists.push(self.layout.cone.saturating_add(i))?;
@@ -180,7 +187,7 @@ impl<'a, F: Field> Basis<'a, F> {
     }
 
     /// The column of an unknown after the weight vector.
-    pub(crate) fn push_unknown(&mut self, d: usize, value: F) -> Result<(), Stop> {
+    pub fn push_unknown(&mut self, d: usize, value: F) -> Result<(), Stop> {
         let form = self.form;
         let base = self.layout.cone;
         let unknowns = self.layout.unknowns;
@@ -194,23 +201,22 @@ impl<'a, F: Field> Basis<'a, F> {
         self.push(unknowns, d, value)
     }
 
-    /// The guess with these multipliers, if there are as many columns as equations.
-    pub(crate) fn guess(self, alloc: Global, y: Items<F>) -> Result<Guess<F>, Stop> {
+    /// The columns with their numbers and an order, if there are as many as equations.
+    pub fn ordered(self, alloc: Global) -> Result<Ordered<F>, Stop> {
         let Basis {
             form: _,
             layout,
             columns,
-            x,
+            numbers,
             lists,
         } = self;
         if columns.len() != layout.equations {
             return Err(Stop::Declined);
         }
         let order = order_of(alloc, lists)?;
-        Ok(Guess {
+        Ok(Ordered {
             columns,
-            x,
-            y,
+            numbers,
             order,
         })
     }
