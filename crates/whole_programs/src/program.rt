@@ -50,11 +50,7 @@ fn scale_of<F: Field>(terms: &[Term<F>]) -> Result<i128, Stop> {
 }
 
 /// The terms of a row, made whole.
-fn spots_of<F: Field>(
-    alloc: Global,
-    terms: &[Term<F>],
-    scale: i128,
-) -> Result<Vec<Spot>, Stop> {
+fn spots_of<F: Field>(alloc: Global, terms: &[Term<F>], scale: i128) -> Result<Vec<Spot>, Stop> {
     let mut spots = Vec::new(alloc);
     for term in terms {
         let at = term.at;
