@@ -1,9 +1,9 @@
 //! Which variable enters the basis.
 use crate::leaving::Leaving;
-use crate::solver::{Pricing, Solver};
+use crate::solver::Solver;
 use exact_field::Field;
 use short_basis::{Halt, Number};
-use short_programs::Candidate;
+use short_programs::{Candidate, Pricing};
 use whole_programs::{Spot, Stop, at};
 
 /// The variable that enters, and those that change to their other bounds before.

@@ -1,9 +1,10 @@
 //! The primal method: from values within the bounds to costs with the right signs.
 use crate::exchange::{Exchange, move_values};
 use crate::running::End;
-use crate::solver::{Pricing, Solver};
+use crate::solver::Solver;
 use exact_field::Field;
 use short_basis::{Halt, Number};
+use short_programs::Pricing;
 use std::cmp::Ordering;
 use whole_programs::at;
 

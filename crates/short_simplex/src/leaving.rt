@@ -1,7 +1,8 @@
 //! Which variable leaves the basis.
-use crate::solver::{Pricing, Solver};
+use crate::solver::Solver;
 use exact_field::Field;
 use short_basis::{Halt, Multiple, Number, Shared, sign_of_sum};
+use short_programs::Pricing;
 use std::cmp::Ordering;
 use whole_programs::{at, negative};
 

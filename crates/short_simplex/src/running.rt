@@ -1,8 +1,8 @@
 //! Whole runs of a method, and what is done where a number is not held.
-use crate::solver::{PRICINGS, Pricing, Solver};
+use crate::solver::Solver;
 use exact_field::Field;
 use short_basis::Halt;
-use short_programs::Bounds;
+use short_programs::{Bounds, PRICINGS, Pricing};
 use whole_programs::{Failing, Stop};
 
 /// So many columns are replaced before the basis is factored anew.

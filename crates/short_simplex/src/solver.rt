@@ -6,34 +6,6 @@ use short_programs::{Bounds, columns_of};
 use std::alloc::Global;
 use whole_programs::{Line, Place, Program};
 
-/// By what it is chosen which variable moves.
-#[derive(Clone, Copy, Debug, PartialEq, Eq)]
-pub(crate) enum Pricing {
-    /// That which is farthest from its bound, or has the greatest cost.
-    Farthest,
-    /// The one with the least number.
-    First,
-    /// The one with the shortest value or cost.
-    Shortest,
-    /// The one with the fewest entries.
-    Sparsest,
-}
-
-/// How many ways to choose there are.
-pub(crate) const PRICINGS: usize = 4;
-
-impl Pricing {
-    /// The one of a number, which is counted from 0 again after the last one.
-    pub(crate) fn of(number: usize) -> Pricing {
-        match number % PRICINGS {
-            0 => Pricing::Farthest,
-            1 => Pricing::First,
-            2 => Pricing::Shortest,
-            _ => Pricing::Sparsest,
-        }
-    }
-}
-
 /// A program at a basis.
 #[derive(Debug, Drop)]
 pub struct Solver<F> {

@@ -2,9 +2,10 @@
 use crate::exchange::Exchange;
 use crate::leaving::Leaving;
 use crate::running::End;
-use crate::solver::{Pricing, Solver};
+use crate::solver::Solver;
 use exact_field::Field;
 use short_basis::{Halt, Number, zeros};
+use short_programs::Pricing;
 use whole_programs::{Failing, Place, Spot, at, put};
 
 impl<F: Field> Solver<F> {
