@@ -20,7 +20,8 @@ LAYERS = (
     ("1. Numbers, lists and the outside", "src_sink exact_field incid_sets frac128 tier_frac"),
     ("2. Mathematics, away from files and code", "polyhedra lineality tableaux representations"),
     ("3. Rows, linear programs, double description",
-     "lin_rows shown_bases exact_simplex whole_programs whole_simplex short_basis short_programs short_simplex double_descr geo_duality"),
+     "lin_rows shown_bases exact_simplex whole_programs whole_simplex short_basis short_programs short_simplex double_descr"
+     " geo_duality"),
     ("4. Texts of problems and logs", "word_lines deriv_log rep_text vlp_problem vlp_reader vlp_printer"),
     ("5. What a problem, a log and an overflow mean",
      "upper_image projection vlp_matrices lp_form cone_rules log_rules log_versions overflow_rules"),
@@ -66,7 +67,7 @@ def first_words(name):
 
 
 def faults(crates):
-    """What is wrong with LAYERS: a crate without a layer or with two, a name that is none, a crate below the layer of one under it."""
+    """What is wrong with LAYERS: a crate without a layer or with two, a name that is none, a crate that stands on a later layer."""
     layer_of, told = {}, []
     for number, (_, names) in enumerate(LAYERS):
         for name in names.split():
@@ -84,7 +85,8 @@ def faults(crates):
 def lists(crates):
     parts = []
     for title, names in LAYERS:
-        lines = [f"- [{name}](../crates/{name}/README.md) ({len(all_below(crates, name))}): {first_words(name)}" for name in names.split()]
+        lines = [f"- [{name}](../crates/{name}/README.md) ({len(all_below(crates, name))}): {first_words(name)}"
+                 for name in names.split()]
         parts.append(f"**{title}**\n\n" + "\n".join(lines))
     return "\n\n".join(parts)
 
