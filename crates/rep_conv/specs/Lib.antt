@@ -1,5 +1,5 @@
 -- The subject: Sets and Rows (representations), Live, Meets and Events (the rules of logs),
--- Converted, Laws, Checked (what the check says). Worked examples: Examples. For the code's own
+-- Converted, Alone, Laws, Checked (what the check says). Worked examples: Examples. For the code's own
 -- steps: Starting, Adding, Progress, Giving.
 pub mod Sets
 pub mod Rows
@@ -8,6 +8,7 @@ pub mod Meets
 pub mod Events
 pub mod Adding
 pub mod Converted
+pub mod Alone
 pub mod Laws
 pub mod Starting
 pub mod Progress

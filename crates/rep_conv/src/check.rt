@@ -2,6 +2,7 @@
 ghost use Rattle.std.specs.Prelude.{◌≡◌, ◌<◌, ◌+◌, ◌++◌, ◌∷◌, [], ℕ, List, IfOk, IfErr, OnOk, None, length, slice_index_or, take};
 ghost use Rattle.frac128.specs.Held.{is_held};
 ghost use Rattle.log_rules.specs.Runs.{Stops};
+ghost use Rattle.rep_conv.specs.Alone.{IsAlone};
 ghost use Rattle.rep_conv.specs.Checked.{IsRefusal, IsTaken};
 ghost use Rattle.rep_conv.specs.Converted.{Gives, IsOther};
 ghost use Rattle.rep_conv.specs.Events.{conv_failure, events};
@@ -98,12 +99,15 @@ pub fn check_entries(alloc: Global, rep: &Rep, log: &[ConvEntry]) -> Result<Stan
 }
 
 /// Checks the log of a conversion, and gives the other representation. Where the log ends with its
-/// `end`, this is the other representation of the same set, and no row of it can be left out.
+/// `end`, this is the other representation of the same set, no row of it can be left out, and its
+/// rows depend on the set alone.
 pub fn check_conv(alloc: Global, rep: &Rep, log: &ConvLog) -> Result<Rep, ConvRefusal>
     ensures ok { IfOk result (λ found. (conv_failure is_held rep.now log.now ≡ None)
         × Gives rep.now log.now found) }
     ensures right { IfOk result (λ found. (before : List ConvEntry)
         → log.now ≡ before ++ End ∷ [] → IsOther rep.now found) }
+    ensures one { IfOk result (λ found. (before : List ConvEntry)
+        → log.now ≡ before ++ End ∷ [] → IsAlone rep.now found) }
     ensures err { IfErr result (IsRefusal rep.now log.now) }
 {
     let standing = check_entries(alloc, rep, log.as_slice())?;
