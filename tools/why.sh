@@ -24,7 +24,7 @@ is_closed() {
 why_problem() {
     local file=$1 line=$2 kind=$3 sentence=''
     [ ! -f "$file" ] || sentence=$(read_again problem "$file" -v "at=$line" -v "kind=$kind")
-    say_of "$file" "$line" "${sentence:-$kind, as docs/USING.md says under \"Faults of the file\"}"
+    say_of "$file" "$line" "${sentence:-$kind, as docs/FORMATS.md says under \"First faults of a problem\"}"
 }
 
 why_representation() {
@@ -33,7 +33,7 @@ why_representation() {
         ! is_closed "$file" || closed=1
         sentence=$(read_again representation "$file" -v "at=$line" -v "kind=$kind" -v "command=$command" -v "closed=$closed")
     fi
-    say_of "$file" "$line" "${sentence:-$kind, as docs/USING.md says under \"Faults of a representation\"}"
+    say_of "$file" "$line" "${sentence:-$kind, as docs/FORMATS.md says under \"First faults of a representation\"}"
 }
 
 # A line of a log, which may be long.
@@ -57,7 +57,7 @@ why_text_of_log() {
         if [ "$line" -gt 1 ] && [[ $(line_of_log "$file" "$((line - 1))" | head -c 20 | tr '\0' '?') =~ ^end( [a-z]+)?$ ]]; then ended=1; fi
         sentence=$(line_of_log "$file" "$line" | read_again log /dev/stdin -v "at=$line" -v "kind=$kind" -v "closed=$closed" -v "ended=$ended" -v "conv=$conv")
     fi
-    say_of "$file" "$line" "${sentence:-$kind, as docs/FORMATS.md says under \"The log\"}"
+    say_of "$file" "$line" "${sentence:-$kind, as docs/FORMATS.md says under \"First faults of a log\"}"
 }
 
 # What a rule of the check wants of an entry.
@@ -261,6 +261,11 @@ warn_of_gaps() {
     done
 }
 
+# What a status says, by the table of them.
+says_of() {
+    awk -F '\t' -v code="$1" '$1 == code { print $3 }' "$top/tools/statuses.tsv"
+}
+
 explain() {
     local told=()
     read -r -a told <<<"$fault" || true
@@ -268,7 +273,7 @@ explain() {
     case $status in
         3 | 4 | 5 | 9 | 10 | 12 | 13 | 14 | 15 | 16 | 17 | 18)
             if [ "${told[1]-}" != "$status" ]; then
-                say "status $status: docs/USING.md, \"Statuses\", says what it means"
+                say "status $status: $(says_of "$status"); docs/FORMATS.md, \"Statuses\", has more"
                 return
             fi
             ;;

@@ -1,7 +1,7 @@
 """The statuses of the program but `Done`: each is an exception, by the names of docs/FORMATS.md.
 
 `line` is the fault line that came with it, read as a `FaultLine`, and None where the program writes none; what it tells by names
-is in `parts`. docs/USING.md says what to do at each.
+is in `parts`. What they say stands in tools/statuses.tsv too, and docs/FORMATS.md says what to do at each.
 """
 from typing import Dict, List, Optional, Type
 

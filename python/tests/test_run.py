@@ -126,15 +126,15 @@ class Answers(unittest.TestCase):
 
 
 class Statuses(unittest.TestCase):
-    def test_the_names_are_those_of_the_formats(self):
+    def test_names_and_words_are_those_of_the_table(self):
         told = {}
-        for line in (TOP / "docs" / "FORMATS.md").read_text().splitlines():
-            cells = [cell.strip() for cell in line.split("|")]
-            if len(cells) == 6 and cells[2].isdigit():
-                told[int(cells[2])] = cells[1].strip("`")
+        for line in (TOP / "tools" / "statuses.tsv").read_text().splitlines():
+            if not line.startswith("#"):
+                code, name, says, *_ = line.split("\t")
+                told[int(code)] = name, says
         self.assertGreaterEqual(len(told), 17)
         del told[0]
-        self.assertEqual(told, {code: status.__name__ for code, status in statuses.BY_CODE.items()})
+        self.assertEqual(told, {code: (status.__name__, status.says) for code, status in statuses.BY_CODE.items()})
 
     def test_each_fault_line_of_the_cases(self):
         seen = collections.Counter()
