@@ -438,7 +438,8 @@ def print_misses(lines):
 def print_told(values):
     """Which values that books tell the first program has otherwise: VALUES are its points by the names of files."""
     wrong = [each.name for each, told in textbook_files() if told is not None and each.name in values and values[each.name] != {f"1 {told}"}]
-    print(f"\nvalues that books tell: {'all as told' if not wrong else 'NOT ' + ', '.join(wrong)}")
+    if values:
+        print(f"\nvalues that books tell: {'all as told' if not wrong else 'NOT ' + ', '.join(wrong)}")
     return not wrong
 
 
