@@ -102,8 +102,9 @@ def files():
         yield from (make(count, columns, number) for count, columns in sizes for number in (1, 2))
 
 
-def run(words, limit=LIMIT):
+def run(words, limit=None):
     """One run, with the seconds of processor time that it and what it started took; None for a status if it was ended."""
+    limit = limit or LIMIT
     with tempfile.TemporaryFile() as out:
         set_limit = lambda: resource.setrlimit(resource.RLIMIT_CPU, (limit, limit + 1))
         child = subprocess.Popen(words, stdout=out, stderr=subprocess.DEVNULL, preexec_fn=set_limit)
