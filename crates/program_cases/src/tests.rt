@@ -3,6 +3,7 @@
 mod cones;
 mod data;
 mod duality;
+mod named;
 mod programs;
 mod rows;
 mod texts;

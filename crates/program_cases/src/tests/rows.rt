@@ -37,7 +37,7 @@ combine; 1 100; 12; 1 3; left 0 2 3 add 100 36
 scale; 1 12; 12; left 0 2 2 mul 12 12
 dot; 12 0 12; 6 100 6; left add 72 72";
 
-/// What `independent` answers.
+/// What `find_independent` answers.
 fn independent_text<F: Field>(alloc: Global, rows: &Rows<F>) -> Result<Bytes, NoMemory> {
     let mut text = Bytes::new(alloc);
     match find_independent(alloc, rows, rows.width()) {
