@@ -1,8 +1,11 @@
 pub mod Checked
 pub mod Plainly
 pub mod Ended
+pub mod Checking
+pub mod Anyhow
 pub mod Upgraded
 pub mod Accepted
 pub mod Named
+pub mod NamedCuts
 pub mod Replies
 pub mod Agree

@@ -5,8 +5,10 @@ mod answering;
 mod end;
 mod laws;
 mod logs;
+mod naming;
 mod own;
 mod reply;
+mod ways;
 
 pub use answering::{data_of, solve, solve_dual};
 pub use end::{Solution, SolveEnd};

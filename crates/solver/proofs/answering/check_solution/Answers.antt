@@ -1,9 +1,12 @@
-use Rattle.frac128.specs.Held.{is_held}
-use Rattle.solver.proofs.Ended.{fault_ends, own_left}
+use Rattle.solver.proofs.Checking.{overflow_checked, solution_checked}
 use Rattle.solver.proofs.answering.check_solution.Goals as goal
 
-pub returns-in_err-check_own-clause-end : goal.returns-in_err-check_own-clause-end
-returns-in_err-check_own-clause-end c =
-    let file = c.args.problem.now in
-    let fault = c.in_err-check_own.field-0.0 in
-    fault_ends file is_held c.from_residual.result fault c.from_residual.ensures.1 (own_left file c.args.entries c.requires.own fault c.in_err-check_own.ensures.licensed)
+pub returns-clause-ok : goal.returns-clause-ok
+returns-clause-ok c =
+    solution_checked c.args.problem.now c.args.entries c.requires.sound c.requires.own.2.log
+    c.check_own.result c.check_own.ensures.same c.check_own.ensures.ok c.check_own.ensures.plainly
+
+pub returns-clause-left : goal.returns-clause-left
+returns-clause-left c =
+    overflow_checked c.args.problem.now c.args.entries c.requires.own c.check_own.result
+    c.check_own.ensures.licensed

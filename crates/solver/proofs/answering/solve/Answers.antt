@@ -2,4 +2,4 @@ use Rattle.solver.proofs.Accepted.{all_accepted}
 use Rattle.solver.proofs.answering.solve.Goals as goal
 
 pub returns-clause-accepted : goal.returns-clause-accepted
-returns-clause-accepted c = all_accepted _ _ c.check_solution.ensures.ok
+returns-clause-accepted c = all_accepted _ _ c.solution_of.ensures.ok
