@@ -3,7 +3,7 @@
 //!
 //! Along `c` the image ends at a convex function of one number, of which each cut is a line. Between
 //! two cuts that are known it is asked where their lines meet, at a short number near by.
-ghost use Rattle.std.specs.Prelude.{◌≡◌, [], All, IfOk, IfSome, IsTrue, OnOk};
+ghost use Rattle.std.specs.Prelude.{◌≡◌, ◌++◌, ◌∷◌, [], All, IfOk, IfSome, IsTrue, OnOk};
 ghost use Rattle.lin_rows.specs.Complement.{AreComplement};
 ghost use Rattle.outer_approx.specs.Cuts.{IsCutFor};
 ghost use Rattle.outer_approx.specs.Task.{Task};
@@ -69,6 +69,13 @@ fn below_meeting<F: Field>(left: Slope<F>, right: Slope<F>) -> Option<(F, F)> {
     };
     let fall = low.slope.mul(at).ok()?;
     Some((at, whole_below(low.start.sub(fall).ok()?)?))
+}
+
+fn push_last<F: Field>(list: &mut Vec<Cut<F>>, cut: Cut<F>) -> Result<(), NoMemory>
+    ensures { OnOk result (list.new.items ≡ list.old.items ++ cut ∷ []) }
+{
+    list.push(cut)?;
+    Ok(())
 }
 
 /// A search for the cuts along a chain.
@@ -169,7 +176,7 @@ impl<'a, F: Field> Chain<'a, F> {
         requires cut { IsCutFor F.value task cut }
         ensures { OnOk result (IsChain F.value F.holds task self.new) }
     {
-        self.found.push(cut)?;
+        push_last(&mut self.found, cut)?;
         Ok(())
     }
 
@@ -179,7 +186,7 @@ impl<'a, F: Field> Chain<'a, F> {
         requires cut { IsCutFor F.value task cut }
         ensures { OnOk result (IsChain F.value F.holds task self.new) }
     {
-        self.waiting.push(cut)?;
+        push_last(&mut self.waiting, cut)?;
         Ok(())
     }
 

@@ -317,6 +317,32 @@ impl<'a, F: Field> Search<'a, F> {
         )
     }
 
+    /// Brings a known cut into use, if its place is not among those `taken` and its addition does
+    /// not overflow, and answers whether it did.
+    fn try_place(
+        &mut self,
+        cut: &Cut<F>,
+        place: usize,
+        taken: &mut Marks,
+    ) -> Result<bool, NoMemory>
+        ghost task: { Task }
+        requires searching { IsSearching F.value F.holds task self.old }
+        requires cut { IsCutFor F.value task cut.now }
+        ensures { OnOk result (IsSearching F.value F.holds task self.new) }
+    {
+        let Ok(place) = u32::try_from(place) else {
+            return Ok(false);
+        };
+        if taken.has(place) {
+            return Ok(false);
+        }
+        if !self.try_known(cut)? {
+            return Ok(false);
+        }
+        mark(taken, place)?;
+        Ok(true)
+    }
+
     /// Goes once through known cuts, brings those into use that were not yet and whose addition
     /// does not overflow, and answers whether there was one. `taken` has the places of those that
     /// are in use.
@@ -328,12 +354,8 @@ impl<'a, F: Field> Search<'a, F> {
     {
         let mut more = false;
         for i in 0..cuts.len() {
-            let place = i as u32;
-            if !taken.has(place) {
-                if self.try_known(&cuts[i])? {
-                    mark(taken, place)?;
-                    more = true;
-                }
+            if self.try_place(&cuts[i], i, taken)? {
+                more = true;
             }
         }
         Ok(more)
