@@ -1,4 +1,5 @@
 pub mod Asked
+pub mod Chained
 pub mod Marked
 pub mod Searched
 pub mod Turned

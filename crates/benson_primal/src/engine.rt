@@ -1,9 +1,10 @@
 //! From data and a duality vector to the log that describes the image.
-ghost use Rattle.std.specs.Prelude.{[], map, IfOk, IfErr, OnOk};
+ghost use Rattle.std.specs.Prelude.{◌≡◌, [], map, All, IfOk, IfErr, IfSome, OnOk};
 ghost use Rattle.cone_dual.specs.Fitting.{IsDualityOf};
 ghost use Rattle.overflow_rules.specs.Licence.{Licensed};
 ghost use Rattle.lp_form.specs.Data.{IsDataOf};
 ghost use Rattle.overflows.specs.Faults.{OnLicence, Overflows};
+ghost use Rattle.outer_approx.specs.Cuts.{IsCutFor};
 ghost use Rattle.outer_approx.specs.Standing.{IsEnded, IsOpenTrail, IsOpening};
 ghost use Rattle.outer_approx.specs.Task.{Task, setting};
 ghost use Rattle.recession.specs.Asking.{IsKnown};
@@ -12,6 +13,7 @@ ghost use Rattle.recession.specs.Logs.{IsOwnLog};
 ghost use Rattle.vlp_problem.specs.declared.problem.Problem.{Problem as File};
 ghost use Rattle.benson_primal.specs.Search.{IsSearching};
 
+use crate::chain::{are_independent, chain_of};
 use crate::search::{Scope, Search};
 use cone_dual::Duality;
 use deriv_log::{Entries, Entry};
@@ -21,7 +23,7 @@ use lp_form::{Cut, Data};
 use outer_approx::{Line, end_solved, open_trail, places_of, start_outer};
 use overflows::SolveFault;
 use recession::{First, Kept, contradiction_log, everything_log, first_cuts};
-use src_sink::Items;
+use src_sink::{Items, NoMemory};
 use std::alloc::Global;
 use std::mem::replace;
 
@@ -56,8 +58,124 @@ fn search_log<F: Field>(search: Search<'_, F>) -> Result<Entries, SolveFault>
     }
 }
 
-/// The log of an image, from its lines and first cuts on. x is a feasible point.
+/// The log of an image, from its lines and first cuts on, and then from some known cuts. x is a
+/// feasible point.
 fn image_log<F: Field>(
+    alloc: Global,
+    form: &Data<F>,
+    c: &[F],
+    weights: &[F],
+    opening: Entry,
+    x: &Items<F>,
+    lines: &[Line<F>],
+    cuts: &[Cut<F>],
+    known: &[Cut<F>],
+    kept: &mut Kept<F>,
+) -> Result<Entries, SolveFault>
+    ghost task: { Task }
+    requires known { IsKnown F.value F.holds task form.now c.now weights.now }
+    requires opening { IsOpening task opening }
+    requires first { AreFirstCuts F.value task x.now lines.now cuts.now }
+    requires each { All (IsCutFor F.value task) known.now }
+    ensures ok { IfOk result (IsEnded task) }
+    ensures left { IfErr result (λ fault. OnLicence fault (Licensed F.holds task.file task.c)) }
+{
+    let mut trail = open_trail(alloc, opening, x, lines, cuts)?;
+    let places = places_of(alloc, form.p.len() as u32, lines)?;
+    match start_outer(alloc, places.as_slice(), &mut trail, cuts) {
+        Err(fault) => Err(fault.with_trail(trail)),
+        Ok(dd) => {
+            let reached = Marks::new(alloc, 0)?;
+            let kept = replace(kept, Kept::new(alloc));
+            let mut search = Search {
+                alloc,
+                form,
+                c,
+                weights,
+                places,
+                trail,
+                dd,
+                reached,
+                kept,
+                failed: 0,
+            };
+            search.take_known(known)?;
+            search_log(search)
+        }
+    }
+}
+
+/// The log of an image of two objectives that has no line, by these cuts in their order along its
+/// chain of facets, if no operation overflows. x is a feasible point.
+fn chain_log<F: Field>(
+    alloc: Global,
+    form: &Data<F>,
+    c: &[F],
+    weights: &[F],
+    opening: Entry,
+    x: &Items<F>,
+    lines: &[Line<F>],
+    cuts: &[Cut<F>],
+    chain: &[Cut<F>],
+) -> Result<Option<Entries>, NoMemory>
+    ghost task: { Task }
+    requires known { IsKnown F.value F.holds task form.now c.now weights.now }
+    requires opening { IsOpening task opening }
+    requires first { AreFirstCuts F.value task x.now lines.now cuts.now }
+    requires two { task.file.objs ≡ 2 }
+    requires none { lines.now ≡ [] }
+    requires chain { All (IsCutFor F.value task) chain.now }
+    ensures { IfOk result (λ r. IfSome r (IsEnded task)) }
+{
+    if chain.len() < 2 {
+        return Ok(None);
+    }
+    let first = &chain[..2];
+    if !are_independent(alloc, first)? {
+        return Ok(None);
+    }
+    let known = &chain[2..];
+    let mut kept = Kept::new(alloc);
+    match image_log(
+        alloc, form, c, weights, opening, x, lines, first, known, &mut kept,
+    ) {
+        Ok(log) => Ok(Some(log)),
+        Err(SolveFault::Left(_)) => Ok(None),
+        Err(SolveFault::NoMemory) => Err(NoMemory),
+    }
+}
+
+/// The log of an image, from its lines and first cuts on, along the chain of facets: with two
+/// objectives and no line, if no operation overflows. x is a feasible point.
+fn log_along_chain<F: Field>(
+    alloc: Global,
+    form: &Data<F>,
+    c: &[F],
+    weights: &[F],
+    opening: Entry,
+    x: &Items<F>,
+    lines: &[Line<F>],
+    cuts: &[Cut<F>],
+) -> Result<Option<Entries>, NoMemory>
+    ghost task: { Task }
+    requires known { IsKnown F.value F.holds task form.now c.now weights.now }
+    requires opening { IsOpening task opening }
+    requires first { AreFirstCuts F.value task x.now lines.now cuts.now }
+    ensures { IfOk result (λ r. IfSome r (IsEnded task)) }
+{
+    if form.p.len() != 2 {
+        return Ok(None);
+    }
+    if lines.len() != 0 {
+        return Ok(None);
+    }
+    let chain = chain_of(alloc, form, c, weights, &cuts[0])?;
+    chain_log(alloc, form, c, weights, opening, x, lines, cuts, &chain)
+}
+
+/// The log of an image, from its lines and first cuts on: by the search, and where this overflows
+/// along the chain of facets. x is a feasible point.
+fn log_from<F: Field>(
     alloc: Global,
     form: &Data<F>,
     c: &[F],
@@ -75,25 +193,17 @@ fn image_log<F: Field>(
     ensures ok { IfOk result (IsEnded task) }
     ensures left { IfErr result (λ fault. OnLicence fault (Licensed F.holds task.file task.c)) }
 {
-    let mut trail = open_trail(alloc, opening, x, lines, cuts)?;
-    let places = places_of(alloc, form.p.len() as u32, lines)?;
-    match start_outer(alloc, places.as_slice(), &mut trail, cuts) {
-        Err(fault) => Err(fault.with_trail(trail)),
-        Ok(dd) => {
-            let reached = Marks::new(alloc, 0)?;
-            let kept = replace(kept, Kept::new(alloc));
-            search_log(Search {
-                alloc,
-                form,
-                c,
-                weights,
-                places,
-                trail,
-                dd,
-                reached,
-                kept,
-                failed: 0,
-            })
+    let copy = opening.copy(alloc)?;
+    let none = Items::new(alloc);
+    let known = none.as_slice();
+    match image_log(alloc, form, c, weights, copy, x, lines, cuts, known, kept) {
+        Ok(log) => Ok(log),
+        Err(SolveFault::NoMemory) => Err(SolveFault::NoMemory),
+        Err(SolveFault::Left(overflow)) => {
+            match log_along_chain(alloc, form, c, weights, opening, x, lines, cuts)? {
+                Some(log) => Ok(log),
+                None => Err(SolveFault::Left(overflow)),
+            }
         }
     }
 }
@@ -122,7 +232,7 @@ fn primal_with<F: Field>(
         First::Cuts { x, lines, cuts } => {
             let lines = lines.as_slice();
             let cuts = cuts.as_slice();
-            image_log(alloc, form, c, weights, entry, &x, lines, cuts, kept)
+            log_from(alloc, form, c, weights, entry, &x, lines, cuts, kept)
         }
     }
 }
@@ -135,7 +245,8 @@ fn primal_with<F: Field>(
 /// the addition of a cut overflows, those of the other open generators are tried, up to three
 /// failed additions for each row in use. The overflow that is told is that of a cut which a
 /// generator itself violates, or of the program that asks at it; the licence has the entries so far
-/// as its trail.
+/// as its trail. Before it is told of an image of two objectives without a line, a search is tried
+/// that begins at one end of the chain of facets and takes one after the other.
 pub fn primal<F: Field>(
     alloc: Global,
     form: &Data<F>,

@@ -2,6 +2,7 @@
 //! describes it.
 #![tactic(auto)]
 
+mod chain;
 mod engine;
 mod nearby;
 mod search;

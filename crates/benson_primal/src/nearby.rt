@@ -36,7 +36,7 @@ fn is_long<F: Field>(x: F) -> bool {
 }
 
 /// A short number near `x`, if one is found. No clause speaks of how near it is.
-fn round<F: Field>(x: F) -> Option<F> {
+pub(crate) fn round<F: Field>(x: F) -> Option<F> {
     let (num, den) = match x.num().checked_mul(PARTS) {
         Some(scaled) => (scaled, x.den()),
         None => ((x.num() / CUT_OFF).checked_mul(PARTS)?, x.den() / CUT_OFF),

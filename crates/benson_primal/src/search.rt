@@ -1,9 +1,10 @@
 //! The search for cuts: each live generator is asked for a cut that it violates, until all have a
 //! pre-image.
-ghost use Rattle.std.specs.Prelude.{◌≡◌, ◌≢◌, ◌≤◌, ◌||◌, [], ℕ, List, false, IfErr, IfNone, IfOk, IfSome, IsTrue, OnOk, length, map, nat_eq, Contains};
+ghost use Rattle.std.specs.Prelude.{◌≡◌, ◌≢◌, ◌≤◌, ◌||◌, [], ℕ, List, All, false, IfErr, IfNone, IfOk, IfSome, IsTrue, OnOk, length, map, nat_eq, Contains};
 ghost use Rattle.incid_sets.specs.Marks.{has};
 ghost use Rattle.log_rules.specs.Live.{preimages};
 ghost use Rattle.polyhedra.specs.LiveList.{numbers};
+ghost use Rattle.outer_approx.specs.Cuts.{IsCutFor};
 ghost use Rattle.outer_approx.specs.LiveVectors.{IsLiveVector};
 ghost use Rattle.outer_approx.specs.Standing.{IsOpenTrail};
 ghost use Rattle.outer_approx.specs.Task.{Task};
@@ -298,6 +299,78 @@ impl<'a, F: Field> Search<'a, F> {
         }
         self.failed = self.failed.saturating_add(1);
         Ok(false)
+    }
+
+    /// Brings a known cut into use, if its addition does not overflow, and answers whether it did.
+    fn try_known(&mut self, cut: &Cut<F>) -> Result<bool, NoMemory>
+        ghost task: { Task }
+        requires searching { IsSearching F.value F.holds task self.old }
+        requires cut { IsCutFor F.value task cut.now }
+        ensures { OnOk result (IsSearching F.value F.holds task self.new) }
+    {
+        try_take(
+            self.alloc,
+            self.places.as_slice(),
+            &mut self.trail,
+            &mut self.dd,
+            cut,
+        )
+    }
+
+    /// Brings a known cut into use, if its place is not among those `taken` and its addition does
+    /// not overflow, and answers whether it did.
+    fn try_place(&mut self, cut: &Cut<F>, place: usize, taken: &mut Marks) -> Result<bool, NoMemory>
+        ghost task: { Task }
+        requires searching { IsSearching F.value F.holds task self.old }
+        requires cut { IsCutFor F.value task cut.now }
+        ensures { OnOk result (IsSearching F.value F.holds task self.new) }
+    {
+        let Ok(place) = u32::try_from(place) else {
+            return Ok(false);
+        };
+        if taken.has(place) {
+            return Ok(false);
+        }
+        if !self.try_known(cut)? {
+            return Ok(false);
+        }
+        mark(taken, place)?;
+        Ok(true)
+    }
+
+    /// Goes once through known cuts, brings those into use that were not yet and whose addition
+    /// does not overflow, and answers whether there was one. `taken` has the places of those that
+    /// are in use.
+    fn try_each(&mut self, cuts: &[Cut<F>], taken: &mut Marks) -> Result<bool, NoMemory>
+        ghost task: { Task }
+        requires searching { IsSearching F.value F.holds task self.old }
+        requires each { All (IsCutFor F.value task) cuts.now }
+        ensures { OnOk result (IsSearching F.value F.holds task self.new) }
+    {
+        let mut more = false;
+        for i in 0..cuts.len() {
+            if self.try_place(&cuts[i], i, taken)? {
+                more = true;
+            }
+        }
+        Ok(more)
+    }
+
+    /// Brings known cuts into use, in their order. One whose addition overflows waits for the next
+    /// round, as long as a round brings one into use.
+    pub(crate) fn take_known(&mut self, cuts: &[Cut<F>]) -> Result<(), NoMemory>
+        ghost task: { Task }
+        requires searching { IsSearching F.value F.holds task self.old }
+        requires each { All (IsCutFor F.value task) cuts.now }
+        ensures { OnOk result (IsSearching F.value F.holds task self.new) }
+    {
+        let mut taken = Marks::new(self.alloc, 0)?;
+        for _round in 0..cuts.len() {
+            if !self.try_each(cuts, &mut taken)? {
+                return Ok(());
+            }
+        }
+        Ok(())
     }
 
     /// Whether there were too many failed additions for the rows in use. No clause speaks of it.

@@ -20,7 +20,7 @@ use Rattle.benson_primal.proofs.engine.image_log.Goals as goal
 pub start_outer-requires : goal.start_outer-requires
 start_outer-requires g c κs within =
     let value = g.F.Field.value in
-    let first = c.requires.1.1.1 in
+    let first = c.requires.1.1.1.0 in
     let cuts = c.args.cuts.now in
     let ls = c.args.lines.now in
     let told = map (told_by value) ls in
@@ -55,20 +55,23 @@ start_outer-requires g c κs within =
       ),
     )
 
-pub search_log-requires : goal.search_log-requires
-search_log-requires g c κs within =
+pub take_known-requires : goal.take_known-requires
+take_known-requires g c κs within =
     let value = g.F.Field.value in
     let told = map (told_by value) c.args.lines.now in
     let q : c.len.result ≡ g.task.file.objs = c.len.ensures.value ∙ objective_number value g.task.file c.args.form.now c.requires.1.0.stands in
     let here = c.in_ok-places.ensures ∙ ap (λ n. marks n told) q ∙ ap (λ (l : List (List ℚ)). marks g.task.file.objs l) (sym c.in_ok-trail.ensures.begun.lines_are) in (
       search rules,
-      record {
-        known = c.requires.1.0;
-        outer = c.in-Ok.ensures.ok;
-        places_are = here ∙ sym (places_stay g.task c.in_ok-trail.trail c.start_outer.new.trail c.in-Ok.ensures.lines);
-        marks = no_marks c.start_outer.new.trail c.in_ok-reached-in-Ok.reached c.in_ok-reached-in-Ok.ensures
-            (λ i. c.in-Ok.ensures.preimages i ∙ c.in_ok-trail.ensures.unreached i);
-      },
+      (
+        record {
+          known = c.requires.1.0;
+          outer = c.in-Ok.ensures.ok;
+          places_are = here ∙ sym (places_stay g.task c.in_ok-trail.trail c.start_outer.new.trail c.in-Ok.ensures.lines);
+          marks = no_marks c.start_outer.new.trail c.in_ok-reached-in-Ok.reached c.in_ok-reached-in-Ok.ensures
+              (λ i. c.in-Ok.ensures.preimages i ∙ c.in_ok-trail.ensures.unreached i);
+        },
+        c.requires.1.1.1.1,
+      ),
     )
 
 pub returns-in-Err-clause-left : goal.returns-in-Err-clause-left

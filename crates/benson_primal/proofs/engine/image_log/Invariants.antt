@@ -8,3 +8,6 @@ ghost-start_outer g a = g.task
 
 abbrev pub ghost-search_log : goal.ghost-search_log
 ghost-search_log g a = g.task
+
+abbrev pub ghost-take_known : goal.ghost-take_known
+ghost-take_known g a = g.task
