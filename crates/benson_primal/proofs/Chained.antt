@@ -1,10 +1,8 @@
 -- Cuts along a chain as first cuts.
-use Rattle.std.proofs.Common.{◌≡◌, [], List, length, All, subst, sym, arith, map}
+use Rattle.std.proofs.Common.{◌≡◌, [], List, length, All, subst, sym, arith}
 use Rattle.std.proofs.lemmas.List.Elements.{All-nil}
 use Rattle.exact_field.specs.Rational.{ℚ}
-use Rattle.lineality.specs.Without.{marks, open_count, without}
 use Rattle.lin_rows.specs.Complement.{AreComplement}
-use Rattle.polyhedra.specs.Cone.{HasFullRank}
 use Rattle.overflow_rules.specs.Base.{IsSide}
 use Rattle.lp_form.specs.declared.shown.Cut.{Cut}
 use Rattle.outer_approx.specs.Cuts.{IsCutFor}

@@ -1,5 +1,5 @@
 -- The search for the cuts along a chain.
-use Rattle.std.specs.Prelude.{◌≡◌, ℕ, Bool, All}
+use Rattle.std.specs.Prelude.{◌≡◌, Bool, All}
 use Rattle.exact_field.specs.Rational.{ℚ}
 use Rattle.outer_approx.specs.Cuts.{IsCutFor}
 use Rattle.outer_approx.specs.Task.{Task}

@@ -1,5 +1,5 @@
 -- The search for the cuts of an image.
-use Rattle.std.specs.Prelude.{◌≡◌, ◌≢◌, ⊤, ℕ, Bool, List, [], ◌∷◌, ◌++◌, map, length, All, Contains}
+use Rattle.std.specs.Prelude.{◌≡◌, ◌≢◌, ⊤, ℕ, Bool, List, [], ◌∷◌, ◌++◌, length, All, Contains}
 use Rattle.exact_field.specs.Rational.{ℚ, zero_ℚ}
 use Rattle.exact_field.specs.Vector.{entry}
 use Rattle.polyhedra.specs.Exactness.{row_of}

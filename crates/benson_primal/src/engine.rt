@@ -16,7 +16,7 @@ ghost use Rattle.benson_primal.specs.Search.{IsSearching};
 use crate::chain::{are_independent, chain_of};
 use crate::search::{Scope, Search};
 use cone_dual::Duality;
-use deriv_log::{Entries, Entry};
+use deriv_log::{Entries, Entry, Licence};
 use exact_field::Field;
 use incid_sets::Marks;
 use lp_form::{Cut, Data};
@@ -105,6 +105,37 @@ fn image_log<F: Field>(
     }
 }
 
+/// A log, unless an operation overflowed.
+fn unless_left(told: Result<Entries, SolveFault>) -> Result<Option<Entries>, NoMemory>
+    ghost task: { Task }
+    requires { IfOk told (IsEnded task) }
+    ensures { IfOk result (λ r. IfSome r (IsEnded task)) }
+{
+    match told {
+        Ok(log) => Ok(Some(log)),
+        Err(SolveFault::Left(_)) => Ok(None),
+        Err(SolveFault::NoMemory) => Err(NoMemory),
+    }
+}
+
+/// A log that was found in the place of one that stopped at this overflow, if there is one.
+fn log_or<F: Field>(
+    found: Result<Option<Entries>, NoMemory>,
+    overflow: Licence,
+) -> Result<Entries, SolveFault>
+    ghost task: { Task }
+    requires found { IfOk found (λ r. IfSome r (IsEnded task)) }
+    requires left { Licensed F.holds task.file task.c overflow }
+    ensures ok { IfOk result (IsEnded task) }
+    ensures left { IfErr result (λ fault. OnLicence fault (Licensed F.holds task.file task.c)) }
+{
+    match found {
+        Ok(Some(log)) => Ok(log),
+        Ok(None) => Err(SolveFault::Left(overflow)),
+        Err(_) => Err(SolveFault::NoMemory),
+    }
+}
+
 /// The log of an image of two objectives that has no line, by these cuts in their order along its
 /// chain of facets, if no operation overflows. x is a feasible point.
 fn chain_log<F: Field>(
@@ -112,7 +143,7 @@ fn chain_log<F: Field>(
     form: &Data<F>,
     c: &[F],
     weights: &[F],
-    opening: Entry,
+    opening: &Entry,
     x: &Items<F>,
     lines: &[Line<F>],
     cuts: &[Cut<F>],
@@ -120,7 +151,7 @@ fn chain_log<F: Field>(
 ) -> Result<Option<Entries>, NoMemory>
     ghost task: { Task }
     requires known { IsKnown F.value F.holds task form.now c.now weights.now }
-    requires opening { IsOpening task opening }
+    requires opening { IsOpening task opening.now }
     requires first { AreFirstCuts F.value task x.now lines.now cuts.now }
     requires two { task.file.objs ≡ 2 }
     requires none { lines.now ≡ [] }
@@ -135,14 +166,11 @@ fn chain_log<F: Field>(
         return Ok(None);
     }
     let known = &chain[2..];
+    let copy = opening.copy(alloc)?;
     let mut kept = Kept::new(alloc);
-    match image_log(
-        alloc, form, c, weights, opening, x, lines, first, known, &mut kept,
-    ) {
-        Ok(log) => Ok(Some(log)),
-        Err(SolveFault::Left(_)) => Ok(None),
-        Err(SolveFault::NoMemory) => Err(NoMemory),
-    }
+    unless_left(image_log(
+        alloc, form, c, weights, copy, x, lines, first, known, &mut kept,
+    ))
 }
 
 /// The log of an image, from its lines and first cuts on, along the chain of facets: with two
@@ -152,14 +180,14 @@ fn log_along_chain<F: Field>(
     form: &Data<F>,
     c: &[F],
     weights: &[F],
-    opening: Entry,
+    opening: &Entry,
     x: &Items<F>,
     lines: &[Line<F>],
     cuts: &[Cut<F>],
 ) -> Result<Option<Entries>, NoMemory>
     ghost task: { Task }
     requires known { IsKnown F.value F.holds task form.now c.now weights.now }
-    requires opening { IsOpening task opening }
+    requires opening { IsOpening task opening.now }
     requires first { AreFirstCuts F.value task x.now lines.now cuts.now }
     ensures { IfOk result (λ r. IfSome r (IsEnded task)) }
 {
@@ -180,6 +208,36 @@ fn log_from<F: Field>(
     form: &Data<F>,
     c: &[F],
     weights: &[F],
+    opening: &Entry,
+    x: &Items<F>,
+    lines: &[Line<F>],
+    cuts: &[Cut<F>],
+    kept: &mut Kept<F>,
+) -> Result<Entries, SolveFault>
+    ghost task: { Task }
+    requires known { IsKnown F.value F.holds task form.now c.now weights.now }
+    requires opening { IsOpening task opening.now }
+    requires first { AreFirstCuts F.value task x.now lines.now cuts.now }
+    ensures ok { IfOk result (IsEnded task) }
+    ensures left { IfErr result (λ fault. OnLicence fault (Licensed F.holds task.file task.c)) }
+{
+    let copy = opening.copy(alloc)?;
+    let none = &cuts[..0];
+    match image_log(alloc, form, c, weights, copy, x, lines, cuts, none, kept) {
+        Err(SolveFault::Left(overflow)) => {
+            let found = log_along_chain(alloc, form, c, weights, opening, x, lines, cuts);
+            log_or::<F>(found, overflow)
+        }
+        told => told,
+    }
+}
+
+/// The same, with an opening entry that is not needed any more.
+fn log_of_image<F: Field>(
+    alloc: Global,
+    form: &Data<F>,
+    c: &[F],
+    weights: &[F],
     opening: Entry,
     x: &Items<F>,
     lines: &[Line<F>],
@@ -193,19 +251,7 @@ fn log_from<F: Field>(
     ensures ok { IfOk result (IsEnded task) }
     ensures left { IfErr result (λ fault. OnLicence fault (Licensed F.holds task.file task.c)) }
 {
-    let copy = opening.copy(alloc)?;
-    let none = Items::new(alloc);
-    let known = none.as_slice();
-    match image_log(alloc, form, c, weights, copy, x, lines, cuts, known, kept) {
-        Ok(log) => Ok(log),
-        Err(SolveFault::NoMemory) => Err(SolveFault::NoMemory),
-        Err(SolveFault::Left(overflow)) => {
-            match log_along_chain(alloc, form, c, weights, opening, x, lines, cuts)? {
-                Some(log) => Ok(log),
-                None => Err(SolveFault::Left(overflow)),
-            }
-        }
-    }
+    log_from(alloc, form, c, weights, &opening, x, lines, cuts, kept)
 }
 
 /// The log as `primal` says, with what is kept of the last program.
@@ -232,7 +278,7 @@ fn primal_with<F: Field>(
         First::Cuts { x, lines, cuts } => {
             let lines = lines.as_slice();
             let cuts = cuts.as_slice();
-            log_from(alloc, form, c, weights, entry, &x, lines, cuts, kept)
+            log_of_image(alloc, form, c, weights, entry, &x, lines, cuts, kept)
         }
     }
 }

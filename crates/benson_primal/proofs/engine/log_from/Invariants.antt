@@ -5,3 +5,6 @@ ghost-image_log g a = g.task
 
 abbrev pub ghost-log_along_chain : goal.ghost-log_along_chain
 ghost-log_along_chain g a = g.task
+
+abbrev pub ghost-log_or : goal.ghost-log_or
+ghost-log_or g a = g.task

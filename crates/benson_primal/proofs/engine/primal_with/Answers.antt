@@ -35,8 +35,8 @@ returns-in-Whole-clause-ok g c =
     (subst (λ t. IsEnded t log) (task_is value holds g.file d h cs ws c.as_slice-c.ensures.items c.as_slice-weights.ensures.items)
     c.in_ok-everything_log-in-Whole.ensures.ended))
 
-pub log_from-requires : goal.log_from-requires
-log_from-requires g c κs within =
+pub log_of_image-requires : goal.log_of_image-requires
+log_of_image-requires g c κs within =
     let value = g.F.Field.value in
     let holds = g.F.Field.holds in
     let d = c.args.duality in
@@ -75,6 +75,6 @@ returns-clause-ok g c =
     let cs = c.as_slice-c.result.now in
     let ws = c.as_slice-weights.result.now in
     handed value holds g.file d h cs ws c.as_slice-c.ensures.items c.as_slice-weights.ensures.items
-    (λ c' weights'. IfOk c.log_from.result (IsOwnLog holds g.file c' weights'))
+    (λ c' weights'. IfOk c.log_of_image.result (IsOwnLog holds g.file c' weights'))
     (own_ok holds (task value holds g.file d h cs ws c.as_slice-c.ensures.items c.as_slice-weights.ensures.items)
-    (fitting value holds g.file d h cs ws c.as_slice-c.ensures.items c.as_slice-weights.ensures.items) c.log_from.result c.log_from.ensures.ok)
+    (fitting value holds g.file d h cs ws c.as_slice-c.ensures.items c.as_slice-weights.ensures.items) c.log_of_image.result c.log_of_image.ensures.ok)

@@ -11,5 +11,5 @@ ghost-contradiction_log g a = g.file
 abbrev pub ghost-everything_log : goal.ghost-everything_log
 ghost-everything_log g a = task_of g.file a.opening
 
-abbrev pub ghost-log_from : goal.ghost-log_from
-ghost-log_from g a = record { file = g.file; c = map g.F.Field.value a.c.now; weights = map g.F.Field.value a.weights.now }
+abbrev pub ghost-log_of_image : goal.ghost-log_of_image
+ghost-log_of_image g a = record { file = g.file; c = map g.F.Field.value a.c.now; weights = map g.F.Field.value a.weights.now }
