@@ -162,7 +162,7 @@ replied_accepted t solves r v w replies delivers =
     ]
 
 halts_not_done : (v w : World) → HaltsFor problem Done (sources_of v) (sources_of w) → ⊥
-halts_not_done v w (inl none) = omega (arith, ap (λ (s : Status). code_of s) none)
+halts_not_done v w (inl none) = omega (arith, ap (λ (s : Status). code_of s) none.0)
 halts_not_done v w (inr failed) = omega (arith, ap (λ (s : Status). code_of s) failed.failed.status)
 
 pub solve_accepted : (file log : List ℕ) (v w : World) → Outcome (shape solve (logged file log)) Done v w → WritesAccepted check v w

@@ -90,7 +90,7 @@ relog_quiet file bytes r (inr refused) = refused_quiet file bytes r refused
 -- ---- the sample file of a number
 pub sample_answered : (number : ℕ) (r : Reply) → IsSampleHeld number → SampleVerdict number r → r.status ≡ Done
 sample_answered number r held (inl solved) = solved.status
-sample_answered number r held (inr left) = absurd (held left.file left.sample left.overflow.licence left.overflow.licensed)
+sample_answered number r held (inr left) = absurd (held left.file left.sample left.overflow.licence left.overflow.can left.overflow.licensed)
 
 pub sample_never_words : (number : ℕ) (r : Reply) → SampleVerdict number r → Words ≡ r.status → ⊥
 sample_never_words number r (inl solved) same = omega (arith, ap (λ (s : Status). code_of s) (same ∙ solved.status))

@@ -218,7 +218,7 @@ fails representation_and_log t s v w h (inl failed) = not_failed _ _ _ s h.bytes
 fails representation_and_log t s v w h (inr failed) = not_failed _ _ _ s h.log_bytes v.log_in w.log_in h.log_told failed.failed
 
 halts_for_memory : (x : Texts) (t : Task) (s : Status) (v w : World) → HonestTexts x t v w → HaltsFor x s (sources_of v) (sources_of w) → s ≡ NoMemory
-halts_for_memory x t s v w h (inl none) = none
+halts_for_memory x t s v w h (inl none) = none.0
 halts_for_memory x t s v w h (inr failed) = absurd (fails x t s v w h failed)
 
 -- ---- a run

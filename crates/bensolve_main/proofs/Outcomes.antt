@@ -75,7 +75,7 @@ fails_no_words representation_and_log v w (inl fails) = omega (arith, ap (λ (s 
 fails_no_words representation_and_log v w (inr fails) = omega (arith, ap (λ (s : Status). code_of s) fails.failed.status)
 
 halts_no_words : (x : Texts) (v w : Sources) → HaltsFor x Words v w → ⊥
-halts_no_words x v w (inl same) = omega (arith, ap (λ (s : Status). code_of s) same)
+halts_no_words x v w (inl same) = omega (arith, ap (λ (s : Status). code_of s) same.0)
 halts_no_words x v w (inr fails) = fails_no_words x v w fails
 
 -- no command ends as words without a shape do

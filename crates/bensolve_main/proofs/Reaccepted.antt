@@ -143,7 +143,7 @@ replied_accepted t gens turns r v w replies delivers =
     ]
 
 halts_not_done : (v w : World) → HaltsFor representation Done (sources_of v) (sources_of w) → ⊥
-halts_not_done v w (inl none) = omega (arith, ap (λ (s : Status). code_of s) none)
+halts_not_done v w (inl none) = omega (arith, ap (λ (s : Status). code_of s) none.0)
 halts_not_done v w (inr failed) = omega (arith, ap (λ (s : Status). code_of s) failed.failed.status)
 
 pub vertices_accepted : (file log : List ℕ) (v w : World) → Outcome (shape vertices (logged file log)) Done v w → WritesAccepted reconv v w

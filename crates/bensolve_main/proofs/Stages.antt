@@ -1,5 +1,7 @@
 -- From what the steps of a run tell to what its result says.
-use Rattle.std.proofs.Common.{◌≡◌, ℕ, List, Bool, true, false, None, Result, Ok, Err, IfOk, IfErr, subst, sym, refl, inl, inr}
+use Rattle.std.specs.Prelude.{IsErrAnd}
+use Rattle.src_sink.specs.Ends.{TakesCount}
+use Rattle.std.proofs.Common.{◌≡◌, ◌<◌, ℕ, List, Bool, true, false, None, Result, Ok, Err, IfOk, IfErr, subst, sym, refl, inl, inr}
 use Rattle.vlp_problem.specs.declared.problem.Problem.{Problem}
 use Rattle.rep_text.specs.declared.rep.Rep.{Rep}
 use Rattle.cert_check.specs.Streams.{ReadsWhole, StreamEnds, TextAccepts}
@@ -14,9 +16,9 @@ use Rattle.commands.specs.Tasks.Files.{none, one, two, logged}
 use Rattle.commands.specs.Tasks.Task.{check, reconv, relog}
 use Rattle.statuses.specs.declared.reply.Reply.{Reply}
 use Rattle.statuses.specs.declared.status.Status.{Status}
-use Rattle.statuses.specs.declared.status.Status.TheVariants.{Done}
+use Rattle.statuses.specs.declared.status.Status.TheVariants.{Done, NoMemory}
 use Rattle.bensolve_main.specs.Outcome.{HaltsFor, Replies, RepliesTo}
-use Rattle.bensolve_main.specs.Reading.{GoodFile, GoodRep, problem_limit, log_limit}
+use Rattle.bensolve_main.specs.Reading.{GoodFile, GoodRep, TakenInWant, problem_limit, log_limit}
 use Rattle.bensolve_main.specs.Stages.{ConvTold, EndsReading, EndsRep, EndsText, FileTold, HaltsEnd, HaltsReading, LogTold, OneTold, ReadsOne, RefusesLog, RepTold, SecondTold, TellsEnd, TwoHalts, TwoTold, WithConvHalts, WithConvTold, WithLogHalts, WithLogTold}
 use Rattle.bensolve_main.specs.Tasks.{TellsLog, Texts, texts_of}
 use Rattle.bensolve_main.specs.Tasks.Texts.{nothing, problem, problem_and_log, two_problems, representation, representation_and_log}
@@ -94,9 +96,55 @@ pub end_told : (t : Task) (file : Problem) (tells : TellsRefusals t file) (e : S
 end_told t file tells e old new (Ok r) h is = log_ended t file tells e r old new h is
 end_told t file tells e old new (Err s) h is = tt
 
+-- ---- want of memory
+-- a text that was read to its end, within the limit
+pub whole_taken : (limit : ℕ) (bytes : List ℕ) (old new : Channel) → ReadsWhole old.bytes new.bytes limit bytes → TakenInWant limit old new
+whole_taken limit bytes old new read = inl (bytes, read.consumed, read.within)
+
+-- where the task on it, or the line that tells of it, finds no memory
+pub halts_whole : {T : Type 0} (second : Bool) (limit : ℕ) (bytes : List ℕ) (old new : Channel) → ReadsWhole old.bytes new.bytes limit bytes →
+    (x : Result T Status) → IsErrAnd x (λ s. s ≡ NoMemory) → IfErr x (λ s. HaltsReading second limit s old new)
+halts_whole second limit bytes old new read (Ok r) is = tt
+halts_whole second limit bytes old new read (Err s) is = inl (is, whole_taken limit bytes old new read)
+
+pub text_halts : {T : Type 0} (second : Bool) (old new : Channel) (bytes : List ℕ) → ReadsWhole old.bytes new.bytes problem_limit bytes →
+    (x : Result T TextEnd) → IsErrAnd x (λ e. e ≡ Halted NoMemory) → IfErr x (λ e. EndsReading second e old new)
+text_halts second old new bytes read (Ok r) is = tt
+text_halts second old new bytes read (Err e) is =
+    subst (λ (y : TextEnd). EndsReading second y old new) (sym is) (inl (refl, whole_taken problem_limit bytes old new read))
+
+pub rep_halts : {T : Type 0} (old new : Channel) (bytes : List ℕ) → ReadsWhole old.bytes new.bytes problem_limit bytes →
+    (x : Result T TextEnd) → IsErrAnd x (λ e. e ≡ Halted NoMemory) → IfErr x (λ e. EndsRep e old new)
+rep_halts old new bytes read (Ok r) is = tt
+rep_halts old new bytes read (Err e) is =
+    subst (λ (y : TextEnd). EndsRep y old new) (sym is) (inl (refl, whole_taken problem_limit bytes old new read))
+
+-- more was taken than the limit, and the line that tells it finds no memory
+pub past_halts : {T : Type 0} (second : Bool) (limit read : ℕ) (old new : Channel) → limit < read → TakesCount old.bytes new.bytes read →
+    (x : Result T TextEnd) → IsErrAnd x (λ e. e ≡ Halted NoMemory) → IfErr x (λ e. EndsText second limit e old new)
+past_halts second limit read old new above taken (Ok r) is = tt
+past_halts second limit read old new above taken (Err e) is =
+    subst (λ (y : TextEnd). EndsText second limit y old new) (sym is) (inl (refl, inr (read, record { above = above; taken = taken })))
+
+-- a task that reads nothing
+pub alone_halts : {T : Type 0} (t : Task) (v w : Sources) → texts_of t ≡ nothing → Uncalled v.problem w.problem → Uncalled v.log_in w.log_in →
+    (x : Result T Status) → IsErrAnd x (λ s. s ≡ NoMemory) → IfErr x (λ s. HaltsFor (texts_of t) s v w)
+alone_halts t v w reads first second (Ok r) is = tt
+alone_halts t v w reads first second (Err s) is =
+    subst (λ (y : Texts). HaltsFor y s v w) (sym reads) (inl (is, (first, second)))
+
+-- whatever the end of the check of a log, where no memory is left to tell it
+end_taken : (e : StreamEnd) (file : Problem) (old new : Channel) → StreamEnds e file log_limit old.bytes new.bytes old.faults new.faults →
+    TakenInWant log_limit old new
+end_taken end.Fault file old new h = inl h.1
+end_taken (end.TooLong read) file old new h = inr (read, record { above = h.0; taken = h.1 })
+end_taken end.NoMemory file old new h = inl h
+end_taken (end.Text f) file old new h = whole_taken log_limit h.bytes old new h.read
+end_taken (end.Refused r) file old new h = whole_taken log_limit h.bytes old new h.read
+
 end_failed : (e : StreamEnd) (file : Problem) (s : Status) (old new : Channel) → StreamEnds e file log_limit old.bytes new.bytes old.faults new.faults → HaltsEnd e s →
     HaltsReading true log_limit s old new
-end_failed e file s old new h (inl wanting) = inl wanting
+end_failed e file s old new h (inl wanting) = inl (wanting, end_taken e file old new h)
 end_failed e file s old new h (inr (failed, is)) =
     let why = subst (λ (x : StreamEnd). StreamEnds x file log_limit old.bytes new.bytes old.faults new.faults) failed h in
     inr (record { status = is; failed = record { within = why.1; rose = why.0 } })
@@ -138,7 +186,7 @@ pub log_unread : (e : TextEnd) (v w : Sources) (x : Result Reply Status) → End
 log_unread e v w (Ok r) h log_in is = tt
 log_unread e v w (Err s) h log_in is =
     elim (subst (λ (y : TextEnd). EndsReading false y v.problem w.problem) is h) [
-      | inl wanting ↦ inl wanting
+      | inl wanting ↦ inl (wanting.0, inl (record { taken = wanting.1; log_in = log_in }))
       | inr failed ↦ inr (inl (record { failed = failed; log_in = log_in }))
     ]
 
@@ -153,7 +201,8 @@ log_told t file v w (Err s) good told = tt
 pub log_halted : (file : Problem) (v w : Sources) (x : Result Reply Status) → GoodFile file v.problem w.problem →
     IfErr x (λ s. HaltsReading true log_limit s v.log_in w.log_in) → IfErr x (λ s. WithLogHalts s v w)
 log_halted file v w (Ok r) good halts = tt
-log_halted file v w (Err s) good (inl wanting) = inl wanting
+log_halted file v w (Err s) good (inl wanting) =
+    inl (wanting.0, inr (record { file = file; good = good; taken = wanting.1 }))
 log_halted file v w (Err s) good (inr failed) = inr (inr (record { file = file; good = good; failed = failed }))
 
 -- ---- two problems
@@ -167,7 +216,7 @@ pub two_unread : (e : TextEnd) (v w : Sources) (x : Result Reply Status) → End
 two_unread e v w (Ok r) h log_in is = tt
 two_unread e v w (Err s) h log_in is =
     elim (subst (λ (y : TextEnd). EndsReading false y v.problem w.problem) is h) [
-      | inl wanting ↦ inl wanting
+      | inl wanting ↦ inl (wanting.0, inl (record { taken = wanting.1; log_in = log_in }))
       | inr failed ↦ inr (inl (record { failed = failed; log_in = log_in }))
     ]
 
@@ -182,7 +231,8 @@ two_told t first v w (Err s) good told = tt
 pub two_halted : (first : Problem) (v w : Sources) (x : Result Reply Status) → GoodFile first v.problem w.problem →
     IfErr x (λ s. HaltsReading true problem_limit s v.log_in w.log_in) → IfErr x (λ s. TwoHalts s v w)
 two_halted first v w (Ok r) good halts = tt
-two_halted first v w (Err s) good (inl wanting) = inl wanting
+two_halted first v w (Err s) good (inl wanting) =
+    inl (wanting.0, inr (record { file = first; good = good; taken = wanting.1 }))
 two_halted first v w (Err s) good (inr failed) = inr (inr (record { file = first; good = good; failed = failed }))
 
 -- the second problem is refused, or was read
@@ -248,7 +298,7 @@ pub with_rep_unread : (e : TextEnd) (v w : Sources) (x : Result Reply Status) �
 with_rep_unread e v w (Ok r) h log_in is = tt
 with_rep_unread e v w (Err s) h log_in is =
     elim (subst (λ (y : TextEnd). EndsRep y v.problem w.problem) is h) [
-      | inl wanting ↦ inl wanting
+      | inl wanting ↦ inl (wanting.0, inl (record { taken = wanting.1; log_in = log_in }))
       | inr failed ↦ inr (inl (record { failed = failed; log_in = log_in }))
     ]
 
@@ -262,7 +312,8 @@ with_conv_told rep v w (Err s) good told = tt
 pub with_conv_halted : (rep : Rep) (v w : Sources) (x : Result Reply Status) → GoodRep rep v.problem w.problem →
     IfErr x (λ s. HaltsReading true log_limit s v.log_in w.log_in) → IfErr x (λ s. WithConvHalts s v w)
 with_conv_halted rep v w (Ok r) good halts = tt
-with_conv_halted rep v w (Err s) good (inl wanting) = inl wanting
+with_conv_halted rep v w (Err s) good (inl wanting) =
+    inl (wanting.0, inr (record { rep = rep; good = good; taken = wanting.1 }))
 with_conv_halted rep v w (Err s) good (inr failed) = inr (inr (record { rep = rep; good = good; failed = failed }))
 
 -- ---- what is told of all texts
@@ -287,7 +338,10 @@ one_replies t logs made v w (Err s) is log_in told = tt
 
 one_failed : (t : Task) (s : Status) (v w : Sources) → ReadsOne t → Uncalled v.log_in w.log_in →
     HaltsReading false problem_limit s v.problem w.problem → HaltsFor (texts_of t) s v w
-one_failed t s v w reads log_in (inl wanting) = inl wanting
+one_failed t s v w (inl is) log_in (inl wanting) =
+    subst (λ (y : Texts). HaltsFor y s v w) (sym is) (inl (wanting.0, record { taken = wanting.1; log_in = log_in }))
+one_failed t s v w (inr is) log_in (inl wanting) =
+    subst (λ (y : Texts). HaltsFor y s v w) (sym is) (inl (wanting.0, record { taken = wanting.1; log_in = log_in }))
 one_failed t s v w (inl is) log_in (inr failed) =
     subst (λ (y : Texts). HaltsFor y s v w) (sym is) (inr (record { failed = failed; log_in = log_in }))
 one_failed t s v w (inr is) log_in (inr failed) =

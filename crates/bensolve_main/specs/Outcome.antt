@@ -10,7 +10,7 @@ use Rattle.statuses.specs.declared.reply.Reply.{Reply}
 use Rattle.statuses.specs.declared.status.Status.{Status}
 use Rattle.statuses.specs.declared.status.Status.TheVariants.{NoMemory, SecondFile}
 use Rattle.bensolve_main.specs.Deliver.{Delivers}
-use Rattle.bensolve_main.specs.Reading.{problem_limit, log_limit, GoodFile, TooMuch, NoFile, FileRefused, GoodRep, RepRefused, SourceFailed}
+use Rattle.bensolve_main.specs.Reading.{problem_limit, log_limit, GoodFile, TooMuch, NoFile, FileRefused, GoodRep, RepRefused, SourceFailed, TakenInWant}
 use Rattle.bensolve_main.specs.Tasks.{Texts, texts_of, TellsAlone, TellsFile, TellsLog, TellsTwo, TellsRep, TellsConv}
 use Rattle.bensolve_main.specs.Tasks.Texts.{nothing, problem, problem_and_log, two_problems, representation, representation_and_log}
 use Rattle.bensolve_main.specs.World.{Sources, World, Uncalled, sources_of}
@@ -130,9 +130,35 @@ Fails two_problems s old new = FirstFailed s old new ⊎ SecondFailed problem_li
 Fails representation s old new = FirstFailed s old new
 Fails representation_and_log s old new = FirstFailed s old new ⊎ ConvFailed s old new
 
+-- memory was wanting, and no source but the first was called
+pub record FirstWanting (old new : Sources) : Type 0 where
+  pub taken : TakenInWant problem_limit old.problem new.problem
+  pub log_in : Uncalled old.log_in new.log_in
+
+-- after a problem, memory was wanting at the text after it
+pub record SecondWanting (limit : ℕ) (old new : Sources) : Type 0 where
+  pub file : Problem
+  pub good : GoodFile file old.problem new.problem
+  pub taken : TakenInWant limit old.log_in new.log_in
+
+-- after a representation, memory was wanting at the log
+pub record ConvWanting (old new : Sources) : Type 0 where
+  pub rep : Rep
+  pub good : GoodRep rep old.problem new.problem
+  pub taken : TakenInWant log_limit old.log_in new.log_in
+
+-- by what is read, where memory was wanting
+abbrev pub Wants : Texts → Sources → Sources → Type 0
+Wants nothing old new = Uncalled old.problem new.problem × Uncalled old.log_in new.log_in
+Wants problem old new = FirstWanting old new
+Wants problem_and_log old new = FirstWanting old new ⊎ SecondWanting log_limit old new
+Wants two_problems old new = FirstWanting old new ⊎ SecondWanting problem_limit old new
+Wants representation old new = FirstWanting old new
+Wants representation_and_log old new = FirstWanting old new ⊎ ConvWanting old new
+
 -- memory was wanting, or a source failed
 abbrev pub HaltsFor : Texts → Status → Sources → Sources → Type 0
-HaltsFor texts s old new = (s ≡ NoMemory) ⊎ Fails texts s old new
+HaltsFor texts s old new = ((s ≡ NoMemory) × Wants texts old new) ⊎ Fails texts s old new
 
 -- a command halted without a reply, and no output was called
 pub record Halts (shape : Shape) (result : Status) (old new : World) : Type 0 where

@@ -12,6 +12,7 @@ use Rattle.statuses.specs.Replies.{TellsFault}
 use Rattle.statuses.specs.declared.reply.Reply.{Reply}
 use Rattle.statuses.specs.declared.status.Status.{Status}
 use Rattle.statuses.specs.declared.status.Status.TheVariants.{FileFault, ReadFault, RepFault, TooLong}
+use Rattle.src_sink.specs.Ends.{TakesAtMost}
 use Rattle.bensolve_main.specs.World.{Channel, ReadPast, ReadFailed}
 
 -- the most bytes that are read of a problem or representation, and of a log: 16 MiB and 384 MiB
@@ -65,6 +66,12 @@ pub record NoRep (r : Reply) (old new : Channel) : Type 0 where
 -- what is told of a text that is no representation's, or too long
 abbrev pub RepRefused : Reply → Channel → Channel → Type 0
 RepRefused r old new = TooMuch false problem_limit r old new ⊎ NoRep r old new
+
+-- what was taken of a source where memory is wanting: at most its limit; or more, and no memory was
+-- left to tell it
+abbrev pub TakenInWant : ℕ → Channel → Channel → Type 0
+TakenInWant limit old new =
+    TakesAtMost old.bytes new.bytes limit ⊎ ((read : ℕ) × ReadPast old new limit read)
 
 -- a source failed before the limit was passed
 pub record SourceFailed (second : Bool) (limit : ℕ) (s : Status) (old new : Channel) : Type 0 where

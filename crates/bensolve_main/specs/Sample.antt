@@ -5,12 +5,12 @@ use Rattle.vlp_reader.specs.FirstFault.{Reads}
 use Rattle.vlp_problem.specs.declared.problem.Problem.{Problem}
 use Rattle.vlp_printer.specs.Printing.{problem_text}
 use Rattle.deriv_log.specs.declared.licence.Licence.{Licence}
-use Rattle.overflow_rules.specs.Licence.{LicensedAnyhow}
 use Rattle.sample_file.specs.Sample.{IsSample}
 use Rattle.sample_file.specs.Summary.{Sums}
 use Rattle.solver.specs.Replies.{Overflowed}
-use Rattle.solver.specs.Solving.{IsSolutionOf}
+use Rattle.solver.specs.Solving.{IsSolutionOf, LicensedInOrder}
 use Rattle.solver.specs.declared.end.Solution.{Solution}
+use Rattle.statuses.specs.Told.{CanBeTold}
 use Rattle.statuses.specs.declared.reply.Reply.{Reply}
 use Rattle.statuses.specs.declared.status.Status.TheVariants.{Done}
 
@@ -36,7 +36,7 @@ pub record SampleOverflowed (number : ℕ) (r : Reply) : Type 0 where
 abbrev pub SampleVerdict : ℕ → Reply → Type 0
 SampleVerdict number r = SampleSolved number r ⊎ SampleOverflowed number r
 
--- no overflow is licensed for the sample file
+-- no overflow that can be told is licensed for the sample file
 abbrev pub IsSampleHeld : ℕ → Type 0
 IsSampleHeld number = (file : Problem) → IsSample number file →
-    (l : Licence) → LicensedAnyhow is_held file l → ⊥
+    (l : Licence) → CanBeTold l → LicensedInOrder is_held file l → ⊥

@@ -18,7 +18,7 @@ use Rattle.statuses.specs.declared.status.Status.{Status}
 use Rattle.statuses.specs.declared.status.Status.TheVariants.{FileFault, SecondFile, Left, NoMemory, ReadFault, Refused, TooLong}
 use Rattle.bensolve_main.specs.Check.{NoLog, FailsAt, StopsAt}
 use Rattle.bensolve_main.specs.Outcome.{RepliesTo, HaltsFor}
-use Rattle.bensolve_main.specs.Reading.{problem_limit, log_limit, GoodFile, TooMuch, NoFile, FileRefused, GoodRep, RepRefused, SourceFailed}
+use Rattle.bensolve_main.specs.Reading.{problem_limit, log_limit, GoodFile, TooMuch, NoFile, FileRefused, GoodRep, RepRefused, SourceFailed, TakenInWant}
 use Rattle.bensolve_main.specs.Tasks.{Texts, texts_of, TellsFile, TellsLog, TellsTwo, TellsRep, TellsConv}
 use Rattle.bensolve_main.specs.Tasks.Texts.{nothing, problem, problem_and_log, two_problems, representation, representation_and_log}
 use Rattle.bensolve_main.specs.World.{Channel, Sources}
@@ -78,7 +78,8 @@ file_status true = SecondFile
 
 -- memory was wanting, or the source failed
 abbrev pub HaltsReading : Bool → ℕ → Status → Channel → Channel → Type 0
-HaltsReading second limit s old new = (s ≡ NoMemory) ⊎ SourceFailed second limit s old new
+HaltsReading second limit s old new =
+    ((s ≡ NoMemory) × TakenInWant limit old new) ⊎ SourceFailed second limit s old new
 
 -- why the bytes of a text, the first or the second, were not read
 abbrev pub EndsText : Bool → ℕ → TextEnd → Channel → Channel → Type 0

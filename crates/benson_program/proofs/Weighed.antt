@@ -18,7 +18,8 @@ use Rattle.overflow_rules.specs.Licence.{IsOverflow}
 use Rattle.overflow_rules.specs.Products.{AreBensonMultipliers, IsListStep, IsShareStep}
 use Rattle.overflow_rules.specs.Settings.{Setting}
 use Rattle.overflow_rules.specs.Steps.{IsNotHeld, in_numbers, operation}
-use Rattle.overflows.specs.Faults.{IsEliminationLeft, IsLeftAt, Overflows}
+use Rattle.overflows.specs.Faults.{IsEliminationLeft, IsLeftAt, Overflows, placed}
+use Rattle.overflows.proofs.Placed.{placed_none}
 use Rattle.overflows.specs.declared.fault.SolveFault.{SolveFault}
 use Rattle.overflows.specs.declared.fault.SolveFault.TheVariants.{Left, NoMemory}
 use Rattle.benson_program.proofs.Counted.{magnitude_below}
@@ -68,20 +69,21 @@ module _ {F : Type 0} (value : F → ℚ) (holds : ℚ → Bool) (s : Setting) (
         record { defined = λ e. cc; not_held = h.1.3 },
   )
 
-  licensed : (rows : List (List ℚ)) (basis : List ℕ) (row col step : ℕ) (left : Operation F) (trail : List Entry) (result : SolveFault) → trail ≡ [] → row ≡ 0 →
+  licensed : (rows : List (List ℚ)) (basis : List ℕ) (row col step : ℕ) (left : Operation F) (trail : List Entry) (result : SolveFault) → trail ≡ [] → rows ≡ [] → basis ≡ [] → row ≡ 0 →
       IsShareStep s col step (in_numbers value left) → IsNotHeld holds (in_numbers value left) → IsLeftAt (Elim rows basis row col step) (in_numbers value left) trail result →
       Overflows holds s [] result
-  licensed rows basis row col step left trail (Left licence) none first is unheld told =
+  licensed rows basis row col step left trail (Left licence) none no_rows no_basis first is unheld told =
       subst (λ (l : Licence). (l.trail ≡ []) × IsOverflow holds s l.place l.left) (sym told)
-      (none, record { not_held = unheld; operands = inr (first, IsListStep.share is) })
-  licensed rows basis row col step left trail NoMemory none first is unheld told = tt
+      (none, record { not_held = unheld; operands = inr (first, no_basis, IsListStep.share no_rows is) })
+  licensed rows basis row col step left trail NoMemory none no_rows no_basis first is unheld told = tt
 
 pub weighed_left : {F : Type 0} (value : F → ℚ) (holds : ℚ → Bool) (s : Setting) (y share weights : List ℚ) (factor : ℚ) (fault : RowFault F) (result : SolveFault)
-    (rows : List (List ℚ)) (trail : List Entry) → trail ≡ [] → AreBensonMultipliers s y → share ≡ share_of s.file s.file.cone y → weights ≡ s.weights →
+    (rows : List (List ℚ)) (trail : List Entry) → trail ≡ [] → rows ≡ [] → AreBensonMultipliers s y → share ≡ share_of s.file s.file.cone y → weights ≡ s.weights →
     value_of y <ℚ zero_ℚ → factor ≡ neg_ℚ (value_of y) → length share ≡ length weights → IsEliminationLeft value rows trail fault result →
     IsCombineFault value holds share factor weights fault → Overflows holds s [] result
-weighed_left value holds s y share weights factor (Stuck basis row col step left) result rows trail none read share_is weights_are low factor_is long told h =
+weighed_left value holds s y share weights factor (Stuck basis row col step left) result rows trail none no_rows read share_is weights_are low factor_is long told h =
     let found = share_step value holds s y share weights factor read share_is weights_are low factor_is long col step left h.2 h.3 h.4 in
-    licensed value holds s y share weights factor read share_is weights_are low factor_is long rows basis row col step left trail result none h.1 found.0 found.1 told
-weighed_left value holds s y share weights factor Want result rows trail none read share_is weights_are low factor_is long told h =
+    licensed value holds s y share weights factor read share_is weights_are low factor_is long rows (placed (length rows) row basis) row col step left trail result none no_rows
+    (placed_none (length rows) row basis h.1 ∙ h.0) h.1 found.0 found.1 told
+weighed_left value holds s y share weights factor Want result rows trail none no_rows read share_is weights_are low factor_is long told h =
     subst (λ (r : SolveFault). Overflows holds s [] r) (sym told) tt

@@ -43,6 +43,7 @@ fn share<F: Field>(alloc: Global, form: &Data<F>, dual: &[F]) -> Result<Items<F>
 }
 
 /// A share, with the weights that combine the generators to the duality vector times the magnitude
+/// of `last`, which is negative.
 fn add_weights<F: Field>(
     alloc: Global,
     share: &[F],

@@ -3,7 +3,7 @@ use Rattle.std.proofs.Common.{◌≡◌, sym, subst, Bool, Result, Ok, Err}
 use Rattle.std.specs.Prelude.{IsErrAnd, IfErr}
 use Rattle.exact_field.specs.Rational.{ℚ}
 use Rattle.vlp_problem.specs.declared.problem.Problem.{Problem}
-use Rattle.overflow_rules.specs.Licence.{LicensedWithout}
+use Rattle.overflow_rules.specs.Licence.{LicensedByCone}
 use Rattle.overflows.specs.Faults.{OnLicence}
 use Rattle.overflows.specs.declared.fault.SolveFault.{SolveFault}
 use Rattle.overflows.specs.declared.fault.SolveFault.TheVariants as fault
@@ -11,11 +11,11 @@ use Rattle.cone_dual.specs.Ends.{IsEnd, IsSameEnd}
 use Rattle.cone_dual.specs.declared.duality.ConeEnd.{ConeEnd}
 
 module _ (holds : ℚ → Bool) (file : Problem) where
-  same_end : (f : SolveFault) (e : ConeEnd) → IsSameEnd f e → OnLicence f (LicensedWithout holds file) → IsEnd holds file e
+  same_end : (f : SolveFault) (e : ConeEnd) → IsSameEnd f e → OnLicence f (LicensedByCone holds file) → IsEnd holds file e
   same_end (fault.Left licence) e is h = subst (λ (x : ConeEnd). IsEnd holds file x) (sym is) h
   same_end fault.NoMemory e is h = subst (λ (x : ConeEnd). IsEnd holds file x) (sym is) tt
 
-  pub licensed_end : {T : Type 0} (r : Result T ConeEnd) (f : SolveFault) → IsErrAnd r (λ e. IsSameEnd f e) → OnLicence f (LicensedWithout holds file) →
+  pub licensed_end : {T : Type 0} (r : Result T ConeEnd) (f : SolveFault) → IsErrAnd r (λ e. IsSameEnd f e) → OnLicence f (LicensedByCone holds file) →
       IfErr r (IsEnd holds file)
   licensed_end (Ok x) f h k = tt
   licensed_end (Err e) f h k = same_end f e h k

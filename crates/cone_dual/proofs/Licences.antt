@@ -1,12 +1,16 @@
 -- Licences before a duality vector is known, from what eliminations, starts and additions tell.
-use Rattle.std.proofs.Common.{◌≡◌, ℕ, List, [], ◌∷◌, ◌++◌, Bool, refl, sym, ◌∙◌, subst, None, inl, inr}
+use Rattle.std.proofs.Common.{◌≡◌, ℕ, ◌+◌, List, [], ◌∷◌, ◌++◌, Bool, IsTrue, refl, sym, ◌∙◌, subst, None, inl, inr}
 use Rattle.std.specs.Prelude.{Contains}
 use Rattle.std.specs.Prelude.{All}
 use Rattle.std.proofs.lemmas.List.Elements.{All-contains_itself, All-weaker, Contains-append_cases, Contains-append_left, Contains-append_right}
-use Rattle.exact_field.specs.Rational.{ℚ}
+use Rattle.exact_field.specs.Field.{IsLeftOf, exact}
+use Rattle.exact_field.specs.Rational.{ℚ, zero_ℚ}
+use Rattle.exact_field.specs.declared.op.Left.{Left as Operation}
+use Rattle.exact_field.specs.declared.op.Op.{Op}
 use Rattle.polyhedra.specs.LiveList.{LiveList}
 use Rattle.polyhedra.proofs.Lists.{Contains-cases, Contains-here, Contains-nil}
 use Rattle.polyhedra.proofs.Members.{Contains-filter_source, all_of_members, member_of}
+use Rattle.tableaux.specs.Table.{Table, beside_unit}
 use Rattle.lin_rows.specs.Eliminate.{IsElimFault}
 use Rattle.lin_rows.specs.declared.fault.RowFault.{RowFault}
 use Rattle.lin_rows.specs.declared.fault.RowFault.TheVariants as elimination
@@ -23,16 +27,18 @@ use Rattle.deriv_log.specs.declared.licence.Licence.{Licence}
 use Rattle.deriv_log.specs.declared.licence.Place.{Place}
 use Rattle.deriv_log.specs.declared.licence.Place.TheVariants.{Elim, Pair}
 use Rattle.lp_form.specs.Programs.{nonzero_vectors}
-use Rattle.overflow_rules.specs.Dictionaries.{AreElimRows, IsElimTable}
+use Rattle.overflow_rules.specs.Dictionaries.{AreStartRows}
 use Rattle.overflow_rules.specs.Generators.{IsMadeOver, IsAddition}
 use Rattle.overflow_rules.specs.Licence.{LicensedWithout}
 use Rattle.overflow_rules.specs.Settings.{Setting}
+use Rattle.overflow_rules.specs.Steps.{IsNotHeld, in_numbers}
+use Rattle.overflow_rules.proofs.Given.{not_held, same_exact, step_not_held, still}
 use Rattle.overflows.specs.Faults.{IsEliminationLeft, OnLicence, Overflows}
 use Rattle.overflows.specs.declared.fault.SolveFault.{SolveFault}
 use Rattle.overflows.specs.declared.fault.SolveFault.TheVariants.{Left as Stuck, NoMemory}
 use Rattle.overflows.proofs.Starts.{AlwaysOverflows}
 use Rattle.overflows.specs.Told.{IsAdditionLeft, IsStartLeft}
-use Rattle.cone_dual.specs.Generators.{AreConeRows, IsOver, MayDescribe}
+use Rattle.cone_dual.specs.Generators.{AreConeRows, IsAlone, IsOver, MayDescribe}
 
 -- some of such rows are such rows
 pub cone_rows-front : (file : Problem) (n : ℕ) (rows more : List (List ℚ)) → AreConeRows file n (rows ++ more) → AreConeRows file n rows
@@ -51,9 +57,9 @@ abbrev pub setting : Problem → Setting
 setting file = record { file = file; c = None; weights = []; trail = [] }
 
 -- such rows may be eliminated, and added
-pub elim_rows : (file : Problem) (n : ℕ) (rows : List (List ℚ)) → AreConeRows file n rows → AreElimRows (setting file) rows n
-elim_rows file n rows c = subst (λ (m : ℕ). AreElimRows (setting file) rows m) c.width
-    (AreElimRows.of_cone (All-weaker (Contains (nonzero_vectors file.cone)) (Contains (cone_vectors file.cone))
+pub elim_rows : (file : Problem) (n : ℕ) (rows : List (List ℚ)) → AreConeRows file n rows → AreStartRows (setting file) rows n
+elim_rows file n rows c = subst (λ (m : ℕ). AreStartRows (setting file) rows m) c.width
+    (AreStartRows.of_cone (All-weaker (Contains (nonzero_vectors file.cone)) (Contains (cone_vectors file.cone))
     (λ r k. (Contains-filter_source _ (cone_vectors file.cone) r k).0) rows c.listed))
 
 pub cone_addition : (file : Problem) (n : ℕ) (before : List (List ℚ)) (last : List ℚ) (list : LiveList) → AreConeRows file n (before ++ last ∷ []) →
@@ -113,6 +119,45 @@ addition_over value holds family blocks before last (description.Left first seco
 addition_over value holds family blocks before last (description.Elim fault) told s h = absurd s
 addition_over value holds family blocks before last description.NoMemory told s h =
     subst (λ (f : SolveFault). OnLicence f (λ licence. IsOver family (before ++ last ∷ []) licence.place)) (sym h) tt
+
+-- ---- operations
+-- what is told of an elimination, of a start and of an addition is not held
+module _ {F : Type 0} (value : F → ℚ) (holds : ℚ → Bool) (zero : IsTrue (holds zero_ℚ)) where
+  operation_not_held : (o : Op) (a b : ℚ) (left : Operation F) → IsLeftOf value holds o a b left → IsNotHeld holds (in_numbers value left)
+  operation_not_held o a b left h =
+      not_held holds (in_numbers value left) zero
+      (still holds (exact left.op (value left.a) (value left.b)) (exact o a b) (same_exact left.op o (value left.a) a (value left.b) b h.0 h.1 h.2) h.3)
+
+  none_alone : (told : SolveFault) → told ≡ NoMemory → OnLicence told (IsAlone holds)
+  none_alone told h = subst (λ (f : SolveFault). OnLicence f (IsAlone holds)) (sym h) tt
+
+  pub elimination_alone : (rows : List (List ℚ)) (trail : List Entry) (columns : ℕ) (t : Table) (fault : RowFault F) (told : SolveFault) → trail ≡ [] →
+      IsElimFault value holds columns t fault → IsEliminationLeft value rows trail fault told → OnLicence told (IsAlone holds)
+  elimination_alone rows trail columns t (elimination.Left basis row col step left) (Stuck licence) none (d, is, h, row_low, row_high, col_low, col_high) told =
+      subst (IsAlone holds) (sym told)
+      (record { trail = none; not_held = not_held holds (in_numbers value left) zero (step_not_held holds columns d row col step (in_numbers value left) h) })
+  elimination_alone rows trail columns t (elimination.Left basis row col step left) NoMemory none h told = tt
+  elimination_alone rows trail columns t elimination.NoMemory told none h is = none_alone told is
+
+  pub start_alone : (n : ℕ) (rows : List (List ℚ)) (fault : DdFault F) (told : SolveFault) →
+      IsStartFault value holds n rows fault → IsStartLeft value rows fault told → OnLicence told (IsAlone holds)
+  start_alone n rows (description.Elim (elimination.Left basis row col step left)) told (inl h) is =
+      elimination_alone rows [] (n + n) (beside_unit rows) (elimination.Left basis row col step left) told refl h is
+  start_alone n rows (description.Elim (elimination.Left basis row col step left)) (Stuck licence) (inr h) is =
+      subst (IsAlone holds) (sym is) (record { trail = refl; not_held = operation_not_held _ _ _ left h.3.left_is })
+  start_alone n rows (description.Elim (elimination.Left basis row col step left)) NoMemory (inr h) is = tt
+  start_alone n rows (description.Elim elimination.NoMemory) told h is = absurd h
+  start_alone n rows (description.Left first second step left) told h is = absurd h
+  start_alone n rows description.NoMemory told h is = none_alone told is
+
+  pub addition_alone : (family : Family) (blocks : List Block) (before : List (List ℚ)) (last : List ℚ) (fault : DdFault F) (told : SolveFault) →
+      IsAddFault value holds blocks fault → IsAdditionLeft value family before last fault told → OnLicence told (IsAlone holds)
+  addition_alone family blocks before last (description.Left first second step left) (Stuck licence) h is =
+      let at = h.here.2 in
+      subst (IsAlone holds) (sym is) (record { trail = refl; not_held = operation_not_held at.step.op at.step.a at.step.b left at.left_is })
+  addition_alone family blocks before last (description.Left first second step left) NoMemory h is = tt
+  addition_alone family blocks before last (description.Elim fault) told h is = absurd h
+  addition_alone family blocks before last description.NoMemory told h is = none_alone told is
 
 -- a place over some rows is one over more
 over_more : (family : Family) (some all : List (List ℚ)) → All (Contains all) some → (p : Place) → IsOver family some p → IsOver family all p

@@ -13,17 +13,17 @@ use Rattle.lp_form.specs.declared.data.ConeOf.{ConeOf}
 use Rattle.lp_form.specs.declared.data.Data.{Data}
 use Rattle.lp_form.specs.Data.{IsDataOf, cone_of, duality_of}
 use Rattle.lp_form.proofs.Figures.{objective_number}
-use Rattle.overflow_rules.specs.Licence.{LicensedWithout}
+use Rattle.overflow_rules.specs.Licence.{cone_alone, LicensedByCone}
 use Rattle.overflow_rules.specs.Settings.{Setting}
 use Rattle.overflows.specs.Faults.{OnLicence, Overflows}
 use Rattle.overflows.specs.declared.fault.SolveFault.{SolveFault}
 use Rattle.overflows.specs.declared.fault.SolveFault.TheVariants.{Left, NoMemory}
 
--- the setting before a duality vector is known
+-- the setting of the cone alone, before a duality vector is known
 abbrev pub before : Problem → Setting
-before file = record { file = file; c = None; weights = []; trail = [] }
+before file = record { file = cone_alone file; c = None; weights = []; trail = [] }
 
-pub without : (holds : ℚ → Bool) (file : Problem) (fault : SolveFault) → Overflows holds (before file) [] fault → OnLicence fault (LicensedWithout holds file)
+pub without : (holds : ℚ → Bool) (file : Problem) (fault : SolveFault) → Overflows holds (before file) [] fault → OnLicence fault (LicensedByCone holds file)
 without holds file (Left licence) h = record { trail = h.0; overflow = h.1 }
 without holds file NoMemory h = tt
 

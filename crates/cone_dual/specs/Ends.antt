@@ -2,7 +2,7 @@
 use Rattle.std.specs.Prelude.{◌≡◌, Bool}
 use Rattle.exact_field.specs.Rational.{ℚ}
 use Rattle.vlp_problem.specs.declared.problem.Problem.{Problem}
-use Rattle.overflow_rules.specs.Licence.{LicensedWithout}
+use Rattle.overflow_rules.specs.Licence.{LicensedByCone}
 use Rattle.overflows.specs.declared.fault.SolveFault.{SolveFault}
 use Rattle.overflows.specs.declared.fault.SolveFault.TheVariants as fault
 use Rattle.cone_rules.specs.Faults.{HasFault}
@@ -14,9 +14,9 @@ abbrev pub IsSameEnd : SolveFault → ConeEnd → Type 0
 IsSameEnd (fault.Left licence) end = end ≡ Left licence
 IsSameEnd fault.NoMemory end = end ≡ NoMemory
 
--- the file has the fault; or the overflow is licensed without a duality vector; nothing of want of
+-- the file has the fault; or the overflow is licensed by the cone and f alone; nothing of want of
 -- memory
 abbrev pub IsEnd : (ℚ → Bool) → Problem → ConeEnd → Type 0
 IsEnd holds file (Fault fault) = HasFault file fault
-IsEnd holds file (Left licence) = LicensedWithout holds file licence
+IsEnd holds file (Left licence) = LicensedByCone holds file licence
 IsEnd holds file NoMemory = Unit {0}

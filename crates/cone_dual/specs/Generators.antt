@@ -1,6 +1,6 @@
 -- The double description of some rows; the generators of their cone, as a list, and the order of
 -- their making; rows of a file's ordering cone.
-use Rattle.std.specs.Prelude.{ℕ, List, ◌++◌, ◌≡◌, ◌↔◌, map, length, filter, All, AllPairs, Contains, not}
+use Rattle.std.specs.Prelude.{ℕ, Bool, List, [], ◌++◌, ◌≡◌, ◌↔◌, map, length, filter, All, AllPairs, Contains, not}
 use Rattle.std.specs.List.{range_with_len}
 use Rattle.exact_field.specs.Rational.{ℚ}
 use Rattle.polyhedra.specs.LiveList.{LiveList, vectors}
@@ -8,14 +8,16 @@ use Rattle.tableaux.specs.Table.{Table, row_of}
 use Rattle.tableaux.specs.Elimination.{AreIndependent}
 use Rattle.vlp_problem.specs.declared.problem.Problem.{Problem}
 use Rattle.deriv_log.specs.declared.licence.Family.{Family}
+use Rattle.deriv_log.specs.declared.licence.Licence.{Licence}
 use Rattle.deriv_log.specs.declared.licence.Place.{Place}
 use Rattle.deriv_log.specs.declared.licence.Place.TheVariants.{Elim, Pair}
 use Rattle.lp_form.specs.Programs.{nonzero_vectors}
 use Rattle.log_rules.specs.Live.{contains}
 use Rattle.overflow_rules.specs.Base.{IsGeneratorOf}
-use Rattle.overflow_rules.specs.Dictionaries.{AreElimRows}
+use Rattle.overflow_rules.specs.Dictionaries.{AreStartRows}
 use Rattle.overflow_rules.specs.Generators.{IsAddition, IsMadeOver}
 use Rattle.overflow_rules.specs.Settings.{Setting}
+use Rattle.overflow_rules.specs.Steps.{IsNotHeld}
 use Rattle.double_descr.specs.State.{State}
 
 -- the list has exactly the generators of the cone where all rows are at least 0, each once
@@ -52,7 +54,7 @@ pub record IsDescriptionOf (n : ℕ) (rows : List (List ℚ)) (dd : State) : Typ
 -- some of these rows may be eliminated, and each of them added after any of them as one of the
 -- family
 pub record MayDescribe (s : Setting) (family : Family) (n : ℕ) (rows : List (List ℚ)) : Type 0 where
-  pub eliminated : (some : List (List ℚ)) → All (Contains rows) some → AreElimRows s some n
+  pub eliminated : (some : List (List ℚ)) → All (Contains rows) some → AreStartRows s some n
   pub added : (before : List (List ℚ)) (last : List ℚ) (list : LiveList) → All (Contains rows) before →
       Contains rows last → IsMadeOver n before list → IsAddition s before last list family
 
@@ -62,6 +64,11 @@ abbrev pub IsOver : Family → List (List ℚ) → Place → Type 0
 IsOver family all (Elim rows basis row col step) = All (Contains all) rows
 IsOver family all (Pair given rows first second step) = (given ≡ family) × All (Contains all) rows
 IsOver family all _ = ⊥
+
+-- there are no entries before the operation, and its exact result is not held
+pub record IsAlone (holds : ℚ → Bool) (licence : Licence) : Type 0 where
+  pub trail : licence.trail ≡ []
+  pub not_held : IsNotHeld holds licence.left
 
 -- the rows are vectors of the file's ordering cone that are not 0, and have as many entries as
 -- there are objectives

@@ -1,7 +1,7 @@
 //! What is asked of linear programs and eliminations over an ordering cone.
 ghost use Rattle.std.specs.Prelude.{◌≡◌, map, length, IfOk, IfErr};
 ghost use Rattle.exact_simplex.specs.Ends.{IsCertified, IsReadOff};
-ghost use Rattle.overflow_rules.specs.Licence.{LicensedWithout};
+ghost use Rattle.overflow_rules.specs.Licence.{LicensedByCone};
 ghost use Rattle.lin_rows.specs.Answers.{IsIndep};
 ghost use Rattle.lin_rows.specs.Read.{numbers};
 ghost use Rattle.lp_form.specs.Building.{joined};
@@ -28,7 +28,7 @@ pub fn pointed_end<F: Field>(alloc: Global, form: &Data<F>) -> Result<LpEnd<F>, 
     ensures certified { IfOk result
         (IsCertified F.value (pointed_system (length form.now.p) (cone_of F.value form.now.cone))) }
     ensures left { (file : File) → IsDataOf F.value file form.now
-        → IfErr result (λ fault. OnLicence fault (LicensedWithout F.holds file)) }
+        → IfErr result (λ fault. OnLicence fault (LicensedByCone F.holds file)) }
 {
     let system = pointed_system(alloc, form.p.len() as u32, &form.cone)?;
     match solve_lp(alloc, &system) {
@@ -47,7 +47,7 @@ pub fn interior_end<F: Field>(alloc: Global, form: &Data<F>) -> Result<LpEnd<F>,
     ensures read_off { IfOk result (IsReadOff F.value (interior_system (length form.now.p)
         (cone_of F.value form.now.cone) (duality_of F.value form.now.duality))) }
     ensures left { (file : File) → IsDataOf F.value file form.now
-        → IfErr result (λ fault. OnLicence fault (LicensedWithout F.holds file)) }
+        → IfErr result (λ fault. OnLicence fault (LicensedByCone F.holds file)) }
 {
     let system = interior_system(alloc, form.p.len() as u32, &form.cone, &form.duality)?;
     match solve_lp(alloc, &system) {
@@ -70,7 +70,7 @@ pub fn independent_vectors<F: Field>(
     ensures ok { IfOk result (IsIndep F.value (length form.now.p) (numbers F.value vectors.now)) }
     ensures left { (file : File) → IsDataOf F.value file form.now
         → cone_vectors file.cone ≡ numbers F.value vectors.now
-        → IfErr result (λ fault. OnLicence fault (LicensedWithout F.holds file)) }
+        → IfErr result (λ fault. OnLicence fault (LicensedByCone F.holds file)) }
 {
     let q = form.p.len() as u32;
     let rows = rows_of(alloc, q, vectors)?;
@@ -94,7 +94,7 @@ pub fn inverse_columns<F: Field>(
         × (map F.value entries ≡ joined (columns_of (length form.now.p) inverse))) }
     ensures left { (file : File) → IsDataOf F.value file form.now
         → cone_vectors file.cone ≡ numbers F.value vectors.now
-        → IfErr result (λ fault. OnLicence fault (LicensedWithout F.holds file)) }
+        → IfErr result (λ fault. OnLicence fault (LicensedByCone F.holds file)) }
 {
     let q = form.p.len() as u32;
     let rows = picked_rows(alloc, q, vectors, picks)?;

@@ -3,7 +3,7 @@ ghost use Rattle.std.specs.Prelude.{◌≡◌, ◌≤◌, ◌∷◌, drop, map, 
 ghost use Rattle.exact_field.specs.Rational.{ℚ};
 ghost use Rattle.cone_rules.specs.Faults.{IsZeroCombination};
 ghost use Rattle.cone_rules.specs.Laws.{spread};
-ghost use Rattle.overflow_rules.specs.Licence.{LicensedWithout};
+ghost use Rattle.overflow_rules.specs.Licence.{LicensedByCone};
 ghost use Rattle.lin_rows.specs.Read.{numbers};
 ghost use Rattle.lp_form.specs.Data.{IsDataOf, cone_of};
 ghost use Rattle.lp_form.specs.Programs.{nonzero_vectors, pointed_system, zero_combination as combination_system};
@@ -106,7 +106,7 @@ pub fn zero_combination<F: Field>(
     ensures none { IfOk result (λ r. IfNone r ((y : List ℚ) × IsInfeasible (combination_system
         (length form.now.p) (nonzero_vectors (cone.Gens (numbers F.value vectors.now)))) y)) }
     ensures left { (file : File) → IsDataOf F.value file form.now
-        → IfErr result (λ fault. OnLicence fault (LicensedWithout F.holds file)) }
+        → IfErr result (λ fault. OnLicence fault (LicensedByCone F.holds file)) }
 {
     let q = form.p.len() as u32;
     match pointed_end(alloc, form)? {

@@ -6,11 +6,11 @@ ghost use Rattle.polyhedra.specs.LiveList.{step};
 ghost use Rattle.tableaux.specs.Elimination.{AreIndependent};
 ghost use Rattle.deriv_log.specs.declared.licence.Family.{Family as AnyFamily};
 ghost use Rattle.lin_rows.specs.Read.{numbers};
-ghost use Rattle.overflow_rules.specs.Dictionaries.{AreElimRows};
+ghost use Rattle.overflow_rules.specs.Dictionaries.{AreElimRows, AreStartRows};
 ghost use Rattle.overflow_rules.specs.Generators.{IsAddition, IsMadeOver};
 ghost use Rattle.overflow_rules.specs.Settings.{Setting};
 ghost use Rattle.overflows.specs.Faults.{OnLicence, Overflows};
-ghost use Rattle.cone_dual.specs.Generators.{IsDescriptionOf, IsOver, MayDescribe};
+ghost use Rattle.cone_dual.specs.Generators.{IsAlone, IsDescriptionOf, IsOver, MayDescribe};
 
 use crate::picked::{other_numbers, rows_at};
 use deriv_log::Family;
@@ -28,6 +28,7 @@ fn basis_of<F: Field>(alloc: Global, rows: &Rows<F>) -> Result<Items<u32>, Solve
         (λ picks. AreIndependent rows.now.width (numbers F.value rows.now.list) picks) }
     ensures place { (family : AnyFamily) → IfErr result (λ fault. OnLicence fault
         (λ licence. IsOver family (numbers F.value rows.now.list) licence.place)) }
+    ensures told { IfErr result (λ fault. OnLicence fault (IsAlone F.holds)) }
     ensures left { (s : Setting) → AreElimRows s (numbers F.value rows.now.list) rows.now.width
         → IfErr result (Overflows F.holds s []) }
 {
@@ -47,7 +48,8 @@ fn start_rows<F: Field>(alloc: Global, rows: &Rows<F>) -> Result<Dd<F>, SolveFau
     ensures made { IfOk result (λ dd. IsMadeOver rows.now.width dd.rows dd.list) }
     ensures place { (family : AnyFamily) → IfErr result (λ fault. OnLicence fault
         (λ licence. IsOver family (numbers F.value rows.now.list) licence.place)) }
-    ensures left { (s : Setting) → AreElimRows s (numbers F.value rows.now.list) rows.now.width
+    ensures told { IfErr result (λ fault. OnLicence fault (IsAlone F.holds)) }
+    ensures left { (s : Setting) → AreStartRows s (numbers F.value rows.now.list) rows.now.width
         → IfErr result (Overflows F.holds s []) }
 {
     match Dd::start(alloc, rows) {
@@ -71,6 +73,7 @@ pub fn add_row<F: Field>(
     }) }
     ensures place { IfErr result (λ fault. OnLicence fault
         (λ licence. IsOver family (dd.old.rows ++ map F.value row.now ∷ []) licence.place)) }
+    ensures told { IfErr result (λ fault. OnLicence fault (IsAlone F.holds)) }
     ensures left { (s : Setting)
         → IsAddition s dd.old.rows (map F.value row.now) dd.old.list family
         → IfErr result (Overflows F.holds s []) }
@@ -95,6 +98,7 @@ fn add_all<F: Field>(
     ensures made { OnOk result (IsMadeOver dd.old.width dd.new.rows dd.new.list) }
     ensures place { IfErr result (λ fault. OnLicence fault
         (λ licence. IsOver family (dd.old.rows ++ numbers F.value rows.now.list) licence.place)) }
+    ensures told { IfErr result (λ fault. OnLicence fault (IsAlone F.holds)) }
     ensures left { (s : Setting)
         → MayDescribe s family dd.old.width (dd.old.rows ++ numbers F.value rows.now.list)
         → IfErr result (Overflows F.holds s []) }
@@ -117,6 +121,7 @@ pub fn describe_rows<F: Field>(
     ensures ok { IfOk result (IsDescriptionOf rows.now.width (numbers F.value rows.now.list)) }
     ensures place { IfErr result (λ fault. OnLicence fault
         (λ licence. IsOver family (numbers F.value rows.now.list) licence.place)) }
+    ensures told { IfErr result (λ fault. OnLicence fault (IsAlone F.holds)) }
     ensures left { (s : Setting)
         → MayDescribe s family rows.now.width (numbers F.value rows.now.list)
         → IfErr result (Overflows F.holds s []) }

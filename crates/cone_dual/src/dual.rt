@@ -9,7 +9,7 @@ ghost use Rattle.lin_rows.specs.Read.{numbers};
 ghost use Rattle.vlp_problem.specs.declared.problem.Problem.{Problem};
 ghost use Rattle.overflow_rules.specs.Licence.{LicensedWithout};
 ghost use Rattle.overflows.specs.Faults.{OnLicence};
-ghost use Rattle.cone_dual.specs.Generators.{AreConeRows, AreGenerators, AreMadeInOrder, IsOver};
+ghost use Rattle.cone_dual.specs.Generators.{AreConeRows, AreGenerators, AreMadeInOrder, IsAlone, IsOver};
 
 use crate::described::describe_rows;
 use deriv_log::Family;
@@ -48,6 +48,7 @@ pub fn dual_gens<F: Field>(alloc: Global, rows: &Rows<F>) -> Result<Rows<F>, Sol
         (numbers F.value rows.now.list) (numbers F.value out.list)) }
     ensures place { IfErr result (λ fault. OnLicence fault
         (λ licence. IsOver family.ConeRows (numbers F.value rows.now.list) licence.place)) }
+    ensures told { IfErr result (λ fault. OnLicence fault (IsAlone F.holds)) }
     ensures left { (file : Problem)
         → AreConeRows file rows.now.width (numbers F.value rows.now.list)
         → IfErr result (λ fault. OnLicence fault (LicensedWithout F.holds file)) }

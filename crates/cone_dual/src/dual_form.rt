@@ -9,7 +9,7 @@ ghost use Rattle.cone_rules.specs.Faults.{CombinesToMinusLast, HasInterior, HasN
 ghost use Rattle.cone_rules.specs.declared.fault.ConeFault.TheVariants as fault_of;
 ghost use Rattle.frac128.specs.Sparse.{is_zero as is_nought};
 ghost use Rattle.overflow_rules.specs.Base.{AreFirstMultipliersOff};
-ghost use Rattle.overflow_rules.specs.Licence.{LicensedWithout};
+ghost use Rattle.overflow_rules.specs.Licence.{LicensedByCone};
 ghost use Rattle.overflow_rules.specs.Trails.{IsInteriorOff};
 ghost use Rattle.lin_rows.specs.Read.{numbers};
 ghost use Rattle.lp_form.specs.Data.{IsDataOf, cone_of};
@@ -96,7 +96,7 @@ fn is_against<F: Field>(
         × (dot (map F.value vector.now) (map F.value f.now) ≤ℚ zero_ℚ)) }
     ensures left { (file : File) → IsDataOf F.value file form.now
         → Contains (cone_vectors file.cone) (map F.value vector.now)
-        → IfErr result (λ fault. OnLicence fault (LicensedWithout F.holds file)) }
+        → IfErr result (λ fault. OnLicence fault (LicensedByCone F.holds file)) }
 {
     if is_zero_vector(vector) {
         return Ok(false);
@@ -161,7 +161,7 @@ fn last_fault<F: Field>(
     ensures left { (file : File) → IsDataOf F.value file form.now
         → AreFirstMultipliersOff (interior_of_dual (length form.now.p)
         (nonzero_vectors (form_of.Dual (numbers F.value vectors.now)))) (map F.value y.now)
-        → IfErr result (λ fault. OnLicence fault (LicensedWithout F.holds file)) }
+        → IfErr result (λ fault. OnLicence fault (LicensedByCone F.holds file)) }
 {
     let n = y.len() - 2;
     let quotients = quotients_of(alloc, y, n, y[n].neg())?;

@@ -17,7 +17,7 @@ use Rattle.described.specs.Projected.{AssociateVerdict, IsProjectable, ProjectVe
 described_done : (k : ℕ) (file : Problem) (logs : Bool) (r : Reply) → IsDescribable k file →
     Describes k file logs r → r.status ≡ Done
 described_done k file logs r can (inl d) = d.status
-described_done k file logs r can (inr d) = absurd (can d.made d.associated d.licence d.licensed)
+described_done k file logs r can (inr d) = absurd (can d.made d.associated d.licence d.can d.licensed)
 
 described_words : (k : ℕ) (file : Problem) (logs : Bool) (r : Reply) → Describes k file logs r →
     Words ≡ r.status → ⊥
@@ -83,8 +83,8 @@ none_empty a b r both true t = infeasible_is_empty b t.u t.shown both.second.cho
 
 none_stopped : (a b : Problem) (r : Reply) → CanJoin a b → (second : Bool) →
     StopTold (part_of second a b) r → ⊥
-none_stopped a b r can false t = can.first t.licence t.place t.licensed
-none_stopped a b r can true t = can.second t.licence t.place t.licensed
+none_stopped a b r can false t = can.first t.licence t.place t.can t.licensed
+none_stopped a b r can true t = can.second t.licence t.place t.can t.licensed
 
 -- ---- two problems
 module _ (a b : Problem) (r : Reply) where

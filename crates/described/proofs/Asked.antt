@@ -9,6 +9,7 @@ use Rattle.overflows.specs.Faults.{OnLicence, Overflows}
 use Rattle.overflows.specs.declared.fault.SolveFault.{SolveFault}
 use Rattle.overflows.specs.declared.fault.SolveFault.TheVariants.{Left}
 use Rattle.statuses.specs.Replies.{TellsFault}
+use Rattle.statuses.specs.Told.{CanBeTold}
 use Rattle.statuses.specs.declared.reply.Reply.{Reply}
 use Rattle.statuses.specs.declared.status.Status.TheVariants as status
 use Rattle.vlp_problem.specs.declared.problem.Problem.{Problem}
@@ -26,9 +27,9 @@ overflow_licensed file l h = record { trail = h.0; overflow = h.1 }
 -- and so it is told
 pub stop_of : {E : Type 0} (part : Problem) (x : Result E SolveFault) (l : Licence) →
     x ≡ Err (Left l) → IfErr x (Overflows is_held (setting part) []) →
-    IfErr x (λ f. OnLicence f (λ k. IsPivotOfFeasible k.place)) → (r : Reply) →
+    IfErr x (λ f. OnLicence f (λ k. IsPivotOfFeasible k.place)) → CanBeTold l → (r : Reply) →
     r.status ≡ status.Left l → TellsFault r → StopTold part r
-stop_of part x l is left place r same told = record {
+stop_of part x l is left place can r same told = record {
   licence = l;
   status = same;
   place =
@@ -36,5 +37,6 @@ stop_of part x l is left place r same told = record {
   licensed =
       overflow_licensed part l
       (subst (λ (y : Result _ SolveFault). IfErr y (Overflows is_held (setting part) [])) is left);
+  can = can;
   told = told;
 }

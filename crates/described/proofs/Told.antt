@@ -24,6 +24,7 @@ stopped k file made logs s r unsolved =
         made = made;
         associated = s;
         licensed = over.licensed;
+        can = over.can;
         told = over.told;
       })
     ]

@@ -4,16 +4,16 @@ use Rattle.std.specs.Prelude.{◌≡◌, ◌⊎◌, ℕ, Bool}
 use Rattle.frac128.specs.Held.{is_held}
 use Rattle.vlp_problem.specs.declared.problem.Problem.{Problem}
 use Rattle.deriv_log.specs.declared.licence.Licence.{Licence}
-use Rattle.overflow_rules.specs.Licence.{LicensedAnyhow}
 use Rattle.projection.specs.Associated.{IsAssociated}
 use Rattle.projected_answer.specs.Found.{IsProjectionFrom}
 use Rattle.projected_answer.specs.Right.{IsRightProjection}
 use Rattle.projected_answer.specs.Text.{projection_text}
 use Rattle.projected_answer.specs.declared.found.Projection.{Projection}
 use Rattle.solver.specs.Replies.{IsLogged}
-use Rattle.solver.specs.Solving.{IsSolutionOf}
+use Rattle.solver.specs.Solving.{IsSolutionOf, LicensedInOrder}
 use Rattle.solver.specs.declared.end.Solution.{Solution}
 use Rattle.statuses.specs.Replies.{TellsFault}
+use Rattle.statuses.specs.Told.{CanBeTold}
 use Rattle.statuses.specs.declared.reply.Reply.{Reply}
 use Rattle.statuses.specs.declared.status.Status.TheVariants.{Done, Left}
 
@@ -32,20 +32,23 @@ pub record Described (k : ℕ) (file : Problem) (logs : Bool) (r : Reply) : Type
   pub text : r.text ≡ projection_text k found
   pub logged : IsLogged logs made solution r.log
 
--- an operation whose exact result is not held is licensed for the associated problem
+-- an operation whose exact result is not held is licensed for the associated problem; what its
+-- licence shows is held
 pub record DescriptionStopped (k : ℕ) (file : Problem) (r : Reply) : Type 0 where
   pub licence : Licence
   pub status : r.status ≡ Left licence
   pub made : Problem
   pub associated : IsAssociated k file made
-  pub licensed : LicensedAnyhow is_held made licence
+  pub licensed : LicensedInOrder is_held made licence
+  pub can : CanBeTold licence
   pub told : TellsFault r
 
 -- what is replied of the first k columns, with a log or without
 abbrev pub Describes : ℕ → Problem → Bool → Reply → Type 0
 Describes k file logs r = Described k file logs r ⊎ DescriptionStopped k file r
 
--- nothing stands against a description: no overflow is licensed for the associated problem
+-- nothing stands against a description: no overflow that can be told is licensed for the associated
+-- problem
 abbrev pub IsDescribable : ℕ → Problem → Type 0
 IsDescribable k file = (made : Problem) → IsAssociated k file made →
-    (l : Licence) → LicensedAnyhow is_held made l → ⊥
+    (l : Licence) → CanBeTold l → LicensedInOrder is_held made l → ⊥

@@ -9,6 +9,7 @@ use Rattle.benson_program.specs.Ends.{IsPivotOfFeasible}
 use Rattle.overflow_rules.specs.Licence.{LicensedWithout}
 use Rattle.poly_calc.specs.Sets.{HasFeasible}
 use Rattle.statuses.specs.Replies.{TellsFault}
+use Rattle.statuses.specs.Told.{CanBeTold}
 use Rattle.statuses.specs.declared.reply.Reply.{Reply}
 use Rattle.statuses.specs.declared.status.Status.TheVariants.{EmptyPart, Left}
 
@@ -27,12 +28,14 @@ pub record EmptyTold (second : Bool) (part : Problem) (r : Reply) : Type 0 where
   pub shown : IsInfeasible part u
   pub told : TellsFault r
 
--- a pivot of the program that asks it has a result that is not held, and is licensed for this part
+-- a pivot of the program that asks it has a result that is not held, and is licensed for this part;
+-- what its licence shows is held
 pub record StopTold (part : Problem) (r : Reply) : Type 0 where
   pub licence : Licence
   pub status : r.status ≡ Left licence
   pub place : IsPivotOfFeasible licence.place
   pub licensed : LicensedWithout is_held part licence
+  pub can : CanBeTold licence
   pub told : TellsFault r
 
 -- one of the parts that are asked has no feasible vector
@@ -52,6 +55,7 @@ pub record BothAreFeasible (a b : Problem) : Type 0 where
   pub first : HasFeasible a
   pub second : HasFeasible b
 
--- no overflow of the question is licensed
+-- no overflow of the question that can be told is licensed
 abbrev pub IsAskable : Problem → Type 0
-IsAskable file = (l : Licence) → IsPivotOfFeasible l.place → LicensedWithout is_held file l → ⊥
+IsAskable file = (l : Licence) → IsPivotOfFeasible l.place → CanBeTold l →
+    LicensedWithout is_held file l → ⊥

@@ -2,3 +2,4 @@
 mod limits;
 mod lines;
 mod tiny;
+mod upgrades;

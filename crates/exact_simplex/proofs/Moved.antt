@@ -37,7 +37,7 @@ moved_more n equations unknowns start now row col wide inside h l low high pivot
     }
 
 module _ {F : Type 0} (value : F → ℚ) (holds : ℚ → Bool) (equations unknowns : ℕ) (start : Dictionary) (d : Table) (basis : List ℕ) (row col : ℕ)
-    (dictionary : StaysDictionary start.width start.table start.basis d basis) (full : IsEquationBasis start.width equations basis) (entered : AreEntered unknowns start.basis basis) (inside : row < equations) (low : 1 ≤ col) (high : col ≤ start.width) where
+    (dictionary : StaysDictionary start.width start.table start.basis d basis) (full : IsEquationBasis start.width equations basis) (entered : AreEntered unknowns start.basis basis) (inside : row < equations) (low : 1 ≤ col) (high : col ≤ unknowns) where
   abbrev n : ℕ
   n = start.width
 

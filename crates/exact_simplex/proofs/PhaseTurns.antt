@@ -86,7 +86,7 @@ module _ {F : Type 0} (value : F → ℚ) (equations cost unknowns : ℕ) (colum
           let step : IsPivotStep value holds from.width now.table (row + 1) col 1 left =
           subst (λ (t : Table). IsPivotStep value holds from.width t (row + 1) col 1 left) table_here
           (test_step from.width (lines value rows) lines_rise value holds col row columns left betters.0 col_high start.placed stuck) in
-          given_up_fault value holds equations unknowns from now.table now.basis row col turn.dictionary turn.full moved.entered l betters.0 col_high 1 left fault step given
+          given_up_fault value holds equations unknowns from now.table now.basis row col turn.dictionary turn.full moved.entered l betters.0 betters.1 1 left fault step given
 
       module _ (row : ℕ) (found : IsLeaving (lines value rows) col columns equations (Some row)) where
         pub pivot_inside : row < length now.table
@@ -101,7 +101,7 @@ module _ {F : Type 0} (value : F → ℚ) (equations cost unknowns : ℕ) (colum
         pub pivot_fault : (moved : IsMoved equations unknowns from now) (holds : ℚ → Bool) (fault : RowFault F) →
             IsPivotFault value holds now.width now.table now.basis (row + 1) col fault → IsPhaseFault value holds equations unknowns from fault
         pivot_fault moved holds fault stuck =
-            pivot_given_up value holds equations unknowns from now.table now.basis row col turn.dictionary turn.full moved.entered found.0 betters.0 col_high fault
+            pivot_given_up value holds equations unknowns from now.table now.basis row col turn.dictionary turn.full moved.entered found.0 betters.0 betters.1 fault
             (subst (λ (w : ℕ). IsPivotFault value holds w now.table now.basis (row + 1) col fault) turn.width stuck)
 
         module _ (after : Dictionary) (is : after ≡ exchange now row col) where

@@ -210,6 +210,6 @@ module _ {F : Type 0} (value : F → ℚ) (s : System) (ok : IsSystem s) (t : Di
       in_system (Left b row col step left) h = (
         h.0,
         record { columns = basis_after b h.3 h.2; dictionary = h.1 _ (table-wide s ok) dictionary.dictionary },
-        inl (h.4, h.5, h.6, h.7, h.8),
+        inl (h.4, h.5, h.6, (let high : col ≤ unknown_count s = h.7 in omega (arith, high)), h.8),
       )
       in_system NoMemory h = tt

@@ -1,5 +1,5 @@
 -- What the solution of a linear program answers: ends, by equations and signs and as they are read off a dictionary, and overflows.
-use Rattle.std.specs.Prelude.{ℕ, ◌≡◌, ◌≤◌, ◌⊎◌, Bool, List, map}
+use Rattle.std.specs.Prelude.{ℕ, ◌≡◌, ◌≤◌, ◌<◌, ◌⊎◌, Bool, List, map}
 use Rattle.exact_field.specs.Field.{IsLeftOf}
 use Rattle.exact_field.specs.Rational.{ℚ, one_ℚ}
 use Rattle.exact_field.specs.declared.op.Op.TheVariants.{Sub}
@@ -37,7 +37,7 @@ basis_of (Unbounded x ray basis) = basis
 -- row, is not held
 abbrev pub IsSystemStep : {F : Type 0} → (F → ℚ) → (ℚ → Bool) → System → Table → ℕ → ℕ → ℕ → Operation F → Type 0
 IsSystemStep value holds s d row col step left =
-    ((1 ≤ row) × (row ≤ equation_count s) × (1 ≤ col) × (col ≤ right_column s) × IsPivotStep value holds (right_column s) d row col step left)
+    ((1 ≤ row) × (row ≤ equation_count s) × (1 ≤ col) × (col < right_column s) × IsPivotStep value holds (right_column s) d row col step left)
     ⊎ ((i : ℕ) × (1 ≤ i) × (i ≤ equation_count s) × (row ≡ first_cost s) × (col ≡ artificial_column s i)
     × (step ≡ 3) × IsLeftOf value holds Sub (at d row col) one_ℚ left)
 

@@ -64,5 +64,5 @@ pub record IsMoved (equations unknowns : ℕ) (start now : Dictionary) : Type 0 
 abbrev pub IsPhaseFault : {F : Type 0} → (F → ℚ) → (ℚ → Bool) → ℕ → ℕ → Dictionary → RowFault F → Type 0
 IsPhaseFault value holds equations unknowns start (Left basis row col step left) =
     (d : Table) × StaysDictionary start.width start.table start.basis d basis × IsEquationBasis start.width equations basis × AreEntered unknowns start.basis basis
-    × (1 ≤ row) × (row ≤ equations) × (1 ≤ col) × (col ≤ start.width) × IsPivotStep value holds start.width d row col step left
+    × (1 ≤ row) × (row ≤ equations) × (1 ≤ col) × (col ≤ unknowns) × IsPivotStep value holds start.width d row col step left
 IsPhaseFault value holds equations unknowns start NoMemory = Unit {0}

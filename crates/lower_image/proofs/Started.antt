@@ -12,7 +12,7 @@ use Rattle.deriv_log.specs.declared.entry.Entry.{Entry}
 use Rattle.deriv_log.specs.declared.licence.Family.TheVariants.{Exchanged}
 use Rattle.overflow_rules.specs.Base.{IsBaseChoice, IsBaseRow, IsConeDirection, image_of}
 use Rattle.overflow_rules.specs.Base.IsBaseRow.{of_choice, of_cone}
-use Rattle.overflow_rules.specs.Dictionaries.{AreElimRows}
+use Rattle.overflow_rules.specs.Dictionaries.{AreStartRows}
 use Rattle.overflow_rules.specs.Generators.{IsAddition}
 use Rattle.geo_duality.specs.Rows.{exchange_row}
 use Rattle.overflow_rules.proofs.Making.{generator_laws}
@@ -33,7 +33,7 @@ module _ (holds : ℚ → Bool) (task : Task) (fit : IsFitting holds task) (rows
   -- base rows may be eliminated and added, whatever stands before
   base_may : (trail : List Entry) → MayDescribe (setting task trail) Exchanged (suc task.file.objs) rows
   base_may trail = record {
-    eliminated = λ some all. AreElimRows.of_base task.c refl (base_among some all);
+    eliminated = λ some all. AreStartRows.of_base task.c refl (base_among some all);
     added = λ before last list all here made.
         IsAddition.of_base task.c refl (base_among before all) (member_of (IsBaseRow task.file task.c) rows last are.base here) made;
   }

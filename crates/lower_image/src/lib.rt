@@ -15,14 +15,8 @@ mod starting;
 mod touching;
 mod weighing;
 
-pub use certificate::weight_cut_of;
-pub use ends::WeightEnd;
 pub use facets::{AllFacets, all_facets};
-pub use kept::KeptWeights;
 pub use laws::{
     certified_are_facets, from_all_facets, lower_examples, lower_generators, lower_rows,
     lower_start, lower_turns, weight_bounded, weight_choice, weight_cut, weight_ray,
 };
-pub use rows::{exchanged_row, image_at};
-pub use solving::weight_end;
-pub use weighing::{Weighed, weigh_generator};

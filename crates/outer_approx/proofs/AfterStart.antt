@@ -25,7 +25,7 @@ use Rattle.log_rules.specs.Live.{State, state, after, first_vectors, in_use, ine
 use Rattle.log_rules.specs.Order as order
 use Rattle.log_rules.proofs.Entries.{has_last, state-push}
 use Rattle.log_rules.proofs.KeepsDescription.{rules_keep_lines}
-use Rattle.overflow_rules.specs.Dictionaries.{AreElimRows}
+use Rattle.overflow_rules.specs.Dictionaries.{AreStartRows}
 use Rattle.lp_form.specs.declared.shown.Cut.{Cut as CutOf}
 use Rattle.outer_approx.specs.Cuts.{said_by}
 use Rattle.outer_approx.specs.Lines.{line_places}
@@ -69,9 +69,9 @@ module _ (task : Task) (cuts : List Inequality) (old : List Entry) (begun : IsBe
 
   -- the row t ≥ 0 and those of the cuts, without the entries at the places of the lines, may be eliminated
   pub may_eliminate : HasFullRank count (map (without bs) (map (λ e. e.normal) cuts)) →
-      AreElimRows (setting task old) (map (without bs) (rows_of objs cuts)) (suc count)
+      AreStartRows (setting task old) (map (without bs) (rows_of objs cuts)) (suc count)
   may_eliminate rank =
-      AreElimRows.of_image (range_with_len 1 count) (exist count stands cuts begun.cuts_are many)
+      AreStartRows.of_image (range_with_len 1 count) (exist count stands cuts begun.cuts_are many)
       (ap (λ (n : ℕ). n + length (lines old)) (length-range_with_len 1 count ∙ sym many) ∙ together)
       (subst (λ (ns : List (List ℚ)). HasFullRank count (map (without bs) ns)) (sym (normals_listed count stands cuts begun.cuts_are many)) rank)
       (ap (λ (rows : List (List ℚ)). map (without bs) (level objs ∷ rows)) (sym (rows_listed count stands cuts begun.cuts_are many)))
@@ -211,8 +211,8 @@ module _ {F : Type 0} (value : F → ℚ) (task : Task) (places : List Bool) (ol
     full_rank = of_rows (λ (n : ℕ) (rs : List (List ℚ)). HasFullRank n rs)
         (short_rank task.file.objs (lines old) (echelon task said old begun said_together) said (said_wide value list task.file.objs wide) rank_said)
 
-    pub licensed : AreElimRows (setting task old) rows width
-    licensed = of_rows (λ (n : ℕ) (rs : List (List ℚ)). AreElimRows (setting task old) rs n) (may_eliminate task said old begun said_together rank_said)
+    pub licensed : AreStartRows (setting task old) rows width
+    licensed = of_rows (λ (n : ℕ) (rs : List (List ℚ)). AreStartRows (setting task old) rs n) (may_eliminate task said old begun said_together rank_said)
 
     module _ (dd : Description) (start : IsStart width rows dd) (new : List Entry) (h : HasStart places (vectors dd.list.live) old new) where
       start_at : IsStart (suc (open_count (line_places task old))) (map (without (line_places task old)) (rows_of task.file.objs said)) dd

@@ -10,7 +10,7 @@ mod turn;
 mod unstarted;
 
 pub use ends::end_solved;
-pub use log::{Line, open_trail, push_cut, push_cut_entry, push_preimage};
+pub use log::{Line, open_trail, push_cut_entry, push_preimage};
 pub use places::{cut_row, places_of};
 pub use start::start_outer;
 pub use turn::{take, try_take};

@@ -21,6 +21,7 @@ use Rattle.lin_rows.specs.Sums.{partial, IsTermLeft}
 use Rattle.lin_rows.specs.declared.fault.RowFault.TheVariants.{Left as Stuck}
 use Rattle.exact_simplex.specs.Ends.{IsSystemLeft}
 use Rattle.vlp_problem.specs.declared.problem.Problem.{Problem}
+use Rattle.deriv_log.specs.Formed.{IsLog}
 use Rattle.deriv_log.specs.declared.entry.Entry.{Entry}
 use Rattle.vlp_problem.specs.declared.program.Program.{Program}
 use Rattle.deriv_log.specs.declared.licence.Place.TheVariants.{Pivot, Elim, Step}
@@ -28,10 +29,10 @@ use Rattle.log_rules.specs.Events.{Event, first_failure, Failure}
 use Rattle.log_rules.specs.Events.Event.{test, step}
 use Rattle.log_rules.specs.Events.Failure.{wrong, left as overflows}
 use Rattle.log_rules.specs.LogEvents.{first_failing, plain_failure, events, Failing}
-use Rattle.overflow_rules.specs.Dictionaries.{IsAllowed, system_in, AreElimRows, IsElimTable}
+use Rattle.overflow_rules.specs.Dictionaries.{IsAllowed, system_in, IsElimTable}
 use Rattle.overflow_rules.specs.Generators.{IsPairStep}
 use Rattle.overflow_rules.specs.Laws.{term_number, OverflowLaws}
-use Rattle.overflow_rules.specs.Licence.{IsOverflow}
+use Rattle.overflow_rules.specs.Licence.{IsOverflow, IsCheckOverflow}
 use Rattle.overflow_rules.specs.Products.{AreMultiplied, IsListStep}
 use Rattle.overflow_rules.specs.Settings.{Setting}
 use Rattle.overflow_rules.specs.Steps.{operation, IsNotHeld, IsNumbered, IsProductStep, value_steps, pair_steps, exchange_steps}
@@ -131,10 +132,10 @@ of_program holds s p basis row col number left zero first allowed (d, is, inr h)
     }
 
 elimination : (holds : ℚ → Bool) (s : Setting) (rows : List (List ℚ)) (width : ℕ) (t : Table) (columns : ℕ) (basis : List ℕ)
-    (row col number : ℕ) (left : Left ℚ) → IsTrue (holds zero_ℚ) → IsTrue (holds left.a) → AreElimRows s rows width →
-    IsElimTable rows width t columns → 1 ≤ row → 1 ≤ col → IsElimFault (λ q. q) holds columns t (Stuck basis row col number left) →
+    (row col number : ℕ) (left : Left ℚ) → IsTrue (holds zero_ℚ) → IsTrue (holds left.a) → IsElimTable s rows width t columns →
+    length basis ≡ length rows → 1 ≤ row → 1 ≤ col → IsElimFault (λ q. q) holds columns t (Stuck basis row col number left) →
     IsOverflow holds s (Elim rows basis row col number) left
-elimination holds s rows width t columns basis row col number left zero first allowed table low low' (d, is, h, row_low, row_high, col_low, col_high) =
+elimination holds s rows width t columns basis row col number left zero first table one_each low low' (d, is, h, row_low, row_high, col_low, col_high) =
     record {
       not_held = not_held holds left zero (step_not_held holds columns d row col number left h);
       operands = inl
@@ -142,7 +143,8 @@ elimination holds s rows width t columns basis row col number left zero first al
             width = width;
             columns = columns;
             dictionary = d;
-            is = record { allowed = allowed; table = t; of_rows = table; is = is };
+            is = record { table = t; of_rows = table; is = is };
+            one_each = one_each;
             row_from_one = low;
             col_from_one = low';
             operands = h;
@@ -165,12 +167,12 @@ numbered steps done rest o a b same =
     }
 
 -- ---- sums
-term : (holds : ℚ → Bool) (s : Setting) (rows : List (List ℚ)) (basis : List ℕ) (xs ys : List ℚ) (place : ℕ) (left : Left ℚ) →
+term : (holds : ℚ → Bool) (s : Setting) (xs ys : List ℚ) (place : ℕ) (left : Left ℚ) →
     IsTrue (holds zero_ℚ) → AreMultiplied s xs ys ⊎ AreMultiplied s ys xs → 1 ≤ place → place ≤ length xs → place ≤ length ys →
     IsTermLeft (λ q. q) holds (partial xs ys (place - 1)) (entry xs place) (entry ys place) left →
-    IsOverflow holds s (Elim rows basis 0 place (term_number left.op)) left
-term holds s rows basis xs ys place left zero allowed low in_first in_second h =
-    record { not_held = not_held holds left zero (unheld h); operands = inr (refl, listed allowed) }
+    IsOverflow holds s (Elim [] [] 0 place (term_number left.op)) left
+term holds s xs ys place left zero allowed low in_first in_second h =
+    record { not_held = not_held holds left zero (unheld h); operands = inr (refl, refl, listed allowed) }
   where
     unheld : IsTermLeft (λ q. q) holds (partial xs ys (place - 1)) (entry xs place) (entry ys place) left → IsFalse (holds (exact left.op left.a left.b))
     unheld (inl t) = still holds (exact left.op left.a left.b) (entry xs place *ℚ entry ys place)
@@ -187,9 +189,9 @@ term holds s rows basis xs ys place left zero allowed low in_first in_second h =
     at_place : IsProductStep place (term_number left.op) xs ys left
     at_place = record { from_one = low; in_first = in_first; in_second = in_second; operands = operands h }
 
-    listed : AreMultiplied s xs ys ⊎ AreMultiplied s ys xs → IsListStep s rows place (term_number left.op) left
-    listed (inl m) = IsListStep.forward xs ys m at_place
-    listed (inr m) = IsListStep.backward xs ys m at_place
+    listed : AreMultiplied s xs ys ⊎ AreMultiplied s ys xs → IsListStep s [] place (term_number left.op) left
+    listed (inl m) = IsListStep.forward xs ys refl m at_place
+    listed (inr m) = IsListStep.backward xs ys refl m at_place
 
 -- ---- the check
 Unheld : (ℚ → Bool) → Option Failure → Type 0
@@ -227,15 +229,19 @@ failing_unheld holds file before (e ∷ entries) =
     go further (Some failure) h = h
     go further None h = further
 
-check : (holds : ℚ → Bool) (s : Setting) (number k : ℕ) (o : Op) (a b : ℚ) → IsTrue (holds zero_ℚ) →
-    plain_failure holds s.file s.trail ≡ Some (record { entry = number; failure = overflows k o a b }) →
-    IsOverflow holds s (Step number k) (operation o a b)
+check : (holds : ℚ → Bool) (file : Problem) (entries : List Entry) (number k : ℕ) (o : Op) (a b : ℚ) → IsTrue (holds zero_ℚ) → IsLog entries →
+    plain_failure holds file entries ≡ Some (record { entry = number; failure = overflows k o a b }) →
+    IsCheckOverflow holds file entries (Step number k) (operation o a b)
 unfolding Unheld UnheldIn
-check holds s number k o a b zero h =
+check holds file entries number k o a b zero log h =
     record {
       not_held = not_held holds (operation o a b) zero
-          (subst (λ (f : Option Failing). UnheldIn holds f) h (failing_unheld holds s.file [] s.trail));
-      operands = h;
+          (subst (λ (f : Option Failing). UnheldIn holds f) h (failing_unheld holds file [] entries));
+      log = log;
+      number = number;
+      step = k;
+      at = refl;
+      first = h;
     }
 
 -- ---- all places
@@ -243,9 +249,10 @@ pub overflow_laws : OverflowLaws
 overflow_laws = record {
   program = of_program;
   elimination = elimination;
-  norming = λ holds s rows basis inverse corner col zero allowed is low high low' high' h. record {
+  norming = λ holds s rows inverse corner col zero allowed is low high low' high' h. record {
     not_held = not_held holds (operation Div (entry (column_of inverse corner) col) (magnitude (norming (column_of inverse corner)))) zero h;
     operands = inr (
+      refl,
       refl,
       IsListStep.normed (record {
         allowed = allowed;

@@ -113,9 +113,9 @@ goes_on : (holds : ℚ → Bool) (file : Problem) (c weights : List ℚ) (trail 
 goes_on holds file c weights trail whole e s m b =
     record { possible = s.possible; completes = go s.completes; base = grows file c weights whole e s.base m b }
   where
-    go : Completes c weights trail whole → Completes c weights (trail ++ e ∷ []) (whole ++ e ∷ [])
+    go : Completes holds c weights trail whole → Completes holds c weights (trail ++ e ∷ []) (whole ++ e ∷ [])
     go (Completes.itself h) = Completes.itself (ap (λ (es : List Entry). es ++ e ∷ []) h)
-    go (Completes.after_opening picks inverse h) = Completes.after_opening picks inverse (ap (λ (es : List Entry). es ++ e ∷ []) h)
+    go (Completes.after_opening picks inverse held h) = Completes.after_opening picks inverse held (ap (λ (es : List Entry). es ++ e ∷ []) h)
 
 pub trail_laws : TrailLaws
 trail_laws = record {
@@ -127,7 +127,7 @@ trail_laws = record {
   cut = cut;
   begins = λ holds file c weights picks inverse held fits base. record {
     possible = possible holds file c weights picks inverse held fits base;
-    completes = Completes.after_opening picks inverse refl;
+    completes = Completes.after_opening picks inverse held refl;
     base = opened file c weights picks inverse fits base;
   };
   own = λ holds file c weights picks inverse held fits base. record {

@@ -83,13 +83,13 @@ orthogonal_vectors s v o wide =
     subst (λ (x : List ℚ). All (λ row. dot row x ≡ zero_ℚ) o.rows) (sym o.same)
     (by_places o.rows (ray_of o.width o.basis o.dictionary o.col) (products o.is.of_rows))
   where
-    products : IsElimTable o.rows o.width o.is.table o.columns → (i : ℕ) → 1 ≤ i → i ≤ length o.rows →
+    products : IsElimTable s o.rows o.width o.is.table o.columns → (i : ℕ) → 1 ≤ i → i ≤ length o.rows →
         dot (row_of o.rows i) (ray_of o.width o.basis o.dictionary o.col) ≡ zero_ℚ
-    products (IsElimTable.alone same many) i l u =
+    products (IsElimTable.alone allowed same many) i l u =
         ray_orthogonal o.width o.rows o.basis o.dictionary wide
         (subst (λ (m : ℕ). IsDictionary m o.rows o.basis o.dictionary) many (subst (λ (t : Table). IsDictionary o.columns t o.basis o.dictionary) same o.is.is))
         o.within o.col o.free o.clear o.from_one o.to_end i l u
-    products (IsElimTable.beside square same many) i l u =
+    products (IsElimTable.beside allowed square same many) i l u =
         let n_is : o.columns ≡ o.width + o.width = many ∙ ap₂ (λ x y. x + y) square square in
         beside o.width o.col o.rows o.basis o.dictionary square wide o.within o.free o.from_one o.to_end
         (subst (λ (m : ℕ). IsDictionary m (beside_unit o.rows) o.basis o.dictionary) n_is (subst (λ (t : Table). IsDictionary o.columns t o.basis o.dictionary) same o.is.is))

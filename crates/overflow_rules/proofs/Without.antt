@@ -18,13 +18,12 @@ use Rattle.deriv_log.specs.declared.licence.Family.{Family}
 use Rattle.deriv_log.specs.declared.licence.Family.TheVariants.{Image, Exchanged, ConeRows, Rep}
 use Rattle.deriv_log.specs.declared.licence.Place.{Place}
 use Rattle.deriv_log.specs.declared.licence.Place.TheVariants.{Pivot, Elim, Pair, Exchange, Scale, Step}
-use Rattle.log_rules.specs.Events.Failure.{left as overflows}
 use Rattle.overflow_rules.specs.Base.{IsSolutionOff, AreMultipliersOff, AreFirstMultipliersOff, IsRayOff, IsBaseStart}
-use Rattle.overflow_rules.specs.Dictionaries.{system_in, IsAllowed, IsProgramStep, AreElimRows, IsElimDictionary, IsElimStep}
+use Rattle.overflow_rules.specs.Dictionaries.{system_in, IsAllowed, IsProgramStep, AreStartRows, AreElimRows, IsElimTable, IsElimDictionary, IsElimStep}
 use Rattle.overflow_rules.specs.Generators.{IsAddition, filled, IsGenerator}
 use Rattle.overflow_rules.specs.Laws.{LicenceLaws}
 use Rattle.overflow_rules.specs.Licence.{IsAt, opening, Completes}
-use Rattle.overflow_rules.specs.Products.{IsBaseU, IsTrailEntry, IsBaseX, AreBaseShares, IsBesideCone, IsRowOrWeight, IsStartOrGenerator, AreMultiplied, IsListStep}
+use Rattle.overflow_rules.specs.Products.{IsBaseU, IsTrailEntry, IsBaseX, AreBaseShares, IsGeneratorY, IsBesideCone, IsRowOrWeight, IsStartOrGenerator, AreMultiplied, IsListStep}
 use Rattle.overflow_rules.specs.Quotients.{IsNormingStep, IsReadVector, IsOrthogonalOff, IsScaled, IsDivisor}
 use Rattle.overflow_rules.specs.Settings.{Setting}
 
@@ -72,16 +71,23 @@ module _ (holds : ℚ → Bool) (file : Problem) (c weights : List ℚ) (picks :
       }
 
   -- ---- eliminations and double description
+  start_rows : (rows : List (List ℚ)) (width : ℕ) → AreStartRows without rows width → AreStartRows with rows width
+  start_rows rows width (AreStartRows.of_image cuts all many rank e) = AreStartRows.of_image cuts all many rank e
+  start_rows rows width (AreStartRows.of_cone all) = AreStartRows.of_cone all
+  start_rows rows width (AreStartRows.of_base d known all) = absurd (unknown d known)
+
   elim_rows : (rows : List (List ℚ)) (width : ℕ) → AreElimRows without rows width → AreElimRows with rows width
   elim_rows rows width (AreElimRows.of_normals e) = AreElimRows.of_normals e
-  elim_rows rows width (AreElimRows.of_image cuts all many rank e) = AreElimRows.of_image cuts all many rank e
-  elim_rows rows width (AreElimRows.of_cone all) = AreElimRows.of_cone all
-  elim_rows rows width (AreElimRows.of_base d known all) = absurd (unknown d known)
+  elim_rows rows width (AreElimRows.of_start w h) = AreElimRows.of_start w (start_rows rows w h)
+
+  elim_table : (rows : List (List ℚ)) (width columns : ℕ) (t : Table) → IsElimTable without rows width t columns → IsElimTable with rows width t columns
+  elim_table rows width columns t (IsElimTable.alone h e f) = IsElimTable.alone (elim_rows rows width h) e f
+  elim_table rows width columns t (IsElimTable.beside h square e f) = IsElimTable.beside (start_rows rows width h) square e f
 
   elim_dictionary : (rows : List (List ℚ)) (width columns : ℕ) (basis : List ℕ) (d : Table) → IsElimDictionary without rows width columns basis d →
       IsElimDictionary with rows width columns basis d
   elim_dictionary rows width columns basis d h =
-      record { allowed = elim_rows rows width h.allowed; table = h.table; of_rows = h.of_rows; is = h.is }
+      record { table = h.table; of_rows = elim_table rows width columns h.table h.of_rows; is = h.is }
 
   elim_step : (rows : List (List ℚ)) (basis : List ℕ) (row col number : ℕ) (left : Left ℚ) → IsElimStep holds without rows basis row col number left →
       IsElimStep holds with rows basis row col number left
@@ -91,6 +97,7 @@ module _ (holds : ℚ → Bool) (file : Problem) (c weights : List ℚ) (picks :
         columns = h.columns;
         dictionary = h.dictionary;
         is = elim_dictionary rows h.width h.columns basis h.dictionary h.is;
+        one_each = h.one_each;
         row_from_one = h.row_from_one;
         col_from_one = h.col_from_one;
         operands = h.operands;
@@ -101,7 +108,7 @@ module _ (holds : ℚ → Bool) (file : Problem) (c weights : List ℚ) (picks :
       IsNormingStep with rows col number left
   norming_step rows col number left h =
       record {
-        allowed = elim_rows rows _ h.allowed;
+        allowed = start_rows rows _ h.allowed;
         inverse = h.inverse;
         is = h.is;
         corner = h.corner;
@@ -155,11 +162,15 @@ module _ (holds : ℚ → Bool) (file : Problem) (c weights : List ℚ) (picks :
   generator v (inr (before, last, family, list, g, h, live, e)) =
       inr (before, last, family, list, g, addition before last list family h, live, e ∙ same_filled family g.vector)
 
+  generator_y : (y : List ℚ) → IsGeneratorY without y → IsGeneratorY with y
+  generator_y y (IsGeneratorY.live g h e) = IsGeneratorY.live g h e
+  generator_y y (IsGeneratorY.of_cone before last list g h live e) = IsGeneratorY.of_cone before last list g (addition before last list ConeRows h) live e
+
   beside_cone : (y : List ℚ) → IsBesideCone without y → IsBesideCone with y
   beside_cone y (IsBesideCone.given e) = IsBesideCone.given e
   beside_cone y (IsBesideCone.duality known) = absurd (unknown y known)
   beside_cone y (IsBesideCone.weight h) = absurd (unknown h.0 h.1)
-  beside_cone y (IsBesideCone.generator v h e) = IsBesideCone.generator v (generator v h) e
+  beside_cone y (IsBesideCone.generator h) = IsBesideCone.generator (generator_y y h)
 
   row_or_weight : (row : List ℚ) → IsRowOrWeight without row → IsRowOrWeight with row
   row_or_weight row (IsRowOrWeight.weight h) = absurd (unknown h.0 h.1)
@@ -182,9 +193,9 @@ module _ (holds : ℚ → Bool) (file : Problem) (c weights : List ℚ) (picks :
 
   list_step : (rows : List (List ℚ)) (col number : ℕ) (left : Left ℚ) → IsListStep without rows col number left → IsListStep with rows col number left
   list_step rows col number left (IsListStep.normed h) = IsListStep.normed (norming_step rows col number left h)
-  list_step rows col number left (IsListStep.forward xs ys m h) = IsListStep.forward xs ys (multiplied xs ys m) h
-  list_step rows col number left (IsListStep.backward xs ys m h) = IsListStep.backward xs ys (multiplied ys xs m) h
-  list_step rows col number left (IsListStep.share h) = absurd (unknown h.read.c h.read.known)
+  list_step rows col number left (IsListStep.forward xs ys none m h) = IsListStep.forward xs ys none (multiplied xs ys m) h
+  list_step rows col number left (IsListStep.backward xs ys none m h) = IsListStep.backward xs ys none (multiplied ys xs m) h
+  list_step rows col number left (IsListStep.share none h) = absurd (unknown h.read.c h.read.known)
 
   -- ---- norming
   read_vector : (v : List ℚ) → IsReadVector without v → IsReadVector with v
@@ -232,7 +243,7 @@ module _ (holds : ℚ → Bool) (file : Problem) (c weights : List ℚ) (picks :
   at_place : (place : Place) (left : Left ℚ) → IsAt holds without place left → IsAt holds with place left
   at_place (Pivot p basis row col number) left h = program_step p basis row col number left h
   at_place (Elim rows basis row col number) left (inl h) = inl (elim_step rows basis row col number left h)
-  at_place (Elim rows basis row col number) left (inr h) = inr (h.0, list_step rows col number left h.1)
+  at_place (Elim rows basis row col number) left (inr h) = inr (h.0, h.1, list_step rows col number left h.2)
   at_place (Pair family rows first second number) left h =
       record {
         before = h.before;
@@ -252,17 +263,18 @@ module _ (holds : ℚ → Bool) (file : Problem) (c weights : List ℚ) (picks :
         divisor = divisor v h.by h.divisor;
         same = h.same;
       }
-  at_place (Step number k) left h = absurd (unknown (record { entry = number; failure = overflows k left.op left.a left.b }) h)
+  at_place (Step number k) left h = h
 
 pub licence_laws : LicenceLaws
 licence_laws = record {
-  licensed = λ holds file c weights whole licence stands overflow. record { weights = weights; whole = whole; stands = stands; overflow = overflow };
-  without = λ holds file c weights licence possible h. record {
+  licensed = λ holds file c weights whole licence stands overflow. inl (record { weights = weights; whole = whole; stands = stands; overflow = overflow });
+  checked = λ holds file c weights licence possible base overflow. inr (record { weights = weights; possible = possible; base = base; overflow = overflow });
+  without = λ holds file c weights licence possible h. inl (record {
     weights = weights;
     whole = opening c weights possible.picks possible.inverse;
     stands = record {
       possible = possible;
-      completes = Completes.after_opening possible.picks possible.inverse
+      completes = Completes.after_opening possible.picks possible.inverse possible.held
           (ap (λ (trail : List Entry). Version 1 ∷ Duality c weights possible.picks possible.inverse ∷ trail) (sym h.trail));
       base = possible.trail;
     };
@@ -270,5 +282,5 @@ licence_laws = record {
       not_held = h.overflow.not_held;
       operands = at_place holds file c weights possible.picks possible.inverse licence.place licence.left h.overflow.operands;
     };
-  };
+  });
 }

@@ -32,7 +32,7 @@ use Rattle.lp_form.specs.Examples.{numbers, rows}
 use Rattle.lp_form.specs.Programs.{benson_system, feasible_system, value_of, share_of}
 use Rattle.overflow_rules.specs.Base.{IsBaseStart}
 use Rattle.overflow_rules.specs.Licence.{StandsFor}
-use Rattle.overflow_rules.specs.Dictionaries.{IsAllowed, IsProgramStep, IsElimStep, IsElimTable, AreElimRows}
+use Rattle.overflow_rules.specs.Dictionaries.{IsAllowed, IsProgramStep, IsElimStep, IsElimTable, AreStartRows, AreElimRows}
 use Rattle.overflow_rules.specs.Products.{AreMultiplied, IsBesideCone, IsShareStep, IsListStep}
 use Rattle.overflow_rules.specs.Settings.{Setting}
 use Rattle.overflow_rules.specs.Steps.{operation, IsProductStep}
@@ -220,18 +220,18 @@ has_second : Contains (cone_vectors dual_form.cone) second
 unfolding whole
 has_second = Contains-there first (second ∷ third ∷ []) second (Contains-here second (third ∷ []) second refl)
 
-cone_allowed : AreElimRows given cone_rows 2
+cone_allowed : AreStartRows given cone_rows 2
 unfolding whole
-cone_allowed = AreElimRows.of_cone
+cone_allowed = AreStartRows.of_cone
     (All-cons (Contains (cone_vectors dual_form.cone)) first (second ∷ []) has_first
     (All-cons (Contains (cone_vectors dual_form.cone)) second [] has_second (All-nil (Contains (cone_vectors dual_form.cone)))))
 
-elimination : OverflowsDual (Elim cone_rows [] 1 1 1) (operation Div (n 1) (n 2))
+elimination : OverflowsDual (Elim cone_rows (0 ∷ 0 ∷ []) 1 1 1) (operation Div (n 1) (n 2))
 unfolding whole fraction gcd ◌+ℚ◌ ◌*ℚ◌ neg_ℚ inverse_ℚ le_ℚ
-elimination = overflow_laws.elimination is_few given cone_rows 2 cone_rows 2 [] 1 1 1 (operation Div (n 1) (n 2)) refl refl cone_allowed
-    (IsElimTable.alone refl refl) (lit≤ tt) (lit≤ tt) (
+elimination = overflow_laws.elimination is_few given cone_rows 2 cone_rows 2 (0 ∷ 0 ∷ []) 1 1 1 (operation Div (n 1) (n 2)) refl refl
+    (IsElimTable.alone (AreElimRows.of_start 2 cone_allowed) refl refl) refl (lit≤ tt) (lit≤ tt) (
       cone_rows,
-      starts 2 cone_rows [] (wide_test 2 cone_rows refl) no_names,
+      starts 2 cone_rows (0 ∷ 0 ∷ []) (wide_test 2 cone_rows refl) (λ i. no_column 2 (i - 1)),
       (2, lit≤ tt, lit≤ tt, inl (refl, (refl, equal (n 1) (at cone_rows 1 2) refl, equal (n 2) (at cone_rows 1 1) refl, refl))),
       lit≤ tt,
       lit≤ tt,
@@ -240,26 +240,26 @@ elimination = overflow_laws.elimination is_few given cone_rows 2 cone_rows 2 [] 
     )
 
 -- the table of an elimination of these rows begins with 2
-begins_with_two : (width columns : ℕ) (t : Table) → IsElimTable cone_rows width t columns → (length t ≡ 2) × (at t 1 1 ≡ n 2)
+begins_with_two : (width columns : ℕ) (t : Table) → IsElimTable given cone_rows width t columns → (length t ≡ 2) × (at t 1 1 ≡ n 2)
 unfolding whole fraction gcd ◌+ℚ◌ ◌*ℚ◌ neg_ℚ inverse_ℚ le_ℚ
-begins_with_two width columns t (IsElimTable.alone same wide) =
+begins_with_two width columns t (IsElimTable.alone allowed same wide) =
     (ap (λ (d : Table). length d) same, ap (λ (d : Table). at d 1 1) same ∙ equal (at cone_rows 1 1) (n 2) refl)
-begins_with_two width columns t (IsElimTable.beside square same wide) =
+begins_with_two width columns t (IsElimTable.beside allowed square same wide) =
     (ap (λ (d : Table). length d) same, ap (λ (d : Table). at d 1 1) same ∙ equal (at (beside_unit cone_rows) 1 1) (n 2) refl)
 
-turned_elimination : OverflowsDual (Elim cone_rows [] 1 1 1) (operation Div (n 2) (n 1)) → ⊥
+turned_elimination : OverflowsDual (Elim cone_rows (0 ∷ 0 ∷ []) 1 1 1) (operation Div (n 2) (n 1)) → ⊥
 turned_elimination h = go h.operands
   where
-    within : (e : IsElimStep is_few given cone_rows [] 1 1 1 (operation Div (n 2) (n 1))) →
+    within : (e : IsElimStep is_few given cone_rows (0 ∷ 0 ∷ []) 1 1 1 (operation Div (n 2) (n 1))) →
         IsPivotStep (λ q. q) is_few e.columns e.dictionary 1 1 1 (operation Div (n 2) (n 1)) → ⊥
     within e (j, l, u, inl s) =
         let first = begins_with_two e.width e.columns e.is.table e.is.of_rows in
         let long = first.0 in
-        not_two (s.1.2 ∙ at_start e.columns e.is.table [] e.dictionary 1 1 no_names e.is.is (lit≤ tt) (omega (arith, long)) ∙ first.1)
+        not_two (s.1.2 ∙ at_start e.columns e.is.table (0 ∷ 0 ∷ []) e.dictionary 1 1 (λ i. no_column 2 (i - 1)) e.is.is (lit≤ tt) (omega (arith, long)) ∙ first.1)
     within e (j, l, u, inr (i, a, b, c, inl s)) = let k = s.0 in omega (arith, k)
     within e (j, l, u, inr (i, a, b, c, inr s)) = let k = s.0 in omega (arith, k)
 
-    go : IsElimStep is_few given cone_rows [] 1 1 1 (operation Div (n 2) (n 1)) ⊎ ((◌≡◌ {A = ℕ} 1 0) × IsListStep given cone_rows 1 1 (operation Div (n 2) (n 1))) → ⊥
+    go : IsElimStep is_few given cone_rows (0 ∷ 0 ∷ []) 1 1 1 (operation Div (n 2) (n 1)) ⊎ ((◌≡◌ {A = ℕ} 1 0) × (◌≡◌ {A = List ℕ} (0 ∷ 0 ∷ []) []) × IsListStep given cone_rows 1 1 (operation Div (n 2) (n 1))) → ⊥
     go (inl e) = within e e.operands
     go (inr x) = let k = x.0 in omega (arith, k)
 
@@ -284,7 +284,7 @@ is_inverse = record {
 
 norming_two : OverflowsDual (Elim cone_rows [] 0 1 1) (operation Div (fraction (negsuc 0) 6) (fraction (pos 1) 3))
 unfolding whole fraction gcd ◌+ℚ◌ ◌*ℚ◌ neg_ℚ inverse_ℚ le_ℚ
-norming_two = overflow_laws.norming is_few given cone_rows [] inverse 2 1 refl cone_allowed is_inverse (lit≤ tt) (lit≤ tt) (lit≤ tt) (lit≤ tt) refl
+norming_two = overflow_laws.norming is_few given cone_rows inverse 2 1 refl cone_allowed is_inverse (lit≤ tt) (lit≤ tt) (lit≤ tt) (lit≤ tt) refl
 
 -- ---- sums
 abbrev by : List ℚ
@@ -296,12 +296,12 @@ multiplied = AreMultiplied.cone has_first (IsBesideCone.given refl)
 
 product : OverflowsDual (Elim [] [] 0 1 2) (operation Mul (n 2) (n 4))
 unfolding whole fraction gcd ◌+ℚ◌ ◌*ℚ◌ neg_ℚ inverse_ℚ le_ℚ
-product = overflow_laws.term is_few given [] [] first by 1 (operation Mul (n 2) (n 4)) refl (inl multiplied) (lit≤ tt) (lit≤ tt) (lit≤ tt)
+product = overflow_laws.term is_few given first by 1 (operation Mul (n 2) (n 4)) refl (inl multiplied) (lit≤ tt) (lit≤ tt) (lit≤ tt)
     (inl (refl, equal (n 2) (entry first 1) refl, equal (n 4) (entry by 1) refl, refl))
 
 turned_product : OverflowsDual (Elim [] [] 0 1 2) (operation Mul (n 4) (n 2))
 unfolding whole fraction gcd ◌+ℚ◌ ◌*ℚ◌ neg_ℚ inverse_ℚ le_ℚ
-turned_product = overflow_laws.term is_few given [] [] by first 1 (operation Mul (n 4) (n 2)) refl (inr multiplied) (lit≤ tt) (lit≤ tt) (lit≤ tt)
+turned_product = overflow_laws.term is_few given by first 1 (operation Mul (n 4) (n 2)) refl (inr multiplied) (lit≤ tt) (lit≤ tt) (lit≤ tt)
     (inl (refl, equal (n 4) (entry by 1) refl, equal (n 2) (entry first 1) refl, refl))
 
 no_step : OverflowsDual (Elim [] [] 0 1 4) (operation Mul (n 2) (n 4)) → ⊥
@@ -326,13 +326,50 @@ no_step h = go h.operands
 
     listed : IsListStep given [] 1 4 (operation Mul (n 2) (n 4)) → ⊥
     listed (IsListStep.normed s) = let k = s.first in omega (arith, k)
-    listed (IsListStep.forward xs ys m p) = at_place xs ys p
-    listed (IsListStep.backward xs ys m p) = at_place xs ys p
-    listed (IsListStep.share s) = shared s
+    listed (IsListStep.forward xs ys none m p) = at_place xs ys p
+    listed (IsListStep.backward xs ys none m p) = at_place xs ys p
+    listed (IsListStep.share none s) = shared s
 
-    go : IsElimStep is_few given [] [] 0 1 4 (operation Mul (n 2) (n 4)) ⊎ ((◌≡◌ {A = ℕ} 0 0) × IsListStep given [] 1 4 (operation Mul (n 2) (n 4))) → ⊥
+    go : IsElimStep is_few given [] [] 0 1 4 (operation Mul (n 2) (n 4)) ⊎ ((◌≡◌ {A = ℕ} 0 0) × (◌≡◌ {A = List ℕ} [] []) × IsListStep given [] 1 4 (operation Mul (n 2) (n 4))) → ⊥
     go (inl e) = let k = e.row_from_one in omega (arith, k)
-    go (inr x) = listed x.1
+    go (inr x) = listed x.2
+
+-- ---- bases and rows that are not those of the place
+longer_basis : OverflowsDual (Elim cone_rows (0 ∷ 0 ∷ 0 ∷ []) 1 1 1) (operation Div (n 1) (n 2)) → ⊥
+longer_basis h = go h.operands
+  where
+    go : IsElimStep is_few given cone_rows (0 ∷ 0 ∷ 0 ∷ []) 1 1 1 (operation Div (n 1) (n 2))
+        ⊎ ((◌≡◌ {A = ℕ} 1 0) × (◌≡◌ {A = List ℕ} (0 ∷ 0 ∷ 0 ∷ []) []) × IsListStep given cone_rows 1 1 (operation Div (n 1) (n 2))) → ⊥
+    go (inl e) = let many : 3 ≡ 2 = e.one_each in omega (arith, many)
+    go (inr x) = let k = x.0 in omega (arith, k)
+
+with_basis : OverflowsDual (Elim [] (1 ∷ []) 0 1 2) (operation Mul (n 2) (n 4)) → ⊥
+with_basis h = go h.operands
+  where
+    go : IsElimStep is_few given [] (1 ∷ []) 0 1 2 (operation Mul (n 2) (n 4))
+        ⊎ ((◌≡◌ {A = ℕ} 0 0) × (◌≡◌ {A = List ℕ} (1 ∷ []) []) × IsListStep given [] 1 2 (operation Mul (n 2) (n 4))) → ⊥
+    go (inl e) = let k = e.row_from_one in omega (arith, k)
+    go (inr x) = let many : 1 ≡ 0 = ap (λ (b : List ℕ). length b) x.1 in omega (arith, many)
+
+abbrev first_alone : List (List ℚ)
+first_alone = rows (codes "2 1" ∷ [])
+
+with_rows : OverflowsDual (Elim (rows (codes "2 1" ∷ [])) [] 0 1 2) (operation Mul (n 2) (n 4)) → ⊥
+with_rows h = go h.operands
+  where
+    none : first_alone ≡ [] → ⊥
+    none e = let many : 1 ≡ 0 = ap (λ (rs : List (List ℚ)). length rs) e in omega (arith, many)
+
+    listed : IsListStep given first_alone 1 2 (operation Mul (n 2) (n 4)) → ⊥
+    listed (IsListStep.normed s) = let k = s.first in omega (arith, k)
+    listed (IsListStep.forward xs ys e m p) = none e
+    listed (IsListStep.backward xs ys e m p) = none e
+    listed (IsListStep.share e s) = none e
+
+    go : IsElimStep is_few given first_alone [] 0 1 2 (operation Mul (n 2) (n 4))
+        ⊎ ((◌≡◌ {A = ℕ} 0 0) × (◌≡◌ {A = List ℕ} [] []) × IsListStep given first_alone 1 2 (operation Mul (n 2) (n 4))) → ⊥
+    go (inl e) = let k = e.row_from_one in omega (arith, k)
+    go (inr x) = listed x.2
 
 pub dictionary_examples : DictionaryExamples
 dictionary_examples = record {
@@ -343,11 +380,14 @@ dictionary_examples = record {
   no_dictionary = no_dictionary;
   origin = origin;
   no_start = no_start;
-  licence = record { weights = []; whole = trail_of ones; stands = plain_begins; overflow = pivot };
+  licence = inl (record { weights = []; whole = trail_of ones; stands = plain_begins; overflow = pivot });
   elimination = elimination;
   turned_elimination = turned_elimination;
+  longer_basis = longer_basis;
   norming = norming_two;
   product = product;
+  with_basis = with_basis;
+  with_rows = with_rows;
   turned_product = turned_product;
   no_step = no_step;
 }

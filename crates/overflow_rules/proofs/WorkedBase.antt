@@ -30,7 +30,7 @@ use Rattle.deriv_log.specs.declared.licence.Place.TheVariants.{Pivot, Elim, Pair
 use Rattle.vlp_problem.specs.declared.program.Program.TheVariants.{Weight}
 use Rattle.lp_form.specs.Programs.{feasible_system, weight_system}
 use Rattle.overflow_rules.specs.Base.{AreMultipliersOff, AreFirstMultipliersOff, IsBaseChoice, IsBaseRay, IsBaseRow, IsBaseWeight, IsBaseStart, IsFlat, IsSide, IsGeneratorOf, image_of, weight_of}
-use Rattle.overflow_rules.specs.Dictionaries.{IsAllowed, AreElimRows, IsElimTable, IsProgramStep}
+use Rattle.overflow_rules.specs.Dictionaries.{IsAllowed, AreStartRows, AreElimRows, IsElimTable, IsProgramStep}
 use Rattle.overflow_rules.specs.Examples.{steep, n, minus, half, is_few, ones, trail_of, setting, at_start, base_rows, ray_row, OverflowsSteep, BaseExamples}
 use Rattle.overflow_rules.specs.Generators.{IsMadeOver, IsAddition, IsPairStep}
 use Rattle.overflow_rules.specs.Products.{IsTrailEntry, IsChoiceOf, IsBaseX}
@@ -43,7 +43,7 @@ use Rattle.overflow_rules.proofs.Given.{not_held, overflow_laws}
 use Rattle.overflow_rules.proofs.Making.{generator_laws}
 use Rattle.overflow_rules.proofs.Pivots.{Pivots, table_after, pivots_keep, unnamed, no_column, below, past, named, are_pivots, basis_after, are_below, are_named}
 use Rattle.overflow_rules.proofs.Values.{equal, apart, wide_test, step_is}
-use Rattle.overflow_rules.proofs.Worked.{no_names, start_dictionary}
+use Rattle.overflow_rules.proofs.Worked.{start_dictionary}
 
 -- ---- what is read off after some pivots
 -- the table after the pivots is a dictionary at a full basis, where all of this computes
@@ -386,12 +386,12 @@ exchange = record {
   };
 }
 
-elimination : OverflowsSteep (Elim base_rows [] 3 1 1) (operation Div (n 1) (minus 1))
+elimination : OverflowsSteep (Elim base_rows (0 ∷ 0 ∷ 0 ∷ []) 3 1 1) (operation Div (n 1) (minus 1))
 unfolding whole fraction gcd ◌+ℚ◌ ◌*ℚ◌ neg_ℚ inverse_ℚ le_ℚ
-elimination = overflow_laws.elimination is_few (setting steep ones) base_rows 3 base_rows 3 [] 3 1 1 (operation Div (n 1) (minus 1)) refl refl
-    (AreElimRows.of_base ones refl rows_are) (IsElimTable.alone refl refl) (lit≤ tt) (lit≤ tt) (
+elimination = overflow_laws.elimination is_few (setting steep ones) base_rows 3 base_rows 3 (0 ∷ 0 ∷ 0 ∷ []) 3 1 1 (operation Div (n 1) (minus 1)) refl refl
+    (IsElimTable.alone (AreElimRows.of_start 3 (AreStartRows.of_base ones refl rows_are)) refl refl) refl (lit≤ tt) (lit≤ tt) (
       base_rows,
-      starts 3 base_rows [] (wide_test 3 base_rows refl) no_names,
+      starts 3 base_rows (0 ∷ 0 ∷ 0 ∷ []) (wide_test 3 base_rows refl) (λ i. no_column 3 (i - 1)),
       (3, lit≤ tt, lit≤ tt, inl (refl, (refl, equal (n 1) (at base_rows 3 3) refl, equal (minus 1) (at base_rows 3 1) refl, refl))),
       lit≤ tt,
       lit≤ tt,

@@ -225,7 +225,7 @@ with_ray_is = more with_point ray [] with_point_is refl ray_is
 -- ---- sums with their numbers
 x_of_point : IsOverflow is_some at_point (Elim [] [] 0 1 2) (operation Mul (n 1) (n 3))
 unfolding whole fraction gcd ◌+ℚ◌ ◌*ℚ◌ neg_ℚ inverse_ℚ le_ℚ
-x_of_point = overflow_laws.term is_some at_point [] [] (n 1 ∷ []) three 1 (operation Mul (n 1) (n 3)) refl
+x_of_point = overflow_laws.term is_some at_point (n 1 ∷ []) three 1 (operation Mul (n 1) (n 3)) refl
     (inl (AreMultiplied.side (Contains-here (n 1 ∷ []) [] (n 1 ∷ []) refl) (IsBaseX.of_entry point (IsTrailEntry.there (5, lit< tt, refl)) refl)))
     (lit≤ tt) (lit≤ tt) (lit≤ tt) (inl (refl, refl, refl, refl))
 
@@ -234,7 +234,7 @@ last = n 0 ∷ n 1 ∷ []
 
 m_of_ray : IsOverflow is_some at_point (Elim [] [] 0 2 2) (operation Mul (n 2) (n 1))
 unfolding whole fraction gcd ◌+ℚ◌ ◌*ℚ◌ neg_ℚ inverse_ℚ le_ℚ
-m_of_ray = overflow_laws.term is_some at_point [] [] (n 0 ∷ n 2 ∷ []) last 2 (operation Mul (n 2) (n 1)) refl
+m_of_ray = overflow_laws.term is_some at_point (n 0 ∷ n 2 ∷ []) last 2 (operation Mul (n 2) (n 1)) refl
     (inl (AreMultiplied.shares 2 (lit≤ tt) (lit≤ tt) (same_vector_is (n 0 ∷ n 2 ∷ []) (column (cone_vectors leaning.cone) 2) refl)
     (AreBaseShares.of_entry ray (IsTrailEntry.next ones refl with_ray_is) (same_vector_is last (dense 2 (record { at = 2; value = n 1 } ∷ [])) refl))))
     (lit≤ tt) (lit≤ tt) (lit≤ tt) (inl (refl, refl, refl, refl))
@@ -249,12 +249,13 @@ possible = record {
 }
 
 licence : Licensed is_some leaning ones (record { place = Elim [] [] 0 2 2; left = operation Mul (n 2) (n 1); trail = after_duality ++ point ∷ [] })
-licence = record {
+unfolding possible
+licence = inl (record {
   weights = weights;
   whole = with_point;
-  stands = record { possible = possible; completes = Completes.after_opening (1 ∷ 2 ∷ []) inverse refl; base = with_point_is };
+  stands = record { possible = possible; completes = Completes.after_opening (1 ∷ 2 ∷ []) inverse possible.held refl; base = with_point_is };
   overflow = m_of_ray;
-}
+})
 
 -- ---- entries that may not follow
 -- neither does the trail have an entry of this kind, nor does this one meet its rules

@@ -1,5 +1,5 @@
 -- The worked rows and generators of the image, computed.
-use Rattle.std.proofs.Common.{◌≡◌, ◌≢◌, slice_index_or, ℕ, zero, suc, ◌+◌, ◌<◌, ◌≤◌, Bool, true, false, true≢false, ◌&&◌, List, [], ◌∷◌, ◌++◌, length, map, refl, sym, ap, ap₂, ◌∙◌, subst, arith, All, Contains, slice_get, inl, not}
+use Rattle.std.proofs.Common.{◌≡◌, ◌≢◌, slice_index_or, ℕ, zero, suc, ◌+◌, ◌-◌, ◌<◌, ◌≤◌, Bool, true, false, true≢false, ◌&&◌, List, [], ◌∷◌, ◌++◌, length, map, refl, sym, ap, ap₂, ◌∙◌, subst, arith, All, Contains, slice_get, inl, not}
 use Rattle.std.specs.Prelude.{◌==◌}
 use Rattle.std.specs.List.{list_all}
 use Rattle.std.proofs.Math.Dec.{lit≤, lit<}
@@ -28,7 +28,7 @@ use Rattle.log_rules.specs.Live.{rows_in_use, cut_row}
 use Rattle.log_rules.specs.Proves.{AllMeet}
 use Rattle.log_rules.proofs.LogMeets.{events_give_meets}
 use Rattle.overflow_rules.specs.Base.{IsBaseRow, trail_normals}
-use Rattle.overflow_rules.specs.Dictionaries.{AreElimRows, IsElimTable}
+use Rattle.overflow_rules.specs.Dictionaries.{AreStartRows, AreElimRows, IsElimTable}
 use Rattle.overflow_rules.specs.Examples.{plain, n, minus, half, is_few, ones}
 use Rattle.overflow_rules.specs.Generators.{IsAddition, IsPairStep, IsAdditionStep}
 use Rattle.overflow_rules.specs.ImageExamples.{quarter, three_quarters, chain, in_chain, image_rows, parallel_rows, added_rows, OverflowsChain, ImageExamples}
@@ -37,7 +37,7 @@ use Rattle.overflow_rules.specs.Steps.{operation, value_steps, pair_steps}
 use Rattle.geo_duality.specs.Rows.{exchange_row}
 use Rattle.overflow_rules.proofs.Given.{not_held, overflow_laws}
 use Rattle.overflow_rules.proofs.Values.{equal, apart, wide_test, two_below, step_is}
-use Rattle.overflow_rules.proofs.Worked.{no_names}
+use Rattle.overflow_rules.proofs.Pivots.{no_column}
 use Rattle.overflow_rules.proofs.WorkedPairs.{known_is}
 
 -- equal rows
@@ -63,7 +63,7 @@ meets = events_give_meets (λ q. true) plain chain refl
 abbrev normal_rows : List (List ℚ)
 normal_rows = (half ∷ half ∷ []) ∷ (n 0 ∷ n 1 ∷ []) ∷ (quarter ∷ three_quarters ∷ []) ∷ (n 0 ∷ n 1 ∷ []) ∷ []
 
-of_normals : OverflowsChain (Elim normal_rows [] 3 1 1) (operation Div three_quarters quarter)
+of_normals : OverflowsChain (Elim normal_rows (0 ∷ 0 ∷ 0 ∷ 0 ∷ []) 3 1 1) (operation Div three_quarters quarter)
 unfolding whole fraction gcd ◌+ℚ◌ ◌*ℚ◌ neg_ℚ inverse_ℚ le_ℚ
 of_normals = record {
   not_held = not_held is_few (operation Div three_quarters quarter) refl refl;
@@ -72,11 +72,11 @@ of_normals = record {
     columns = 2;
     dictionary = normal_rows;
     is = record {
-      allowed = AreElimRows.of_normals (rows_are normal_rows (trail_normals 2 chain) refl);
       table = normal_rows;
-      of_rows = IsElimTable.alone refl refl;
-      is = starts 2 normal_rows [] (wide_test 2 normal_rows refl) no_names;
+      of_rows = IsElimTable.alone (AreElimRows.of_normals (rows_are normal_rows (trail_normals 2 chain) refl)) refl refl;
+      is = starts 2 normal_rows (0 ∷ 0 ∷ 0 ∷ 0 ∷ []) (wide_test 2 normal_rows refl) (λ i. no_column 4 (i - 1));
     };
+    one_each = refl;
     row_from_one = lit≤ tt;
     col_from_one = lit≤ tt;
     operands = (
@@ -116,21 +116,21 @@ are_corners = record {
 abbrev numbers : List ℕ
 numbers = 3 ∷ 4 ∷ []
 
-image_allowed : AreElimRows in_chain image_rows 3
+image_allowed : AreStartRows in_chain image_rows 3
 unfolding whole fraction gcd ◌+ℚ◌ ◌*ℚ◌ neg_ℚ inverse_ℚ le_ℚ
-image_allowed = AreElimRows.of_image numbers
+image_allowed = AreStartRows.of_image numbers
     (All-cons (λ k. (1 ≤ k) × (k ≤ 4)) 3 (4 ∷ []) (lit≤ tt, lit≤ tt)
     (All-cons (λ k. (1 ≤ k) × (k ≤ 4)) 4 [] (lit≤ tt, lit≤ tt) (All-nil (λ k. (1 ≤ k) × (k ≤ 4))))) refl
     (subst (λ (vs : List (List ℚ)). HasFullRank 2 vs) (rows_are two_normals (map (row_of (trail_normals 2 chain)) numbers) refl)
     (corners_determine 2 two_normals vectors are_corners))
     (rows_are image_rows (level 2 ∷ map (cut_row (standing in_chain)) numbers) refl)
 
-elimination : OverflowsChain (Elim image_rows [] 3 3 1) (operation Div (n 1) (minus 4))
+elimination : OverflowsChain (Elim image_rows (0 ∷ 0 ∷ 0 ∷ []) 3 3 1) (operation Div (n 1) (minus 4))
 unfolding whole fraction gcd ◌+ℚ◌ ◌*ℚ◌ neg_ℚ inverse_ℚ le_ℚ
-elimination = overflow_laws.elimination is_few in_chain image_rows 3 image_rows 3 [] 3 3 1 (operation Div (n 1) (minus 4)) refl refl image_allowed
-    (IsElimTable.alone refl refl) (lit≤ tt) (lit≤ tt) (
+elimination = overflow_laws.elimination is_few in_chain image_rows 3 image_rows 3 (0 ∷ 0 ∷ 0 ∷ []) 3 3 1 (operation Div (n 1) (minus 4)) refl refl
+    (IsElimTable.alone (AreElimRows.of_start 3 image_allowed) refl refl) refl (lit≤ tt) (lit≤ tt) (
       image_rows,
-      starts 3 image_rows [] (wide_test 3 image_rows refl) no_names,
+      starts 3 image_rows (0 ∷ 0 ∷ 0 ∷ []) (wide_test 3 image_rows refl) (λ i. no_column 3 (i - 1)),
       (2, lit≤ tt, lit≤ tt, inl (refl, (refl, equal (n 1) (at image_rows 3 2) refl, equal (minus 4) (at image_rows 3 3) refl, refl))),
       lit≤ tt,
       lit≤ tt,
@@ -186,12 +186,12 @@ no_elimination h = go 3 h refl
   where
     go : (width : ℕ) → AreElimRows in_chain parallel_rows width → 3 ≡ width → ⊥
     go width (AreElimRows.of_normals e) l = let three : 3 ≡ 2 = l in omega (arith, three)
-    go width (AreElimRows.of_image cuts all many rank e) l =
+    go width (AreElimRows.of_start w (AreStartRows.of_image cuts all many rank e)) l =
         let count : length cuts + 0 ≡ 2 = many in
         no_image cuts all (omega (arith, count)) (subst (λ (vs : List (List ℚ)). HasFullRank 2 vs) (unmarked (map (row_of (trail_normals 2 chain)) cuts)) rank)
         (e ∙ unmarked (level 2 ∷ map (cut_row (standing in_chain)) cuts))
-    go width (AreElimRows.of_cone all) l = let three : 3 ≡ 2 = l in omega (arith, three)
-    go width (AreElimRows.of_base c known all) l =
+    go width (AreElimRows.of_start w (AreStartRows.of_cone all)) l = let three : 3 ≡ 2 = l in omega (arith, three)
+    go width (AreElimRows.of_start w (AreStartRows.of_base c known all)) l =
         no_row (subst (λ (d : List ℚ). IsBaseRow plain d (n 0 ∷ n 1 ∷ n 0 ∷ [])) (known_is c known) (all 1 (n 0 ∷ n 1 ∷ n 0 ∷ []) (lit< tt)))
 
 -- ---- the addition of the fourth cut

@@ -1,5 +1,5 @@
 -- The worked rows, generators and sums of an image with a line, computed.
-use Rattle.std.proofs.Common.{◌≡◌, slice_index_or, ℕ, zero, suc, ◌<◌, ◌≤◌, Bool, true, false, List, [], ◌∷◌, ◌++◌, length, map, refl, sym, ap, ◌∙◌, subst, arith, All, Contains, slice_get, ◌⊎◌, inl, inr, None, pos}
+use Rattle.std.proofs.Common.{◌≡◌, slice_index_or, ℕ, zero, suc, ◌-◌, ◌<◌, ◌≤◌, Bool, true, false, List, [], ◌∷◌, ◌++◌, length, map, refl, sym, ap, ◌∙◌, subst, arith, All, Contains, slice_get, ◌⊎◌, inl, inr, None, pos}
 use Rattle.std.specs.Prelude.{◌==◌}
 use Rattle.std.specs.List.{list_all}
 use Rattle.std.proofs.Math.Dec.{lit≤, lit<}
@@ -52,8 +52,8 @@ use Rattle.lp_form.specs.Programs.{side_total, feasible_system, benson_system, c
 use Rattle.overflow_rules.specs.Base.{IsSolutionOff, AreMultipliersOff, IsBaseChoice, IsBaseRow, IsBaseCut, IsBaseStart, IsFlat, IsSide, trail_normals}
 use Rattle.overflow_rules.specs.Examples.{n, minus, is_few, ones, trail_of}
 use Rattle.overflow_rules.specs.LineExamples.{half_plane, cuts, line, beside, along, in_along, OverflowsAlong, short_rows, full_rows, short_added, full_added, LineExamples}
-use Rattle.overflow_rules.specs.Licence.{StandsFor, Completes, Licensed}
-use Rattle.overflow_rules.specs.Dictionaries.{AreElimRows, IsElimTable, IsElimStep}
+use Rattle.overflow_rules.specs.Licence.{StandsFor, Completes, IsHeldDuality, Licensed}
+use Rattle.overflow_rules.specs.Dictionaries.{AreStartRows, AreElimRows, IsElimTable, IsElimStep}
 use Rattle.overflow_rules.specs.Generators.{IsAddition, IsPairStep, IsAdditionStep, filled}
 use Rattle.overflow_rules.specs.Products.{IsListStep, IsRowOrWeight, IsStartOrGenerator, AreMultiplied}
 use Rattle.overflow_rules.specs.Settings.{standing, line_marks}
@@ -64,9 +64,9 @@ use Rattle.overflow_rules.proofs.FirstCut.{at_least_zero}
 use Rattle.overflow_rules.proofs.Given.{not_held, overflow_laws}
 use Rattle.overflow_rules.proofs.Growing.{trail_laws}
 use Rattle.overflow_rules.proofs.Making.{generator_laws}
-use Rattle.overflow_rules.proofs.Pivots.{Pivots, table_after}
-use Rattle.overflow_rules.proofs.Values.{equal, apart, wide_test, step_is}
-use Rattle.overflow_rules.proofs.Worked.{begins, no_names}
+use Rattle.overflow_rules.proofs.Pivots.{Pivots, table_after, no_column}
+use Rattle.overflow_rules.proofs.Values.{equal, apart, wide_test, step_is, held_all}
+use Rattle.overflow_rules.proofs.Worked.{begins}
 use Rattle.overflow_rules.proofs.WorkedBase.{full_after}
 use Rattle.overflow_rules.proofs.WorkedImages.{rows_are}
 use Rattle.overflow_rules.proofs.WorkedPairs.{known_is, live_wide}
@@ -353,21 +353,21 @@ are_corners = record {
   zero_elsewhere = λ i j l u h. absurd (h (omega (arith, l, u)));
 }
 
-allowed_rows : AreElimRows in_along short_rows 2
+allowed_rows : AreStartRows in_along short_rows 2
 unfolding whole fraction gcd ◌+ℚ◌ ◌*ℚ◌ neg_ℚ inverse_ℚ le_ℚ
-allowed_rows = AreElimRows.of_image (2 ∷ [])
+allowed_rows = AreStartRows.of_image (2 ∷ [])
     (All-cons (λ k. (1 ≤ k) × (k ≤ 2)) 2 [] (lit≤ tt, lit≤ tt) (All-nil (λ k. (1 ≤ k) × (k ≤ 2)))) refl
     (subst (λ (vs : List (List ℚ)). HasFullRank 1 vs)
     (rows_are short_normals (map (without (line_marks in_along)) (map (row_of (trail_normals 2 along)) (2 ∷ []))) refl)
     (corners_determine 1 short_normals short_normals are_corners))
     (rows_are short_rows (map (without (line_marks in_along)) (level 2 ∷ map (cut_row (standing in_along)) (2 ∷ []))) refl)
 
-elimination : OverflowsAlong (Elim short_rows [] 2 2 1) (operation Div (n 1) (minus 4))
+elimination : OverflowsAlong (Elim short_rows (0 ∷ 0 ∷ []) 2 2 1) (operation Div (n 1) (minus 4))
 unfolding whole fraction gcd ◌+ℚ◌ ◌*ℚ◌ neg_ℚ inverse_ℚ le_ℚ
-elimination = overflow_laws.elimination is_few in_along short_rows 2 short_rows 2 [] 2 2 1 (operation Div (n 1) (minus 4)) refl refl allowed_rows
-    (IsElimTable.alone refl refl) (lit≤ tt) (lit≤ tt) (
+elimination = overflow_laws.elimination is_few in_along short_rows 2 short_rows 2 (0 ∷ 0 ∷ []) 2 2 1 (operation Div (n 1) (minus 4)) refl refl
+    (IsElimTable.alone (AreElimRows.of_start 2 allowed_rows) refl refl) refl (lit≤ tt) (lit≤ tt) (
       short_rows,
-      starts 2 short_rows [] (wide_test 2 short_rows refl) no_names,
+      starts 2 short_rows (0 ∷ 0 ∷ []) (wide_test 2 short_rows refl) (λ i. no_column 2 (i - 1)),
       (1, lit≤ tt, lit≤ tt, inl (refl, (refl, equal (n 1) (at short_rows 2 1) refl, equal (minus 4) (at short_rows 2 2) refl, refl))),
       lit≤ tt,
       lit≤ tt,
@@ -379,13 +379,17 @@ begun : StandsFor is_few half_plane ones [] [] (trail_of ones)
 unfolding whole fraction gcd ◌+ℚ◌ ◌*ℚ◌ neg_ℚ inverse_ℚ le_ℚ
 begun = begins half_plane ones refl refl (refl, refl)
 
-licence : Licensed is_few half_plane ones (record { place = Elim short_rows [] 2 2 1; left = operation Div (n 1) (minus 4); trail = beside })
-licence = record {
+no_numbers : IsHeldDuality is_few ones [] []
+unfolding whole fraction gcd ◌+ℚ◌ ◌*ℚ◌ neg_ℚ inverse_ℚ le_ℚ
+no_numbers = record { c_held = held_all is_few ones refl; weights_held = held_all is_few [] refl; inverse_held = held_all is_few [] refl }
+
+licence : Licensed is_few half_plane ones (record { place = Elim short_rows (0 ∷ 0 ∷ []) 2 2 1; left = operation Div (n 1) (minus 4); trail = beside })
+licence = inl (record {
   weights = [];
   whole = along;
-  stands = record { possible = begun.possible; completes = Completes.after_opening [] [] refl; base = with_line };
+  stands = record { possible = begun.possible; completes = Completes.after_opening [] [] no_numbers refl; base = with_line };
   overflow = elimination;
-}
+})
 
 no_row : IsBaseRow half_plane ones (n 0 ∷ n 1 ∷ minus 4 ∷ []) → ⊥
 unfolding whole le_ℚ neg_ℚ
@@ -401,17 +405,21 @@ first_long rs = length (slice_index_or rs 0 [])
 no_rows : (width : ℕ) → AreElimRows in_along full_rows width → ⊥
 unfolding whole fraction gcd ◌+ℚ◌ ◌*ℚ◌ neg_ℚ inverse_ℚ le_ℚ
 no_rows width (AreElimRows.of_normals e) = let long : 3 ≡ 2 = ap first_long e in omega (arith, long)
-no_rows width (AreElimRows.of_image cuts all many rank e) = let long : 3 ≡ 2 = ap first_long e in omega (arith, long)
-no_rows width (AreElimRows.of_cone all) = Contains-nil _ (all 0 (n 0 ∷ n 0 ∷ n 1 ∷ []) (lit< tt))
-no_rows width (AreElimRows.of_base c known all) =
+no_rows width (AreElimRows.of_start w (AreStartRows.of_image cuts all many rank e)) = let long : 3 ≡ 2 = ap first_long e in omega (arith, long)
+no_rows width (AreElimRows.of_start w (AreStartRows.of_cone all)) = Contains-nil _ (all 0 (n 0 ∷ n 0 ∷ n 1 ∷ []) (lit< tt))
+no_rows width (AreElimRows.of_start w (AreStartRows.of_base c known all)) =
     no_row (subst (λ (d : List ℚ). IsBaseRow half_plane d (n 0 ∷ n 1 ∷ minus 4 ∷ [])) (known_is c known) (all 1 (n 0 ∷ n 1 ∷ minus 4 ∷ []) (lit< tt)))
 
-full_elimination : OverflowsAlong (Elim full_rows [] 2 3 1) (operation Div (n 1) (minus 4)) → ⊥
+full_elimination : OverflowsAlong (Elim full_rows (0 ∷ 0 ∷ []) 2 3 1) (operation Div (n 1) (minus 4)) → ⊥
 full_elimination h = go h.operands
   where
-    go : IsElimStep is_few in_along full_rows [] 2 3 1 (operation Div (n 1) (minus 4))
-        ⊎ ((◌≡◌ {A = ℕ} 2 0) × IsListStep in_along full_rows 3 1 (operation Div (n 1) (minus 4))) → ⊥
-    go (inl e) = no_rows e.width e.is.allowed
+    go : IsElimStep is_few in_along full_rows (0 ∷ 0 ∷ []) 2 3 1 (operation Div (n 1) (minus 4))
+        ⊎ ((◌≡◌ {A = ℕ} 2 0) × (◌≡◌ {A = List ℕ} (0 ∷ 0 ∷ []) []) × IsListStep in_along full_rows 3 1 (operation Div (n 1) (minus 4))) → ⊥
+    go (inl e) = within e.is.of_rows
+      where
+        within : IsElimTable in_along full_rows e.width e.is.table e.columns → ⊥
+        within (IsElimTable.alone allowed same many) = no_rows e.width allowed
+        within (IsElimTable.beside allowed square same many) = no_rows e.width (AreElimRows.of_start e.width allowed)
     go (inr l) = let k = l.0 in omega (arith, k)
 
 -- ---- the addition of the second cut
@@ -547,7 +555,7 @@ is_multiplied = AreMultiplied.across (IsRowOrWeight.in_use is_used)
 
 product : OverflowsAlong (Elim [] [] 0 2 2) (operation Mul (n 1) (n 4))
 unfolding whole fraction gcd ◌+ℚ◌ ◌*ℚ◌ neg_ℚ inverse_ℚ le_ℚ
-product = overflow_laws.term is_few in_along [] [] row full_point 2 (operation Mul (n 1) (n 4)) refl (inl is_multiplied) (lit≤ tt) (lit≤ tt) (lit≤ tt)
+product = overflow_laws.term is_few in_along row full_point 2 (operation Mul (n 1) (n 4)) refl (inl is_multiplied) (lit≤ tt) (lit≤ tt) (lit≤ tt)
     (inl (refl, refl, refl, refl))
 
 -- ---- each generator has all three entries

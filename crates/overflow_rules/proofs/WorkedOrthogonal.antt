@@ -16,7 +16,7 @@ use Rattle.tableaux.specs.Elimination.{ray_of}
 use Rattle.tableaux.proofs.Eliminated.{starts}
 use Rattle.tableaux.proofs.Places.{length-list_from}
 use Rattle.deriv_log.specs.declared.licence.Place.TheVariants.{Scale}
-use Rattle.overflow_rules.specs.Dictionaries.{AreElimRows, IsElimTable}
+use Rattle.overflow_rules.specs.Dictionaries.{AreStartRows, AreElimRows, IsElimTable}
 use Rattle.overflow_rules.specs.Examples.{n, minus, half, is_few, cut_entry, second_cut, with_cuts, OrthogonalExamples}
 use Rattle.overflow_rules.specs.Licence.{IsOverflow}
 use Rattle.overflow_rules.specs.Quotients.{IsOrthogonalOff, IsScaled, IsDivisor}
@@ -56,7 +56,7 @@ is_across = record {
   columns = 2;
   basis = 1 ∷ [];
   dictionary = eliminated;
-  is = record { allowed = AreElimRows.of_normals refl; table = normal; of_rows = IsElimTable.alone refl refl; is = is_dictionary };
+  is = record { table = normal; of_rows = IsElimTable.alone (AreElimRows.of_normals refl) refl refl; is = is_dictionary };
   col = 2;
   from_one = lit≤ tt;
   to_end = lit≤ tt;
@@ -107,15 +107,19 @@ no_rows (r ∷ rows) h = absurd (Contains-nil r (h 0 r (omega arith)))
 
 no_orthogonal : IsOrthogonalOff two_cuts across → ⊥
 unfolding whole le_ℚ neg_ℚ
-no_orthogonal o = go o.rows o.width o.is.allowed (orthogonal_vectors two_cuts across o) long (λ h. unit h o.is.of_rows)
+no_orthogonal o = go o.rows o.width (allowed o.is.of_rows) (orthogonal_vectors two_cuts across o) long (λ h. unit h o.is.of_rows)
   where
     long : 2 ≡ o.width
     long = ap (λ (v : List ℚ). length v) o.same ∙ length-list_from 1 o.width _
 
-    unit : length o.rows ≡ 0 → IsElimTable o.rows o.width o.is.table o.columns → ⊥
-    unit none (IsElimTable.alone same many) =
+    allowed : IsElimTable two_cuts o.rows o.width o.is.table o.columns → AreElimRows two_cuts o.rows o.width
+    allowed (IsElimTable.alone h same many) = h
+    allowed (IsElimTable.beside h square same many) = AreElimRows.of_start o.width h
+
+    unit : length o.rows ≡ 0 → IsElimTable two_cuts o.rows o.width o.is.table o.columns → ⊥
+    unit none (IsElimTable.alone h same many) =
         no_unit (minus 1) (n 1 ∷ []) refl refl o.width o.basis o.col o.dictionary (o.is.is.one_each ∙ ap (λ (t : Table). length t) same ∙ none) o.same
-    unit none (IsElimTable.beside square same many) = omega (arith, none, square, long)
+    unit none (IsElimTable.beside h square same many) = omega (arith, none, square, long)
 
     go : (rows : Table) (width : ℕ) → AreElimRows two_cuts rows width → (AreWide width rows → All (λ (row : List ℚ). dot row across ≡ zero_ℚ) rows) → 2 ≡ width →
         (length rows ≡ 0 → ⊥) → ⊥
@@ -125,9 +129,9 @@ no_orthogonal o = go o.rows o.width o.is.allowed (orthogonal_vectors two_cuts ac
         of_both rows e h =
             not_both (subst (λ (rs : Table). All (λ (row : List ℚ). dot row across ≡ zero_ℚ) rs) e
             (h (subst (λ (rs : Table). AreWide 2 rs) (sym e) (wide_test 2 both refl))))
-    go rows width (AreElimRows.of_image cuts all many rank e) h l u = let three : 2 ≡ 3 = l in omega (arith, three)
-    go rows width (AreElimRows.of_cone all) h l u = u (no_rows rows all)
-    go rows width (AreElimRows.of_base c known all) h l u = let three : 2 ≡ 3 = l in omega (arith, three)
+    go rows width (AreElimRows.of_start w (AreStartRows.of_image cuts all many rank e)) h l u = let three : 2 ≡ 3 = l in omega (arith, three)
+    go rows width (AreElimRows.of_start w (AreStartRows.of_cone all)) h l u = u (no_rows rows all)
+    go rows width (AreElimRows.of_start w (AreStartRows.of_base c known all)) h l u = let three : 2 ≡ 3 = l in omega (arith, three)
 
 pub orthogonal_examples : OrthogonalExamples
 orthogonal_examples = record { orthogonal = orthogonal; no_orthogonal = no_orthogonal }

@@ -90,7 +90,7 @@ cut = IsBaseCut.of_benson z (is_read, solves) (same_vector_is (n 1 ∷ n 0 ∷ [
 
 bounds : OverflowsNarrow (Elim [] [] 0 1 2) (operation Mul (n 3) (n 2))
 unfolding whole fraction gcd ◌+ℚ◌ ◌*ℚ◌ neg_ℚ inverse_ℚ le_ℚ
-bounds = overflow_laws.term is_few in_narrow [] [] (n 3 ∷ []) (n 2 ∷ []) 1 (operation Mul (n 3) (n 2)) refl
+bounds = overflow_laws.term is_few in_narrow (n 3 ∷ []) (n 2 ∷ []) 1 (operation Mul (n 3) (n 2)) refl
     (inl (AreMultiplied.bounds refl (inl (ones, n 1 ∷ n 0 ∷ [], record { at = 1; value = n 2 } ∷ [], [], refl, cut, refl))))
     (lit≤ tt) (lit≤ tt) (lit≤ tt) (inl (refl, refl, refl, refl))
 
@@ -111,7 +111,7 @@ seven P h (u ∷ a ∷ b ∷ c ∷ d ∷ k ∷ l ∷ x ∷ more) e = absurd (ome
 abbrev Sums : List ℚ → Type 0
 Sums w = dot ones w ≡ one_ℚ
 
-collect : (o u a b c d k l : ℚ) →
+pub collect : (o u a b c d k l : ℚ) →
     zero_ℚ *ℚ u +ℚ (o *ℚ a +ℚ (o *ℚ b +ℚ (neg_ℚ o *ℚ c +ℚ (neg_ℚ o *ℚ d +ℚ (zero_ℚ *ℚ k +ℚ (zero_ℚ *ℚ l +ℚ zero_ℚ))))))
     ≡ o *ℚ (a +ℚ neg_ℚ c) +ℚ (o *ℚ (b +ℚ neg_ℚ d) +ℚ zero_ℚ)
 collect o u a b c d k l =
@@ -129,7 +129,7 @@ complete x =
     ring rationals (x ∷ [])
     (num (pos 1) ⊗ v0 ⊕ (num (pos 1) ⊗ (num (pos 1) ⊝ (num (pos 1) ⊗ v0 ⊕ num (pos 0))) ⊕ num (pos 0))) (num (pos 1)) refl
 
-weight_sums : (g w : List ℚ) → length g ≡ 3 → w ≡ weight_of ones g → (length w ≡ 2) × Sums w
+pub weight_sums : (g w : List ℚ) → length g ≡ 3 → w ≡ weight_of ones g → (length w ≡ 2) × Sums w
 unfolding whole
 weight_sums [] w l e = absurd (omega (arith, l))
 weight_sums (x ∷ g) w l e = (ap (λ (y : List ℚ). length y) e, ap (λ (y : List ℚ). dot ones y) e ∙ complete x)
@@ -417,7 +417,7 @@ three_is = record {
 
 choice : OverflowsNarrow (Elim [] [] 0 1 2) (operation Mul (n 2) (n 3))
 unfolding whole fraction gcd ◌+ℚ◌ ◌*ℚ◌ neg_ℚ inverse_ℚ le_ℚ
-choice = overflow_laws.term is_few in_narrow [] [] (n 2 ∷ []) three 1 (operation Mul (n 2) (n 3)) refl
+choice = overflow_laws.term is_few in_narrow (n 2 ∷ []) three 1 (operation Mul (n 2) (n 3)) refl
     (inl (AreMultiplied.of_objective (Contains-here (n 2 ∷ []) ((minus 1 ∷ []) ∷ []) (n 2 ∷ []) refl) (IsBaseX.choice three_is))) (lit≤ tt) (lit≤ tt) (lit≤ tt)
     (inl (refl, refl, refl, refl))
 
@@ -473,7 +473,7 @@ dual_cut = IsBaseCut.of_benson dual_z (dual_read, dual_solves) (same_vector_is t
 
 of_cut : IsOverflow is_few dual (Elim [] [] 0 1 2) (operation Mul (n 1) third)
 unfolding whole fraction gcd ◌+ℚ◌ ◌*ℚ◌ neg_ℚ inverse_ℚ le_ℚ
-of_cut = overflow_laws.term is_few dual [] [] (n 1 ∷ n 0 ∷ []) thirds 1 (operation Mul (n 1) third) refl
+of_cut = overflow_laws.term is_few dual (n 1 ∷ n 0 ∷ []) thirds 1 (operation Mul (n 1) third) refl
     (inl (AreMultiplied.shares 1 (lit≤ tt) (lit≤ tt) (same_vector_is (n 1 ∷ n 0 ∷ []) (column (cone_vectors in_dual_form.cone) 1) refl)
     (AreBaseShares.of_cut ones thirds [] v refl dual_cut (same_vector_is thirds (dense 2 v) refl))))
     (lit≤ tt) (lit≤ tt) (lit≤ tt) (inl (refl, refl, refl, refl))
@@ -530,13 +530,13 @@ no_place h = go h.operands
   where
     listed : IsListStep in_narrow [] 4 2 (operation Mul (n 3) (n 2)) → ⊥
     listed (IsListStep.normed s) = let k = s.first in omega (arith, k)
-    listed (IsListStep.forward xs ys m p) = let few = short xs ys m in let many = p.in_first in omega (arith, few, many)
-    listed (IsListStep.backward xs ys m p) = let few = short ys xs m in let many = p.in_second in omega (arith, few, many)
-    listed (IsListStep.share s) = let few : 4 ≤ 0 = s.to_end in omega (arith, few)
+    listed (IsListStep.forward xs ys none m p) = let few = short xs ys m in let many = p.in_first in omega (arith, few, many)
+    listed (IsListStep.backward xs ys none m p) = let few = short ys xs m in let many = p.in_second in omega (arith, few, many)
+    listed (IsListStep.share none s) = let few : 4 ≤ 0 = s.to_end in omega (arith, few)
 
-    go : IsElimStep is_few in_narrow [] [] 0 4 2 (operation Mul (n 3) (n 2)) ⊎ ((◌≡◌ {A = ℕ} 0 0) × IsListStep in_narrow [] 4 2 (operation Mul (n 3) (n 2))) → ⊥
+    go : IsElimStep is_few in_narrow [] [] 0 4 2 (operation Mul (n 3) (n 2)) ⊎ ((◌≡◌ {A = ℕ} 0 0) × (◌≡◌ {A = List ℕ} [] []) × IsListStep in_narrow [] 4 2 (operation Mul (n 3) (n 2))) → ⊥
     go (inl e) = let k = e.row_from_one in omega (arith, k)
-    go (inr x) = listed x.1
+    go (inr x) = listed x.2
 
 pub pair_examples : PairExamples
 unfolding whole fraction gcd ◌+ℚ◌ ◌*ℚ◌ neg_ℚ inverse_ℚ le_ℚ

@@ -25,7 +25,7 @@ use Rattle.lp_form.specs.Programs.{weight_system, choice_of, share_of}
 use Rattle.overflow_rules.specs.Base.{IsSolutionOff, AreMultipliersOff, AreFirstMultipliersOff, IsRayOff, IsBaseRay, IsConeDirection, IsGeneratorOf, image_of}
 use Rattle.overflow_rules.specs.Examples.{generated, n, minus, minus_half, is_few, ones, at_start}
 use Rattle.lp_form.specs.Examples.{numbers, rows}
-use Rattle.overflow_rules.specs.Dictionaries.{system_in, AreElimRows, IsElimTable}
+use Rattle.overflow_rules.specs.Dictionaries.{system_in, AreStartRows, AreElimRows, IsElimTable}
 use Rattle.overflow_rules.specs.Licence.{IsOverflow}
 use Rattle.overflow_rules.specs.PairExamples.{narrow, wider, in_narrow, OverflowsNarrow, ScaleExamples, WorkedPairs}
 use Rattle.overflow_rules.specs.Quotients.{IsReadVector, IsOrthogonalOff, IsScaled, IsDivisor}
@@ -185,21 +185,25 @@ not_read h = go h.same
 -- ---- without cuts only unit vectors are orthogonal
 not_orthogonal : IsOrthogonalOff in_narrow along → ⊥
 unfolding whole le_ℚ neg_ℚ
-not_orthogonal o = go o.rows o.width o.is.allowed long (λ h. unit h o.is.of_rows)
+not_orthogonal o = go o.rows o.width (allowed o.is.of_rows) long (λ h. unit h o.is.of_rows)
   where
     long : 2 ≡ o.width
     long = ap (λ (v : List ℚ). length v) o.same ∙ length-list_from 1 o.width _
 
-    unit : length o.rows ≡ 0 → IsElimTable o.rows o.width o.is.table o.columns → ⊥
-    unit none (IsElimTable.alone same many) =
+    allowed : IsElimTable in_narrow o.rows o.width o.is.table o.columns → AreElimRows in_narrow o.rows o.width
+    allowed (IsElimTable.alone h same many) = h
+    allowed (IsElimTable.beside h square same many) = AreElimRows.of_start o.width h
+
+    unit : length o.rows ≡ 0 → IsElimTable in_narrow o.rows o.width o.is.table o.columns → ⊥
+    unit none (IsElimTable.alone h same many) =
         no_unit (n 2) (n 1 ∷ []) refl refl o.width o.basis o.col o.dictionary (o.is.is.one_each ∙ ap (λ (t : Table). length t) same ∙ none) o.same
-    unit none (IsElimTable.beside square same many) = omega (arith, none, square, long)
+    unit none (IsElimTable.beside h square same many) = omega (arith, none, square, long)
 
     go : (rows : Table) (width : ℕ) → AreElimRows in_narrow rows width → 2 ≡ width → (length rows ≡ 0 → ⊥) → ⊥
     go rows width (AreElimRows.of_normals e) l u = u (ap (λ (t : Table). length t) e)
-    go rows width (AreElimRows.of_image cuts all many rank e) l u = let three : 2 ≡ 3 = l in omega (arith, three)
-    go rows width (AreElimRows.of_cone all) l u = u (no_rows rows all)
-    go rows width (AreElimRows.of_base c known all) l u = let three : 2 ≡ 3 = l in omega (arith, three)
+    go rows width (AreElimRows.of_start w (AreStartRows.of_image cuts all many rank e)) l u = let three : 2 ≡ 3 = l in omega (arith, three)
+    go rows width (AreElimRows.of_start w (AreStartRows.of_cone all)) l u = u (no_rows rows all)
+    go rows width (AreElimRows.of_start w (AreStartRows.of_base c known all)) l u = let three : 2 ≡ 3 = l in omega (arith, three)
 
 no_image : IsScaled in_narrow along → ⊥
 unfolding whole le_ℚ

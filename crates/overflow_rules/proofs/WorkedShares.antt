@@ -72,7 +72,8 @@ product = record {
   not_held = not_held is_some (operation Mul (fraction (pos 5) 2) half) refl refl;
   operands = inr (
     refl,
-    IsListStep.share (record {
+    refl,
+    IsListStep.share refl (record {
       multipliers = read;
       read = are_multipliers;
       negative = refl;
@@ -93,7 +94,8 @@ sum = record {
   not_held = not_held is_some (operation Add (fraction (negsuc 2) 2) (fraction (pos 5) 4)) refl refl;
   operands = inr (
     refl,
-    IsListStep.share (record {
+    refl,
+    IsListStep.share refl (record {
       multipliers = read;
       read = are_multipliers;
       negative = refl;

@@ -1,5 +1,5 @@
 -- The worked licences of double description, of rows, of norming and of the check, computed.
-use Rattle.std.proofs.Common.{◌≡◌, ◌≢◌, slice_index_or, ℕ, zero, suc, ◌<◌, List, [], ◌∷◌, length, refl, sym, ap, ◌∙◌, subst, arith, slice_get, None, Some, Option, codes, All, false, true, ◌++◌}
+use Rattle.std.proofs.Common.{◌≡◌, ◌≢◌, slice_index_or, ℕ, zero, suc, ◌<◌, List, [], ◌∷◌, length, refl, sym, ap, ◌∙◌, subst, arith, slice_get, None, Some, Option, codes, All, false, true, true≢false, ◌++◌, inl, inr}
 use Rattle.std.specs.Prelude.{Contains}
 use Rattle.std.proofs.Math.Dec.{lit≤}
 use Rattle.std.proofs.lemmas.List.Elements.{All-nil, All-cons}
@@ -13,17 +13,21 @@ use Rattle.polyhedra.specs.DoubleDescription.{IsNormed, leading, magnitude}
 use Rattle.polyhedra.specs.LiveList.{Numbered, LivePair, live_pairs, starting}
 use Rattle.polyhedra.proofs.Lists.{Contains-here, Contains-there, Contains-nil}
 use Rattle.polyhedra.proofs.Tests.{same_vector_is}
+use Rattle.deriv_log.specs.Formed.{IsLog, ends_once}
+use Rattle.deriv_log.specs.declared.entry.Entry.{Entry}
 use Rattle.deriv_log.specs.declared.licence.Family.TheVariants.{ConeRows}
+use Rattle.deriv_log.specs.declared.licence.Place.{Place}
 use Rattle.deriv_log.specs.declared.licence.Place.TheVariants.{Pair, Exchange, Scale, Step}
 use Rattle.log_rules.specs.Events.{Event, Failure}
 use Rattle.log_rules.specs.Events.Event.{test, step}
 use Rattle.log_rules.specs.Events.Failure.{wrong, left as overflows}
 use Rattle.log_rules.specs.LogEvents.{Failing, plain_failure}
-use Rattle.overflow_rules.specs.Examples.{plain, dual_form, n, minus_half, four_fifths, cut_entry, is_few, ones, scaled_given, trail_of, setting, square_rows, square_list, OverflowsPlain, OverflowsDual, StepExamples, WorkedLicences}
+use Rattle.overflow_rules.specs.Examples.{plain, dual_form, n, minus_half, four_fifths, cut_entry, is_few, ones, scaled_given, trail_of, setting, square_rows, square_list, ended, step_licence, OverflowsPlain, OverflowsDual, StepExamples, WorkedLicences}
 use Rattle.lp_form.specs.Examples.{numbers, rows}
 use Rattle.lp_form.specs.Programs.{nonzero_vectors}
 use Rattle.overflow_rules.specs.Base.{IsBaseRow, image_of}
 use Rattle.overflow_rules.specs.Generators.{IsMadeOver, IsAddition, IsPairStep, IsExchangeStep}
+use Rattle.overflow_rules.specs.Licence.{IsCheckOverflow, Licensed}
 use Rattle.overflow_rules.specs.Quotients.{IsScaled, IsDivisor, IsScaleStep}
 use Rattle.overflow_rules.specs.Settings.{vector_of}
 use Rattle.overflow_rules.specs.Steps.{operation, exchange_steps, value_steps, pair_steps}
@@ -77,7 +81,7 @@ nonzero_second : Contains (nonzero_vectors dual_form.cone) second
 unfolding whole fraction gcd ◌+ℚ◌ ◌*ℚ◌ neg_ℚ inverse_ℚ le_ℚ
 nonzero_second = Contains-there first (second ∷ []) second (Contains-here second [] second refl)
 
-is_addition : IsAddition given cone_rows first (starting 1 corners) ConeRows
+pub is_addition : IsAddition given cone_rows first (starting 1 corners) ConeRows
 unfolding whole
 is_addition = IsAddition.of_cone
     (All-cons (Contains (nonzero_vectors dual_form.cone)) first (second ∷ []) nonzero_first
@@ -203,13 +207,17 @@ other_divisor h =
     no_divisor (subst (λ (q : ℚ). IsDivisor given vector q) same o.divisor)
 
 -- ---- the check
-third_step : plain_failure is_few dual_form (trail_of scaled_given) ≡ Some (record { entry = 2; failure = overflows 3 Mul (n 2) four_fifths })
+third_step : plain_failure is_few dual_form ended ≡ Some (record { entry = 2; failure = overflows 3 Mul (n 2) four_fifths })
 unfolding whole fraction gcd ◌+ℚ◌ ◌*ℚ◌ neg_ℚ inverse_ℚ le_ℚ
-third_step = overflow_is (plain_failure is_few dual_form (trail_of scaled_given)) 2 3 Mul (n 2) four_fifths refl
+third_step = overflow_is (plain_failure is_few dual_form ended) 2 3 Mul (n 2) four_fifths refl
 
-check : OverflowsDual (Step 2 3) (operation Mul (n 2) four_fifths)
+is_log : IsLog ended
 unfolding whole fraction gcd ◌+ℚ◌ ◌*ℚ◌ neg_ℚ inverse_ℚ le_ℚ
-check = overflow_laws.check is_few given 2 3 Mul (n 2) four_fifths refl third_step
+is_log = record { formed = refl; ends = refl }
+
+check : IsCheckOverflow is_few dual_form ended (Step 2 3) (operation Mul (n 2) four_fifths)
+unfolding whole fraction gcd ◌+ℚ◌ ◌*ℚ◌ neg_ℚ inverse_ℚ le_ℚ
+check = overflow_laws.check is_few dual_form ended 2 3 Mul (n 2) four_fifths refl is_log third_step
 
 step_number : Option Failing → ℕ
 step_number None = 0
@@ -219,12 +227,22 @@ step_number (Some f) = of_failure f.failure
     of_failure (wrong r) = 0
     of_failure (overflows k o a b) = k
 
-earlier_step : OverflowsDual (Step 2 1) (operation Mul (n 2) four_fifths) → ⊥
-unfolding step_number
+-- the step that a place of the check names
+named_step : Place → ℕ
+named_step (Step number k) = k
+named_step p = 0
+
+earlier_step : IsCheckOverflow is_few dual_form ended (Step 2 1) (operation Mul (n 2) four_fifths) → ⊥
+unfolding step_number named_step
 earlier_step h =
-    let same : plain_failure is_few dual_form (trail_of scaled_given) ≡ Some (record { entry = 2; failure = overflows 1 Mul (n 2) four_fifths }) = h.operands in
-    let k : 3 ≡ 1 = ap step_number (sym third_step ∙ same) in
-    omega (arith, k)
+    let told : 1 ≡ h.step = ap named_step h.at in
+    let k : 3 ≡ h.step = ap step_number (sym third_step ∙ h.first) in
+    omega (arith, told, k)
+
+-- a licence of a step has a log as its trail
+not_checked : (trail : List Entry) → ends_once trail ≡ false → Licensed is_few dual_form scaled_given (step_licence trail) → ⊥
+not_checked trail none (inl h) = h.overflow.operands
+not_checked trail none (inr h) = true≢false (sym h.overflow.log.ends ∙ none)
 
 pub step_examples : StepExamples
 step_examples = record {
@@ -237,6 +255,9 @@ step_examples = record {
   other_divisor = other_divisor;
   check = check;
   earlier_step = earlier_step;
+  no_trail = not_checked [] refl;
+  cut_trail = not_checked (trail_of scaled_given) refl;
+  no_call = λ h. h.operands;
 }
 
 -- ---- the trail with the first cut

@@ -39,31 +39,31 @@ use Rattle.overflow_rules.proofs.WorkedBase.{full_after, choice, rows_are, secon
 -- ---- sums that may be formed
 weighed : OverflowsPlain (Elim [] [] 0 1 2) (operation Mul (n 1) half)
 unfolding whole fraction gcd ◌+ℚ◌ ◌*ℚ◌ neg_ℚ inverse_ℚ le_ℚ
-weighed = overflow_laws.term is_few (setting plain ones) [] [] ones (half ∷ half ∷ []) 1 (operation Mul (n 1) half) refl
+weighed = overflow_laws.term is_few (setting plain ones) ones (half ∷ half ∷ []) 1 (operation Mul (n 1) half) refl
     (inl (AreMultiplied.duality refl (ones, refl, inl (record { at = 3; value = n 1 } ∷ [], [], first_cut)))) (lit≤ tt) (lit≤ tt) (lit≤ tt)
     (inl (refl, refl, refl, refl))
 
 last_weight : OverflowsSteep (Elim [] [] 0 2 2) (operation Mul (minus 1) (n 1))
 unfolding whole fraction gcd ◌+ℚ◌ ◌*ℚ◌ neg_ℚ inverse_ℚ le_ℚ
-last_weight = overflow_laws.term is_few (setting steep ones) [] [] (n 1 ∷ minus 1 ∷ []) (n 1 ∷ n 1 ∷ []) 2 (operation Mul (minus 1) (n 1)) refl
+last_weight = overflow_laws.term is_few (setting steep ones) (n 1 ∷ minus 1 ∷ []) (n 1 ∷ n 1 ∷ []) 2 (operation Mul (minus 1) (n 1)) refl
     (inl (AreMultiplied.last_weight ones second.vector _ refl rows_are second_is (same_vector_is (n 1 ∷ minus 1 ∷ []) (one_ℚ ∷ negated (front ones)) refl) refl))
     (lit≤ tt) (lit≤ tt) (lit≤ tt) (inl (refl, refl, refl, refl))
 
 of_side : OverflowsSteep (Elim [] [] 0 1 2) (operation Mul (n 2) (n 2))
 unfolding whole fraction gcd ◌+ℚ◌ ◌*ℚ◌ neg_ℚ inverse_ℚ le_ℚ
-of_side = overflow_laws.term is_few (setting steep ones) [] [] (n 2 ∷ n 1 ∷ []) (n 2 ∷ n 2 ∷ []) 1 (operation Mul (n 2) (n 2)) refl
+of_side = overflow_laws.term is_few (setting steep ones) (n 2 ∷ n 1 ∷ []) (n 2 ∷ n 2 ∷ []) 1 (operation Mul (n 2) (n 2)) refl
     (inl (AreMultiplied.side (Contains-here (n 2 ∷ n 1 ∷ []) ((n 1 ∷ n 2 ∷ []) ∷ (n 1 ∷ n 0 ∷ []) ∷ (n 0 ∷ n 1 ∷ []) ∷ []) (n 2 ∷ n 1 ∷ []) refl) (IsBaseX.choice choice))) (lit≤ tt) (lit≤ tt) (lit≤ tt)
     (inl (refl, refl, refl, refl))
 
 of_objective : OverflowsSteep (Elim [] [] 0 2 2) (operation Mul (minus 2) (n 2))
 unfolding whole fraction gcd ◌+ℚ◌ ◌*ℚ◌ neg_ℚ inverse_ℚ le_ℚ
-of_objective = overflow_laws.term is_few (setting steep ones) [] [] (n 2 ∷ minus 2 ∷ []) (n 2 ∷ n 2 ∷ []) 2 (operation Mul (minus 2) (n 2)) refl
+of_objective = overflow_laws.term is_few (setting steep ones) (n 2 ∷ minus 2 ∷ []) (n 2 ∷ n 2 ∷ []) 2 (operation Mul (minus 2) (n 2)) refl
     (inl (AreMultiplied.of_objective (Contains-here (n 2 ∷ minus 2 ∷ []) ((n 1 ∷ n 1 ∷ []) ∷ []) (n 2 ∷ minus 2 ∷ []) refl) (IsBaseX.choice choice))) (lit≤ tt) (lit≤ tt) (lit≤ tt)
     (inl (refl, refl, refl, refl))
 
 across : OverflowsPlain (Elim [] [] 0 1 2) (operation Mul half (n 1))
 unfolding whole fraction gcd ◌+ℚ◌ ◌*ℚ◌ neg_ℚ inverse_ℚ le_ℚ
-across = overflow_laws.term is_few (setting plain ones) [] [] (half ∷ half ∷ []) (n 1 ∷ n 0 ∷ []) 1 (operation Mul half (n 1)) refl
+across = overflow_laws.term is_few (setting plain ones) (half ∷ half ∷ []) (n 1 ∷ n 0 ∷ []) 1 (operation Mul half (n 1)) refl
     (inl (AreMultiplied.across (IsRowOrWeight.weight (ones, refl, inl (record { at = 3; value = n 1 } ∷ [], [], first_cut))) (IsStartOrGenerator.start false side)))
     (lit≤ tt) (lit≤ tt) (lit≤ tt) (inl (refl, refl, refl, refl))
 
@@ -106,7 +106,7 @@ mu_shares = AreBaseShares.mu mu_off (All-cons Nonneg (n 0) (n 1 ∷ []) refl (Al
 
 shares : IsOverflow is_few (at_start generated ones) (Elim [] [] 0 2 2) (operation Mul (n 2) (n 1))
 unfolding whole fraction gcd ◌+ℚ◌ ◌*ℚ◌ neg_ℚ inverse_ℚ le_ℚ
-shares = overflow_laws.term is_few (at_start generated ones) [] [] (n 1 ∷ n 2 ∷ []) mu 2 (operation Mul (n 2) (n 1)) refl
+shares = overflow_laws.term is_few (at_start generated ones) (n 1 ∷ n 2 ∷ []) mu 2 (operation Mul (n 2) (n 1)) refl
     (inl (AreMultiplied.shares 1 (lit≤ tt) (lit≤ tt) (same_vector_is (n 1 ∷ n 2 ∷ []) (column (cone_vectors generated.cone) 1) refl) mu_shares))
     (lit≤ tt) (lit≤ tt) (lit≤ tt) (inl (refl, refl, refl, refl))
 

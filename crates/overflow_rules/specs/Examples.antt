@@ -17,14 +17,16 @@ use Rattle.vlp_problem.specs.declared.problem.Cone.{Cone}
 use Rattle.vlp_problem.specs.declared.problem.Cone.TheVariants.{Orthant, Gens, Dual}
 use Rattle.vlp_problem.specs.declared.problem.Bound.TheVariants.{Lower}
 use Rattle.deriv_log.specs.declared.entry.Entry.{Entry}
-use Rattle.deriv_log.specs.declared.entry.Entry.TheVariants.{Cut}
+use Rattle.deriv_log.specs.declared.entry.Entry.TheVariants.{Cut, End}
+use Rattle.word_lines.specs.declared.part.EndKind.TheVariants as kind
+use Rattle.deriv_log.specs.declared.licence.Licence.{Licence}
 use Rattle.vlp_problem.specs.declared.program.Program.TheVariants.{Feasible, Benson, Weight}
 use Rattle.deriv_log.specs.declared.licence.Family.TheVariants.{Exchanged, ConeRows}
 use Rattle.deriv_log.specs.declared.licence.Place.{Place}
 use Rattle.deriv_log.specs.declared.licence.Place.TheVariants.{Pivot, Elim, Pair, Exchange, Scale, Step}
 use Rattle.overflow_rules.specs.Base.{IsBaseChoice, IsBaseRay, IsBaseRow, IsBaseWeight, IsBaseCut, IsBaseStart}
 use Rattle.overflow_rules.specs.Generators.{IsPairStep}
-use Rattle.overflow_rules.specs.Licence.{IsOverflow, opening, StandsFor, Licensed}
+use Rattle.overflow_rules.specs.Licence.{IsOverflow, IsCheckOverflow, opening, StandsFor, Licensed}
 use Rattle.overflow_rules.specs.Products.{IsBaseX, AreBaseShares, AreMultiplied}
 use Rattle.overflow_rules.specs.Quotients.{IsOrthogonalOff, IsDivisor}
 use Rattle.overflow_rules.specs.Settings.{Setting}
@@ -187,11 +189,15 @@ pub record DictionaryExamples : Type 0 where
   pub origin : OverflowsPlain (Pivot (Benson (n 0 ∷ n 0 ∷ []) true) [] 1 1 1) (operation Div (n 1) (n 2))
   pub no_start : OverflowsPlain (Pivot (Benson (n 5 ∷ n 7 ∷ []) true) [] 1 1 1) (operation Div (n 1) (n 2)) → ⊥
   -- vectors of the cone, and the norming of the second column (-1/6, 1/3) of their inverse
-  pub elimination : OverflowsDual (Elim (rows (codes "2 1" ∷ codes "0 3" ∷ [])) [] 1 1 1) (operation Div (n 1) (n 2))
-  pub turned_elimination : OverflowsDual (Elim (rows (codes "2 1" ∷ codes "0 3" ∷ [])) [] 1 1 1) (operation Div (n 2) (n 1)) → ⊥
+  pub elimination : OverflowsDual (Elim (rows (codes "2 1" ∷ codes "0 3" ∷ [])) (0 ∷ 0 ∷ []) 1 1 1) (operation Div (n 1) (n 2))
+  pub turned_elimination : OverflowsDual (Elim (rows (codes "2 1" ∷ codes "0 3" ∷ [])) (0 ∷ 0 ∷ []) 1 1 1) (operation Div (n 2) (n 1)) → ⊥
+  -- the basis has one place for each of them: not three, and none in row 0
+  pub longer_basis : OverflowsDual (Elim (rows (codes "2 1" ∷ codes "0 3" ∷ [])) (0 ∷ 0 ∷ 0 ∷ []) 1 1 1) (operation Div (n 1) (n 2)) → ⊥
   pub norming : OverflowsDual (Elim (rows (codes "2 1" ∷ codes "0 3" ∷ [])) [] 0 1 1) (operation Div (fraction (negsuc 0) 6) (fraction (pos 1) 3))
   -- a vector of the cone times the given one, with either first; a sum of products has no step 4
   pub product : OverflowsDual (Elim [] [] 0 1 2) (operation Mul (n 2) (n 4))
+  pub with_basis : OverflowsDual (Elim [] (1 ∷ []) 0 1 2) (operation Mul (n 2) (n 4)) → ⊥
+  pub with_rows : OverflowsDual (Elim (rows (codes "2 1" ∷ [])) [] 0 1 2) (operation Mul (n 2) (n 4)) → ⊥
   pub turned_product : OverflowsDual (Elim [] [] 0 1 2) (operation Mul (n 4) (n 2))
   pub no_step : OverflowsDual (Elim [] [] 0 1 4) (operation Mul (n 2) (n 4)) → ⊥
 
@@ -235,7 +241,7 @@ pub record BaseExamples : Type 0 where
   pub weight_pivot : OverflowsSteep (Pivot (Weight (n 1 ∷ n 0 ∷ [])) [] 1 1 1) (operation Div (n 1) (n 2))
   pub no_weight_pivot : OverflowsSteep (Pivot (Weight (n 5 ∷ n 7 ∷ [])) [] 1 1 1) (operation Div (n 1) (n 2)) → ⊥
   pub exchange : OverflowsSteep (Exchange (n 0 ∷ n 4 ∷ []) true 1) (operation Mul (n 4) (n 1))
-  pub elimination : OverflowsSteep (Elim base_rows [] 3 1 1) (operation Div (n 1) (minus 1))
+  pub elimination : OverflowsSteep (Elim base_rows (0 ∷ 0 ∷ 0 ∷ []) 3 1 1) (operation Div (n 1) (minus 1))
   -- the ray's row at (1, 0, 1), the second of the generators, begins with -3/2 times 1
   pub addition : OverflowsSteep (Pair Exchanged (base_rows ++ ray_row ∷ []) 2 0 1) (operation Mul (fraction (negsuc 2) 2) (n 1))
   -- the ray by the first entry of its value that is not 0, whose magnitude is 1, and not by 3
@@ -292,7 +298,15 @@ square_rows = rows (codes "1 0 1" ∷ codes "-1 0 1" ∷ codes "0 1 1" ∷ codes
 abbrev pub square_list : LiveList
 square_list = starting 1 (rows (codes "1 1 1" ∷ codes "-1 1 1" ∷ codes "-1 -1 1" ∷ codes "1 -1 1" ∷ []))
 
--- values and pairs, rows, quotients and the check of a trail
+-- the first two entries and an end: a whole log, whose check overflows at the second entry
+abbrev pub ended : List Entry
+ended = trail_of scaled_given ++ End kind.Solved ∷ []
+
+-- the licence of step 3 of the second entry with this trail
+abbrev pub step_licence : List Entry → Licence
+step_licence trail = record { place = Step 2 3; left = operation Mul (n 2) four_fifths; trail = trail }
+
+-- values and pairs, rows, quotients and the check of a log
 pub record StepExamples : Type 0 where
   -- over (2, 1) and (0, 3) the second generator is (-1/2, 1): its value at (2, 1) begins with the
   -- product of 2 and -1/2
@@ -308,8 +322,12 @@ pub record StepExamples : Type 0 where
   pub scale : OverflowsDual (Scale (n 4 ∷ n 5 ∷ []) 2) (operation Div (n 5) (n 4))
   pub other_divisor : OverflowsDual (Scale (n 4 ∷ n 5 ∷ []) 2) (operation Div (n 5) (n 3)) → ⊥
   -- the check of the `duality` entry: 4/5 and 5/5 are held, and step 3 is the product of 2 and 4/5
-  pub check : OverflowsDual (Step 2 3) (operation Mul (n 2) four_fifths)
-  pub earlier_step : OverflowsDual (Step 2 1) (operation Mul (n 2) four_fifths) → ⊥
+  pub check : IsCheckOverflow is_few dual_form ended (Step 2 3) (operation Mul (n 2) four_fifths)
+  pub earlier_step : IsCheckOverflow is_few dual_form ended (Step 2 1) (operation Mul (n 2) four_fifths) → ⊥
+  -- that of a licence has a whole log as its trail, and is no operation of a call
+  pub no_trail : Licensed is_few dual_form scaled_given (step_licence []) → ⊥
+  pub cut_trail : Licensed is_few dual_form scaled_given (step_licence (trail_of scaled_given)) → ⊥
+  pub no_call : OverflowsDual (Step 2 3) (operation Mul (n 2) four_fifths) → ⊥
 
 -- all of these
 pub record WorkedLicences : Type 0 where

@@ -77,9 +77,9 @@ pub record ImageExamples : Type 0 where
   pub meets : AllMeet plain chain
   -- the normals of the cuts, and rows of the image by two cuts; not by two whose normals are
   -- dependent
-  pub of_normals : OverflowsChain (Elim ((half ∷ half ∷ []) ∷ (n 0 ∷ n 1 ∷ []) ∷ (quarter ∷ three_quarters ∷ []) ∷ (n 0 ∷ n 1 ∷ []) ∷ []) [] 3 1 1)
+  pub of_normals : OverflowsChain (Elim ((half ∷ half ∷ []) ∷ (n 0 ∷ n 1 ∷ []) ∷ (quarter ∷ three_quarters ∷ []) ∷ (n 0 ∷ n 1 ∷ []) ∷ []) (0 ∷ 0 ∷ 0 ∷ 0 ∷ []) 3 1 1)
       (operation Div three_quarters quarter)
-  pub elimination : OverflowsChain (Elim image_rows [] 3 3 1) (operation Div (n 1) (minus 4))
+  pub elimination : OverflowsChain (Elim image_rows (0 ∷ 0 ∷ 0 ∷ []) 3 3 1) (operation Div (n 1) (minus 4))
   pub no_elimination : AreElimRows in_chain parallel_rows 3 → ⊥
   -- the value of the fourth cut at 4 begins with -4 times 1; 1 is not live any more
   pub value : OverflowsChain (Pair Image added_rows 4 0 1) (operation Mul (minus 4) (n 1))

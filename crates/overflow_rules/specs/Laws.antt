@@ -20,6 +20,7 @@ use Rattle.lin_rows.specs.declared.fault.RowFault.TheVariants.{Left as Stuck}
 use Rattle.exact_simplex.specs.Ends.{IsSystemLeft}
 use Rattle.vlp_problem.specs.declared.problem.Problem.{Problem}
 use Rattle.upper_image.specs.Shows.{ShowsFitting, ShowsCut}
+use Rattle.deriv_log.specs.Formed.{IsLog}
 use Rattle.deriv_log.specs.declared.entry.Entry.{Entry}
 use Rattle.deriv_log.specs.declared.entry.Entry.TheVariants.{Cut}
 use Rattle.vlp_problem.specs.declared.program.Program.{Program}
@@ -34,9 +35,9 @@ use Rattle.log_rules.specs.Meets.{Meets}
 use Rattle.log_rules.specs.Order.{has}
 use Rattle.log_rules.specs.Order as order
 use Rattle.overflow_rules.specs.Base.{IsBaseRow, IsBaseCut, IsGeneratorOf}
-use Rattle.overflow_rules.specs.Licence.{IsOverflow, opening, IsHeldDuality, IsPossible, StandsFor, Licensed, LicensedWithout}
+use Rattle.overflow_rules.specs.Licence.{IsOverflow, IsCheckOverflow, opening, IsHeldDuality, IsPossible, StandsFor, Licensed, LicensedWithout}
 use Rattle.deriv_log.specs.declared.licence.Licence.{Licence}
-use Rattle.overflow_rules.specs.Dictionaries.{IsAllowed, system_in, AreElimRows, IsElimTable}
+use Rattle.overflow_rules.specs.Dictionaries.{IsAllowed, system_in, AreStartRows, IsElimTable}
 use Rattle.overflow_rules.specs.Generators.{IsMadeOver, IsAddition}
 use Rattle.overflow_rules.specs.Products.{AreMultiplied}
 use Rattle.overflow_rules.specs.Quotients.{IsOrthogonalOff, IsScaled, IsDivisor}
@@ -91,21 +92,21 @@ pub record OverflowLaws : Type 0 where
       IsOverflow holds s (Pivot program basis row col number) left
   -- an elimination of allowed rows was given up
   pub elimination : (holds : ℚ → Bool) (s : Setting) (rows : List (List ℚ)) (width : ℕ) (t : Table) (columns : ℕ) (basis : List ℕ)
-      (row col number : ℕ) (left : Left ℚ) → IsTrue (holds zero_ℚ) → IsTrue (holds left.a) → AreElimRows s rows width →
-      IsElimTable rows width t columns → 1 ≤ row → 1 ≤ col → IsElimFault (λ q. q) holds columns t (Stuck basis row col number left) →
+      (row col number : ℕ) (left : Left ℚ) → IsTrue (holds zero_ℚ) → IsTrue (holds left.a) → IsElimTable s rows width t columns →
+      length basis ≡ length rows → 1 ≤ row → 1 ≤ col → IsElimFault (λ q. q) holds columns t (Stuck basis row col number left) →
       IsOverflow holds s (Elim rows basis row col number) left
   -- a corner of allowed rows was given up while it was normed
-  pub norming : (holds : ℚ → Bool) (s : Setting) (rows : List (List ℚ)) (basis : List ℕ) (inverse : Table) (corner col : ℕ) →
-      IsTrue (holds zero_ℚ) → AreElimRows s rows (length rows) → AreInverse (length rows) rows inverse → 1 ≤ corner → corner ≤ length rows →
+  pub norming : (holds : ℚ → Bool) (s : Setting) (rows : List (List ℚ)) (inverse : Table) (corner col : ℕ) →
+      IsTrue (holds zero_ℚ) → AreStartRows s rows (length rows) → AreInverse (length rows) rows inverse → 1 ≤ corner → corner ≤ length rows →
       1 ≤ col → col ≤ length rows →
       let by = magnitude (norming (column_of inverse corner)) in
       IsFalse (holds (entry (column_of inverse corner) col /ℚ by)) →
-      IsOverflow holds s (Elim rows basis 0 col 1) (operation Div (entry (column_of inverse corner) col) by)
+      IsOverflow holds s (Elim rows [] 0 col 1) (operation Div (entry (column_of inverse corner) col) by)
   -- a product, or a sum with it, was given up at a place of two lists that may be multiplied
-  pub term : (holds : ℚ → Bool) (s : Setting) (rows : List (List ℚ)) (basis : List ℕ) (xs ys : List ℚ) (place : ℕ) (left : Left ℚ) →
+  pub term : (holds : ℚ → Bool) (s : Setting) (xs ys : List ℚ) (place : ℕ) (left : Left ℚ) →
       IsTrue (holds zero_ℚ) → AreMultiplied s xs ys ⊎ AreMultiplied s ys xs → 1 ≤ place → place ≤ length xs → place ≤ length ys →
       IsTermLeft (λ q. q) holds (partial xs ys (place - 1)) (entry xs place) (entry ys place) left →
-      IsOverflow holds s (Elim rows basis 0 place (term_number left.op)) left
+      IsOverflow holds s (Elim [] [] 0 place (term_number left.op)) left
   -- the value of a live generator at an added row was given up
   pub value : (holds : ℚ → Bool) (s : Setting) (family : Family) (before : List (List ℚ)) (last : List ℚ) (list : LiveList) (g : Numbered)
       (done rest : List Event) (o : Op) (a b : ℚ) → IsTrue (holds zero_ℚ) → IsAddition s before last list family → Contains list.live g →
@@ -124,10 +125,10 @@ pub record OverflowLaws : Type 0 where
   -- a quotient of a vector that may be divided was given up
   pub scale : (holds : ℚ → Bool) (s : Setting) (v : List ℚ) (k : ℕ) (by : ℚ) → IsTrue (holds zero_ℚ) → IsScaled s v → 1 ≤ k → k ≤ length v →
       IsDivisor s v by → IsFalse (holds (entry v k /ℚ by)) → IsOverflow holds s (Scale v k) (operation Div (entry v k) by)
-  -- the check of the trail was given up
-  pub check : (holds : ℚ → Bool) (s : Setting) (number k : ℕ) (o : Op) (a b : ℚ) → IsTrue (holds zero_ℚ) →
-      plain_failure holds s.file s.trail ≡ Some (record { entry = number; failure = overflows k o a b }) →
-      IsOverflow holds s (Step number k) (operation o a b)
+  -- the check of a log was given up
+  pub check : (holds : ℚ → Bool) (file : Problem) (entries : List Entry) (number k : ℕ) (o : Op) (a b : ℚ) → IsTrue (holds zero_ℚ) → IsLog entries →
+      plain_failure holds file entries ≡ Some (record { entry = number; failure = overflows k o a b }) →
+      IsCheckOverflow holds file entries (Step number k) (operation o a b)
 
 -- ---- orthogonal vectors
 -- an orthogonal vector of an elimination has the product 0 with each of the rows
@@ -150,11 +151,14 @@ pub record GeneratorLaws : Type 0 where
 -- ---- licences
 -- overflows are licensed
 pub record LicenceLaws : Type 0 where
-  -- an overflow in a setting that the trail stands for is licensed
+  -- an overflow in a setting that the trail stands for is licensed, and so is one of the check of a
+  -- whole log
   pub licensed : (holds : ℚ → Bool) (file : Problem) (c weights : List ℚ) (whole : List Entry) (licence : Licence) →
       StandsFor holds file c weights licence.trail whole →
       IsOverflow holds (record { file = file; c = Some c; weights = weights; trail = whole }) licence.place licence.left →
       Licensed holds file c licence
+  pub checked : (holds : ℚ → Bool) (file : Problem) (c weights : List ℚ) (licence : Licence) → IsPossible holds file c weights →
+      IsBaseTrail file c weights licence.trail → IsCheckOverflow holds file licence.trail licence.place licence.left → Licensed holds file c licence
   -- a licence without a duality vector is one with each that is possible
   pub without : (holds : ℚ → Bool) (file : Problem) (c weights : List ℚ) (licence : Licence) → IsPossible holds file c weights →
       LicensedWithout holds file licence → Licensed holds file c licence

@@ -105,10 +105,10 @@ pub record LineExamples : Type 0 where
   pub with_line : IsBaseTrail half_plane ones [] along
   pub no_line : (x ray m back k : List Spot) → IsBaseLine half_plane ones [] (trail_of ones ++ cuts) (n 0 ∷ n 1 ∷ []) x ray m back k → ⊥
   -- rows without the entries at the place of the line are eliminated, and not the full ones
-  pub elimination : OverflowsAlong (Elim short_rows [] 2 2 1) (operation Div (n 1) (minus 4))
-  pub full_elimination : OverflowsAlong (Elim full_rows [] 2 3 1) (operation Div (n 1) (minus 4)) → ⊥
+  pub elimination : OverflowsAlong (Elim short_rows (0 ∷ 0 ∷ []) 2 2 1) (operation Div (n 1) (minus 4))
+  pub full_elimination : OverflowsAlong (Elim full_rows (0 ∷ 0 ∷ []) 2 3 1) (operation Div (n 1) (minus 4)) → ⊥
   pub licence : Licensed is_few half_plane ones
-      (record { place = Elim short_rows [] 2 2 1; left = operation Div (n 1) (minus 4); trail = beside })
+      (record { place = Elim short_rows (0 ∷ 0 ∷ []) 2 2 1; left = operation Div (n 1) (minus 4); trail = beside })
   -- so it is where a row is added: 2 and 1 are a pair with the values 1 and -4, and the value of 1
   -- is -4 times 1
   pub pair : OverflowsAlong (Pair Image short_added 2 1 1) (operation Div (n 1) (n 4))

@@ -6,6 +6,7 @@ use Rattle.exact_field.specs.declared.op.Op.TheVariants.{Add, Mul}
 use Rattle.exact_field.specs.declared.op.Left.{Left}
 use Rattle.frac128.specs.declared.vectors.Spot.{Spot}
 use Rattle.polyhedra.specs.DoubleDescription.{magnitude}
+use Rattle.polyhedra.specs.LiveList.{Numbered, LiveList, step as next_step}
 use Rattle.polyhedra.specs.Negatives.{negated}
 use Rattle.polyhedra.specs.Vectors.{AtLeastZero}
 use Rattle.vlp_problem.specs.Sides.{side_bounds}
@@ -16,13 +17,14 @@ use Rattle.upper_image.specs.OrderingCone.{dual_of}
 use Rattle.upper_image.specs.UpperImage.{normals, objectives}
 use Rattle.deriv_log.specs.declared.entry.Entry.{Entry}
 use Rattle.deriv_log.specs.declared.entry.Entry.TheVariants.{Point, Ray, Whole, Line}
+use Rattle.deriv_log.specs.declared.licence.Family.TheVariants.{ConeRows}
 use Rattle.log_rules.specs.Live.{rows_in_use}
 use Rattle.lp_form.specs.Programs.{side_total, generators, feasible_system, benson_system, value_of, share_of}
 use Rattle.overflow_rules.specs.Steps.{operation, IsProductStep}
-use Rattle.overflow_rules.specs.Base.{AreMultipliersOff, IsRayOff, IsBaseChoice, IsBaseRay, IsBaseRow, IsBaseWeight, IsBaseCut, IsBaseNormal, IsBaseStart, IsGeneratorOf}
+use Rattle.overflow_rules.specs.Base.{AreMultipliersOff, IsRayOff, IsBaseChoice, IsBaseRay, IsBaseRow, IsBaseWeight, IsBaseCut, IsBaseNormal, IsBaseStart, IsGeneratorOf, IsLiveAfter}
 use Rattle.overflow_rules.specs.Trails.{IsMuOff, IsBaseTrail}
 use Rattle.overflow_rules.specs.Settings.{Setting, standing, Knows, IsTrailNormal}
-use Rattle.overflow_rules.specs.Generators.{IsGenerator}
+use Rattle.overflow_rules.specs.Generators.{IsAddition, IsGenerator}
 use Rattle.overflow_rules.specs.Quotients.{IsNormingStep}
 
 -- ---- lists that may be multiplied
@@ -83,12 +85,19 @@ pub data AreBaseShares (s : Setting) (m : List ℚ) : Type 0 where
       AreBaseShares s m
   mu : IsMuOff s.file (length (generators s.file.cone)) m → AtLeastZero m → AreBaseShares s m
 
--- what a vector of the ordering cone is multiplied by: f, c, a w, or the y of a generator
+-- the y of a generator that is live after the trail, or a generator over vectors of the ordering
+-- cone, without the last or with it; those over base rows have no y
+pub data IsGeneratorY (s : Setting) (y : List ℚ) : Type 0 where
+  live : (g : Numbered) → IsLiveAfter s.file.objs s.trail g → y ≡ take s.file.objs g.vector → IsGeneratorY s y
+  of_cone : (before : List (List ℚ)) (last : List ℚ) (list : LiveList) (g : Numbered) → IsAddition s before last list ConeRows →
+      Contains list.live g ⊎ Contains (next_step before list last).live g → y ≡ g.vector → IsGeneratorY s y
+
+-- what a vector of the ordering cone is multiplied by: f, c, a w, or such a y
 pub data IsBesideCone (s : Setting) (y : List ℚ) : Type 0 where
   given : s.file.duality ≡ Some y → IsBesideCone s y
   duality : Knows s y → IsBesideCone s y
   weight : IsBaseW s y → IsBesideCone s y
-  generator : (v : List ℚ) → IsGenerator s v → y ≡ take s.file.objs v → IsBesideCone s y
+  generator : IsGeneratorY s y → IsBesideCone s y
 
 -- a w, the normal of a trail's cut, or a row in use
 pub data IsRowOrWeight (s : Setting) (row : List ℚ) : Type 0 where
@@ -128,10 +137,10 @@ pub record IsShareStep (s : Setting) (col number : ℕ) (left : Left ℚ) : Type
       ((number ≡ 2) × (left ≡ operation Mul factor (entry s.weights col)))
       ⊎ ((number ≡ 3) × (left ≡ operation Add (entry (share_of s.file s.file.cone multipliers) col) (factor *ℚ entry s.weights col)))
 
--- an operation outside an elimination: of the norming of a first generator, of a sum of products,
--- with either list first, or of a share
+-- an operation outside an elimination: of the norming of a first generator over these rows; or,
+-- without rows, of a sum of products, with either list first, or of a share
 pub data IsListStep (s : Setting) (rows : List (List ℚ)) (col number : ℕ) (left : Left ℚ) : Type 0 where
   normed : IsNormingStep s rows col number left → IsListStep s rows col number left
-  forward : (xs ys : List ℚ) → AreMultiplied s xs ys → IsProductStep col number xs ys left → IsListStep s rows col number left
-  backward : (xs ys : List ℚ) → AreMultiplied s ys xs → IsProductStep col number xs ys left → IsListStep s rows col number left
-  share : IsShareStep s col number left → IsListStep s rows col number left
+  forward : (xs ys : List ℚ) → rows ≡ [] → AreMultiplied s xs ys → IsProductStep col number xs ys left → IsListStep s rows col number left
+  backward : (xs ys : List ℚ) → rows ≡ [] → AreMultiplied s ys xs → IsProductStep col number xs ys left → IsListStep s rows col number left
+  share : rows ≡ [] → IsShareStep s col number left → IsListStep s rows col number left

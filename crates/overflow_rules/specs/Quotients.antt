@@ -13,13 +13,13 @@ use Rattle.lp_form.specs.Programs.{choice_of, share_of}
 use Rattle.overflow_rules.specs.Steps.{operation}
 use Rattle.overflow_rules.specs.Base.{IsSolutionOff, AreMultipliersOff, AreFirstMultipliersOff, IsRayOff, IsBaseRay, IsConeDirection, image_of}
 use Rattle.overflow_rules.specs.Settings.{Setting}
-use Rattle.overflow_rules.specs.Dictionaries.{system_in, IsAllowed, AreElimRows, IsElimDictionary}
+use Rattle.overflow_rules.specs.Dictionaries.{system_in, IsAllowed, AreStartRows, IsElimDictionary}
 
 -- ---- the norming of a first generator
 -- a quotient of the norming of a first generator: an entry of a column of the inverse of these rows
 -- by the magnitude that norms it
 pub record IsNormingStep (s : Setting) (rows : List (List ℚ)) (col number : ℕ) (left : Left ℚ) : Type 0 where
-  pub allowed : AreElimRows s rows (length rows)
+  pub allowed : AreStartRows s rows (length rows)
   pub inverse : Table
   pub is : AreInverse (length rows) rows inverse
   pub corner : ℕ

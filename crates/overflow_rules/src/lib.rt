@@ -2,6 +2,7 @@
 //! does nothing, and its contract is the statement.
 #![tactic(auto)]
 
+ghost use Rattle.overflow_rules.specs.ConeExamples.{WorkedCones};
 ghost use Rattle.overflow_rules.specs.Examples.{WorkedLicences};
 ghost use Rattle.overflow_rules.specs.Laws.{GeneratorLaws, LicenceLaws, OrthogonalVectors, OverflowLaws, TrailLaws};
 ghost use Rattle.overflow_rules.specs.ImageExamples.{WorkedImages};
@@ -74,4 +75,9 @@ pub fn worked_lines()
 /// licenses.
 pub fn worked_feasible()
     ensures { WorkedFeasible }
+{}
+
+/// What a vector of the ordering cone is multiplied with, and a bound with which it is not.
+pub fn worked_cones()
+    ensures { WorkedCones }
 {}

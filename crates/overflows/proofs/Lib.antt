@@ -4,5 +4,6 @@ pub mod Events
 pub mod Formed
 pub mod Licensed
 pub mod NamedPairs
+pub mod Placed
 pub mod Sparse
 pub mod Starts

@@ -1,11 +1,12 @@
 -- What calls tell of their overflows, as licences.
-use Rattle.std.proofs.Common.{◌≡◌, ℕ, Bool, IsTrue, List, [], refl, sym, ap, ap₂, ◌∙◌, subst, ◌⊎◌}
+use Rattle.std.proofs.Common.{◌≡◌, ℕ, Bool, IsTrue, List, [], ◌++◌, length, refl, sym, ap, ap₂, ◌∙◌, subst, ◌⊎◌}
 use Rattle.exact_field.specs.Rational.{ℚ, zero_ℚ}
 use Rattle.exact_field.specs.Vector.{entry}
 use Rattle.exact_field.specs.declared.op.Op.{Op}
 use Rattle.exact_field.specs.declared.op.Op.TheVariants.{Div}
 use Rattle.exact_field.specs.declared.op.Left.{Left as Operation}
-use Rattle.tableaux.specs.Table.{Table}
+use Rattle.tableaux.specs.Table.{Table, row_of, unit}
+use Rattle.tableaux.proofs.Places.{length-list_from}
 use Rattle.lin_rows.specs.Eliminate.{IsElimFault}
 use Rattle.lin_rows.specs.declared.fault.RowFault.TheVariants.{Left as Stuck}
 use Rattle.exact_simplex.specs.Ends.{IsSystemLeft}
@@ -14,16 +15,17 @@ use Rattle.vlp_problem.specs.declared.program.Program.{Program}
 use Rattle.deriv_log.specs.declared.licence.Place.TheVariants.{Pivot, Elim, Scale}
 use Rattle.overflow_rules.specs.Laws.{term_number}
 use Rattle.overflow_rules.proofs.Given.{overflow_laws}
-use Rattle.overflow_rules.specs.Dictionaries.{AreElimRows, IsAllowed, IsElimTable, system_in}
+use Rattle.overflow_rules.specs.Dictionaries.{IsAllowed, IsElimTable, system_in}
 use Rattle.overflow_rules.specs.Licence.{IsOverflow}
 use Rattle.overflow_rules.specs.Products.{AreMultiplied}
 use Rattle.overflow_rules.specs.Quotients.{IsDivisor, IsScaled}
 use Rattle.overflow_rules.specs.Settings.{Setting}
 use Rattle.overflow_rules.specs.Steps.{in_numbers, operation}
-use Rattle.overflows.specs.Faults.{IsQuotientAt, IsTermAt, Overflows}
+use Rattle.overflows.specs.Faults.{IsQuotientAt, IsTermAt, Overflows, placed}
 use Rattle.overflows.specs.declared.fault.SolveFault.{SolveFault}
 use Rattle.overflows.specs.declared.fault.SolveFault.TheVariants.{Left}
 use Rattle.overflows.specs.declared.fault.SumFault.{SumFault}
+use Rattle.overflows.proofs.Placed.{placed_long, placed_dictionary}
 
 module _ {F : Type 0} (value : F → ℚ) (holds : ℚ → Bool) (zero : IsTrue (holds zero_ℚ)) (s : Setting) (trail : List Entry)
     (result : SolveFault) where
@@ -37,14 +39,21 @@ module _ {F : Type 0} (value : F → ℚ) (holds : ℚ → Bool) (zero : IsTrue 
 
   -- of an elimination
   pub elimination_overflows : (rows : List (List ℚ)) (width columns : ℕ) (t : Table) (basis : List ℕ) (row col step : ℕ) (left : Operation F) →
-      IsTrue (holds (value left.a)) → result ≡ Left (record { place = Elim rows basis row col step; left = in_numbers value left; trail = trail }) →
-      AreElimRows s rows width → IsElimTable rows width t columns → IsElimFault value holds columns t (Stuck basis row col step left) →
-      Overflows holds s trail result
-  elimination_overflows rows width columns t basis row col step left held told allowed table fault =
+      IsTrue (holds (value left.a)) →
+      result ≡ Left (record { place = Elim rows (placed (length rows) row basis) row col step; left = in_numbers value left; trail = trail }) →
+      IsElimTable s rows width t columns → IsElimFault value holds columns t (Stuck basis row col step left) → Overflows holds s trail result
+  elimination_overflows rows width columns t basis row col step left held told table (d, is, h, row_low, row_high, col_low, col_high) =
       subst (λ (r : SolveFault). Overflows holds s trail r) (sym told) (
         refl,
-        overflow_laws.elimination holds s rows width t columns basis row col step (in_numbers value left) zero held allowed table fault.3 fault.5 fault,
+        overflow_laws.elimination holds s rows width t columns (placed (length rows) row basis) row col step (in_numbers value left) zero held table
+            (placed_long (length rows) row basis row_low) row_low col_low
+            (d, placed_dictionary columns t (length rows) row basis d (table_long table) row_low is, h, row_low, row_high, col_low, col_high),
       )
+    where
+      table_long : IsElimTable s rows width t columns → length t ≡ length rows
+      table_long (IsElimTable.alone may same many) = ap (λ (x : Table). length x) same
+      table_long (IsElimTable.beside may square same many) =
+          ap (λ (x : Table). length x) same ∙ length-list_from 1 (length rows) (λ i. row_of rows i ++ unit (length rows) i)
 
   -- of a quotient
   pub quotient_overflows : (v : List ℚ) (k : ℕ) (left : Operation F) →
@@ -76,4 +85,4 @@ module _ {F : Type 0} (value : F → ℚ) (holds : ℚ → Bool) (zero : IsTrue 
       AreMultiplied s xs ys ⊎ AreMultiplied s ys xs → IsTermAt value holds xs ys fault → Overflows holds s trail result
   term_overflows xs ys fault held told allowed at =
       subst (λ (r : SolveFault). Overflows holds s trail r) (sym told)
-      (refl, overflow_laws.term holds s [] [] xs ys fault.place (in_numbers value fault.left) zero allowed at.from_one at.in_first at.in_second at.step)
+      (refl, overflow_laws.term holds s xs ys fault.place (in_numbers value fault.left) zero allowed at.from_one at.in_first at.in_second at.step)

@@ -1,5 +1,5 @@
 -- Faults of calls as licences.
-use Rattle.std.specs.Prelude.{ℕ, ◌≡◌, ◌≢◌, ◌≤◌, ◌-◌, Bool, IsFalse, List, length}
+use Rattle.std.specs.Prelude.{ℕ, ◌≡◌, ◌≢◌, ◌≤◌, ◌-◌, ◌==◌, Bool, IsFalse, List, length, if◌then◌else◌}
 use Rattle.exact_field.specs.Rational.{ℚ, zero_ℚ, ◌/ℚ◌}
 use Rattle.exact_field.specs.declared.op.Op.TheVariants.{Div}
 use Rattle.exact_field.specs.Vector.{entry}
@@ -9,6 +9,8 @@ use Rattle.lin_rows.specs.declared.fault.RowFault.TheVariants as elimination
 use Rattle.lin_rows.specs.Sums.{partial, AreHeld, IsTermLeft}
 use Rattle.exact_simplex.specs.declared.answer.LpFault.{LpFault}
 use Rattle.exact_simplex.specs.declared.answer.LpFault.TheVariants as program
+use Rattle.tableaux.specs.Dictionary.{basic_column}
+use Rattle.tableaux.specs.Table.{listed}
 use Rattle.deriv_log.specs.declared.entry.Entry.{Entry}
 use Rattle.deriv_log.specs.declared.licence.Licence.{Licence}
 use Rattle.vlp_problem.specs.declared.program.Program.{Program}
@@ -32,10 +34,15 @@ IsProgramLeft value name trail (program.Left basis row col step left) fault =
     IsLeftAt (Pivot name basis row col step) (in_numbers value left) trail fault
 IsProgramLeft value name trail program.NoMemory fault = fault ≡ NoMemory
 
+-- the basis of an elimination of so many rows with one place for each; in row 0, where nothing is
+-- eliminated, as it stands
+abbrev pub placed : (rows row : ℕ) → List ℕ → List ℕ
+placed rows row basis = if row == 0 then basis else listed rows (basic_column basis)
+
 -- .. and that of an elimination of rows
 abbrev pub IsEliminationLeft : {F : Type 0} → (F → ℚ) → List (List ℚ) → List Entry → RowFault F → SolveFault → Type 0
 IsEliminationLeft value rows trail (elimination.Left basis row col step left) fault =
-    IsLeftAt (Elim rows basis row col step) (in_numbers value left) trail fault
+    IsLeftAt (Elim rows (placed (length rows) row basis) row col step) (in_numbers value left) trail fault
 IsEliminationLeft value rows trail elimination.NoMemory fault = fault ≡ NoMemory
 
 -- the licence of a fault has this property; nothing of want of memory

@@ -6,7 +6,7 @@ ghost use Rattle.overflow_rules.specs.Steps.{in_numbers};
 ghost use Rattle.overflows.specs.Faults.{IsLeftAt, Overflows};
 ghost use Rattle.double_descr.specs.Adding.{IsAddFault, add_blocks};
 ghost use Rattle.double_descr.specs.Starting.{IsStartFault};
-ghost use Rattle.overflow_rules.specs.Dictionaries.{AreElimRows};
+ghost use Rattle.overflow_rules.specs.Dictionaries.{AreStartRows};
 ghost use Rattle.overflow_rules.specs.Generators.{IsAddition};
 ghost use Rattle.overflow_rules.specs.Settings.{Setting};
 ghost use Rattle.lin_rows.specs.Read.{numbers};
@@ -73,7 +73,7 @@ pub fn start_fault<F: Field>(alloc: Global, rows: &Rows<F>, fault: DdFault<F>) -
     requires fault { IsStartFault F.value F.holds rows.now.width
         (numbers F.value rows.now.list) fault }
     ensures told { IsStartLeft F.value (numbers F.value rows.now.list) fault result }
-    ensures licensed { (s : Setting) → AreElimRows s (numbers F.value rows.now.list) rows.now.width
+    ensures licensed { (s : Setting) → AreStartRows s (numbers F.value rows.now.list) rows.now.width
         → Overflows F.holds s [] result }
 {
     match fault {

@@ -12,7 +12,7 @@ mod written;
 
 pub use dd_licences::{add_fault, start_fault};
 pub use fault::{SolveFault, SumFault};
-pub use licences::{elimination_fault, program_fault, scale_fault, term_fault};
+pub use licences::{elimination_fault, program_fault, term_fault};
 pub use numbers::{fractions, operation};
 pub use quotients::quotients_of;
 pub use spots::spots_of;

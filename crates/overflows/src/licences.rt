@@ -1,9 +1,9 @@
 //! Faults of calls as licences.
-ghost use Rattle.std.specs.Prelude.{◌≡◌, ◌⊎◌, ℕ, List, [], map, IfOk, IsTrue};
+ghost use Rattle.std.specs.Prelude.{◌≡◌, ◌⊎◌, ℕ, List, [], map, length, slice_index_or, IfOk, IsTrue};
 ghost use Rattle.exact_field.specs.Rational.{ℚ};
 ghost use Rattle.exact_simplex.specs.Ends.{IsLpFault};
 ghost use Rattle.deriv_log.specs.declared.licence.Place.TheVariants as place_of;
-ghost use Rattle.overflow_rules.specs.Dictionaries.{AreElimRows, IsAllowed, IsElimTable, system_in};
+ghost use Rattle.overflow_rules.specs.Dictionaries.{IsAllowed, IsElimTable, system_in};
 ghost use Rattle.overflow_rules.specs.Laws.{term_number};
 ghost use Rattle.overflow_rules.specs.Products.{AreMultiplied};
 ghost use Rattle.overflow_rules.specs.Quotients.{IsDivisor, IsScaled};
@@ -12,7 +12,7 @@ ghost use Rattle.overflow_rules.specs.Steps.{in_numbers};
 ghost use Rattle.lin_rows.specs.Eliminate.{IsElimFault};
 ghost use Rattle.lin_rows.specs.Read.{numbers};
 ghost use Rattle.lp_form.specs.Names.{named};
-ghost use Rattle.overflows.specs.Faults.{IsEliminationLeft, IsLeftAt, IsProgramLeft, IsQuotientAt, IsTermAt, Overflows};
+ghost use Rattle.overflows.specs.Faults.{IsEliminationLeft, IsLeftAt, IsProgramLeft, IsQuotientAt, IsTermAt, Overflows, placed};
 ghost use Rattle.overflows.specs.declared.fault.SolveFault.TheVariants as fault_of;
 ghost use Rattle.tableaux.specs.Table.{Table};
 
@@ -95,7 +95,53 @@ pub fn program_fault<F: Field>(
     }
 }
 
-/// The fault of an elimination of rows, after the entries of a trail.
+/// The column of a row, counted from 0; 0 where the basis has no place for it.
+fn column_at(basis: &[u32], row: usize) -> u32
+    ensures { result ≡ slice_index_or basis.now row 0 }
+{
+    if row < basis.len() { basis[row] } else { 0 }
+}
+
+/// The basis of an elimination of so many rows, with one place for each. Where nothing is
+/// eliminated, in row 0, it stays as it is.
+fn basis_of(alloc: Global, basis: Items<u32>, row: u32, rows: u32) -> Result<Items<u32>, NoMemory>
+    ensures { IfOk result (λ places. places ≡ placed rows row basis) }
+{
+    if row == 0 {
+        return Ok(basis);
+    }
+    let mut places = Items::new(alloc);
+    for i in 0..rows as usize {
+        places.push(column_at(basis.as_slice(), i))?;
+    }
+    Ok(places)
+}
+
+/// The place of a step of an elimination of rows.
+fn elim_place<F: Field>(
+    alloc: Global,
+    rows: &Rows<F>,
+    basis: Items<u32>,
+    row: u32,
+    col: u32,
+    step: u8,
+) -> Result<Place, NoMemory>
+    ensures { IfOk result (λ place. place ≡ place_of.Elim (numbers F.value rows.now.list)
+        (placed (length (numbers F.value rows.now.list)) row basis) row col step) }
+{
+    let basis = basis_of(alloc, basis, row, rows.count())?;
+    let rows = row_vectors(alloc, rows)?;
+    Ok(Place::Elim {
+        rows,
+        basis,
+        row,
+        col,
+        step,
+    })
+}
+
+/// The fault of an elimination of rows, after the entries of a trail. The basis is told with one
+/// place for each row.
 pub fn elimination_fault<F: Field>(
     alloc: Global,
     rows: &Rows<F>,
@@ -104,8 +150,7 @@ pub fn elimination_fault<F: Field>(
 ) -> SolveFault
     ensures told { IsEliminationLeft F.value (numbers F.value rows.now.list) trail fault result }
     ensures licensed { (s : Setting) (width columns : ℕ) (t : Table)
-        → AreElimRows s (numbers F.value rows.now.list) width
-        → IsElimTable (numbers F.value rows.now.list) width t columns
+        → IsElimTable s (numbers F.value rows.now.list) width t columns
         → IsElimFault F.value F.holds columns t fault → Overflows F.holds s trail result }
 {
     match fault {
@@ -116,18 +161,9 @@ pub fn elimination_fault<F: Field>(
             col,
             step,
             left,
-        } => match row_vectors(alloc, rows) {
+        } => match elim_place(alloc, rows, basis, row, col, step) {
             Err(_) => SolveFault::NoMemory,
-            Ok(rows) => {
-                let place = Place::Elim {
-                    rows,
-                    basis,
-                    row,
-                    col,
-                    step,
-                };
-                fault_at(place, left, trail)
-            }
+            Ok(place) => fault_at(place, left, trail),
         },
     }
 }

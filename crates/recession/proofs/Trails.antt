@@ -46,7 +46,7 @@ module _ (holds : ℚ → Bool) (task : Task) (fitting : IsFitting holds task) w
       licence_laws.licensed holds task.file task.c task.weights (trail_of entries) licence
       (subst (λ (t : List Entry). StandsFor holds task.file task.c task.weights t (trail_of entries)) (sym same) record {
         possible = record { picks = fitting.picks; inverse = fitting.inverse; held = fitting.held; trail = opens };
-        completes = Completes.after_opening fitting.picks fitting.inverse refl;
+        completes = Completes.after_opening fitting.picks fitting.inverse fitting.held refl;
         base = base;
       }) overflow
   licensed entries base NoMemory o = tt

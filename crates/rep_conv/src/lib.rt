@@ -12,14 +12,10 @@ mod progress;
 mod rows;
 mod start;
 
-pub use adding::{Change, change_at};
-pub use check::{ConvRefusal, check_conv, check_entries};
-pub use firsts::{first_generators, set_of};
+pub use check::{ConvRefusal, check_conv};
 pub use giving::other_rep;
 pub use laws::{
     conversion_examples, conversion_is_right, conversion_keeps_set, events_are_rules, one_other,
     rules_keep_description,
 };
-pub use line::check_line;
 pub use rows::text_rows;
-pub use start::check_start;

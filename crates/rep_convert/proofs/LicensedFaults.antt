@@ -1,5 +1,5 @@
 -- What eliminations and sums of products tell of their overflows, as licences of a conversion.
-use Rattle.std.proofs.Common.{◌≡◌, ℕ, ◌+◌, ◌-◌, List, [], ◌∷◌, length, refl, sym, ap, ap₂, subst, IsTrue, ◌⊎◌, inl, inr}
+use Rattle.std.proofs.Common.{◌≡◌, ℕ, ◌+◌, ◌-◌, List, [], ◌∷◌, ◌++◌, length, refl, sym, ap, ap₂, ◌∙◌, subst, IsTrue, ◌⊎◌, inl, inr}
 use Rattle.std.specs.Prelude.{IsFalse}
 use Rattle.std.proofs.lemmas.List.{map-id}
 use Rattle.exact_field.specs.Field.{exact}
@@ -9,7 +9,8 @@ use Rattle.exact_field.specs.declared.op.Op.{Op}
 use Rattle.exact_field.specs.declared.op.Op.TheVariants.{Add, Mul, Div}
 use Rattle.exact_field.specs.declared.op.Left.{Left as Operation}
 use Rattle.polyhedra.specs.DoubleDescription.{magnitude, norming}
-use Rattle.tableaux.specs.Table.{Table, beside_unit, column_of}
+use Rattle.tableaux.specs.Table.{Table, beside_unit, column_of, row_of, unit}
+use Rattle.tableaux.proofs.Places.{length-list_from}
 use Rattle.frac128.specs.Held.{is_held}
 use Rattle.lin_rows.specs.Eliminate.{IsElimFault}
 use Rattle.lin_rows.specs.Read.{numbers}
@@ -24,7 +25,8 @@ use Rattle.deriv_log.specs.declared.licence.Place.TheVariants.{Elim}
 use Rattle.overflow_rules.specs.Laws.{term_number}
 use Rattle.overflow_rules.specs.Steps.{operation, IsNotHeld}
 use Rattle.overflow_rules.proofs.Given.{not_held, pivot_not_zero, same_exact, step_not_held, still}
-use Rattle.overflows.specs.Faults.{IsEliminationLeft, IsLeftAt, IsTermAt}
+use Rattle.overflows.specs.Faults.{IsEliminationLeft, IsLeftAt, IsTermAt, placed}
+use Rattle.overflows.proofs.Placed.{placed_none, placed_long, placed_dictionary}
 use Rattle.overflows.specs.declared.fault.SolveFault.{SolveFault}
 use Rattle.overflows.specs.declared.fault.SolveFault.TheVariants as solving
 use Rattle.overflows.specs.declared.fault.SumFault.{SumFault}
@@ -57,19 +59,27 @@ no_memory : (rep : Rep) (told : SolveFault) (result : ConvFault) → told ≡ so
 no_memory rep (solving.Left licence) result is same = absurd cc
 no_memory rep solving.NoMemory result is same = subst (IsConvLeft is_held rep) (sym same) tt
 
+-- the table of an elimination has a row for each
+table_long : (rep : Rep) (rows : List (List ℚ)) (t : Table) (columns : ℕ) → IsElimTable rep rows t columns → length t ≡ length rows
+table_long rep rows t columns (IsElimTable.whole all same) = ap (λ (x : Table). length x) same
+table_long rep rows t columns (IsElimTable.short lines are same) = ap (λ (x : Table). length x) same
+table_long rep rows t columns (IsElimTable.start lines are square same) =
+    ap (λ (x : Table). length x) same ∙ length-list_from 1 (length rows) (λ i. row_of rows i ++ unit (length rows) i)
+
 -- of the elimination of a table
 pub elimination_licensed : (rep : Rep) (rows : List (List ℚ)) (t : Table) (columns : ℕ) (fault : RowFault ℚ) (told : SolveFault) (result : ConvFault) →
     HasHeldOperand fault → IsEliminationLeft (λ (q : ℚ). q) rows [] fault told → IsFaultOf told result → IsElimTable rep rows t columns →
     IsElimFault (λ (q : ℚ). q) is_held columns t fault → IsConvLeft is_held rep result
 elimination_licensed rep rows t columns (Stuck basis row col step left) told result held is same allowed (d, dictionary, operands, low, high, col_low, col_high) =
-    licensed rep (Elim rows basis row col step) left told result is same
+    licensed rep (Elim rows (placed (length rows) row basis) row col step) left told result is same
     (not_held is_held left zero_held (step_not_held is_held columns d row col step left operands))
     (inl (record {
       table = t;
       columns = columns;
       allowed = allowed;
       dictionary = d;
-      is = dictionary;
+      is = placed_dictionary columns t (length rows) row basis d (table_long rep rows t columns allowed) low dictionary;
+      one_each = placed_long (length rows) row basis low;
       row_from_one = low;
       col_from_one = col_low;
       operands = operands;
@@ -92,11 +102,12 @@ start_licensed rep lines rows (Stuck basis row col step left) told result held i
         let v : List ℚ = column_of h.inverse h.corner in
         let same_left : left ≡ operation Div (entry v col) (magnitude (norming v)) =
         same_operation left.op Div left.a (entry v col) left.b (magnitude (norming v)) h.left_is.0 h.left_is.1 h.left_is.2 in
-        licensed rep (Elim rows basis row col step) left told result is same
+        licensed rep (Elim rows (placed (length rows) row basis) row col step) left told result is same
         (not_held is_held left zero_held (still is_held (exact left.op left.a left.b) (entry v col /ℚ magnitude (norming v))
         (same_exact left.op Div left.a (entry v col) left.b (magnitude (norming v)) h.left_is.0 h.left_is.1 h.left_is.2) h.left_is.3))
         (inr (
           zero_row,
+          placed_none (length rows) row basis zero_row ∙ none,
           IsListStep.normed (record {
             lines = lines;
             short = short;
@@ -122,7 +133,7 @@ term_licensed rep row v fault told result is same allowed h =
     licensed rep (Elim [] [] 0 fault.place (term_number fault.left.op)) fault.left told result
     (subst (IsLeftAt (Elim [] [] 0 fault.place (term_number fault.left.op)) fault.left []) (sym is) refl) same
     (not_held is_held fault.left zero_held (unheld h.step))
-    (inr (refl, IsListStep.forward row v allowed (record { from_one = h.from_one; in_first = h.in_first; in_second = h.in_second; operands = operands h.step })))
+    (inr (refl, refl, IsListStep.forward row v refl allowed (record { from_one = h.from_one; in_first = h.in_first; in_second = h.in_second; operands = operands h.step })))
   where
     unheld : IsTermLeft (λ (q : ℚ). q) is_held (partial row v (fault.place - 1)) (entry row fault.place) (entry v fault.place) fault.left → IsFalse (is_held (exact fault.left.op fault.left.a fault.left.b))
     unheld (inl t) = still is_held (exact fault.left.op fault.left.a fault.left.b) (entry row fault.place *ℚ entry v fault.place) (same_exact fault.left.op Mul fault.left.a (entry row fault.place) fault.left.b (entry v fault.place) t.0 t.1 t.2) t.3

@@ -208,8 +208,8 @@ multiplied = AreMultiplied.generator [] two (starting 1 two) one in_use (Contain
 
 no_fourth : (left : Operation ℚ) → IsListStep segment [] 2 4 left → ⊥
 no_fourth left (normed h) = let e = h.first in omega (arith, e)
-no_fourth left (forward row v m h) = elim h.operands [ inl e ↦ absurd (let k = e.0 in omega (arith, k)) | inr e ↦ absurd (let k = e.0 in omega (arith, k)) ]
-no_fourth left (backward row v m h) = elim h.operands [ inl e ↦ absurd (let k = e.0 in omega (arith, k)) | inr e ↦ absurd (let k = e.0 in omega (arith, k)) ]
+no_fourth left (forward row v none m h) = elim h.operands [ inl e ↦ absurd (let k = e.0 in omega (arith, k)) | inr e ↦ absurd (let k = e.0 in omega (arith, k)) ]
+no_fourth left (backward row v none m h) = elim h.operands [ inl e ↦ absurd (let k = e.0 in omega (arith, k)) | inr e ↦ absurd (let k = e.0 in omega (arith, k)) ]
 
 -- ---- an elimination
 abbrev all_rows : List (List ℚ)
@@ -223,6 +223,7 @@ eliminated = record {
   allowed = IsElimTable.whole (all_of_members (Contains (text_rows segment)) all_rows listed) refl;
   dictionary = all_rows;
   is = starts 2 all_rows (0 ∷ 0 ∷ 0 ∷ []) (wide_test 2 all_rows refl) (λ i. no_column 3 (i - 1));
+  one_each = refl;
   row_from_one = lit≤ tt;
   col_from_one = lit≤ tt;
   operands = (2, lit≤ tt, lit≤ tt, inl (refl, (refl, refl, refl, refl)));
@@ -241,17 +242,25 @@ licence_examples = record {
   product = record {
     trail = refl;
     not_held = not_held (all_but 1) (operation Mul (n 1) (n 1)) refl refl;
-    operands = inr (refl, IsListStep.forward first first multiplied is_product);
+    operands = inr (refl, refl, IsListStep.forward first first refl multiplied is_product);
   };
   no_step = λ h. elim h.operands [
     | inl e ↦ absurd (let low = e.row_from_one in omega (arith, low))
-    | inr e ↦ no_fourth (operation Mul (n 1) (n 1)) e.1
+    | inr e ↦ no_fourth (operation Mul (n 1) (n 1)) e.2
+  ];
+  with_basis = λ h. elim h.operands [
+    | inl e ↦ absurd (let low = e.row_from_one in omega (arith, low))
+    | inr e ↦ absurd (let many : 1 ≡ 0 = ap (λ (b : List ℕ). length b) e.1 in omega (arith, many))
   ];
   whole_rows = record {
     trail = refl;
     not_held = not_held (λ q. not (same_ℚ q (whole (negsuc 1)))) (operation Div (n 6) (whole (negsuc 2))) refl refl;
     operands = inl eliminated;
   };
+  longer_basis = λ h. elim h.operands [
+    | inl e ↦ absurd (let many : 4 ≡ 3 = e.one_each in omega (arith, many))
+    | inr e ↦ absurd (let none = e.0 in omega (arith, none))
+  ];
   other_rows = λ h. elim h.operands [
     | inl e ↦ no_table (other ∷ []) e.table e.columns refl e.allowed
     | inr e ↦ absurd (let none = e.0 in omega (arith, none))

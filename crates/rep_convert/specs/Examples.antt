@@ -77,17 +77,23 @@ pub record LicenceExamples : Type 0 where
       IsLicensedWith 6 (Pair Image (first ∷ second ∷ third ∷ []) 1 0 1) six [] → ⊥
   pub at_scale : IsLicensedWith 6 (Scale third 2) six [] → ⊥
   pub not_its_row : IsLicensedWith 6 (adding other) six [] → ⊥
-  -- a row in use is multiplied by a live generator: 1 by 1 at their second places; there is no
-  -- fourth step
+  -- a row in use is multiplied by a live generator: 1 by 1 at their second places; nothing has a
+  -- column then, and there is no fourth step
   pub product : IsLicensedWith 1 (Elim [] [] 0 2 2) (operation Mul (n 1) (n 1)) []
+  pub with_basis : IsLicensedWith 1 (Elim [] (1 ∷ []) 0 2 2) (operation Mul (n 1) (n 1)) [] → ⊥
   pub no_step : IsLicensedWith 1 (Elim [] [] 0 2 4) (operation Mul (n 1) (n 1)) [] → ⊥
   -- an elimination of the whole rows may begin with the pivot -3: 6 by -3 is -2, which is not held
-  -- here; and not with a row that the segment does not have
+  -- here; and neither with a place for a fourth row, nor with a row that the segment does not have
   pub whole_rows : IsConvLicensed (λ q. not (same_ℚ q (whole (negsuc 1)))) segment (record {
     place = Elim (first ∷ second ∷ third ∷ []) (0 ∷ 0 ∷ 0 ∷ []) 3 1 1;
     left = operation Div (n 6) (whole (negsuc 2));
     trail = [];
   })
+  pub longer_basis : IsConvLicensed (λ q. not (same_ℚ q (whole (negsuc 1)))) segment (record {
+    place = Elim (first ∷ second ∷ third ∷ []) (0 ∷ 0 ∷ 0 ∷ 0 ∷ []) 3 1 1;
+    left = operation Div (n 6) (whole (negsuc 2));
+    trail = [];
+  }) → ⊥
   pub other_rows : IsLicensedWith 6 (Elim (other ∷ []) (0 ∷ []) 1 1 1)
       (operation Div (n 6) (n 1)) [] → ⊥
   -- a quotient by 0 has no result, at any place

@@ -42,7 +42,8 @@ pub data IsElimTable (rep : Rep) (rows : List (List ℚ)) (t : Table) : ℕ → 
   start : (lines : List (List ℚ)) → AreShort rep rows lines → length rows ≡ width_without rep lines →
       t ≡ beside_unit rows → IsElimTable rep rows t (length rows + length rows)
 
--- a step of a pivot at an entry that is not 0, in the dictionary of such a table at the basis
+-- a step of a pivot at an entry that is not 0, in the dictionary of such a table at the basis, which
+-- has one place for each row
 pub record IsElimStep (holds : ℚ → Bool) (rep : Rep) (rows : List (List ℚ)) (basis : List ℕ)
     (row col number : ℕ) (left : Operation ℚ) : Type 0 where
   pub table : Table
@@ -50,6 +51,7 @@ pub record IsElimStep (holds : ℚ → Bool) (rep : Rep) (rows : List (List ℚ)
   pub allowed : IsElimTable rep rows table columns
   pub dictionary : Table
   pub is : IsDictionary columns table basis dictionary
+  pub one_each : length basis ≡ length rows
   pub row_from_one : 1 ≤ row
   pub col_from_one : 1 ≤ col
   pub operands : IsPivotStep (λ q. q) holds columns dictionary row col number left
@@ -108,14 +110,16 @@ pub data AreMultiplied (rep : Rep) (row v : List ℚ) : Type 0 where
       AreInUse rep lines used list → Contains used row → Contains list.live g →
       v ≡ with_zeros (marks_of rep lines) g.vector → AreMultiplied rep row v
 
--- an operation outside an elimination: of the norming of a first generator, or of a sum of products,
--- with either list first
+-- an operation outside an elimination: of the norming of a first generator over these rows; or,
+-- without rows, of a sum of products, with either list first
 pub data IsListStep (rep : Rep) (rows : List (List ℚ)) (col number : ℕ)
     (left : Operation ℚ) : Type 0 where
   normed : IsNormingStep rep rows col number left → IsListStep rep rows col number left
-  forward : (row v : List ℚ) → AreMultiplied rep row v → IsProductStep col number row v left →
+  forward : (row v : List ℚ) → rows ≡ [] → AreMultiplied rep row v →
+      IsProductStep col number row v left →
       IsListStep rep rows col number left
-  backward : (row v : List ℚ) → AreMultiplied rep row v → IsProductStep col number v row left →
+  backward : (row v : List ℚ) → rows ≡ [] → AreMultiplied rep row v →
+      IsProductStep col number v row left →
       IsListStep rep rows col number left
 
 -- ---- licences
@@ -123,7 +127,7 @@ pub data IsListStep (rep : Rep) (rows : List (List ℚ)) (col number : ℕ)
 abbrev pub IsAt : (ℚ → Bool) → Rep → Place → Operation ℚ → Type 0
 IsAt holds rep (Elim rows basis row col step) left =
     IsElimStep holds rep rows basis row col step left
-    ⊎ ((row ≡ 0) × IsListStep rep rows col step left)
+    ⊎ ((row ≡ 0) × (basis ≡ []) × IsListStep rep rows col step left)
 IsAt holds rep (Pair RowsOfRep rows first second step) left =
     IsAdditionStep rep rows first second step left
 IsAt holds rep _ left = ⊥

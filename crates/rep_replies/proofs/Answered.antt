@@ -25,7 +25,7 @@ pub turn_answered : (gens logs : Bool) (rep : Rep) (r : Reply) → CanTurn gens 
 turn_answered gens logs rep r can (inl t) =
     elim t.turns [
       | inl turned ↦ turned.status
-      | inr stopped ↦ absurd (can.held stopped.licence stopped.licensed)
+      | inr stopped ↦ absurd (can.held stopped.licence stopped.can stopped.licensed)
     ]
 turn_answered gens logs rep r can (inr other) = absurd (not_itself gens (sym can.kind ∙ other.kind))
 

@@ -19,6 +19,7 @@ use Rattle.rep_conv.specs.declared.check.ConvRefusal.TheVariants as refusal
 use Rattle.rep_conv.specs.Events.{conv_failure}
 use Rattle.rep_convert.specs.Licensed.{IsConvLicensed}
 use Rattle.statuses.specs.Replies.{TellsFault, TellsStatus, step_licence}
+use Rattle.statuses.specs.Told.{CanBeTold}
 use Rattle.statuses.specs.declared.reply.Reply.{Reply}
 use Rattle.statuses.specs.declared.status.LogRefusal.TheVariants.{Text, Wrong}
 use Rattle.statuses.specs.declared.status.Status.TheVariants.{Left, Refused, RepFault}
@@ -32,14 +33,14 @@ turned_told logs rep (Ok r) h = record { kind = refl; turns = inl h }
 turned_told logs rep (Err e) h = tt
 
 pub stopped_told : (logs : Bool) (rep : Rep) (l : Licence) (x : Result Reply NoMemory) →
-    IsConvLicensed is_held rep l → IfOk x (λ r. r.status ≡ Left l) → IfOk x TellsFault →
+    IsConvLicensed is_held rep l → CanBeTold l → IfOk x (λ r. r.status ≡ Left l) → IfOk x TellsFault →
     IfOk x (Turns rep.gens logs rep)
-stopped_told logs rep l (Ok r) licensed status told =
+stopped_told logs rep l (Ok r) licensed can status told =
     record {
       kind = refl;
-      turns = inr (record { licence = l; status = status; licensed = licensed; told = told });
+      turns = inr (record { licence = l; status = status; licensed = licensed; can = can; told = told });
     }
-stopped_told logs rep l (Err e) licensed status told = tt
+stopped_told logs rep l (Err e) licensed can status told = tt
 
 pub wanted_told : (gens logs : Bool) (rep : Rep) (x : Result Reply NoMemory) → rep.gens ≡ gens →
     IfOk x (Turns rep.gens logs rep) → IfOk x (TurnVerdict gens logs rep)

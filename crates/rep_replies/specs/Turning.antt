@@ -12,6 +12,7 @@ use Rattle.rep_convert.specs.Licensed.{IsConvLicensed}
 use Rattle.rep_convert.specs.Standing.{IsConversion}
 use Rattle.rep_convert.specs.declared.fault.Converted.{Converted}
 use Rattle.statuses.specs.Replies.{TellsFault}
+use Rattle.statuses.specs.Told.{CanBeTold}
 use Rattle.statuses.specs.declared.reply.Reply.{Reply}
 use Rattle.statuses.specs.declared.status.Status.TheVariants.{Done, Left, RepFault}
 
@@ -29,11 +30,13 @@ pub record Turned (logs : Bool) (rep : Rep) (r : Reply) : Type 0 where
   pub text : r.text ≡ rep_text converted.rep
   pub log : r.log ≡ conv_log_for logs converted.log
 
--- an operation whose exact result is not held is licensed for the conversion
+-- an operation whose exact result is not held is licensed for the conversion; what its licence shows
+-- is held
 pub record TurningStopped (rep : Rep) (r : Reply) : Type 0 where
   pub licence : Licence
   pub status : r.status ≡ Left licence
   pub licensed : IsConvLicensed is_held rep licence
+  pub can : CanBeTold licence
   pub told : TellsFault r
 
 -- what is replied of a representation of a wanted kind, with a log or without
@@ -60,7 +63,8 @@ VerticesVerdict logs rep r = TurnVerdict false logs rep r
 abbrev pub FacetsVerdict : Bool → Rep → Reply → Type 0
 FacetsVerdict logs rep r = TurnVerdict true logs rep r
 
--- nothing stands against a conversion: the kind is the wanted one, and no overflow is licensed
+-- nothing stands against a conversion: the kind is the wanted one, and no overflow that can be told
+-- is licensed
 pub record CanTurn (gens : Bool) (rep : Rep) : Type 0 where
   pub kind : rep.gens ≡ gens
-  pub held : (l : Licence) → IsConvLicensed is_held rep l → ⊥
+  pub held : (l : Licence) → CanBeTold l → IsConvLicensed is_held rep l → ⊥

@@ -4,11 +4,13 @@ use Rattle.std.specs.Prelude.{Bool, IfErr}
 use Rattle.exact_field.specs.Rational.{ℚ}
 use Rattle.vlp_problem.specs.declared.problem.Problem.{Problem}
 use Rattle.deriv_log.specs.declared.entry.Entry.{Entry}
-use Rattle.overflow_rules.specs.Licence.{Licensed, LicensedAnyhow}
+use Rattle.cone_rules.specs.Faults.{IsSound}
+use Rattle.overflow_rules.specs.Licence.{Licensed}
 use Rattle.overflows.specs.Faults.{OnLicence}
 use Rattle.overflows.specs.declared.fault.SolveFault.{SolveFault}
 use Rattle.benson_primal.specs.Logs.{IsOwnLog, IsOwnLogAnyhow}
 use Rattle.benson_dual.specs.Logs.{IsFacetLog}
+use Rattle.solver.specs.Solving.{LicensedInOrder}
 use Rattle.solver.proofs.Ended.{anyhow}
 
 module _ (holds : ℚ → Bool) (file : Problem) (c weights : List ℚ) where
@@ -22,8 +24,8 @@ module _ (holds : ℚ → Bool) (file : Problem) (c weights : List ℚ) where
   facet_anyhow (Ok log) h = (c, weights, h.own)
   facet_anyhow (Err f) h = tt
 
-  pub left_anyhow : (r : Result (List Entry) SolveFault) →
+  pub left_anyhow : IsSound file → (r : Result (List Entry) SolveFault) →
       IfErr r (λ f. OnLicence f (Licensed holds file c)) →
-      IfErr r (λ f. OnLicence f (LicensedAnyhow holds file))
-  left_anyhow (Ok log) h = tt
-  left_anyhow (Err f) h = anyhow file holds c f h
+      IfErr r (λ f. OnLicence f (LicensedInOrder holds file))
+  left_anyhow sound (Ok log) h = tt
+  left_anyhow sound (Err f) h = anyhow file holds sound c f h

@@ -8,12 +8,11 @@ use Rattle.deriv_log.specs.declared.entry.Entry.{Entry}
 use Rattle.cone_rules.specs.Faults.{IsSound}
 use Rattle.log_rules.specs.Proves.{PlainProves}
 use Rattle.cert_check.specs.Verdict.{Accepts}
-use Rattle.overflow_rules.specs.Licence.{LicensedAnyhow}
-use Rattle.overflow_rules.specs.Settings.{Setting}
-use Rattle.overflows.specs.Faults.{OnLicence, Overflows}
+use Rattle.overflow_rules.specs.Licence.{IsCheckOverflow}
+use Rattle.overflows.specs.Faults.{OnLicence}
 use Rattle.overflows.specs.declared.fault.SolveFault.{SolveFault}
 use Rattle.benson_primal.specs.Logs.{IsOwnLogAnyhow}
-use Rattle.solver.specs.Solving.{IsSolutionOf}
+use Rattle.solver.specs.Solving.{IsSolutionOf, LicensedInOrder}
 use Rattle.solver.specs.declared.end.Solution.{Solution}
 use Rattle.solver.proofs.Ended.{own_left}
 
@@ -29,8 +28,8 @@ module _ (file : Problem) (entries : List Entry) where
   }
   solution_checked sound log (Err f) same accepts plainly = tt
 
-  pub overflow_checked : IsOwnLogAnyhow is_held file entries → (r : Result Solution SolveFault) →
-      IfErr r (λ f. (s : Setting) → s.file ≡ file → s.trail ≡ entries → Overflows is_held s entries f) →
-      IfErr r (λ f. OnLicence f (LicensedAnyhow is_held file))
-  overflow_checked own (Ok s) h = tt
-  overflow_checked own (Err f) h = own_left file entries own f h
+  pub overflow_checked : IsSound file → IsOwnLogAnyhow is_held file entries → (r : Result Solution SolveFault) →
+      IfErr r (λ f. OnLicence f (λ licence. (licence.trail ≡ entries) × IsCheckOverflow is_held file entries licence.place licence.left)) →
+      IfErr r (λ f. OnLicence f (LicensedInOrder is_held file))
+  overflow_checked sound own (Ok s) h = tt
+  overflow_checked sound own (Err f) h = own_left file sound entries own f h

@@ -7,6 +7,7 @@ use Rattle.deriv_log.specs.declared.licence.Licence.{Licence}
 use Rattle.cone_rules.specs.declared.fault.ConeFault.{ConeFault as AConeFault}
 use Rattle.statuses.specs.Codes.{code_of}
 use Rattle.statuses.specs.Replies.{TellsFault}
+use Rattle.statuses.specs.Told.{CanBeTold}
 use Rattle.statuses.specs.declared.reply.Reply.{Reply}
 use Rattle.statuses.specs.declared.status.Status.{Status}
 use Rattle.statuses.specs.declared.status.Status.TheVariants.{Done, Words, ConeFault}
@@ -22,9 +23,9 @@ pub cone_told : (file : Problem) (f : AConeFault) (x : Result Reply NoMemory) �
 cone_told file f (Ok r) ends status told = inl (record { fault = f; status = status; has = ends; told = told })
 cone_told file f (Err e) ends status told = tt
 
-pub left_told : (file : Problem) (l : Licence) (x : Result Reply NoMemory) → EndsSolving file (Left l) → IfOk x (λ r. r.status ≡ status.Left l) → IfOk x TellsFault → IfOk x (Unsolved file)
-left_told file l (Ok r) ends status told = inr (record { licence = l; status = status; licensed = ends; told = told })
-left_told file l (Err e) ends status told = tt
+pub left_told : (file : Problem) (l : Licence) (x : Result Reply NoMemory) → EndsSolving file (Left l) → CanBeTold l → IfOk x (λ r. r.status ≡ status.Left l) → IfOk x TellsFault → IfOk x (Unsolved file)
+left_told file l (Ok r) ends can status told = inr (record { licence = l; status = status; licensed = ends; can = can; told = told })
+left_told file l (Err e) ends can status told = tt
 
 pub unsolved_verdict : (logs : Bool) (file : Problem) (x : Result Reply NoMemory) → IfOk x (Unsolved file) → IfOk x (SolveVerdict logs file)
 unsolved_verdict logs file (Ok r) unsolved = inr unsolved
@@ -64,7 +65,7 @@ pub unsolved_answered : (file : Problem) (r : Reply) → IsSolvable file → Uns
 unsolved_answered file r solvable unsolved =
     elim unsolved [
       | inl refused ↦ solvable.faultless refused.fault refused.has
-      | inr left ↦ solvable.held left.licence left.licensed
+      | inr left ↦ solvable.held left.licence left.can left.licensed
     ]
 
 pub solve_answered : (logs : Bool) (file : Problem) (r : Reply) → IsSolvable file → SolveVerdict logs file r → r.status ≡ Done

@@ -9,11 +9,11 @@ use Rattle.log_versions.specs.Upgrade.{upgraded}
 use Rattle.cert_check.specs.Verdict.{Accepts}
 use Rattle.cone_rules.specs.Faults.{HasFault}
 use Rattle.cone_rules.specs.declared.fault.ConeFault.{ConeFault as AConeFault}
-use Rattle.overflow_rules.specs.Licence.{LicensedAnyhow}
 use Rattle.statuses.specs.Replies.{TellsFault, log_for}
+use Rattle.statuses.specs.Told.{CanBeTold}
 use Rattle.statuses.specs.declared.reply.Reply.{Reply}
 use Rattle.statuses.specs.declared.status.Status.TheVariants.{Done, ConeFault, Left}
-use Rattle.solver.specs.Solving.{IsSolutionOf, NamesAllCuts}
+use Rattle.solver.specs.Solving.{IsSolutionOf, LicensedInOrder, NamesAllCuts}
 use Rattle.solver.specs.declared.end.Solution.{Solution}
 
 -- the log of a solution, where one is wanted: the text of the upgrade of its entries, which is a
@@ -45,11 +45,13 @@ pub record ConeRefused (file : Problem) (r : Reply) : Type 0 where
   pub has : HasFault file fault
   pub told : TellsFault r
 
--- an operation whose exact result is not held is licensed
+-- an operation whose exact result is not held is licensed, by the cone alone or where it is sound;
+-- what its licence shows is held
 pub record Overflowed (file : Problem) (r : Reply) : Type 0 where
   pub licence : Licence
   pub status : r.status ≡ Left licence
-  pub licensed : LicensedAnyhow is_held file licence
+  pub licensed : LicensedInOrder is_held file licence
+  pub can : CanBeTold licence
   pub told : TellsFault r
 
 -- there is no answer: the ordering cone is refused, or an overflow is licensed
@@ -64,7 +66,8 @@ SolveVerdict logs file r = Solved logs file r ⊎ Unsolved file r
 abbrev pub DualVerdict : Bool → Problem → Reply → Type 0
 DualVerdict logs file r = DualSolved logs file r ⊎ Unsolved file r
 
--- nothing stands against an answer: the cone has no fault, and no overflow is licensed
+-- nothing stands against an answer: the cone has no fault, and no overflow that can be told is
+-- licensed
 pub record IsSolvable (file : Problem) : Type 0 where
   pub faultless : (f : AConeFault) → HasFault file f → ⊥
-  pub held : (l : Licence) → LicensedAnyhow is_held file l → ⊥
+  pub held : (l : Licence) → CanBeTold l → LicensedInOrder is_held file l → ⊥

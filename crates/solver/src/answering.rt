@@ -4,10 +4,9 @@ ghost use Rattle.frac128.specs.Held.{is_held};
 ghost use Rattle.cone_dual.specs.Fitting.{IsDualityOf};
 ghost use Rattle.cone_rules.specs.Faults.{IsSound};
 ghost use Rattle.lp_form.specs.Data.{IsDataOf, RefusesNumber};
-ghost use Rattle.overflow_rules.specs.Licence.{LicensedAnyhow};
 ghost use Rattle.overflows.specs.Faults.{OnLicence};
 ghost use Rattle.benson_primal.specs.Logs.{IsOwnLogAnyhow};
-ghost use Rattle.solver.specs.Solving.{IsSolutionOf, NamesAllCuts, EndsSolving};
+ghost use Rattle.solver.specs.Solving.{IsSolutionOf, LicensedInOrder, NamesAllCuts, EndsSolving};
 ghost use Rattle.solver.specs.Accepted.{IsAccepted};
 
 use crate::end::{Solution, SolveEnd};
@@ -66,7 +65,7 @@ fn check_solution(
     requires own { IsOwnLogAnyhow is_held problem.now entries }
     ensures same { IfOk result (λ solution. solution.entries ≡ entries) }
     ensures ok { IfOk result (IsSolutionOf problem.now) }
-    ensures left { IfErr result (λ fault. OnLicence fault (LicensedAnyhow is_held problem.now)) }
+    ensures left { IfErr result (λ fault. OnLicence fault (LicensedInOrder is_held problem.now)) }
 {
     check_own(alloc, problem, entries)
 }
@@ -82,7 +81,7 @@ fn solution_by(
     requires stands { IsDataOf (λ q. q) problem.now form.now }
     requires duality { IsDualityOf (λ q. q) is_held problem.now duality.now }
     ensures ok { IfOk result (IsSolutionOf problem.now) }
-    ensures left { IfErr result (λ fault. OnLicence fault (LicensedAnyhow is_held problem.now)) }
+    ensures left { IfErr result (λ fault. OnLicence fault (LicensedInOrder is_held problem.now)) }
 {
     let entries = way.log(alloc, problem, form, duality)?;
     check_solution(alloc, problem, entries)
@@ -99,7 +98,7 @@ fn solution_in_place_of(
 ) -> Result<Solution, SolveEnd>
     requires stands { IsDataOf (λ q. q) problem.now form.now }
     requires duality { IsDualityOf (λ q. q) is_held problem.now duality.now }
-    requires first { LicensedAnyhow is_held problem.now first }
+    requires first { LicensedInOrder is_held problem.now first }
     ensures ok { IfOk result (IsSolutionOf problem.now) }
     ensures end { IfErr result (EndsSolving problem.now) }
 {

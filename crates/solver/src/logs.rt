@@ -3,10 +3,9 @@ ghost use Rattle.std.specs.Prelude.{◌≡◌, IfOk, IfErr, OnOk};
 ghost use Rattle.benson_primal.specs.Logs.{IsOwnLogAnyhow};
 ghost use Rattle.cone_dual.specs.Fitting.{IsDualityOf};
 ghost use Rattle.cone_rules.specs.Faults.{IsSound};
-ghost use Rattle.overflow_rules.specs.Licence.{LicensedAnyhow};
 ghost use Rattle.lp_form.specs.Data.{IsDataOf};
 ghost use Rattle.overflows.specs.Faults.{OnLicence};
-ghost use Rattle.solver.specs.Solving.{EndsIn, IsFacetLogAnyhow};
+ghost use Rattle.solver.specs.Solving.{EndsIn, IsFacetLogAnyhow, LicensedInOrder};
 
 use crate::end::SolveEnd;
 use crate::ways::{Way, end_of};
@@ -32,7 +31,7 @@ fn log_in_place_of<F: Field>(
     requires same { file ≡ problem.now }
     requires stands { IsDataOf F.value file form.now }
     requires duality { IsDualityOf F.value F.holds file duality.now }
-    requires first { LicensedAnyhow F.holds file first }
+    requires first { LicensedInOrder F.holds file first }
     ensures own { IfOk result (IsOwnLogAnyhow F.holds file) }
     ensures end { IfErr result (EndsIn F.holds file) }
 {
@@ -55,7 +54,7 @@ fn log_instead<F: Field>(
     requires same { file ≡ problem.now }
     requires stands { IsDataOf F.value file form.now }
     requires duality { IsDualityOf F.value F.holds file duality.now }
-    requires fault { OnLicence fault (LicensedAnyhow F.holds file) }
+    requires fault { OnLicence fault (LicensedInOrder F.holds file) }
     ensures own { IfOk result (IsOwnLogAnyhow F.holds file) }
     ensures end { IfErr result (EndsIn F.holds file) }
 {

@@ -3,8 +3,8 @@ ghost use Rattle.std.specs.Prelude.{◌≡◌, IfErr, IfOk};
 ghost use Rattle.frac128.specs.Held.{is_held};
 ghost use Rattle.deriv_log.specs.Formed.{IsLog};
 ghost use Rattle.log_rules.specs.Proves.{AllMeet, PlainProves};
-ghost use Rattle.overflow_rules.specs.Settings.{Setting};
-ghost use Rattle.overflows.specs.Faults.{OnLicence, Overflows};
+ghost use Rattle.overflow_rules.specs.Licence.{IsCheckOverflow};
+ghost use Rattle.overflows.specs.Faults.{OnLicence};
 ghost use Rattle.cert_check.specs.Verdict.{Accepts};
 ghost use Rattle.solver.specs.Own.{IsStepLicence};
 
@@ -24,8 +24,9 @@ pub fn check_own(alloc: Global, problem: &Problem, entries: Entries) -> Result<S
     ensures ok { IfOk result (λ checked. Accepts problem.now entries checked.answer) }
     ensures plainly { IfOk result (λ checked. PlainProves problem.now entries checked.answer) }
     ensures first { IfErr result (λ fault. OnLicence fault (IsStepLicence problem.now entries)) }
-    ensures licensed { IfErr result (λ fault. (s : Setting) → s.file ≡ problem.now →
-        s.trail ≡ entries → Overflows is_held s entries fault) }
+    ensures licensed { IfErr result (λ fault. OnLicence fault (λ licence.
+        (licence.trail ≡ entries)
+        × IsCheckOverflow is_held problem.now entries licence.place licence.left)) }
 {
     match check(alloc, problem, &entries) {
         Ok(answer) => Ok(Solution { entries, answer }),

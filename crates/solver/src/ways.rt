@@ -3,9 +3,9 @@
 ghost use Rattle.std.specs.Prelude.{◌≡◌, ◌⊎◌, IfOk, IfErr};
 ghost use Rattle.benson_primal.specs.Logs.{IsOwnLogAnyhow};
 ghost use Rattle.cone_dual.specs.Fitting.{IsDualityOf};
-ghost use Rattle.overflow_rules.specs.Licence.{LicensedAnyhow};
 ghost use Rattle.lp_form.specs.Data.{IsDataOf};
 ghost use Rattle.overflows.specs.Faults.{OnLicence};
+ghost use Rattle.solver.specs.Solving.{LicensedInOrder};
 
 use crate::end::SolveEnd;
 use benson_dual::dual;
@@ -74,7 +74,7 @@ impl Way {
         requires stands { IsDataOf F.value file form.now }
         requires duality { IsDualityOf F.value F.holds file duality.now }
         ensures own { IfOk result (IsOwnLogAnyhow F.holds file) }
-        ensures left { IfErr result (λ fault. OnLicence fault (LicensedAnyhow F.holds file)) }
+        ensures left { IfErr result (λ fault. OnLicence fault (LicensedInOrder F.holds file)) }
     {
         match self {
             Way::Image => {

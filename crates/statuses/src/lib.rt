@@ -3,6 +3,7 @@
 
 mod cone;
 mod fault;
+mod held;
 pub mod laws;
 mod licence;
 mod lines;
@@ -10,7 +11,6 @@ mod reply;
 mod status;
 mod words;
 
-pub use fault::fault_line;
 pub use licence::licence_line;
 pub use reply::{Reply, fault_reply, refused_reply, step_reply};
 pub use status::{LogRefusal, Status};

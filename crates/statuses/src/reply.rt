@@ -1,8 +1,10 @@
 //! What a command replies.
 ghost use Rattle.std.specs.Prelude.{◌≡◌, IfOk};
 ghost use Rattle.statuses.specs.Replies.{TellsFault, TellsStatus, step_licence};
+ghost use Rattle.statuses.specs.Told.{CanTell};
 
 use crate::fault::fault_line;
+use crate::held::read_status;
 use crate::status::{LogRefusal, Status};
 use deriv_log::{Entries, Licence, Place};
 use exact_field::Left;
@@ -22,7 +24,9 @@ pub struct Reply {
 pub fn fault_reply(alloc: Global, status: Status) -> Result<Reply, NoMemory>
     ensures status { IfOk result (λ r. r.status ≡ status) }
     ensures told { IfOk result TellsFault }
+    ensures held { CanTell status }
 {
+    read_status(&status);
     let text = fault_line(alloc, &status)?;
     let log = None;
     Ok(Reply { status, text, log })

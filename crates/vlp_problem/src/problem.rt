@@ -191,11 +191,4 @@ impl Problem {
     {
         value_among(self.a.as_slice(), row, col)
     }
-
-    /// The entry of P at a place, in the time of a binary search. Outside P it is 0.
-    pub fn o_at(&self, row: u32, col: u32) -> Frac
-        ensures { result ≡ coefficient self.now.o row col }
-    {
-        value_among(self.o.as_slice(), row, col)
-    }
 }

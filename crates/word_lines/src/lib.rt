@@ -13,7 +13,7 @@ mod words;
 mod writing;
 
 pub use fault::{LogEnd, LogFault, LogKind, Stop};
-pub use items::{Item, Printed, put_count, put_items, put_list, take_items, take_list};
+pub use items::{Item, Printed, put_count, put_items, put_list, take_items};
 pub use line::{LineEntry, print_line, read_line};
 pub use number::{fraction, natural};
 pub use part::{EndKind, LogPair};

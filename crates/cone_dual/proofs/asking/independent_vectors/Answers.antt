@@ -1,7 +1,7 @@
 use Rattle.std.proofs.Common.{◌≡◌, ℕ, List, ap, sym, subst, refl, ◌∙◌, All, Contains}
 use Rattle.exact_field.specs.Rational.{ℚ}
 use Rattle.deriv_log.specs.declared.entry.Entry.{Entry}
-use Rattle.overflow_rules.specs.Dictionaries.{IsElimTable}
+use Rattle.overflow_rules.specs.Dictionaries.{AreStartRows, AreElimRows, IsElimTable}
 use Rattle.lin_rows.specs.Read.{numbers}
 use Rattle.lp_form.proofs.Figures.{objective_number}
 use Rattle.overflows.specs.Faults.{Overflows}
@@ -20,7 +20,7 @@ returns-clause-left g c = λ file stands given.
     let q_is : q ≡ file.objs = c.len-q.ensures.value ∙ objective_number value file form stands in
     let among : All (Contains (cone_vectors file.cone)) rows =
     subst (λ (vs : List (List ℚ)). All (Contains (cone_vectors file.cone)) vs) (given ∙ sym (ap (numbers value) c.in_ok-rows.ensures.rows)) (all_among (cone_vectors file.cone)) in
-    rows_licensed value holds form file stands rows rows q c.in-Err.fault c.elimination_fault.result among (IsElimTable.alone refl q_is)
-    (λ s width columns t allowed table h.
-    subst (λ (trail : List Entry). Overflows holds s trail c.elimination_fault.result) c.new.ensures (c.elimination_fault.ensures.licensed s width columns t allowed table h))
+    rows_licensed value holds form file stands rows rows q c.in-Err.fault c.elimination_fault.result (IsElimTable.alone (AreElimRows.of_start file.objs (AreStartRows.of_cone among)) refl q_is)
+    (λ s width columns t table h.
+    subst (λ (trail : List Entry). Overflows holds s trail c.elimination_fault.result) c.new.ensures (c.elimination_fault.ensures.licensed s width columns t table h))
     c.in-Err.ensures.left

@@ -2,7 +2,7 @@ use Rattle.std.proofs.Common.{◌≡◌, ℕ, List, length, map, ap, ap₂, sym,
 use Rattle.std.proofs.lemmas.List.{length-map}
 use Rattle.exact_field.specs.Rational.{ℚ}
 use Rattle.deriv_log.specs.declared.entry.Entry.{Entry}
-use Rattle.overflow_rules.specs.Dictionaries.{IsElimTable}
+use Rattle.overflow_rules.specs.Dictionaries.{AreStartRows, IsElimTable}
 use Rattle.lin_rows.specs.Read.{numbers}
 use Rattle.lp_form.proofs.Figures.{objective_number}
 use Rattle.overflows.specs.Faults.{Overflows}
@@ -27,8 +27,8 @@ returns-clause-left g c = λ file stands given.
     let among : All (Contains (cone_vectors file.cone)) rows =
     subst (λ (vs : List (List ℚ)). All (Contains (cone_vectors file.cone)) vs) (sym rows_is)
     (subst (λ (vs : List (List ℚ)). All (Contains vs) (map (row_of all) picks)) (sym given) (picks_among all picks c.requires.picks.from_one c.requires.picks.to_end)) in
-    rows_licensed value holds form file stands rows (beside_unit rows) (width + width) c.in-Err.fault c.elimination_fault.result among
-    (IsElimTable.beside (many ∙ objective_number value file form stands) refl (ap₂ (λ (a b : ℕ). a + b) width_is width_is))
-    (λ s width columns t allowed table h.
-    subst (λ (trail : List Entry). Overflows holds s trail c.elimination_fault.result) c.new.ensures (c.elimination_fault.ensures.licensed s width columns t allowed table h))
+    rows_licensed value holds form file stands rows (beside_unit rows) (width + width) c.in-Err.fault c.elimination_fault.result
+    (IsElimTable.beside (AreStartRows.of_cone among) (many ∙ objective_number value file form stands) refl (ap₂ (λ (a b : ℕ). a + b) width_is width_is))
+    (λ s width columns t table h.
+    subst (λ (trail : List Entry). Overflows holds s trail c.elimination_fault.result) c.new.ensures (c.elimination_fault.ensures.licensed s width columns t table h))
     c.in-Err.ensures.left

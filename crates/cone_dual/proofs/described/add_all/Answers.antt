@@ -67,3 +67,7 @@ loop-k-preserved g c =
       made = subst (λ (s : State). IsMadeOver dd.width s.rows s.list) (sym added)
           (generator_laws.grows dd.width c.loop-k.dd.rows c.loop-k.dd.list (map value c.row.result.now) c.loop-k.invariant.made);
     }
+
+pub returns-in_err-add_row-clause-told : goal.returns-in_err-add_row-clause-told
+returns-in_err-add_row-clause-told g c =
+    err_holds c.from_residual.result c.in_err-add_row.field-0.0 _ c.from_residual.ensures.1 c.in_err-add_row.ensures.told

@@ -4,7 +4,7 @@ use Rattle.double_descr.specs.State.{State}
 use Rattle.overflow_rules.specs.Generators.{IsAddition}
 use Rattle.overflows.specs.Faults.{OnLicence}
 use Rattle.cone_dual.specs.Generators.{IsOver}
-use Rattle.cone_dual.proofs.Licences.{addition_over}
+use Rattle.cone_dual.proofs.Licences.{addition_alone, addition_over}
 use Rattle.cone_dual.proofs.described.add_row.Goals as goal
 
 pub returns-clause-left : goal.returns-clause-left
@@ -22,3 +22,11 @@ returns-clause-place g c =
     (addition_over value g.F.Field.holds family _ _ row c.in-Err.fault c.add_fault.result
     (subst (λ (s : State). IsAddFault value g.F.Field.holds (add_blocks s.rows s.list.live row) c.in-Err.fault) (sym c.in-Err.ensures.err) c.in-Err.ensures.left)
     c.add_fault.ensures.told)
+
+pub returns-clause-told : goal.returns-clause-told
+returns-clause-told g c =
+    let value = g.F.Field.value in
+    let row = map value c.args.row.now in
+    addition_alone value g.F.Field.holds g.met.F.Field.holds_zero c.args.family _ _ row c.in-Err.fault c.add_fault.result
+    (subst (λ (s : State). IsAddFault value g.F.Field.holds (add_blocks s.rows s.list.live row) c.in-Err.fault) (sym c.in-Err.ensures.err) c.in-Err.ensures.left)
+    c.add_fault.ensures.told

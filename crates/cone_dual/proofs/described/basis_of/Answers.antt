@@ -7,7 +7,7 @@ use Rattle.lin_rows.specs.Eliminate.{IsElimFault}
 use Rattle.lin_rows.specs.Read.{numbers}
 use Rattle.overflow_rules.specs.Dictionaries.{IsElimTable}
 use Rattle.overflows.specs.Faults.{Overflows}
-use Rattle.cone_dual.proofs.Licences.{elimination_over}
+use Rattle.cone_dual.proofs.Licences.{elimination_alone, elimination_over}
 use Rattle.cone_dual.proofs.described.basis_of.Goals as goal
 
 pub unreachable-requires : goal.unreachable-requires
@@ -25,10 +25,17 @@ returns-in-Err-clause-left g c = λ s allowed.
     let rows = c.args.rows.now in
     let t = numbers value rows.list in
     subst (λ (trail : List Entry). Overflows holds s trail c.elimination_fault.result) c.new.ensures
-    (c.elimination_fault.ensures.licensed s rows.width rows.width t allowed (IsElimTable.alone refl refl)
+    (c.elimination_fault.ensures.licensed s rows.width rows.width t (IsElimTable.alone allowed refl refl)
     (subst (λ (n : ℕ). IsElimFault value holds n t c.in-Err.fault) c.width.ensures c.in-Err.ensures.left))
 
 pub returns-in-Err-clause-place : goal.returns-in-Err-clause-place
 returns-in-Err-clause-place g c = λ family.
     let value = g.F.Field.value in
     elimination_over value family (numbers value c.args.rows.now.list) c.new.result c.in-Err.fault c.elimination_fault.result c.elimination_fault.ensures.told
+
+pub returns-in-Err-clause-told : goal.returns-in-Err-clause-told
+returns-in-Err-clause-told g c =
+    let value = g.F.Field.value in
+    let t = numbers value c.args.rows.now.list in
+    elimination_alone value g.F.Field.holds g.met.F.Field.holds_zero t c.new.result c.width.result t c.in-Err.fault c.elimination_fault.result c.new.ensures c.in-Err.ensures.left
+    c.elimination_fault.ensures.told

@@ -7,7 +7,7 @@ use Rattle.tableaux.specs.Table.{Table, row_of}
 use Rattle.lin_rows.specs.Read.{numbers}
 use Rattle.lin_rows.proofs.Building.{numbers_long}
 use Rattle.lin_rows.proofs.Errors.{err_holds}
-use Rattle.overflow_rules.specs.Dictionaries.{AreElimRows}
+use Rattle.overflow_rules.specs.Dictionaries.{AreStartRows, AreElimRows}
 use Rattle.overflow_rules.specs.Generators.{IsMadeOver}
 use Rattle.cone_dual.specs.Generators.{MayDescribe, begun_with, others}
 use Rattle.cone_dual.proofs.Licences.{may_among, told_more}
@@ -27,7 +27,7 @@ pub returns-in_err-picks-clause-left : goal.returns-in_err-picks-clause-left
 returns-in_err-picks-clause-left g c = λ s may.
     let t = numbers g.F.Field.value c.args.rows.now.list in
     err_holds c.from_residual.result c.in_err-picks.field-0.0 _ c.from_residual.ensures.1
-    (c.in_err-picks.ensures.left s (may.eliminated t (all_of_members (Contains t) t (λ r k. k))))
+    (c.in_err-picks.ensures.left s (AreElimRows.of_start c.args.rows.now.width (may.eliminated t (all_of_members (Contains t) t (λ r k. k)))))
 
 pub rows_at-requires-2-clause-low : goal.rows_at-requires-2-clause-low
 rows_at-requires-2-clause-low g c =
@@ -59,8 +59,8 @@ returns-in_err-dd-clause-left g c = λ s may.
     let places = picked_places rows.width t picks c.in_ok-picks.ensures.ok in
     err_holds c.from_residual-in_err-dd.result c.in_err-dd.field-0.0 _ c.from_residual-in_err-dd.ensures.1
     (c.in_err-dd.ensures.left s
-    (subst (λ (n : ℕ). AreElimRows s (numbers value c.in_ok-first.first.list) n) (sym c.in_ok-first.ensures.width)
-    (subst (λ (rs : Table). AreElimRows s rs rows.width) (sym first_is)
+    (subst (λ (n : ℕ). AreStartRows s (numbers value c.in_ok-first.first.list) n) (sym c.in_ok-first.ensures.width)
+    (subst (λ (rs : Table). AreStartRows s rs rows.width) (sym first_is)
     (may.eliminated (map (row_of t) picks) (picked_among t picks places)))))
 
 pub returns-in_err-dd-clause-place : goal.returns-in_err-dd-clause-place
@@ -132,3 +132,15 @@ returns-clause-ok g c =
       rows_are = all_is;
       made = subst (λ (n : ℕ). IsMadeOver n after.rows after.list) started_width c.in_ok-add_all.ensures.made;
     }
+
+pub returns-in_err-picks-clause-told : goal.returns-in_err-picks-clause-told
+returns-in_err-picks-clause-told g c =
+    err_holds c.from_residual.result c.in_err-picks.field-0.0 _ c.from_residual.ensures.1 c.in_err-picks.ensures.told
+
+pub returns-in_err-dd-clause-told : goal.returns-in_err-dd-clause-told
+returns-in_err-dd-clause-told g c =
+    err_holds c.from_residual-in_err-dd.result c.in_err-dd.field-0.0 _ c.from_residual-in_err-dd.ensures.1 c.in_err-dd.ensures.told
+
+pub returns-in_err-add_all-clause-told : goal.returns-in_err-add_all-clause-told
+returns-in_err-add_all-clause-told g c =
+    err_holds c.from_residual-in_err-add_all.result c.in_err-add_all.field-0.0 _ c.from_residual-in_err-add_all.ensures.1 c.in_err-add_all.ensures.told

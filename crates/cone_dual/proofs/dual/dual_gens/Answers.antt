@@ -41,3 +41,7 @@ returns-clause-order g c =
       made = subst (λ (rs : Table). IsMadeOver c.args.rows.now.width rs dd.list) is.rows_are is.made;
       same = c.in_ok-generators_of.ensures.rows;
     }
+
+pub returns-in_err-dd-clause-told : goal.returns-in_err-dd-clause-told
+returns-in_err-dd-clause-told g c =
+    err_holds c.from_residual.result c.in_err-dd.field-0.0 _ c.from_residual.ensures.1 c.in_err-dd.ensures.told

@@ -3,7 +3,7 @@ use Rattle.exact_field.specs.Rational.{neg_ℚ}
 use Rattle.exact_field.specs.Vector.{entry}
 use Rattle.lin_rows.proofs.Errors.{err_holds}
 use Rattle.lin_rows.proofs.Summing.{entry_read}
-use Rattle.overflow_rules.specs.Licence.{LicensedWithout}
+use Rattle.overflow_rules.specs.Licence.{LicensedByCone}
 use Rattle.overflows.specs.Faults.{OnLicence}
 use Rattle.cone_dual.proofs.ByRows.{combined, may_divide, multipliers, not_zero}
 use Rattle.cone_dual.proofs.Standing.{before, without}
@@ -30,7 +30,7 @@ returns-in_err-quotients-clause-left g c = λ file stands off.
     let by_is : value c.neg.result ≡ neg_ℚ (entry (map value y) (n + 1)) =
     c.neg.ensures ∙ ap neg_ℚ (sym (entry_read value g.F.Field.holds y n c.index-y-n.result (omega (arith, long)) c.index-y-n.is)) in
     let may = may_divide value c.args.form.now c.args.vectors.now c.requires.rows y c.requires.infeasible n (value c.neg.result) refl by_is holds file stands off in
-    err_holds c.from_residual.result fault (λ f. OnLicence f (LicensedWithout holds file)) c.from_residual.ensures.1
+    err_holds c.from_residual.result fault (λ f. OnLicence f (LicensedByCone holds file)) c.from_residual.ensures.1
     (without holds file fault (c.in_err-quotients.ensures.left (before file) may.0 may.1))
 
 pub returns-clause-ok : goal.returns-clause-ok

@@ -12,5 +12,5 @@ returns-in-Err-Left-clause-some c = λ r same.
     stop_told c.args.second part told.reply r
     (stop_of part c.feasible_end.result c.in-Err-Left.licence is
     (c.feasible_end.ensures.left (setting part) c.in_ok-form.ensures) c.feasible_end.ensures.place
-    told.reply told.ensures.status told.ensures.told)
+    told.ensures.held told.reply told.ensures.status told.ensures.told)
     same

@@ -13,8 +13,8 @@ returns-clause-left g c = λ s q_is has.
     let holds = g.F.Field.holds in
     let t = numbers value c.in_ok-rows.rows.list in
     subst (λ (trail : List Entry). Overflows holds s trail c.elimination_fault.result) c.new.ensures
-    (c.elimination_fault.ensures.licensed s s.file.objs c.args.q t (AreElimRows.of_normals (c.in_ok-rows.ensures.rows ∙ sym has))
-    (IsElimTable.alone refl (sym q_is)) c.in-Err.ensures.left)
+    (c.elimination_fault.ensures.licensed s s.file.objs c.args.q t
+    (IsElimTable.alone (AreElimRows.of_normals (c.in_ok-rows.ensures.rows ∙ sym has)) refl (sym q_is)) c.in-Err.ensures.left)
 
 pub returns-in-Ok-clause-ok : goal.returns-in-Ok-clause-ok
 returns-in-Ok-clause-ok g c =

@@ -8,4 +8,4 @@ pub returns-in-Err-Left : goal.returns-in-Err-Left
 returns-in-Err-Left c =
     stopped_told c.args.logs c.args.rep.now c.in-Err-Left.licence c.fault_reply.result
     (subst (IsConvLeft is_held c.args.rep.now) c.in-Err-Left.field-0-is c.in-Err-Left.ensures.left)
-    c.fault_reply.ensures.status c.fault_reply.ensures.told
+    c.fault_reply.ensures.held c.fault_reply.ensures.status c.fault_reply.ensures.told

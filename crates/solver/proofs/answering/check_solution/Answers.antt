@@ -8,5 +8,5 @@ returns-clause-ok c =
 
 pub returns-clause-left : goal.returns-clause-left
 returns-clause-left c =
-    overflow_checked c.args.problem.now c.args.entries c.requires.own c.check_own.result
+    overflow_checked c.args.problem.now c.args.entries c.requires.sound c.requires.own c.check_own.result
     c.check_own.ensures.licensed

@@ -40,11 +40,10 @@ returns-in-Err-Left-clause-first c =
 pub returns-in-Err-Left-clause-licensed : goal.returns-in-Err-Left-clause-licensed
 returns-in-Err-Left-clause-licensed c =
     let file = c.args.problem.now in
-    let entries = c.args.entries in
-    λ s same trail. (
+    let entries = c.args.entries in (
       refl,
-      check_overflows s file entries c.in-Err-Left.entry c.in-Err-Left.step c.in-Err-Left.left same
-          trail
+      check_overflows file entries c.in-Err-Left.entry c.in-Err-Left.step c.in-Err-Left.left
+          c.requires.log
           (fails_plainly file entries c.requires.meet _
           (subst (λ (r : Refusal). Refuses file entries r) c.in-Err-Left.field-0-is
           c.in-Err-Left.ensures.refused)),

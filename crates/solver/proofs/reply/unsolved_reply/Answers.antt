@@ -12,4 +12,4 @@ returns-in-Cone c = λ file ends.
 pub returns-in-Left : goal.returns-in-Left
 returns-in-Left c = λ file ends.
     left_told file c.in-Left.licence c.fault_reply-in-Left.result (subst (λ (e : SolveEnd). EndsSolving file e) c.in-Left.is ends)
-    c.fault_reply-in-Left.ensures.status c.fault_reply-in-Left.ensures.told
+    c.fault_reply-in-Left.ensures.held c.fault_reply-in-Left.ensures.status c.fault_reply-in-Left.ensures.told

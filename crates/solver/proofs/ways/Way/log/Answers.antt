@@ -10,4 +10,4 @@ returns-in-LowerImage-clause-own g c =
 pub returns-in-LowerImage-clause-left : goal.returns-in-LowerImage-clause-left
 returns-in-LowerImage-clause-left g c =
     left_anyhow g.F.Field.holds g.file (map g.F.Field.value c.args.duality.now.c)
-    (map g.F.Field.value c.args.duality.now.weights) c.dual.result c.dual.ensures.left
+    (map g.F.Field.value c.args.duality.now.weights) c.requires.1.1.1.sound c.dual.result c.dual.ensures.left
