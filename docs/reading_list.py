@@ -4,6 +4,7 @@
     reading_list.py                 the sums of the claims in CLAIMS, as a table
     reading_list.py NAME            the files of one of them, or of a file `CRATE/specs/FILE`, each after those that it names
     reading_list.py --into README   puts the table between its two marks in a document
+    reading_list.py --check README  ends with 1 where another table stands there
 
 A file of definitions is a `.antt` file in the folder `specs` of a crate; those of the kit's `std` are not followed. The types of
 code that they name stand in the `.rt` files that are listed last: of these only the types are to be read, and no function.
@@ -105,21 +106,30 @@ def table():
     return "\n".join(rows)
 
 
-def put_into(path):
-    with open(path) as lines:
-        text = lines.read()
+def text_with_table(text):
+    """A document with the table between its two marks."""
     front, rest = text.split(MARKS[0], 1)
     _, back = rest.split(MARKS[1], 1)
-    with open(path, "w") as out:
-        out.write(f"{front}{MARKS[0]}\n{table()}\n{MARKS[1]}{back}")
+    return f"{front}{MARKS[0]}\n{table()}\n{MARKS[1]}{back}"
+
+
+def compare_or_put(word, path):
+    with open(path) as lines:
+        text = lines.read()
+    wanted = text_with_table(text)
+    if word == "--into":
+        with open(path, "w") as out:
+            out.write(wanted)
+    elif text != wanted:
+        sys.exit(f"{path} has another reading list than the sources: docs/reading_list.py --into {path} makes it anew")
 
 
 def main():
     words = sys.argv[1:]
     if not words:
         print(table())
-    elif words[0] == "--into" and len(words) == 2:
-        put_into(words[1])
+    elif words[0] in ("--into", "--check") and len(words) == 2:
+        compare_or_put(*words)
     elif len(words) == 1:
         roots = next((roots for name, _, roots in CLAIMS if name == words[0]), (words[0],))
         definitions, types = reading_list(roots)
