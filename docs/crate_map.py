@@ -6,7 +6,7 @@
     crate_map.py --check DOCUMENT   ends with 1 where they stand there otherwise
 
 LAYERS is where a crate is given its place. A crate stands only on crates of its own layer and of those before it, which is tested
-at each run, by crates.txt. The number after a name is that of the crates that it stands on, directly or by others.
+at each run, by crates.txt.
 """
 import pathlib
 import re
@@ -15,7 +15,7 @@ import sys
 TOP = pathlib.Path(__file__).resolve().parents[1]
 MARKS = ("<!-- crates -->", "<!-- end of the crates -->")
 # The longest line of a crate, in words; a longer first sentence is cut at a colon or a semicolon.
-MOST_WORDS = 18
+MOST_WORDS = 16
 LAYERS = (
     ("1. Numbers, lists and the outside", "src_sink exact_field incid_sets frac128 tier_frac"),
     ("2. Mathematics, away from files and code", "polyhedra lineality tableaux representations"),
@@ -46,16 +46,6 @@ def read_crates():
     return {name: [each for each in below if each in found] for name, below in found.items()}
 
 
-def all_below(crates, name):
-    seen, open_names = set(), list(crates[name])
-    while open_names:
-        each = open_names.pop()
-        if each not in seen:
-            seen.add(each)
-            open_names += crates[each]
-    return seen
-
-
 def first_words(name):
     """The first sentence of a README, or the longest front of it that ends at a colon or a semicolon and is short enough."""
     text = (TOP / "crates" / name / "README.md").read_text()
@@ -82,11 +72,10 @@ def faults(crates):
     return told
 
 
-def lists(crates):
+def lists():
     parts = []
     for title, names in LAYERS:
-        lines = [f"- [{name}](../crates/{name}/README.md) ({len(all_below(crates, name))}): {first_words(name)}"
-                 for name in names.split()]
+        lines = [f"- [{name}](../crates/{name}/README.md): {first_words(name)}" for name in names.split()]
         parts.append(f"**{title}**\n\n" + "\n".join(lines))
     return "\n\n".join(parts)
 
@@ -97,7 +86,7 @@ def main():
     wrong = faults(crates)
     if wrong:
         sys.exit("\n".join(wrong))
-    made = lists(crates)
+    made = lists()
     if not words:
         print(made)
         return
