@@ -18,7 +18,7 @@ mod shared;
 mod solving;
 
 pub use basis::Basis;
-pub use columns::{Part, push_part, zeros};
+pub use columns::{Part, zeros};
 pub use digits::{Multiple, sign_of_sum};
 pub use halt::Halt;
 pub use number::Number;
