@@ -1,7 +1,7 @@
 //! What is asked of linear programs and eliminations over an ordering cone.
 ghost use Rattle.std.specs.Prelude.{◌≡◌, map, length, IfOk, IfErr};
 ghost use Rattle.exact_simplex.specs.Ends.{IsCertified, IsReadOff};
-ghost use Rattle.overflow_rules.specs.Licence.{LicensedByCone};
+ghost use Rattle.overflows.specs.Licence.{LicensedByCone};
 ghost use Rattle.lin_rows.specs.Answers.{IsIndep};
 ghost use Rattle.lin_rows.specs.Read.{numbers};
 ghost use Rattle.lp_form.specs.Building.{joined};

@@ -6,9 +6,9 @@ ghost use Rattle.polyhedra.specs.LiveList.{step};
 ghost use Rattle.tableaux.specs.Elimination.{AreIndependent};
 ghost use Rattle.deriv_log.specs.declared.licence.Family.{Family as AnyFamily};
 ghost use Rattle.lin_rows.specs.Read.{numbers};
-ghost use Rattle.overflow_rules.specs.Dictionaries.{AreElimRows, AreStartRows};
-ghost use Rattle.overflow_rules.specs.Generators.{IsAddition, IsMadeOver};
-ghost use Rattle.overflow_rules.specs.Settings.{Setting};
+ghost use Rattle.overflows.specs.Dictionaries.{AreElimRows, AreStartRows};
+ghost use Rattle.overflows.specs.Generators.{IsAddition, IsMadeOver};
+ghost use Rattle.overflows.specs.Settings.{Setting};
 ghost use Rattle.overflows.specs.Faults.{OnLicence, Overflows};
 ghost use Rattle.cone_dual.specs.Generators.{IsAlone, IsDescriptionOf, IsOver, MayDescribe};
 

@@ -3,8 +3,8 @@ use Rattle.std.proofs.Common.{◌≡◌, subst, [], None, Result, Err, IfErr}
 use Rattle.frac128.specs.Held.{is_held}
 use Rattle.benson_program.specs.Ends.{IsPivotOfFeasible}
 use Rattle.deriv_log.specs.declared.licence.Licence.{Licence}
-use Rattle.overflow_rules.specs.Licence.{LicensedWithout}
-use Rattle.overflow_rules.specs.Settings.{Setting}
+use Rattle.overflows.specs.Licence.{LicensedWithout}
+use Rattle.overflows.specs.Settings.{Setting}
 use Rattle.overflows.specs.Faults.{OnLicence, Overflows}
 use Rattle.overflows.specs.declared.fault.SolveFault.{SolveFault}
 use Rattle.overflows.specs.declared.fault.SolveFault.TheVariants.{Left}

@@ -6,7 +6,7 @@ use Rattle.vlp_problem.specs.declared.problem.Problem.{Problem}
 use Rattle.upper_image.specs.Witnesses.{IsInfeasible}
 use Rattle.deriv_log.specs.declared.licence.Licence.{Licence}
 use Rattle.benson_program.specs.Ends.{IsPivotOfFeasible}
-use Rattle.overflow_rules.specs.Licence.{LicensedWithout}
+use Rattle.overflows.specs.Licence.{LicensedWithout}
 use Rattle.poly_calc.specs.Sets.{HasFeasible}
 use Rattle.statuses.specs.Replies.{TellsFault}
 use Rattle.statuses.specs.Told.{CanBeTold}

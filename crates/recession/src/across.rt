@@ -1,7 +1,7 @@
 //! A vector at which the normals of some cuts are 0, before those of the lines.
 ghost use Rattle.std.specs.Prelude.{◌≡◌, ◌+◌, ◌<◌, [], map, length, reverse, All, IfOk, IfErr};
-ghost use Rattle.overflow_rules.specs.Base.{trail_normals};
-ghost use Rattle.overflow_rules.specs.Settings.{Setting};
+ghost use Rattle.overflows.specs.Base.{trail_normals};
+ghost use Rattle.overflows.specs.Settings.{Setting};
 ghost use Rattle.lin_rows.specs.Complement.{AreComplement};
 ghost use Rattle.lin_rows.specs.Read.{numbers};
 ghost use Rattle.outer_approx.specs.Lines.{told_by};
