@@ -15,8 +15,8 @@ use Rattle.sample_file.specs.Sample.{IsSample}
 use Rattle.sample_file.specs.Summary.{IsSolved, Sums}
 use Rattle.sample_file.proofs.Printed.{reads}
 use Rattle.sample_file.proofs.Samples.{samples_are_solved}
-use Rattle.statuses.specs.declared.reply.Reply.{Reply}
-use Rattle.statuses.specs.declared.status.Status.TheVariants.{Done}
+use Rattle.commands.specs.declared.reply.Reply.{Reply}
+use Rattle.commands.specs.declared.status.Status.TheVariants.{Done}
 use Rattle.bensolve_main.specs.Sample.{SampleVerdict}
 
 -- the orthant is a sound cone

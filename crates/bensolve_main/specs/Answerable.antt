@@ -18,8 +18,8 @@ use Rattle.described.specs.Calculus.{CanMeet, CanSum, CanJoin, CanMap}
 use Rattle.described.specs.Projected.{IsProjectable}
 use Rattle.solver.specs.Replies.{IsSolvable}
 use Rattle.described.specs.Weights.{CanWeigh}
-use Rattle.statuses.specs.declared.status.Status.{Status}
-use Rattle.statuses.specs.declared.status.Status.TheVariants.{Done, NoMemory}
+use Rattle.commands.specs.declared.status.Status.{Status}
+use Rattle.commands.specs.declared.status.Status.TheVariants.{Done, NoMemory}
 use Rattle.bensolve_main.specs.Reading.{problem_limit, log_limit}
 use Rattle.bensolve_main.specs.Sample.{IsSampleHeld}
 use Rattle.bensolve_main.specs.Tasks.{Texts, texts_of}

@@ -10,9 +10,9 @@ use Rattle.sample_file.specs.Summary.{Sums}
 use Rattle.solver.specs.Replies.{Overflowed}
 use Rattle.solver.specs.Solving.{IsSolutionOf, LicensedInOrder}
 use Rattle.solver.specs.declared.end.Solution.{Solution}
-use Rattle.statuses.specs.Told.{CanBeTold}
-use Rattle.statuses.specs.declared.reply.Reply.{Reply}
-use Rattle.statuses.specs.declared.status.Status.TheVariants.{Done}
+use Rattle.commands.specs.Told.{CanBeTold}
+use Rattle.commands.specs.declared.reply.Reply.{Reply}
+use Rattle.commands.specs.declared.status.Status.TheVariants.{Done}
 
 -- there are the sample file, as which its text reads, and a log's entries and an answer, which
 -- solve it: the answer lists its image, the text is the summary of the lists, and there is no log

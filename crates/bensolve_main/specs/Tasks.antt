@@ -9,7 +9,7 @@ use Rattle.rep_replies.specs.Turning.{FacetsVerdict, VerticesVerdict}
 use Rattle.described.specs.Calculus.{MeetVerdict, SumVerdict, JoinVerdict, MapVerdict}
 use Rattle.described.specs.Projected.{ProjectVerdict, AssociateVerdict}
 use Rattle.solver.specs.Replies.{DualVerdict, SolveVerdict}
-use Rattle.statuses.specs.declared.reply.Reply.{Reply}
+use Rattle.commands.specs.declared.reply.Reply.{Reply}
 use Rattle.described.specs.Weights.{WeightsVerdict, WeighVerdict}
 use Rattle.bensolve_main.specs.Check.{CheckVerdict}
 use Rattle.bensolve_main.specs.Relog.{RelogVerdict}

@@ -4,8 +4,8 @@ use Rattle.std.proofs.Common.{◌≡◌, inl, inr, ℕ, ◌≤◌, ◌<◌, Bool
 use Rattle.exact_field.specs.Rational.{ℚ}
 use Rattle.poly_calc.specs.Made.{IsJoin, IsMap, IsMeet, IsSum}
 use Rattle.poly_calc.specs.Sets.{IsInBoth, IsInJoin, IsInMap, IsInSum}
-use Rattle.statuses.specs.declared.reply.Reply.{Reply}
-use Rattle.statuses.specs.declared.status.Status.TheVariants.{Done, Words}
+use Rattle.commands.specs.declared.reply.Reply.{Reply}
+use Rattle.commands.specs.declared.status.Status.TheVariants.{Done, Words}
 use Rattle.upper_image.proofs.WorkingImage.{infeasible_is_empty}
 use Rattle.vlp_problem.specs.declared.problem.Problem.{Problem}
 use Rattle.described.specs.Calculus.{CanJoin, CanMap, CanMeet, CanSum, IsSetDescribable, JoinVerdict, MapVerdict, MeetVerdict, SetDescribed, SumVerdict}

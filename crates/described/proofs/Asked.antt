@@ -8,10 +8,10 @@ use Rattle.overflow_rules.specs.Settings.{Setting}
 use Rattle.overflows.specs.Faults.{OnLicence, Overflows}
 use Rattle.overflows.specs.declared.fault.SolveFault.{SolveFault}
 use Rattle.overflows.specs.declared.fault.SolveFault.TheVariants.{Left}
-use Rattle.statuses.specs.Replies.{TellsFault}
-use Rattle.statuses.specs.Told.{CanBeTold}
-use Rattle.statuses.specs.declared.reply.Reply.{Reply}
-use Rattle.statuses.specs.declared.status.Status.TheVariants as status
+use Rattle.commands.specs.Replies.{TellsFault}
+use Rattle.commands.specs.Told.{CanBeTold}
+use Rattle.commands.specs.declared.reply.Reply.{Reply}
+use Rattle.commands.specs.declared.status.Status.TheVariants as status
 use Rattle.vlp_problem.specs.declared.problem.Problem.{Problem}
 use Rattle.described.specs.Parts.{StopTold}
 

@@ -5,7 +5,7 @@ use Rattle.poly_calc.specs.Made.{IsJoin, IsMap, IsMeet, IsSum}
 use Rattle.poly_calc.specs.Sets.{HasFeasible, IsInBoth, IsInJoin, IsInMap, IsInSum, ProjectsTo}
 use Rattle.solver.specs.Replies.{Unsolved}
 use Rattle.src_sink.specs.declared.items.NoMemory.{NoMemory}
-use Rattle.statuses.specs.declared.reply.Reply.{Reply}
+use Rattle.commands.specs.declared.reply.Reply.{Reply}
 use Rattle.vlp_problem.specs.declared.problem.Problem.{Problem}
 use Rattle.described.specs.Calculus.{JoinVerdict, MapVerdict, MeetVerdict, SizesFit, SumVerdict}
 use Rattle.described.specs.Described.{Describes}

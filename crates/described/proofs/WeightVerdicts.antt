@@ -9,9 +9,9 @@ use Rattle.commands.specs.Weights.{AreWeightsOf}
 use Rattle.solver.specs.Replies.{Unsolved}
 use Rattle.solver.specs.Solving.{IsSolutionOf}
 use Rattle.solver.specs.declared.end.Solution.{Solution}
-use Rattle.statuses.specs.Replies.{TellsFault}
-use Rattle.statuses.specs.declared.reply.Reply.{Reply}
-use Rattle.statuses.specs.declared.status.Status.TheVariants.{WeighLeft, Weights}
+use Rattle.commands.specs.Replies.{TellsFault}
+use Rattle.commands.specs.declared.reply.Reply.{Reply}
+use Rattle.commands.specs.declared.status.Status.TheVariants.{WeighLeft, Weights}
 use Rattle.described.specs.Weights.{WeightsTold, WeightsVerdict, WeightsCounted, WeighingStopped, WeighingTold, WeighVerdict}
 use Rattle.weighing.specs.Stages.{StopsWeighing}
 

@@ -6,10 +6,10 @@ use Rattle.vlp_problem.specs.declared.problem.Problem.{Problem}
 use Rattle.commands.proofs.WeightWords.{one_list}
 use Rattle.solver.specs.Replies.{IsSolvable, Unsolved}
 use Rattle.solver.proofs.Replies.{unsolved_answered, unsolved_never_words, unsolved_quiet}
-use Rattle.statuses.specs.Codes.{code_of}
-use Rattle.statuses.specs.declared.reply.Reply.{Reply}
-use Rattle.statuses.specs.declared.status.Status.{Status}
-use Rattle.statuses.specs.declared.status.Status.TheVariants.{Done, Words}
+use Rattle.commands.specs.Codes.{code_of}
+use Rattle.commands.specs.declared.reply.Reply.{Reply}
+use Rattle.commands.specs.declared.status.Status.{Status}
+use Rattle.commands.specs.declared.status.Status.TheVariants.{Done, Words}
 use Rattle.described.specs.Weights.{WeightsVerdict, WeightsCounted, WeighingDone, WeighingStopped, WeighingTold, WeighVerdict, CanWeigh}
 use Rattle.weighing.specs.Stages.{StopsWeighing}
 

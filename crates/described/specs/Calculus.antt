@@ -7,9 +7,9 @@ use Rattle.poly_calc.specs.Made.{IsMeet, IsSum, IsJoin, IsMap}
 use Rattle.poly_calc.specs.Sets.{ProjectsTo, IsInBoth, IsInSum, IsInJoin, IsInMap}
 use Rattle.described.specs.Described.{Describes, IsDescribable}
 use Rattle.described.specs.Parts.{BothAreFeasible, IsAskable, PartIsEmpty, PartStopped}
-use Rattle.statuses.specs.Replies.{TellsFault}
-use Rattle.statuses.specs.declared.reply.Reply.{Reply}
-use Rattle.statuses.specs.declared.status.Status.TheVariants.{Sizes}
+use Rattle.commands.specs.Replies.{TellsFault}
+use Rattle.commands.specs.declared.reply.Reply.{Reply}
+use Rattle.commands.specs.declared.status.Status.TheVariants.{Sizes}
 
 -- ---- numbers of columns
 -- the two problems have one number of columns, and at most 19

@@ -12,10 +12,10 @@ use Rattle.projected_answer.specs.declared.found.Projection.{Projection}
 use Rattle.solver.specs.Replies.{IsLogged}
 use Rattle.solver.specs.Solving.{IsSolutionOf, LicensedInOrder}
 use Rattle.solver.specs.declared.end.Solution.{Solution}
-use Rattle.statuses.specs.Replies.{TellsFault}
-use Rattle.statuses.specs.Told.{CanBeTold}
-use Rattle.statuses.specs.declared.reply.Reply.{Reply}
-use Rattle.statuses.specs.declared.status.Status.TheVariants.{Done, Left}
+use Rattle.commands.specs.Replies.{TellsFault}
+use Rattle.commands.specs.Told.{CanBeTold}
+use Rattle.commands.specs.declared.reply.Reply.{Reply}
+use Rattle.commands.specs.declared.status.Status.TheVariants.{Done, Left}
 
 -- the text is that of a projection, which is right for the feasible set and the first k columns: it
 -- is read off the answer of a solution of the associated problem, whose log, where one is wanted, is

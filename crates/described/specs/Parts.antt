@@ -8,10 +8,10 @@ use Rattle.deriv_log.specs.declared.licence.Licence.{Licence}
 use Rattle.benson_program.specs.Ends.{IsPivotOfFeasible}
 use Rattle.overflow_rules.specs.Licence.{LicensedWithout}
 use Rattle.poly_calc.specs.Sets.{HasFeasible}
-use Rattle.statuses.specs.Replies.{TellsFault}
-use Rattle.statuses.specs.Told.{CanBeTold}
-use Rattle.statuses.specs.declared.reply.Reply.{Reply}
-use Rattle.statuses.specs.declared.status.Status.TheVariants.{EmptyPart, Left}
+use Rattle.commands.specs.Replies.{TellsFault}
+use Rattle.commands.specs.Told.{CanBeTold}
+use Rattle.commands.specs.declared.reply.Reply.{Reply}
+use Rattle.commands.specs.declared.status.Status.TheVariants.{EmptyPart, Left}
 
 -- the second part, or the first
 abbrev pub part_of : Bool → Problem → Problem → Problem

@@ -4,9 +4,9 @@ use Rattle.vlp_problem.specs.declared.problem.Problem.{Problem}
 use Rattle.vlp_printer.specs.Printing.{problem_text}
 use Rattle.projection.specs.Associated.{IsAssociated}
 use Rattle.described.specs.Described.{Describes, IsDescribable}
-use Rattle.statuses.specs.Replies.{TellsFault}
-use Rattle.statuses.specs.declared.reply.Reply.{Reply}
-use Rattle.statuses.specs.declared.status.Status.TheVariants.{Done, Columns}
+use Rattle.commands.specs.Replies.{TellsFault}
+use Rattle.commands.specs.declared.reply.Reply.{Reply}
+use Rattle.commands.specs.declared.status.Status.TheVariants.{Done, Columns}
 
 -- more columns are asked for than there are
 pub record ColumnsWanting (k : ℕ) (file : Problem) (r : Reply) : Type 0 where

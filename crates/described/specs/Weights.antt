@@ -8,9 +8,9 @@ use Rattle.commands.specs.Weights.{AreWeightsOf}
 use Rattle.solver.specs.Replies.{IsSolvable, Unsolved}
 use Rattle.solver.specs.Solving.{IsSolutionOf}
 use Rattle.solver.specs.declared.end.Solution.{Solution}
-use Rattle.statuses.specs.Replies.{TellsFault}
-use Rattle.statuses.specs.declared.reply.Reply.{Reply}
-use Rattle.statuses.specs.declared.status.Status.TheVariants.{Done, WeighLeft, Weights}
+use Rattle.commands.specs.Replies.{TellsFault}
+use Rattle.commands.specs.declared.reply.Reply.{Reply}
+use Rattle.commands.specs.declared.status.Status.TheVariants.{Done, WeighLeft, Weights}
 use Rattle.weighing.specs.Stages.{IsWeighedFrom, StopsWeighing}
 use Rattle.weighing.specs.Text.{weighed_text, weights_text}
 use Rattle.weighing.specs.Weighing.{AreWeightSets, IsWeighed}

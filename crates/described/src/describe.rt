@@ -2,11 +2,11 @@
 ghost use Rattle.std.specs.Prelude.{◌≤◌, ◌<◌, IfOk};
 ghost use Rattle.described.specs.Described.{Describes};
 
+use commands::{Reply, Status};
 use projected_answer::{project_answer, projection_text};
 use projection::associated_problem;
 use solver::{log_text, solve, unsolved_reply};
 use src_sink::NoMemory;
-use statuses::{Reply, Status};
 use std::alloc::Global;
 use vlp_problem::Problem;
 

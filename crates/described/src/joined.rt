@@ -5,9 +5,9 @@ ghost use Rattle.vlp_problem.specs.FileSizes.{HasFileSizes};
 
 use crate::describe::describe;
 use crate::parts::parts_reply;
+use commands::{Reply, Status, fault_reply};
 use poly_calc::{join_file, meet_file, sum_file};
 use src_sink::NoMemory;
-use statuses::{Reply, Status, fault_reply};
 use std::alloc::Global;
 use vlp_problem::Problem;
 

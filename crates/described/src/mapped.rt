@@ -4,9 +4,9 @@ ghost use Rattle.described.specs.Calculus.{MapVerdict};
 ghost use Rattle.vlp_problem.specs.FileSizes.{HasFileSizes};
 
 use crate::describe::describe;
+use commands::{Reply, Status, fault_reply};
 use poly_calc::map_file;
 use src_sink::NoMemory;
-use statuses::{Reply, Status, fault_reply};
 use std::alloc::Global;
 use vlp_problem::Problem;
 

@@ -3,14 +3,14 @@ ghost use Rattle.std.specs.Prelude.{◌≡◌, ◌⊎◌, IfOk, map};
 ghost use Rattle.benson_program.specs.Ends.{IsContradiction};
 ghost use Rattle.described.specs.Parts.{BothAreFeasible, EmptyTold, PartIsEmpty, PartStopped, StopTold};
 ghost use Rattle.poly_calc.specs.Sets.{HasFeasible};
-ghost use Rattle.statuses.specs.declared.reply.Reply.{Reply as AReply};
+ghost use Rattle.commands.specs.declared.reply.Reply.{Reply as AReply};
 ghost use Rattle.vlp_problem.specs.declared.problem.Problem.{Problem as AProblem};
 
 use benson_program::{FeasibleEnd, feasible_end};
+use commands::{Reply, Status, fault_reply};
 use overflows::{SolveFault, spots_of};
 use solver::data_of;
 use src_sink::{Items, NoMemory};
-use statuses::{Reply, Status, fault_reply};
 use std::alloc::Global;
 use tier_frac::Tier;
 use vlp_problem::Problem;

@@ -5,9 +5,9 @@ ghost use Rattle.vlp_printer.specs.Printing.{HasWord};
 ghost use Rattle.vlp_problem.specs.Values.{printed_numbers};
 
 use crate::describe::describe;
+use commands::{Reply, Status, fault_reply};
 use projection::associated_problem;
 use src_sink::NoMemory;
-use statuses::{Reply, Status, fault_reply};
 use std::alloc::Global;
 use vlp_printer::{PrintFault, print_vlp};
 use vlp_problem::Problem;

@@ -5,11 +5,10 @@ ghost use Rattle.solver.specs.Solving.{IsSolutionOf};
 ghost use Rattle.vlp_problem.specs.declared.problem.Problem.{Problem as AProblem};
 ghost use Rattle.described.specs.Weights.{WeighVerdict, WeighingStopped, WeighingTold, WeightsCounted, WeightsTold, WeightsVerdict};
 
-use commands::weights_of;
+use commands::{Reply, Status, fault_reply, weights_of};
 use frac128::Vector;
 use solver::{Solution, solve, unsolved_reply};
 use src_sink::NoMemory;
-use statuses::{Reply, Status, fault_reply};
 use std::alloc::Global;
 use vlp_problem::Problem;
 use weighing::{WeighEnd, weigh, weighed_text, weights_text};

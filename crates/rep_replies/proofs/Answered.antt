@@ -10,8 +10,8 @@ use Rattle.rep_text.specs.declared.conv.ConvEntry.{ConvEntry}
 use Rattle.rep_text.specs.declared.rep.Rep.{Rep}
 use Rattle.rep_text.proofs.ConvLaws.{one_conv_reading}
 use Rattle.rep_conv.specs.Events.{conv_failure}
-use Rattle.statuses.specs.declared.reply.Reply.{Reply}
-use Rattle.statuses.specs.declared.status.Status.TheVariants.{Done, Words}
+use Rattle.commands.specs.declared.reply.Reply.{Reply}
+use Rattle.commands.specs.declared.status.Status.TheVariants.{Done, Words}
 use Rattle.rep_replies.specs.Checking.{CanReconvert, ReconvVerdict, RefusesLog}
 use Rattle.rep_replies.specs.Turning.{CanTurn, TurnVerdict}
 

@@ -18,11 +18,11 @@ use Rattle.rep_conv.specs.Checked.{IsRefusal}
 use Rattle.rep_conv.specs.declared.check.ConvRefusal.TheVariants as refusal
 use Rattle.rep_conv.specs.Events.{conv_failure}
 use Rattle.rep_convert.specs.Licensed.{IsConvLicensed}
-use Rattle.statuses.specs.Replies.{TellsFault, TellsStatus, step_licence}
-use Rattle.statuses.specs.Told.{CanBeTold}
-use Rattle.statuses.specs.declared.reply.Reply.{Reply}
-use Rattle.statuses.specs.declared.status.LogRefusal.TheVariants.{Text, Wrong}
-use Rattle.statuses.specs.declared.status.Status.TheVariants.{Left, Refused, RepFault}
+use Rattle.commands.specs.Replies.{TellsFault, TellsStatus, step_licence}
+use Rattle.commands.specs.Told.{CanBeTold}
+use Rattle.commands.specs.declared.reply.Reply.{Reply}
+use Rattle.commands.specs.declared.status.LogRefusal.TheVariants.{Text, Wrong}
+use Rattle.commands.specs.declared.status.Status.TheVariants.{Left, Refused, RepFault}
 use Rattle.rep_replies.specs.Checking.{ReconvVerdict, RefusesLog}
 use Rattle.rep_replies.specs.Turning.{Turned, TurnVerdict, Turns}
 

@@ -7,7 +7,7 @@ use Rattle.rep_text.specs.RepText.{IsRepText, rep_text}
 use Rattle.rep_text.specs.declared.rep.Rep.{Rep}
 use Rattle.rep_convert.specs.Standing.{IsConversion}
 use Rattle.rep_convert.specs.declared.fault.Converted.{Converted}
-use Rattle.statuses.specs.declared.reply.Reply.{Reply}
+use Rattle.commands.specs.declared.reply.Reply.{Reply}
 use Rattle.rep_replies.specs.Checking.{CanReconvert, Reconverted}
 
 -- nothing stands against a check of the log, and whatever is reconverted by it has this text

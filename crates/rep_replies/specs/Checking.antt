@@ -14,10 +14,10 @@ use Rattle.rep_text.specs.declared.conv.ConvEntry.{ConvEntry}
 use Rattle.rep_text.specs.declared.rep.Rep.{Rep}
 use Rattle.rep_conv.specs.Converted.{Gives, IsOther}
 use Rattle.rep_conv.specs.Events.{conv_failure}
-use Rattle.statuses.specs.Replies.{TellsFault}
-use Rattle.statuses.specs.declared.reply.Reply.{Reply}
-use Rattle.statuses.specs.declared.status.LogRefusal.TheVariants.{Text, Wrong}
-use Rattle.statuses.specs.declared.status.Status.TheVariants.{Done, Left, Refused}
+use Rattle.commands.specs.Replies.{TellsFault}
+use Rattle.commands.specs.declared.reply.Reply.{Reply}
+use Rattle.commands.specs.declared.status.LogRefusal.TheVariants.{Text, Wrong}
+use Rattle.commands.specs.declared.status.Status.TheVariants.{Done, Left, Refused}
 
 -- the bytes are the text of no log of a conversion, and this is their first fault
 pub record IsNoLog (bytes : List ℕ) (r : Reply) : Type 0 where

@@ -11,10 +11,10 @@ use Rattle.rep_text.specs.declared.rep.Rep.{Rep}
 use Rattle.rep_convert.specs.Licensed.{IsConvLicensed}
 use Rattle.rep_convert.specs.Standing.{IsConversion}
 use Rattle.rep_convert.specs.declared.fault.Converted.{Converted}
-use Rattle.statuses.specs.Replies.{TellsFault}
-use Rattle.statuses.specs.Told.{CanBeTold}
-use Rattle.statuses.specs.declared.reply.Reply.{Reply}
-use Rattle.statuses.specs.declared.status.Status.TheVariants.{Done, Left, RepFault}
+use Rattle.commands.specs.Replies.{TellsFault}
+use Rattle.commands.specs.Told.{CanBeTold}
+use Rattle.commands.specs.declared.reply.Reply.{Reply}
+use Rattle.commands.specs.declared.status.Status.TheVariants.{Done, Left, RepFault}
 
 -- the text of the log of a conversion, where one is wanted
 abbrev pub conv_log_for : Bool → List ConvEntry → Option (List ℕ)

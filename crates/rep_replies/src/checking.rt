@@ -6,10 +6,10 @@ ghost use Rattle.rep_text.specs.ConvText.{conv_grammar};
 ghost use Rattle.rep_conv.specs.Checked.{IsRefusal};
 ghost use Rattle.rep_replies.specs.Checking.{ReconvVerdict, RefusesLog};
 
+use commands::{LogRefusal, Reply, Status, refused_reply, step_reply};
 use rep_conv::{ConvRefusal, check_conv};
 use rep_text::{ConvLog, Rep, print_rep, read_conv};
 use src_sink::{Bytes, NoMemory};
-use statuses::{LogRefusal, Reply, Status, refused_reply, step_reply};
 use std::alloc::Global;
 use word_lines::LogEnd;
 

@@ -4,10 +4,10 @@ ghost use Rattle.rep_convert.specs.Standing.{IsConversion};
 ghost use Rattle.rep_replies.specs.Turning.{FacetsVerdict, Turned, TurningStopped, TurnVerdict, Turns, VerticesVerdict, conv_log_for};
 ghost use Rattle.rep_text.specs.declared.rep.Rep.{Rep as ARep};
 
+use commands::{Reply, Status, fault_reply};
 use rep_convert::{ConvFault, Converted, convert};
 use rep_text::{ConvLog, Rep, print_conv, print_rep};
 use src_sink::{Bytes, NoMemory};
-use statuses::{Reply, Status, fault_reply};
 use std::alloc::Global;
 use word_lines::LogKind;
 

@@ -1,5 +1,5 @@
 use Rattle.std.proofs.Common.{◌≡◌, ℕ, IfOk, subst}
-use Rattle.statuses.specs.declared.status.Status.TheVariants.{Weights}
+use Rattle.commands.specs.declared.status.Status.TheVariants.{Weights}
 use Rattle.described.proofs.WeightVerdicts.{counted_told}
 use Rattle.described.proofs.weights.counted_reply.Goals as goal
 
