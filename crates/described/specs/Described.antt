@@ -5,10 +5,10 @@ use Rattle.frac128.specs.Held.{is_held}
 use Rattle.vlp_problem.specs.declared.problem.Problem.{Problem}
 use Rattle.deriv_log.specs.declared.licence.Licence.{Licence}
 use Rattle.projection.specs.Associated.{IsAssociated}
-use Rattle.projected_answer.specs.Found.{IsProjectionFrom}
-use Rattle.projected_answer.specs.Right.{IsRightProjection}
-use Rattle.projected_answer.specs.Text.{projection_text}
-use Rattle.projected_answer.specs.declared.found.Projection.{Projection}
+use Rattle.projection.specs.Found.{IsProjectionFrom}
+use Rattle.projection.specs.Right.{IsRightProjection}
+use Rattle.projection.specs.Text.{projection_text}
+use Rattle.projection.specs.declared.found.Projection.{Projection}
 use Rattle.solver.specs.Replies.{IsLogged}
 use Rattle.solver.specs.Solving.{IsSolutionOf, LicensedInOrder}
 use Rattle.solver.specs.declared.end.Solution.{Solution}

@@ -3,8 +3,7 @@ ghost use Rattle.std.specs.Prelude.{◌≤◌, ◌<◌, IfOk};
 ghost use Rattle.described.specs.Described.{Describes};
 
 use commands::{Reply, Status};
-use projected_answer::{project_answer, projection_text};
-use projection::associated_problem;
+use projection::{associated_problem, project_answer, projection_text};
 use solver::{log_text, solve, unsolved_reply};
 use src_sink::NoMemory;
 use std::alloc::Global;

@@ -1,5 +1,5 @@
 use Rattle.std.proofs.Common.{inl, refl}
-use Rattle.projected_answer.proofs.RightProjection.{found_is_right}
+use Rattle.projection.proofs.RightProjection.{found_is_right}
 use Rattle.described.proofs.Told.{stopped_told}
 use Rattle.described.proofs.describe.describe.Goals as goal
 
