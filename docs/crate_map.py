@@ -31,7 +31,7 @@ LAYERS = (
      "overflows program_columns shown_program listed_columns bounded_simplex benson_program cone_dual outer_approx recession"
      " lower_image benson_primal benson_dual solver rep_convert"),
     ("8. Sets, weights and the program",
-     "sample_file projection poly_calc described weighing rep_replies bensolve_main bensolve"),
+     "projection poly_calc weighing replies bensolve_main bensolve"),
     ("Beside the program: cases and benchmarks", "number_cases program_cases engine_cases cases bench_calls"),
 )
 

@@ -8,7 +8,7 @@ use Rattle.vlp_reader.proofs.Faults.{never_both}
 use Rattle.rep_text.specs.RepText.{IsRepText}
 use Rattle.rep_text.specs.declared.rep.Rep.{Rep}
 use Rattle.rep_text.proofs.RepLaws.{one_rep_reading}
-use Rattle.rep_replies.specs.Checking.{CanReconvert}
+use Rattle.replies.specs.Checking.{CanReconvert}
 use Rattle.cert_check.specs.Streams.{ReadsWhole}
 use Rattle.commands.specs.Paths.{writes_log}
 use Rattle.commands.specs.Tasks.{Shape, Task}

@@ -5,8 +5,8 @@ use Rattle.vlp_reader.specs.FirstFault.{Reads}
 use Rattle.vlp_problem.specs.declared.problem.Problem.{Problem}
 use Rattle.vlp_printer.specs.Printing.{problem_text}
 use Rattle.deriv_log.specs.declared.licence.Licence.{Licence}
-use Rattle.sample_file.specs.Sample.{IsSample}
-use Rattle.sample_file.specs.Summary.{Sums}
+use Rattle.replies.specs.Sample.{IsSample}
+use Rattle.replies.specs.Summary.{Sums}
 use Rattle.solver.specs.Replies.{Overflowed}
 use Rattle.solver.specs.Solving.{IsSolutionOf, LicensedInOrder}
 use Rattle.solver.specs.declared.end.Solution.{Solution}

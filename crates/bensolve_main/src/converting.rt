@@ -11,8 +11,8 @@ ghost use Rattle.bensolve_main.specs.World.{channel, sources};
 use crate::examine::LOG_LIMIT;
 use crate::reading::{read_representation, read_text, reply_at};
 use commands::{Reply, Status, Task};
-use rep_replies::{facets_reply, reconv_reply, vertices_reply};
 use rep_text::Rep;
+use replies::{facets_reply, reconv_reply, vertices_reply};
 use src_sink::{NoMemory, Source};
 use std::alloc::Global;
 

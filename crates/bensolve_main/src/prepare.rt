@@ -17,7 +17,7 @@ use crate::reading::{read_problem, reply_at};
 use crate::relog::relog;
 use crate::sampling::sample_reply;
 use commands::{Command, Files, Reply, Status, Task};
-use described::{
+use replies::{
     associate_reply, join_reply, map_reply, meet_reply, project_reply, sum_reply, weigh_reply,
     weights_reply,
 };

@@ -5,7 +5,7 @@ use crate::case::{Object, Text};
 use bensolve_main::run;
 use commands::{Status, paths};
 use deriv_log::{print_log, read_log};
-use sample_file::sample_text;
+use replies::sample_text;
 use src_sink::{Bytes, Items, MOST_ITEMS, MemSink, MemSource, NoMemory};
 use std::alloc::Global;
 use vlp_printer::print_vlp;
