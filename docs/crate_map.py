@@ -20,7 +20,7 @@ LAYERS = (
     ("1. Numbers, lists and the outside", "src_sink exact_field incid_sets frac128 tier_frac"),
     ("2. Mathematics, away from files and code", "polyhedra lineality tableaux representations"),
     ("3. Rows, linear programs, double description",
-     "lin_rows shown_bases exact_simplex whole_programs whole_simplex short_basis short_programs short_simplex double_descr"
+     "lin_rows guessed_rows shown_bases exact_simplex whole_programs whole_simplex short_basis short_programs short_simplex double_descr"
      " geo_duality"),
     ("4. Texts of problems and logs", "word_lines deriv_log rep_text vlp_problem vlp_reader vlp_printer"),
     ("5. What a problem, a log and an overflow mean",
