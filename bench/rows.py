@@ -1,11 +1,14 @@
 #!/usr/bin/env python3
 """Files of rows in the folder results, of what the commands of this folder print, and their means.
 
-    rows.py keep NAME WHAT COMMAND..       runs the command here, passes on what it prints, and writes the tables of it to
-                                           results/NAME.tsv, below a line with WHAT, the command, the date, the machine and the commit
-    rows.py mean NAME COLUMN [COLUMN2]     the geometric mean and the greatest number of a column, or of COLUMN over COLUMN2
+    rows.py keep NAME WHAT COMMAND..      runs the command here, passes on what it prints, and
+                                          writes the tables of it to results/NAME.tsv, below a
+                                          line with WHAT, the command, date, machine and commit
+    rows.py mean NAME COLUMN [COLUMN2]    the geometric mean and the greatest number of a column,
+                                          or of COLUMN over COLUMN2
 
-A table is what stands in lines `| .. |`, its second line of dashes; where there are several, each begins with its heads.
+A table is what stands in lines `| .. |`, its second line of dashes; where there are several, each
+begins with its heads.
 """
 import csv
 import datetime
@@ -22,19 +25,27 @@ RESULTS = HERE / "results"
 
 
 def commit():
-    ran = subprocess.run(["git", "describe", "--always", "--dirty"], cwd=HERE, capture_output=True, text=True)
+    words = ["git", "describe", "--always", "--dirty"]
+    ran = subprocess.run(words, cwd=HERE, capture_output=True, text=True)
     return ran.stdout.strip() or "not known"
+
+
+def row_of(line):
+    """The cells of a line of a table, with tabs; nothing of another line, and of one of dashes."""
+    if not line.startswith("|") or not set(line.strip()) - set("|- :"):
+        return None
+    return "\t".join(cell.strip() for cell in line.strip().strip("|").split("|"))
 
 
 def keep(name, what, command):
     """The status of the command, whose tables are written where it ends well."""
     date = datetime.datetime.now(datetime.timezone.utc).date()
-    kept = [f"# {what}; cd bench && {shlex.join(command)}; {date}; {machine()}; commit {commit()}"]
+    said = [what, f"cd bench && {shlex.join(command)}", date, machine(), f"commit {commit()}"]
+    kept = ["# " + "; ".join(map(str, said))]
     with subprocess.Popen(command, cwd=HERE, stdout=subprocess.PIPE, text=True) as run:
         for line in run.stdout:
             print(line, end="", flush=True)
-            if line.startswith("|") and set(line.strip()) - set("|- :"):
-                kept.append("\t".join(cell.strip() for cell in line.strip().strip("|").split("|")))
+            kept += filter(None, [row_of(line)])
     if run.returncode == 0 and len(kept) > 1:
         (RESULTS / f"{name}.tsv").write_text("\n".join(kept) + "\n")
     return run.returncode or len(kept) == 1
@@ -42,8 +53,9 @@ def keep(name, what, command):
 
 def mean(name, column, below=None):
     with open(RESULTS / f"{name}.tsv") as lines:
-        rows = csv.DictReader((line for line in lines if not line.startswith("#")), delimiter="\t")
-        ratios = [float(row[column]) / (float(row[below]) if below else 1) for row in rows if row[column]]
+        kept = [line for line in lines if not line.startswith("#")]
+    rows = [row for row in csv.DictReader(kept, delimiter="\t") if row[column]]
+    ratios = [float(row[column]) / (float(row[below]) if below else 1) for row in rows]
     print(f"{statistics.geometric_mean(ratios):.2f} {max(ratios):.2f}")
 
 
