@@ -20,18 +20,18 @@ LAYERS = (
     ("1. Numbers, lists and the outside", "src_sink exact_field incid_sets frac128 tier_frac"),
     ("2. Mathematics, away from files and code", "polyhedra lineality tableaux representations"),
     ("3. Rows, linear programs, double description",
-     "lin_rows shown_bases exact_simplex whole_programs whole_simplex short_basis short_programs short_simplex double_descr"
+     "lin_rows guessed_rows shown_bases exact_simplex whole_programs whole_simplex short_basis short_programs short_simplex double_descr"
      " geo_duality"),
     ("4. Texts of problems and logs", "word_lines deriv_log rep_text vlp_problem vlp_reader vlp_printer"),
     ("5. What a problem, a log and an overflow mean",
-     "upper_image projection vlp_matrices lp_form cone_rules log_rules log_versions overflow_rules"),
+     "upper_image vlp_matrices lp_form cone_rules log_rules log_versions overflows"),
     ("6. The checkers, and what is told",
-     "entry_checks log_live log_solved log_answer cert_check log_upgrade rep_conv sol_writer statuses"),
+     "entry_checks log_live log_solved log_answer cert_check log_upgrade rep_conv sol_writer commands"),
     ("7. The solver",
-     "overflows program_columns shown_program listed_columns bounded_simplex benson_program cone_dual outer_approx recession"
+     "program_columns shown_program listed_columns bounded_simplex benson_program cone_dual outer_approx recession"
      " lower_image benson_primal benson_dual solver rep_convert"),
     ("8. Sets, weights and the program",
-     "commands sample_file projected_answer poly_calc described weighing rep_replies bensolve_main bensolve"),
+     "projection poly_calc weighing replies bensolve_main bensolve"),
     ("Beside the program: cases and benchmarks", "number_cases program_cases engine_cases cases bench_calls"),
 )
 

@@ -20,7 +20,7 @@ CLAIMS = (
     ("right", "what a right answer is", ("log_rules/specs/Right",)),
     ("report", "the same, what a file says and how a report tells it",
      ("log_rules/specs/Report", "log_rules/specs/Right", "vlp_reader/specs/FirstFault")),
-    ("overflow_rules", "what a licensed overflow is", ("overflow_rules/specs/Licence",)),
+    ("overflow", "what a licensed overflow is", ("overflows/specs/Licence",)),
     ("run", "the whole contract of `run`, with texts, overflows and the outside", ("bensolve_main/src/top.rt:run",)),
 )
 MARKS = ("<!-- reading list -->", "<!-- end of the reading list -->")

@@ -2,9 +2,8 @@
 #![tactic(auto)]
 
 use bensolve_main::run;
-use commands::paths;
+use commands::{Status, paths};
 use src_sink::{StdSink, StdSource};
-use statuses::Status;
 use std::fs::{self, File};
 use std::io;
 use std::process::ExitCode;

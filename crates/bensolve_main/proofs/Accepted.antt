@@ -16,10 +16,10 @@ use Rattle.solver.specs.Accepted.{PassesAs}
 use Rattle.solver.specs.Replies.{SolveVerdict, Solved}
 use Rattle.solver.proofs.Accepted.{is_accepted}
 use Rattle.solver.proofs.Replies.{dual_solves, unsolved_not_done}
-use Rattle.statuses.specs.Codes.{code_of}
-use Rattle.statuses.specs.declared.reply.Reply.{Reply}
-use Rattle.statuses.specs.declared.status.Status.{Status}
-use Rattle.statuses.specs.declared.status.Status.TheVariants.{Done}
+use Rattle.commands.specs.Codes.{code_of}
+use Rattle.commands.specs.declared.reply.Reply.{Reply}
+use Rattle.commands.specs.declared.status.Status.{Status}
+use Rattle.commands.specs.declared.status.Status.TheVariants.{Done}
 use Rattle.bensolve_main.specs.Accepted.{TellsBoth, IsAcceptedAs, WritesAccepted}
 use Rattle.bensolve_main.specs.Check.{CheckVerdict, Proved}
 use Rattle.bensolve_main.specs.Deliver.{Delivers, DeliversWith, Sends}

@@ -9,10 +9,10 @@ use Rattle.deriv_log.specs.declared.entry.Entry.{Entry}
 use Rattle.deriv_log.proofs.Laws.{one_reading}
 use Rattle.log_rules.specs.LogEvents.{Failing}
 use Rattle.log_versions.specs.WrittenEvents.{log_failure}
-use Rattle.statuses.specs.Codes.{code_of}
-use Rattle.statuses.specs.declared.reply.Reply.{Reply}
-use Rattle.statuses.specs.declared.status.Status.{Status}
-use Rattle.statuses.specs.declared.status.Status.TheVariants.{Done, Words}
+use Rattle.commands.specs.Codes.{code_of}
+use Rattle.commands.specs.declared.reply.Reply.{Reply}
+use Rattle.commands.specs.declared.status.Status.{Status}
+use Rattle.commands.specs.declared.status.Status.TheVariants.{Done, Words}
 use Rattle.bensolve_main.specs.Check.{CheckVerdict}
 use Rattle.bensolve_main.specs.Relog.{RelogVerdict}
 use Rattle.bensolve_main.specs.Sample.{IsSampleHeld, SampleVerdict}

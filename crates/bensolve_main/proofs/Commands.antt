@@ -4,8 +4,8 @@ use Rattle.std.specs.Option.{is_some, option_map}
 use Rattle.commands.specs.Seen.{shape_seen}
 use Rattle.commands.specs.Tasks.{Shape}
 use Rattle.commands.specs.declared.command.Command.{Command}
-use Rattle.statuses.specs.declared.status.Status.{Status}
-use Rattle.statuses.specs.declared.status.Status.TheVariants.{Words}
+use Rattle.commands.specs.declared.status.Status.{Status}
+use Rattle.commands.specs.declared.status.Status.TheVariants.{Words}
 use Rattle.bensolve_main.specs.Accepted.{Accepted}
 use Rattle.bensolve_main.specs.Answerable.{Completes, Honest}
 use Rattle.bensolve_main.specs.Outcome.{Outcome}

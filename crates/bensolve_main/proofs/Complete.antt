@@ -8,13 +8,13 @@ use Rattle.vlp_reader.proofs.Faults.{never_both}
 use Rattle.rep_text.specs.RepText.{IsRepText}
 use Rattle.rep_text.specs.declared.rep.Rep.{Rep}
 use Rattle.rep_text.proofs.RepLaws.{one_rep_reading}
-use Rattle.rep_replies.specs.Checking.{CanReconvert}
+use Rattle.replies.specs.Checking.{CanReconvert}
 use Rattle.cert_check.specs.Streams.{ReadsWhole}
 use Rattle.commands.specs.Paths.{writes_log}
 use Rattle.commands.specs.Tasks.{Shape, Task}
-use Rattle.statuses.specs.declared.reply.Reply.{Reply}
-use Rattle.statuses.specs.declared.status.Status.{Status}
-use Rattle.statuses.specs.declared.status.Status.TheVariants.{Done, NoMemory}
+use Rattle.commands.specs.declared.reply.Reply.{Reply}
+use Rattle.commands.specs.declared.status.Status.{Status}
+use Rattle.commands.specs.declared.status.Status.TheVariants.{Done, NoMemory}
 use Rattle.bensolve_main.specs.Answerable.{Completes, Honest, HonestConv, HonestFile, HonestLog, HonestRep, HonestTexts, HonestTwo, SteadyOutputs, ToldWhole}
 use Rattle.bensolve_main.specs.Deliver.{DeliversWith}
 use Rattle.bensolve_main.specs.Outcome.{Fails, HaltsFor, Outcome, RepliesTo}

@@ -4,10 +4,10 @@ use Rattle.std.proofs.Common.{◌≡◌, ℕ, List, Bool, true, false, true≢fa
 use Rattle.std.specs.Option.{is_some}
 use Rattle.commands.specs.Paths.{writes_log}
 use Rattle.commands.specs.Tasks.{Shape, Task}
-use Rattle.statuses.specs.Codes.{code_of}
-use Rattle.statuses.specs.declared.reply.Reply.{Reply}
-use Rattle.statuses.specs.declared.status.Status.{Status}
-use Rattle.statuses.specs.declared.status.Status.TheVariants.{Words, WriteFault}
+use Rattle.commands.specs.Codes.{code_of}
+use Rattle.commands.specs.declared.reply.Reply.{Reply}
+use Rattle.commands.specs.declared.status.Status.{Status}
+use Rattle.commands.specs.declared.status.Status.TheVariants.{Words, WriteFault}
 use Rattle.bensolve_main.specs.Deliver.{DeliversWith}
 use Rattle.bensolve_main.specs.Outcome.{Fails, HaltsFor, Outcome, RepliesTo}
 use Rattle.bensolve_main.specs.Reading.{FileRefused, RepRefused}

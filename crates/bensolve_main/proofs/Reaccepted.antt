@@ -5,17 +5,17 @@ use Rattle.word_lines.specs.Grammar.{entries_text}
 use Rattle.rep_text.specs.ConvText.{conv_grammar}
 use Rattle.rep_text.specs.RepText.{IsRepText}
 use Rattle.rep_text.specs.declared.rep.Rep.{Rep}
-use Rattle.rep_replies.specs.Accepted.{PassesAs}
-use Rattle.rep_replies.specs.Checking.{ReconvVerdict, Reconverted}
-use Rattle.rep_replies.specs.Turning.{Turned, TurnVerdict}
-use Rattle.rep_replies.proofs.Passing.{conversions_pass}
+use Rattle.replies.specs.Accepted.{PassesAs}
+use Rattle.replies.specs.Checking.{ReconvVerdict, Reconverted}
+use Rattle.replies.specs.Turning.{Turned, TurnVerdict}
+use Rattle.replies.proofs.Passing.{conversions_pass}
 use Rattle.commands.specs.Tasks.{Task, shape}
 use Rattle.commands.specs.Tasks.Task.{facets, reconv, vertices}
 use Rattle.commands.specs.Tasks.Files.{logged}
-use Rattle.statuses.specs.Codes.{code_of}
-use Rattle.statuses.specs.declared.reply.Reply.{Reply}
-use Rattle.statuses.specs.declared.status.Status.{Status}
-use Rattle.statuses.specs.declared.status.Status.TheVariants.{Done}
+use Rattle.commands.specs.Codes.{code_of}
+use Rattle.commands.specs.declared.reply.Reply.{Reply}
+use Rattle.commands.specs.declared.status.Status.{Status}
+use Rattle.commands.specs.declared.status.Status.TheVariants.{Done}
 use Rattle.bensolve_main.specs.Accepted.{TellsBoth, IsAcceptedAs, WritesAccepted}
 use Rattle.bensolve_main.specs.Deliver.{Delivers, DeliversWith, Sends}
 use Rattle.bensolve_main.specs.Outcome.{HaltsFor, Outcome, RepliesTo, TellsOfConv}

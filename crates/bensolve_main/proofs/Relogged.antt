@@ -10,8 +10,8 @@ use Rattle.log_rules.specs.declared.answer.Answer.{Answer}
 use Rattle.log_versions.specs.Upgrade.{upgraded}
 use Rattle.log_versions.proofs.UpgradedLogs.{upgrades_say_the_same}
 use Rattle.cert_check.specs.Verdict.{Accepts}
-use Rattle.statuses.specs.declared.reply.Reply.{Reply}
-use Rattle.statuses.specs.declared.status.Status.TheVariants.{Done}
+use Rattle.commands.specs.declared.reply.Reply.{Reply}
+use Rattle.commands.specs.declared.status.Status.TheVariants.{Done}
 use Rattle.bensolve_main.specs.Relog.{Relogged}
 
 pub relogged : (file : Problem) (entries : List Entry) (answer : Answer) (r : Reply) →

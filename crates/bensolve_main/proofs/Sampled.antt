@@ -11,12 +11,12 @@ use Rattle.src_sink.specs.declared.items.NoMemory.{NoMemory}
 use Rattle.solver.specs.Replies.{Unsolved}
 use Rattle.solver.specs.Solving.{IsSolutionOf}
 use Rattle.solver.specs.declared.end.Solution.{Solution}
-use Rattle.sample_file.specs.Sample.{IsSample}
-use Rattle.sample_file.specs.Summary.{IsSolved, Sums}
-use Rattle.sample_file.proofs.Printed.{reads}
-use Rattle.sample_file.proofs.Samples.{samples_are_solved}
-use Rattle.statuses.specs.declared.reply.Reply.{Reply}
-use Rattle.statuses.specs.declared.status.Status.TheVariants.{Done}
+use Rattle.replies.specs.Sample.{IsSample}
+use Rattle.replies.specs.Summary.{IsSolved, Sums}
+use Rattle.replies.proofs.Printed.{reads}
+use Rattle.replies.proofs.Samples.{samples_are_solved}
+use Rattle.commands.specs.declared.reply.Reply.{Reply}
+use Rattle.commands.specs.declared.status.Status.TheVariants.{Done}
 use Rattle.bensolve_main.specs.Sample.{SampleVerdict}
 
 -- the orthant is a sound cone

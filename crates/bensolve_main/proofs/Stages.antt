@@ -14,9 +14,9 @@ use Rattle.commands.specs.Paths.{log_out_path, writes_log}
 use Rattle.commands.specs.Tasks.{Files, Shape, Task}
 use Rattle.commands.specs.Tasks.Files.{none, one, two, logged}
 use Rattle.commands.specs.Tasks.Task.{check, reconv, relog}
-use Rattle.statuses.specs.declared.reply.Reply.{Reply}
-use Rattle.statuses.specs.declared.status.Status.{Status}
-use Rattle.statuses.specs.declared.status.Status.TheVariants.{Done, NoMemory}
+use Rattle.commands.specs.declared.reply.Reply.{Reply}
+use Rattle.commands.specs.declared.status.Status.{Status}
+use Rattle.commands.specs.declared.status.Status.TheVariants.{Done, NoMemory}
 use Rattle.bensolve_main.specs.Outcome.{HaltsFor, Replies, RepliesTo}
 use Rattle.bensolve_main.specs.Reading.{GoodFile, GoodRep, TakenInWant, problem_limit, log_limit}
 use Rattle.bensolve_main.specs.Stages.{ConvTold, EndsReading, EndsRep, EndsText, FileTold, HaltsEnd, HaltsReading, LogTold, OneTold, ReadsOne, RefusesLog, RepTold, SecondTold, TellsEnd, TwoHalts, TwoTold, WithConvHalts, WithConvTold, WithLogHalts, WithLogTold}

@@ -5,13 +5,13 @@ use Rattle.vlp_problem.specs.declared.problem.Problem.{Problem}
 use Rattle.commands.specs.Tasks.{Task}
 use Rattle.commands.specs.Tasks.Task.{check, relog, solve, dual, sample, project, associate, meet, sum, join, map, weights, weigh, vertices, facets, reconv}
 use Rattle.rep_text.specs.declared.rep.Rep.{Rep}
-use Rattle.rep_replies.specs.Checking.{CanReconvert}
-use Rattle.rep_replies.proofs.Answered.{reconv_answered, reconv_never_words, reconv_quiet, turn_answered, turn_never_words, turn_quiet}
+use Rattle.replies.specs.Checking.{CanReconvert}
+use Rattle.replies.proofs.ConversionsAnswered.{reconv_answered, reconv_never_words, reconv_quiet, turn_answered, turn_never_words, turn_quiet}
 use Rattle.solver.proofs.Replies.{dual_answered, dual_never_words, dual_quiet, solve_answered, solve_never_words, solve_quiet}
-use Rattle.described.proofs.Answered.{project_answered, project_never_words, project_quiet, associate_answered, associate_never_words, associate_quiet, meet_answered, meet_never_words, meet_quiet, sum_answered, sum_never_words, sum_quiet, join_answered, join_never_words, join_quiet, map_answered, map_never_words, map_quiet}
-use Rattle.described.proofs.WeightsAnswered.{weights_answered, weights_never_words, weights_quiet, weigh_answered, weigh_never_words, weigh_quiet}
-use Rattle.statuses.specs.declared.reply.Reply.{Reply}
-use Rattle.statuses.specs.declared.status.Status.TheVariants.{Done, Words}
+use Rattle.replies.proofs.SetsAnswered.{project_answered, project_never_words, project_quiet, associate_answered, associate_never_words, associate_quiet, meet_answered, meet_never_words, meet_quiet, sum_answered, sum_never_words, sum_quiet, join_answered, join_never_words, join_quiet, map_answered, map_never_words, map_quiet}
+use Rattle.replies.proofs.WeightsAnswered.{weights_answered, weights_never_words, weights_quiet, weigh_answered, weigh_never_words, weigh_quiet}
+use Rattle.commands.specs.declared.reply.Reply.{Reply}
+use Rattle.commands.specs.declared.status.Status.TheVariants.{Done, Words}
 use Rattle.bensolve_main.specs.Answerable.{AnswersAlone, AnswersFile, AnswersRep, AnswersTwo}
 use Rattle.bensolve_main.specs.Tasks.{TellsAlone, TellsConv, TellsFile, TellsLog, TellsRep, TellsTwo}
 use Rattle.bensolve_main.proofs.Checks.{Passing, check_answered, check_never_words, check_quiet, relog_answered, relog_never_words, relog_quiet, sample_answered, sample_never_words, sample_quiet}

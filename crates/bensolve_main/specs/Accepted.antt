@@ -4,8 +4,8 @@ use Rattle.cert_check.specs.Streams.{ReadsWhole}
 use Rattle.commands.specs.Tasks.{Shape, Task, shape}
 use Rattle.commands.specs.Tasks.Task.{check, dual, facets, reconv, solve, vertices}
 use Rattle.commands.specs.Tasks.Files.{two, logged}
-use Rattle.statuses.specs.declared.status.Status.{Status}
-use Rattle.statuses.specs.declared.status.Status.TheVariants.{Done}
+use Rattle.commands.specs.declared.status.Status.{Status}
+use Rattle.commands.specs.declared.status.Status.TheVariants.{Done}
 use Rattle.bensolve_main.specs.Deliver.{Sends}
 use Rattle.bensolve_main.specs.Outcome.{Outcome, Halts}
 use Rattle.bensolve_main.specs.Reading.{problem_limit, log_limit}

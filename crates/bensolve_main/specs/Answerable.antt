@@ -12,14 +12,14 @@ use Rattle.commands.specs.Tasks.{Task, Shape}
 use Rattle.commands.specs.Tasks.Task.{solve, dual, sample, project, associate, meet, sum, join, map, weights, weigh, vertices, facets}
 use Rattle.rep_text.specs.RepText.{IsRepText}
 use Rattle.rep_text.specs.declared.rep.Rep.{Rep}
-use Rattle.rep_replies.specs.Checking.{CanReconvert}
-use Rattle.rep_replies.specs.Turning.{CanTurn}
-use Rattle.described.specs.Calculus.{CanMeet, CanSum, CanJoin, CanMap}
-use Rattle.described.specs.Projected.{IsProjectable}
+use Rattle.replies.specs.Checking.{CanReconvert}
+use Rattle.replies.specs.Turning.{CanTurn}
+use Rattle.replies.specs.Calculus.{CanMeet, CanSum, CanJoin, CanMap}
+use Rattle.replies.specs.Projected.{IsProjectable}
 use Rattle.solver.specs.Replies.{IsSolvable}
-use Rattle.described.specs.Weights.{CanWeigh}
-use Rattle.statuses.specs.declared.status.Status.{Status}
-use Rattle.statuses.specs.declared.status.Status.TheVariants.{Done, NoMemory}
+use Rattle.replies.specs.Weights.{CanWeigh}
+use Rattle.commands.specs.declared.status.Status.{Status}
+use Rattle.commands.specs.declared.status.Status.TheVariants.{Done, NoMemory}
 use Rattle.bensolve_main.specs.Reading.{problem_limit, log_limit}
 use Rattle.bensolve_main.specs.Sample.{IsSampleHeld}
 use Rattle.bensolve_main.specs.Tasks.{Texts, texts_of}

@@ -15,10 +15,10 @@ use Rattle.log_rules.specs.declared.answer.Answer.{Answer}
 use Rattle.log_rules.specs.declared.rule.Rule.{Rule}
 use Rattle.log_versions.specs.Written.{Proves}
 use Rattle.log_versions.specs.WrittenEvents.{log_failure}
-use Rattle.statuses.specs.Replies.{TellsFault}
-use Rattle.statuses.specs.declared.reply.Reply.{Reply}
-use Rattle.statuses.specs.declared.status.LogRefusal.TheVariants.{Text, Wrong}
-use Rattle.statuses.specs.declared.status.Status.TheVariants.{Done, Left, Refused}
+use Rattle.commands.specs.Replies.{TellsFault}
+use Rattle.commands.specs.declared.reply.Reply.{Reply}
+use Rattle.commands.specs.declared.status.LogRefusal.TheVariants.{Text, Wrong}
+use Rattle.commands.specs.declared.status.Status.TheVariants.{Done, Left, Refused}
 
 -- the bytes are the text of no log, and this is their first fault
 pub record NoLog (bytes : List ℕ) (r : Reply) : Type 0 where

@@ -1,8 +1,8 @@
 -- How a reply is written.
 use Rattle.std.specs.Prelude.{◌≡◌, ℕ, ◌⊎◌, Bool, true, false, List, Option, Some, None}
-use Rattle.statuses.specs.declared.reply.Reply.{Reply}
-use Rattle.statuses.specs.declared.status.Status.{Status}
-use Rattle.statuses.specs.declared.status.Status.TheVariants.{WriteFault}
+use Rattle.commands.specs.declared.reply.Reply.{Reply}
+use Rattle.commands.specs.declared.status.Status.{Status}
+use Rattle.commands.specs.declared.status.Status.TheVariants.{WriteFault}
 use Rattle.bensolve_main.specs.World.{Channel, World, Uncalled, Written, PartlyWritten}
 
 -- an output (that of the log, or the other one) failed after a front of a text, and the result

@@ -6,9 +6,9 @@ use Rattle.rep_text.specs.declared.rep.Rep.{Rep}
 use Rattle.cert_check.specs.Streams.{ReadsWhole}
 use Rattle.commands.specs.Paths.{writes_log}
 use Rattle.commands.specs.Tasks.{Task, Shape}
-use Rattle.statuses.specs.declared.reply.Reply.{Reply}
-use Rattle.statuses.specs.declared.status.Status.{Status}
-use Rattle.statuses.specs.declared.status.Status.TheVariants.{NoMemory, SecondFile}
+use Rattle.commands.specs.declared.reply.Reply.{Reply}
+use Rattle.commands.specs.declared.status.Status.{Status}
+use Rattle.commands.specs.declared.status.Status.TheVariants.{NoMemory, SecondFile}
 use Rattle.bensolve_main.specs.Deliver.{Delivers}
 use Rattle.bensolve_main.specs.Reading.{problem_limit, log_limit, GoodFile, TooMuch, NoFile, FileRefused, GoodRep, RepRefused, SourceFailed, TakenInWant}
 use Rattle.bensolve_main.specs.Tasks.{Texts, texts_of, TellsAlone, TellsFile, TellsLog, TellsTwo, TellsRep, TellsConv}

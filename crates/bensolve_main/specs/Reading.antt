@@ -8,10 +8,10 @@ use Rattle.rep_text.specs.RepFault.{RepFirstFault}
 use Rattle.rep_text.specs.RepText.{IsRepText}
 use Rattle.rep_text.specs.declared.rep.Rep.{Rep}
 use Rattle.cert_check.specs.Streams.{ReadsWhole}
-use Rattle.statuses.specs.Replies.{TellsFault}
-use Rattle.statuses.specs.declared.reply.Reply.{Reply}
-use Rattle.statuses.specs.declared.status.Status.{Status}
-use Rattle.statuses.specs.declared.status.Status.TheVariants.{FileFault, ReadFault, RepFault, TooLong}
+use Rattle.commands.specs.Replies.{TellsFault}
+use Rattle.commands.specs.declared.reply.Reply.{Reply}
+use Rattle.commands.specs.declared.status.Status.{Status}
+use Rattle.commands.specs.declared.status.Status.TheVariants.{FileFault, ReadFault, RepFault, TooLong}
 use Rattle.src_sink.specs.Ends.{TakesAtMost}
 use Rattle.bensolve_main.specs.World.{Channel, ReadPast, ReadFailed}
 

@@ -6,8 +6,8 @@ use Rattle.deriv_log.specs.declared.entry.Entry.{Entry}
 use Rattle.log_rules.specs.declared.answer.Answer.{Answer}
 use Rattle.log_versions.specs.Upgrade.{upgraded}
 use Rattle.cert_check.specs.Verdict.{Accepts}
-use Rattle.statuses.specs.declared.reply.Reply.{Reply}
-use Rattle.statuses.specs.declared.status.Status.TheVariants.{Done}
+use Rattle.commands.specs.declared.reply.Reply.{Reply}
+use Rattle.commands.specs.declared.status.Status.TheVariants.{Done}
 use Rattle.bensolve_main.specs.Check.{NoLog, FailsAt, StopsAt}
 
 -- no event of a log's entries fails, they prove an answer for the file, which is right, and the text

@@ -5,14 +5,14 @@ use Rattle.vlp_reader.specs.FirstFault.{Reads}
 use Rattle.vlp_problem.specs.declared.problem.Problem.{Problem}
 use Rattle.vlp_printer.specs.Printing.{problem_text}
 use Rattle.deriv_log.specs.declared.licence.Licence.{Licence}
-use Rattle.sample_file.specs.Sample.{IsSample}
-use Rattle.sample_file.specs.Summary.{Sums}
+use Rattle.replies.specs.Sample.{IsSample}
+use Rattle.replies.specs.Summary.{Sums}
 use Rattle.solver.specs.Replies.{Overflowed}
 use Rattle.solver.specs.Solving.{IsSolutionOf, LicensedInOrder}
 use Rattle.solver.specs.declared.end.Solution.{Solution}
-use Rattle.statuses.specs.Told.{CanBeTold}
-use Rattle.statuses.specs.declared.reply.Reply.{Reply}
-use Rattle.statuses.specs.declared.status.Status.TheVariants.{Done}
+use Rattle.commands.specs.Told.{CanBeTold}
+use Rattle.commands.specs.declared.reply.Reply.{Reply}
+use Rattle.commands.specs.declared.status.Status.TheVariants.{Done}
 
 -- there are the sample file, as which its text reads, and a log's entries and an answer, which
 -- solve it: the answer lists its image, the text is the summary of the lists, and there is no log

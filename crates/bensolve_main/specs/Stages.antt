@@ -11,11 +11,11 @@ use Rattle.commands.specs.Tasks.{Files, Shape, Task}
 use Rattle.commands.specs.Tasks.Files.{none, one, two, logged}
 use Rattle.commands.specs.Tasks.Task.{project, associate, weigh, reconv}
 use Rattle.commands.specs.Weights.{are_weights}
-use Rattle.statuses.specs.Replies.{TellsStatus, step_licence}
-use Rattle.statuses.specs.declared.reply.Reply.{Reply}
-use Rattle.statuses.specs.declared.status.LogRefusal.TheVariants.{Text, Wrong}
-use Rattle.statuses.specs.declared.status.Status.{Status}
-use Rattle.statuses.specs.declared.status.Status.TheVariants.{FileFault, SecondFile, Left, NoMemory, ReadFault, Refused, TooLong}
+use Rattle.commands.specs.Replies.{TellsStatus, step_licence}
+use Rattle.commands.specs.declared.reply.Reply.{Reply}
+use Rattle.commands.specs.declared.status.LogRefusal.TheVariants.{Text, Wrong}
+use Rattle.commands.specs.declared.status.Status.{Status}
+use Rattle.commands.specs.declared.status.Status.TheVariants.{FileFault, SecondFile, Left, NoMemory, ReadFault, Refused, TooLong}
 use Rattle.bensolve_main.specs.Check.{NoLog, FailsAt, StopsAt}
 use Rattle.bensolve_main.specs.Outcome.{RepliesTo, HaltsFor}
 use Rattle.bensolve_main.specs.Reading.{problem_limit, log_limit, GoodFile, TooMuch, NoFile, FileRefused, GoodRep, RepRefused, SourceFailed, TakenInWant}

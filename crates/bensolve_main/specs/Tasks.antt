@@ -4,13 +4,13 @@ use Rattle.vlp_problem.specs.declared.problem.Problem.{Problem}
 use Rattle.commands.specs.Tasks.{Task}
 use Rattle.commands.specs.Tasks.Task.{check, relog, solve, dual, sample, project, associate, meet, sum, join, map, weights, weigh, vertices, facets, reconv}
 use Rattle.rep_text.specs.declared.rep.Rep.{Rep}
-use Rattle.rep_replies.specs.Checking.{ReconvVerdict}
-use Rattle.rep_replies.specs.Turning.{FacetsVerdict, VerticesVerdict}
-use Rattle.described.specs.Calculus.{MeetVerdict, SumVerdict, JoinVerdict, MapVerdict}
-use Rattle.described.specs.Projected.{ProjectVerdict, AssociateVerdict}
+use Rattle.replies.specs.Checking.{ReconvVerdict}
+use Rattle.replies.specs.Turning.{FacetsVerdict, VerticesVerdict}
+use Rattle.replies.specs.Calculus.{MeetVerdict, SumVerdict, JoinVerdict, MapVerdict}
+use Rattle.replies.specs.Projected.{ProjectVerdict, AssociateVerdict}
 use Rattle.solver.specs.Replies.{DualVerdict, SolveVerdict}
-use Rattle.statuses.specs.declared.reply.Reply.{Reply}
-use Rattle.described.specs.Weights.{WeightsVerdict, WeighVerdict}
+use Rattle.commands.specs.declared.reply.Reply.{Reply}
+use Rattle.replies.specs.Weights.{WeightsVerdict, WeighVerdict}
 use Rattle.bensolve_main.specs.Check.{CheckVerdict}
 use Rattle.bensolve_main.specs.Relog.{RelogVerdict}
 use Rattle.bensolve_main.specs.Sample.{SampleVerdict}

@@ -10,11 +10,10 @@ ghost use Rattle.bensolve_main.specs.World.{channel, sources};
 
 use crate::examine::LOG_LIMIT;
 use crate::reading::{read_representation, read_text, reply_at};
-use commands::Task;
-use rep_replies::{facets_reply, reconv_reply, vertices_reply};
+use commands::{Reply, Status, Task};
 use rep_text::Rep;
+use replies::{facets_reply, reconv_reply, vertices_reply};
 use src_sink::{NoMemory, Source};
-use statuses::{Reply, Status};
 use std::alloc::Global;
 
 /// The reply of a task that reads a representation, with a log or without.

@@ -8,9 +8,9 @@ ghost use Rattle.bensolve_main.specs.Reading.{log_limit};
 
 use crate::reading::long_reply;
 use cert_check::{Answer, Refusal, StreamEnd, check_from};
+use commands::{LogRefusal, Reply, Status, refused_reply, step_reply};
 use sol_writer::report;
 use src_sink::{NoMemory, Source};
-use statuses::{LogRefusal, Reply, Status, refused_reply, step_reply};
 use std::alloc::Global;
 use vlp_problem::Problem;
 

@@ -16,14 +16,13 @@ use crate::examine::examine;
 use crate::reading::{read_problem, reply_at};
 use crate::relog::relog;
 use crate::sampling::sample_reply;
-use commands::{Command, Files, Task};
-use described::{
+use commands::{Command, Files, Reply, Status, Task};
+use replies::{
     associate_reply, join_reply, map_reply, meet_reply, project_reply, sum_reply, weigh_reply,
     weights_reply,
 };
 use solver::{dual_reply, solve_reply};
 use src_sink::{NoMemory, Source};
-use statuses::{Reply, Status};
 use std::alloc::Global;
 use vlp_problem::Problem;
 

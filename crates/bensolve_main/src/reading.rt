@@ -4,11 +4,11 @@ ghost use Rattle.cert_check.specs.Streams.{ReadsWhole};
 ghost use Rattle.bensolve_main.specs.World.{channel};
 ghost use Rattle.bensolve_main.specs.Reading.{GoodFile, GoodRep};
 ghost use Rattle.bensolve_main.specs.Stages.{EndsReading, EndsRep, EndsText, file_status};
-ghost use Rattle.statuses.specs.Replies.{TellsStatus};
+ghost use Rattle.commands.specs.Replies.{TellsStatus};
 
+use commands::{Reply, Status, fault_reply};
 use rep_text::{Rep, RepEnd, read_rep};
 use src_sink::{Bytes, NoMemory, ReadEnd, Source, read_all};
-use statuses::{Reply, Status, fault_reply};
 use std::alloc::Global;
 use vlp_problem::Problem;
 use vlp_reader::{FileFault, VlpEnd, read_vlp};
@@ -27,7 +27,7 @@ pub(crate) enum TextEnd {
 impl From<NoMemory> for TextEnd {
     ghost use Rattle.std.specs.Prelude.{◌≡◌};
     ghost use Rattle.bensolve_main.specs.declared.reading.TextEnd.TheVariants.{Halted};
-    ghost use Rattle.statuses.specs.declared.status.Status.TheVariants.{NoMemory};
+    ghost use Rattle.commands.specs.declared.status.Status.TheVariants.{NoMemory};
 
     ghost from_gives = { λ _ e. e ≡ Halted NoMemory };
 

@@ -14,10 +14,10 @@ ghost use Rattle.bensolve_main.specs.Stages.{HaltsReading, LogTold};
 
 use crate::examine::{LOG_LIMIT, end_reply};
 use cert_check::{Refusal, StreamEnd, check};
+use commands::{Reply, Status};
 use deriv_log::{Entries, LogEnd, read_log};
 use log_upgrade::upgrade_text;
 use src_sink::{Source, read_all};
-use statuses::{Reply, Status};
 use std::alloc::Global;
 use vlp_problem::Problem;
 

@@ -1,13 +1,13 @@
 //! The answer of a sample file.
 ghost use Rattle.std.specs.Prelude.{◌≡◌, None, IfOk};
-ghost use Rattle.sample_file.specs.Summary.{IsSolved, Sums};
+ghost use Rattle.replies.specs.Summary.{IsSolved, Sums};
 ghost use Rattle.bensolve_main.specs.Sample.{SampleVerdict};
 
+use commands::{Reply, Status};
 use log_rules::Answer;
-use sample_file::{sample_file, summary};
+use replies::{sample_file, summary};
 use solver::{solve, unsolved_reply};
 use src_sink::NoMemory;
-use statuses::{Reply, Status};
 use std::alloc::Global;
 
 /// What is told of a solved answer.

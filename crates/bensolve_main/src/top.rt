@@ -11,9 +11,8 @@ ghost use Rattle.bensolve_main.specs.Stages.{ShapeFits};
 ghost use Rattle.bensolve_main.specs.World.{Channel, NoCountFell, channel, world};
 
 use crate::prepare::prepare;
-use commands::{Command, command_in};
+use commands::{Command, Reply, Status, command_in};
 use src_sink::{Sink, Source, WriteFault, write_all};
-use statuses::{Reply, Status};
 use std::alloc::Global;
 
 /// Runs the command that `words` give, without the program's name.

@@ -14,8 +14,8 @@ use Rattle.log_rules.specs.Order.{has}
 use Rattle.log_rules.specs.Order as order
 use Rattle.log_rules.proofs.DualityStays.{has_duality}
 use Rattle.log_rules.proofs.SolvedIsSolved.{solved_met}
-use Rattle.overflow_rules.specs.Base.{last_of}
-use Rattle.overflow_rules.proofs.Growing.{trail_laws}
+use Rattle.overflows.specs.Base.{last_of}
+use Rattle.overflows.proofs.Growing.{trail_laws}
 use Rattle.lp_form.specs.declared.shown.Cut.{Cut}
 use Rattle.outer_approx.specs.Standing.{IsEnded, IsOuter, cuts_of, rows_of_trail}
 use Rattle.outer_approx.specs.Task.{Task, IsFitting}

@@ -20,7 +20,7 @@ use Rattle.lineality.proofs.Marks.{length-marks}
 use Rattle.lin_rows.specs.Complement.{AreComplement}
 use Rattle.upper_image.specs.UpperImage.{IsInWorkingImage, IsWorkingDirection}
 use Rattle.upper_image.proofs.WorkingImage.{cut_valid}
-use Rattle.overflow_rules.specs.Base.{IsSide}
+use Rattle.overflows.specs.Base.{IsSide}
 use Rattle.lp_form.specs.declared.shown.Cut.{Cut}
 use Rattle.outer_approx.specs.Cuts.{IsCutFor, said_by}
 use Rattle.outer_approx.specs.Lines.{told_by}

@@ -4,7 +4,7 @@ ghost use Rattle.std.specs.Prelude.{◌≡◌, ◌≢◌, ◌≤◌, ◌↔◌, 
 ghost use Rattle.exact_field.specs.Rational.{zero_ℚ};
 ghost use Rattle.exact_field.specs.Vector.{entry};
 ghost use Rattle.benson_dual.specs.Images.{AreAllInUse, IsApproximation, IsImage, IsUnreached};
-ghost use Rattle.overflow_rules.specs.Licence.{Licensed};
+ghost use Rattle.overflows.specs.Licence.{Licensed};
 ghost use Rattle.log_rules.specs.Live.{preimages};
 ghost use Rattle.outer_approx.specs.Standing.{IsEnded, IsOpenTrail};
 ghost use Rattle.outer_approx.specs.Task.{Task, setting};

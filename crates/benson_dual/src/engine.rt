@@ -4,7 +4,7 @@ ghost use Rattle.benson_dual.specs.Images.{AreAllInUse, IsImage};
 ghost use Rattle.benson_dual.specs.Logs.{IsFacetLog, task_with};
 ghost use Rattle.cone_dual.specs.Fitting.{IsDualityOf};
 ghost use Rattle.cone_rules.specs.Faults.{IsPointed};
-ghost use Rattle.overflow_rules.specs.Licence.{Licensed};
+ghost use Rattle.overflows.specs.Licence.{Licensed};
 ghost use Rattle.lower_image.specs.Facets.{AreFacetCuts};
 ghost use Rattle.lp_form.specs.Data.{IsDataOf};
 ghost use Rattle.lp_form.specs.declared.shown.Cut.{Cut};

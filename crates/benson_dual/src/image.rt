@@ -2,7 +2,7 @@
 ghost use Rattle.std.specs.Prelude.{◌≡◌, ◌≤◌, ◌++◌, [], ℕ, All, IfErr, IfOk, IfSome, OnOk, length, map};
 ghost use Rattle.benson_dual.specs.Images.{IsApproximation, IsImage, IsUnreached};
 ghost use Rattle.benson_dual.specs.Order.{IsOrder};
-ghost use Rattle.overflow_rules.specs.Licence.{Licensed};
+ghost use Rattle.overflows.specs.Licence.{Licensed};
 ghost use Rattle.log_rules.specs.Live.{lines, preimages};
 ghost use Rattle.lower_image.specs.Facets.{AreFacetCuts};
 ghost use Rattle.outer_approx.specs.Cuts.{IsCutFor, said_by};

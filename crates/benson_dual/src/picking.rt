@@ -1,6 +1,6 @@
 //! The facets of an image in an order, of which the first ones have independent normals.
 ghost use Rattle.std.specs.Prelude.{◌≡◌, ◌≤◌, ◌++◌, ◌∷◌, [], List, All, length, vec_len, IfErr, IfOk, OnOk};
-ghost use Rattle.overflow_rules.specs.Licence.{Licensed};
+ghost use Rattle.overflows.specs.Licence.{Licensed};
 ghost use Rattle.lower_image.specs.Facets.{AreFacetCuts};
 ghost use Rattle.lp_form.specs.declared.shown.Cut.{Cut as CutOf};
 ghost use Rattle.outer_approx.specs.Cuts.{IsCutFor};

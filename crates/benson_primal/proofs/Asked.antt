@@ -7,7 +7,7 @@ use Rattle.polyhedra.specs.Exactness.{row_of}
 use Rattle.lineality.specs.Without.{open_count, without}
 use Rattle.lineality.proofs.Masks.{length-short}
 use Rattle.deriv_log.specs.declared.entry.Entry.{Entry}
-use Rattle.overflow_rules.proofs.CutTurns.{optimum_turns, read_at_origin}
+use Rattle.overflows.proofs.CutTurns.{optimum_turns, read_at_origin}
 use Rattle.lp_form.specs.declared.shown.Cut.{Cut}
 use Rattle.outer_approx.specs.Cuts.{said_by}
 use Rattle.outer_approx.specs.Standing.{rows_of_trail}

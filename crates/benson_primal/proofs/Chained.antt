@@ -3,7 +3,7 @@ use Rattle.std.proofs.Common.{◌≡◌, [], List, length, All, subst, sym, arit
 use Rattle.std.proofs.lemmas.List.Elements.{All-nil}
 use Rattle.exact_field.specs.Rational.{ℚ}
 use Rattle.lin_rows.specs.Complement.{AreComplement}
-use Rattle.overflow_rules.specs.Base.{IsSide}
+use Rattle.overflows.specs.Base.{IsSide}
 use Rattle.lp_form.specs.declared.shown.Cut.{Cut}
 use Rattle.outer_approx.specs.Cuts.{IsCutFor}
 use Rattle.outer_approx.specs.Lines.{told_by}

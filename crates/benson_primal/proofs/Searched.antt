@@ -12,7 +12,7 @@ use Rattle.lineality.specs.Without.{marks}
 use Rattle.log_rules.specs.Live.{State, lines, preimages, rows_in_use}
 use Rattle.polyhedra.specs.Exactness.{row_of}
 use Rattle.polyhedra.specs.LiveList.{numbers}
-use Rattle.overflow_rules.specs.Turns.{IsCutTurn}
+use Rattle.overflows.specs.Turns.{IsCutTurn}
 use Rattle.lp_form.specs.declared.shown.Cut.{Cut}
 use Rattle.outer_approx.specs.Cuts.{said_by}
 use Rattle.outer_approx.specs.Lines.{line_places}

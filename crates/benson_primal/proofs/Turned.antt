@@ -2,7 +2,7 @@
 use Rattle.std.proofs.Common.{◌<◌, List, [], ◌∷◌, ◌++◌, ap, sym, ◌∙◌, subst}
 use Rattle.exact_field.specs.Rational.{ℚ}
 use Rattle.deriv_log.specs.declared.entry.Entry.{Entry}
-use Rattle.overflow_rules.proofs.CutTurns.{cut_turns_end}
+use Rattle.overflows.proofs.CutTurns.{cut_turns_end}
 use Rattle.outer_approx.specs.Standing.{rows_of_trail}
 use Rattle.outer_approx.specs.Task.{Task}
 use Rattle.benson_primal.specs.Search.{HasGrown}

@@ -7,7 +7,7 @@ use Rattle.polyhedra.specs.LiveList.{numbers}
 use Rattle.deriv_log.specs.declared.entry.Entry.{Entry}
 use Rattle.double_descr.specs.State.{State as Description}
 use Rattle.log_rules.specs.Live.{preimages}
-use Rattle.overflow_rules.specs.Turns.{IsCutTurn, said_row}
+use Rattle.overflows.specs.Turns.{IsCutTurn, said_row}
 use Rattle.lp_form.specs.declared.shown.Cut.{Cut}
 use Rattle.outer_approx.specs.Cuts.{IsCutFor, said_by}
 use Rattle.outer_approx.specs.Preimages.{AreMarks}

@@ -1,7 +1,7 @@
 //! From data and a duality vector to the log that describes the image.
 ghost use Rattle.std.specs.Prelude.{◌≡◌, [], map, All, IfOk, IfErr, IfSome, OnOk};
 ghost use Rattle.cone_dual.specs.Fitting.{IsDualityOf};
-ghost use Rattle.overflow_rules.specs.Licence.{Licensed};
+ghost use Rattle.overflows.specs.Licence.{Licensed};
 ghost use Rattle.lp_form.specs.Data.{IsDataOf};
 ghost use Rattle.overflows.specs.Faults.{OnLicence, Overflows};
 ghost use Rattle.outer_approx.specs.Cuts.{IsCutFor};

@@ -23,10 +23,10 @@ use Rattle.upper_image.specs.UpperImage.{normals}
 use Rattle.upper_image.proofs.Widths.{product_is}
 use Rattle.lp_form.specs.Programs.{side_total, dual_unknowns, generators, benson_system, u_of, w_of, v_of, after_w_of, value_of}
 use Rattle.lp_form.proofs.Systems.{IsWideCone, cone_wide, benson_ok, length-side_bounds}
-use Rattle.overflow_rules.specs.Base.{AreCutParts}
-use Rattle.overflow_rules.proofs.Cuts.{benson_unknowns, length-benson_cost}
-use Rattle.overflow_rules.proofs.CutTurns.{optimal_value}
-use Rattle.overflow_rules.proofs.Violated.{said_value}
+use Rattle.overflows.specs.Base.{AreCutParts}
+use Rattle.overflows.proofs.Cuts.{benson_unknowns, length-benson_cost}
+use Rattle.overflows.proofs.CutTurns.{optimal_value}
+use Rattle.overflows.proofs.Violated.{said_value}
 use Rattle.benson_program.specs.Laws.{BensonCut}
 use Rattle.benson_program.proofs.Blocks.{asked, given}
 use Rattle.benson_program.proofs.Shown.{IsHeld, shows}

@@ -27,7 +27,7 @@ use Rattle.upper_image.proofs.Solid.{duality_fits}
 use Rattle.upper_image.proofs.WorkingImage.{rest_wide}
 use Rattle.lp_form.specs.Programs.{side_total, on_parts, dual_unknowns, dual_equations, generators, benson_system, choice_of, value_of, share_of, full_share_of}
 use Rattle.lp_form.proofs.Systems.{benson_ok, length-negated}
-use Rattle.overflow_rules.proofs.Cuts.{benson_unknowns, length-benson_cost, length-bounds_if}
+use Rattle.overflows.proofs.Cuts.{benson_unknowns, length-benson_cost, length-bounds_if}
 use Rattle.benson_program.specs.Laws.{BensonPreimage}
 use Rattle.benson_program.proofs.Blocks.{benson_equations}
 use Rattle.benson_program.proofs.Priced.{pulled, pushed, x_long, p_long, normals_at_least, shares_positive, rest_value}

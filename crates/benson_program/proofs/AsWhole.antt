@@ -32,9 +32,9 @@ use Rattle.upper_image.proofs.ConvexCones.{cone_convex, ordering_cone_convex}
 use Rattle.upper_image.proofs.WorkingImage.{rest_wide}
 use Rattle.lp_form.specs.Programs.{side_total, on_parts, dual_unknowns, dual_equations, generators, benson_system, choice_of, value_of, share_of}
 use Rattle.lp_form.proofs.Systems.{length-negated}
-use Rattle.overflow_rules.specs.Trails.{divided_by}
-use Rattle.overflow_rules.proofs.Cuts.{benson_unknowns, length-benson_cost}
-use Rattle.overflow_rules.proofs.CutTurns.{last_value}
+use Rattle.overflows.specs.Trails.{divided_by}
+use Rattle.overflows.proofs.Cuts.{benson_unknowns, length-benson_cost}
+use Rattle.overflows.proofs.CutTurns.{last_value}
 use Rattle.benson_program.specs.Laws.{BensonWhole}
 use Rattle.benson_program.proofs.Blocks.{asked, benson_equations}
 use Rattle.benson_program.proofs.AsPreimage.{shares, multipliers_long, sides_rise}

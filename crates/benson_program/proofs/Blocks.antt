@@ -25,7 +25,7 @@ use Rattle.upper_image.specs.UpperImage.{normals, objectives, objective_column}
 use Rattle.upper_image.proofs.Widths.{wide_normals, wide_objectives, objective_columns, side_columns}
 use Rattle.lp_form.specs.Programs.{side_total, on_parts, balances, dual_members, dual_unknowns, dual_equations}
 use Rattle.lp_form.proofs.Systems.{IsWideCone, length-unit, length-negated, length-side_column}
-use Rattle.overflow_rules.proofs.Violated.{length-minus}
+use Rattle.overflows.proofs.Violated.{length-minus}
 use Rattle.benson_program.proofs.Vectors.{dot-parts, dot-minus}
 
 -- ---- one equation

@@ -23,8 +23,8 @@ use Rattle.upper_image.proofs.Widths.{wide_objectives}
 use Rattle.upper_image.proofs.WorkingImage.{feasible_meets}
 use Rattle.lp_form.specs.Programs.{dual_equations, benson_system, u_of, w_of, after_w_of, dual_unknowns}
 use Rattle.lp_form.proofs.Systems.{benson_ok}
-use Rattle.overflow_rules.proofs.Cuts.{benson_cost, benson_unknowns, length-benson_cost}
-use Rattle.overflow_rules.proofs.Violated.{said_value}
+use Rattle.overflows.proofs.Cuts.{benson_cost, benson_unknowns, length-benson_cost}
+use Rattle.overflows.proofs.Violated.{said_value}
 use Rattle.benson_program.specs.Laws.{BensonBounded}
 use Rattle.benson_program.proofs.Blocks.{benson_equations}
 use Rattle.benson_program.proofs.Solved.{balanced, in_dual, member, scaled_at}

@@ -15,10 +15,10 @@ use Rattle.vlp_problem.specs.declared.problem.Cone.TheVariants.{Orthant, Gens, D
 use Rattle.upper_image.specs.Spots.{dense, IsVector}
 use Rattle.vlp_problem.specs.declared.program.Program.TheVariants.{Benson}
 use Rattle.lp_form.specs.Programs.{benson_system, dual_equations, generators, choice_of, share_of, value_of}
-use Rattle.overflow_rules.specs.Base.{AreFirstMultipliersOff, IsBaseStart}
-use Rattle.overflow_rules.specs.Quotients.{IsDivisor, IsScaled}
-use Rattle.overflow_rules.specs.Settings.{Setting, Knows, vector_of}
-use Rattle.overflow_rules.specs.Trails.{divided_by}
+use Rattle.overflows.specs.Base.{AreFirstMultipliersOff, IsBaseStart}
+use Rattle.overflows.specs.Quotients.{IsDivisor, IsScaled}
+use Rattle.overflows.specs.Settings.{Setting, Knows, vector_of}
+use Rattle.overflows.specs.Trails.{divided_by}
 use Rattle.benson_program.proofs.AsPreimage.{multipliers_long}
 use Rattle.benson_program.proofs.AsWhole.{benson_whole}
 use Rattle.benson_program.proofs.Counted.{generators_few, magnitude_below}

@@ -11,7 +11,7 @@ use Rattle.upper_image.specs.Spots.{dense, product, IsVector}
 use Rattle.upper_image.proofs.Widths.{product_is}
 use Rattle.lp_form.specs.Programs.{side_total, benson_system, u_of, w_of, v_of, dual_unknowns}
 use Rattle.lp_form.proofs.Systems.{length-side_bounds}
-use Rattle.overflow_rules.specs.Base.{AreCutParts, IsBaseCut}
+use Rattle.overflows.specs.Base.{AreCutParts, IsBaseCut}
 use Rattle.benson_program.proofs.AsCut.{benson_cut}
 use Rattle.benson_program.proofs.Read.{z_long, base}
 use Rattle.benson_program.specs.Cuts.{IsCutOf}

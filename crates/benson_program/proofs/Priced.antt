@@ -24,8 +24,8 @@ use Rattle.upper_image.proofs.WorkingImage.{value_wide}
 use Rattle.log_rules.proofs.ByEntries.{entry-suc}
 use Rattle.lp_form.specs.Programs.{side_total, on_parts, dual_unknowns, dual_equations, choice_of, value_of}
 use Rattle.lp_form.proofs.Systems.{IsWideCone, cone_wide, benson_ok, length-negated}
-use Rattle.overflow_rules.proofs.Cuts.{benson_unknowns, length-benson_cost, length-on_parts}
-use Rattle.overflow_rules.proofs.Violated.{length-minus}
+use Rattle.overflows.proofs.Cuts.{benson_unknowns, length-benson_cost, length-on_parts}
+use Rattle.overflows.proofs.Violated.{length-minus}
 use Rattle.benson_program.proofs.Blocks.{asked, given, length-asked, length-given, benson_equations, equations-value}
 use Rattle.benson_program.proofs.Vectors.{AreAtMost, at_most_each, at_most_parts, at_most_both, at_least_zero, dot-minus_left, dot-parts, parts_of, same_on}
 use Rattle.benson_program.proofs.SolutionParts.{u_long, a_long, b_long, after_long, columns_part, columns_part-long, columns_part-value, normals-long}

@@ -16,11 +16,11 @@ use Rattle.lp_form.specs.Programs.{side_total, dual_unknowns, benson_system, u_o
 use Rattle.lp_form.specs.Reading.{HasColumns, IsSplit}
 use Rattle.lp_form.proofs.Figures.{side_number, objective_number}
 use Rattle.lp_form.proofs.Systems.{benson_ok}
-use Rattle.overflow_rules.specs.Base.{AreCutParts, IsBaseCut}
-use Rattle.overflow_rules.specs.Products.{IsBaseU}
-use Rattle.overflow_rules.specs.Settings.{Setting, Knows}
-use Rattle.overflow_rules.proofs.Cuts.{benson_unknowns, length-benson_cost}
-use Rattle.overflow_rules.proofs.CutTurns.{cuts_are_base}
+use Rattle.overflows.specs.Base.{AreCutParts, IsBaseCut}
+use Rattle.overflows.specs.Products.{IsBaseU}
+use Rattle.overflows.specs.Settings.{Setting, Knows}
+use Rattle.overflows.proofs.Cuts.{benson_unknowns, length-benson_cost}
+use Rattle.overflows.proofs.CutTurns.{cuts_are_base}
 use Rattle.cone_rules.proofs.Opposite.{opposite_columns}
 use Rattle.benson_program.proofs.Opposite.{opposite_entries}
 use Rattle.benson_program.proofs.Spread.{spots, spots-dense}

@@ -11,7 +11,7 @@ use Rattle.vlp_problem.specs.Sides.{side_column, IsFeasible}
 use Rattle.vlp_problem.specs.declared.problem.Problem.{Problem}
 use Rattle.lp_form.specs.Programs.{feasible_system, choice_of}
 use Rattle.lp_form.proofs.Systems.{length-side_bounds}
-use Rattle.overflow_rules.specs.Base.{IsRayOff, IsBaseChoice}
+use Rattle.overflows.specs.Base.{IsRayOff, IsBaseChoice}
 use Rattle.benson_program.proofs.Feasible.{feasible_ends}
 use Rattle.benson_program.specs.Ends.{IsContradiction, IsOptimumAt, IsEmptyAt}
 

@@ -13,14 +13,14 @@ use Rattle.vlp_problem.specs.declared.problem.Cone.{Cone}
 use Rattle.upper_image.specs.Shows.{ShowsFitting}
 use Rattle.upper_image.specs.Spots.{dense, IsVector}
 use Rattle.lp_form.specs.Programs.{benson_system, choice_of, dual_equations, full_share_of, generators, share_of, value_of}
-use Rattle.overflow_rules.specs.Base.{AreMultipliersOff, IsBaseStart}
-use Rattle.overflow_rules.specs.Products.{AreBensonMultipliers}
-use Rattle.overflow_rules.specs.Settings.{Knows, Setting}
+use Rattle.overflows.specs.Base.{AreMultipliersOff, IsBaseStart}
+use Rattle.overflows.specs.Products.{AreBensonMultipliers}
+use Rattle.overflows.specs.Settings.{Knows, Setting}
 use Rattle.benson_program.proofs.AsPreimage.{benson_preimage, multipliers_long}
 use Rattle.benson_program.proofs.Counted.{generators_few}
 use Rattle.benson_program.proofs.Divided.{length-share}
 use Rattle.benson_program.specs.Preimages.{AreLowMultipliers}
-use Rattle.overflow_rules.specs.Preimages.{IsPreimageOf, ShowsChosen}
+use Rattle.overflows.specs.Preimages.{IsPreimageOf, ShowsChosen}
 use Rattle.lp_form.specs.Sparse.{IsSparseOf}
 use Rattle.lp_form.specs.declared.shown.Preimage.{Preimage}
 

@@ -19,7 +19,7 @@ use Rattle.upper_image.specs.UpperImage.{normals, objectives}
 use Rattle.upper_image.proofs.Widths.{wide_normals, wide_objectives}
 use Rattle.lp_form.specs.Programs.{side_total, u_of, w_of, after_w_of}
 use Rattle.lp_form.proofs.Systems.{length-negated}
-use Rattle.overflow_rules.proofs.Violated.{length-minus}
+use Rattle.overflows.proofs.Violated.{length-minus}
 
 -- ---- a solution whose last part has `more` entries
 module _ (file : Problem) (more : ℕ) (z : List ℚ) (z_long : length z ≡ side_total file + file.objs + file.objs + more) where

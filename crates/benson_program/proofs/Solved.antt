@@ -20,7 +20,7 @@ use Rattle.upper_image.specs.OrderingCone.{IsIn}
 use Rattle.upper_image.specs.UpperImage.{normals, objectives}
 use Rattle.lp_form.specs.Programs.{side_total, dual_unknowns, dual_equations, u_of, w_of, after_w_of}
 use Rattle.lp_form.proofs.Systems.{IsWideCone, cone_wide, length-negated}
-use Rattle.overflow_rules.proofs.Cuts.{benson_unknowns}
+use Rattle.overflows.proofs.Cuts.{benson_unknowns}
 use Rattle.benson_program.proofs.Blocks.{asked, given, length-asked, length-given, benson_equations, equations-value}
 use Rattle.benson_program.proofs.Vectors.{append_parts, parts_of}
 use Rattle.benson_program.proofs.SolutionParts.{u_long, a_long, b_long, after_long, w_long, same_from_difference, columns_part, columns_part-long, balanced_parts}

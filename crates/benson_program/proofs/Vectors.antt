@@ -16,7 +16,7 @@ use Rattle.polyhedra.proofs.Lists.{nonneg-nil, nonneg-cons}
 use Rattle.polyhedra.proofs.Negatives.{dot-negated}
 use Rattle.tableaux.specs.Table.{minus}
 use Rattle.tableaux.proofs.Inverse.{dot-append}
-use Rattle.overflow_rules.proofs.Violated.{minus-is}
+use Rattle.overflows.proofs.Violated.{minus-is}
 pub use Rattle.cone_rules.proofs.Parts.{append_parts}
 
 -- ---- cut at one place

@@ -14,10 +14,10 @@ use Rattle.deriv_log.specs.declared.entry.Entry.{Entry}
 use Rattle.deriv_log.specs.declared.licence.Licence.{Licence}
 use Rattle.deriv_log.specs.declared.licence.Place.TheVariants.{Elim}
 use Rattle.lp_form.specs.Programs.{share_of, value_of}
-use Rattle.overflow_rules.specs.Licence.{IsOverflow}
-use Rattle.overflow_rules.specs.Products.{AreBensonMultipliers, IsListStep, IsShareStep}
-use Rattle.overflow_rules.specs.Settings.{Setting}
-use Rattle.overflow_rules.specs.Steps.{IsNotHeld, in_numbers, operation}
+use Rattle.overflows.specs.Licence.{IsOverflow}
+use Rattle.overflows.specs.Products.{AreBensonMultipliers, IsListStep, IsShareStep}
+use Rattle.overflows.specs.Settings.{Setting}
+use Rattle.overflows.specs.Steps.{IsNotHeld, in_numbers, operation}
 use Rattle.overflows.specs.Faults.{IsEliminationLeft, IsLeftAt, Overflows, placed}
 use Rattle.overflows.proofs.Placed.{placed_none}
 use Rattle.overflows.specs.declared.fault.SolveFault.{SolveFault}

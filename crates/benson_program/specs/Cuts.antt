@@ -7,7 +7,7 @@ use Rattle.vlp_problem.specs.Sides.{side_bounds}
 use Rattle.vlp_problem.specs.declared.problem.Problem.{Problem}
 use Rattle.upper_image.specs.Shows.{ShowsCut}
 use Rattle.lp_form.specs.Programs.{u_of, w_of, v_of}
-use Rattle.overflow_rules.specs.Base.{IsBaseCut}
+use Rattle.overflows.specs.Base.{IsBaseCut}
 use Rattle.lp_form.specs.Sparse.{IsSparseOf}
 use Rattle.lp_form.specs.declared.shown.Cut.{Cut}
 

@@ -16,7 +16,7 @@ use Rattle.log_rules.specs.Meets.{MeetsFarkas}
 use Rattle.lp_form.specs.Data.{IsDataOf}
 use Rattle.lp_form.specs.Programs.{side_total, feasible_system, benson_system}
 use Rattle.lp_form.specs.declared.data.Data.{Data}
-use Rattle.overflow_rules.specs.Base.{IsRayOff, IsBaseChoice}
+use Rattle.overflows.specs.Base.{IsRayOff, IsBaseChoice}
 use Rattle.benson_program.specs.declared.ends.FeasibleEnd.{FeasibleEnd}
 use Rattle.benson_program.specs.declared.ends.FeasibleEnd.TheVariants.{Contradiction, Point}
 use Rattle.benson_program.specs.declared.ends.BensonEnd.{BensonEnd}

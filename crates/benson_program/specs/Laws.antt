@@ -14,8 +14,8 @@ use Rattle.upper_image.specs.Witnesses.{IsWhole}
 use Rattle.upper_image.specs.Witnesses as witnesses
 use Rattle.log_rules.specs.Meets.{MeetsFarkas}
 use Rattle.lp_form.specs.Programs.{side_total, generators, feasible_system, benson_system, w_of, v_of, choice_of, value_of, share_of, full_share_of}
-use Rattle.overflow_rules.specs.Base.{AreCutParts}
-use Rattle.overflow_rules.specs.Trails.{divided_by}
+use Rattle.overflows.specs.Base.{AreCutParts}
+use Rattle.overflows.specs.Trails.{divided_by}
 
 -- ---- the program `Feasible`
 -- what each of its three ends shows

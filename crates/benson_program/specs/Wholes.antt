@@ -10,7 +10,7 @@ use Rattle.upper_image.specs.Shows.{ShowsAbove, ShowsRecession}
 use Rattle.upper_image.specs.Spots.{dense, IsVector}
 use Rattle.upper_image.specs.Witnesses.{IsWhole}
 use Rattle.lp_form.specs.Programs.{generators, benson_system}
-use Rattle.overflow_rules.specs.Trails.{IsBaseWhole}
+use Rattle.overflows.specs.Trails.{IsBaseWhole}
 use Rattle.benson_program.specs.Ends.{IsEmptyAt}
 use Rattle.lp_form.specs.Sparse.{IsSparseOf}
 use Rattle.benson_program.specs.declared.whole.WholeParts.{WholeParts}

@@ -2,10 +2,10 @@
 ghost use Rattle.std.specs.Prelude.{◌≡◌, ◌≤◌, ◌+◌, ℕ, Bool, List, [], map, take, length, IfOk, IfErr};
 ghost use Rattle.exact_field.specs.Rational.{ℚ, ◌<ℚ◌, neg_ℚ, zero_ℚ};
 ghost use Rattle.benson_program.specs.Preimages.{AreLowMultipliers};
-ghost use Rattle.overflow_rules.specs.Preimages.{IsPreimageOf};
-ghost use Rattle.overflow_rules.specs.Base.{IsBaseStart};
-ghost use Rattle.overflow_rules.specs.Products.{AreBensonMultipliers};
-ghost use Rattle.overflow_rules.specs.Settings.{Knows, Setting};
+ghost use Rattle.overflows.specs.Preimages.{IsPreimageOf};
+ghost use Rattle.overflows.specs.Base.{IsBaseStart};
+ghost use Rattle.overflows.specs.Products.{AreBensonMultipliers};
+ghost use Rattle.overflows.specs.Settings.{Knows, Setting};
 ghost use Rattle.lp_form.specs.Data.{IsDataOf, cone_of};
 ghost use Rattle.lp_form.specs.Programs.{full_share_of, generators, share_of, value_of};
 ghost use Rattle.overflows.specs.Faults.{Overflows};

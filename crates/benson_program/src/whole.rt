@@ -2,7 +2,7 @@
 ghost use Rattle.std.specs.Prelude.{◌≡◌, ◌≤◌, List, [], map, take, drop, length, IfOk, IfErr};
 ghost use Rattle.exact_field.specs.Rational.{ℚ};
 ghost use Rattle.benson_program.specs.Wholes.{AreEmptyAtOrigin, IsWholeOf};
-ghost use Rattle.overflow_rules.specs.Settings.{Knows, Setting};
+ghost use Rattle.overflows.specs.Settings.{Knows, Setting};
 ghost use Rattle.lp_form.specs.Data.{IsDataOf, cone_of};
 ghost use Rattle.lp_form.specs.Programs.{generators};
 ghost use Rattle.overflows.specs.Faults.{Overflows};

@@ -2,8 +2,8 @@
 use crate::Fault;
 use crate::case::{Case, words_of};
 use crate::running::{Seen, Trial, print_problem};
+use commands::Status;
 use src_sink::{Bytes, MemSink};
-use statuses::Status;
 use std::alloc::Global;
 
 /// What of a run its case does not want, told in words; none where it wants all of it. Where calls

@@ -3,11 +3,10 @@ ghost use Rattle.std.specs.Prelude.{◌<◌};
 
 use crate::case::{Object, Text};
 use bensolve_main::run;
-use commands::paths;
+use commands::{Status, paths};
 use deriv_log::{print_log, read_log};
-use sample_file::sample_text;
+use replies::sample_text;
 use src_sink::{Bytes, Items, MOST_ITEMS, MemSink, MemSource, NoMemory};
-use statuses::Status;
 use std::alloc::Global;
 use vlp_printer::print_vlp;
 use vlp_reader::read_vlp;

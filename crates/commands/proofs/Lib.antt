@@ -1,3 +1,6 @@
+pub mod HeldLists
 pub mod NumberWords
 pub mod WeightWords
 pub mod Worked
+pub mod WorkedLines
+mod Written

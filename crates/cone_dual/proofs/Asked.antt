@@ -12,9 +12,9 @@ use Rattle.lp_form.specs.declared.data.Data.{Data}
 use Rattle.lp_form.specs.Data.{IsDataOf, cone_of, duality_of}
 use Rattle.lp_form.specs.Programs.{interior_system, pointed_system}
 use Rattle.lp_form.proofs.Figures.{objective_number}
-use Rattle.overflow_rules.specs.Dictionaries.{IsAllowed, IsElimTable, system_in}
-use Rattle.overflow_rules.specs.Licence.{LicensedByCone}
-use Rattle.overflow_rules.specs.Settings.{Setting}
+use Rattle.overflows.specs.Dictionaries.{IsAllowed, IsElimTable, system_in}
+use Rattle.overflows.specs.Licence.{LicensedByCone}
+use Rattle.overflows.specs.Settings.{Setting}
 use Rattle.overflows.specs.Faults.{OnLicence, Overflows}
 use Rattle.overflows.specs.declared.fault.SolveFault.{SolveFault}
 use Rattle.cone_dual.proofs.Standing.{before, without}

@@ -34,9 +34,9 @@ use Rattle.lp_form.specs.Programs.{dual_gaps, interior_of_dual, interior_system,
 use Rattle.lp_form.specs.Reading.{AreDisjoint}
 use Rattle.lp_form.proofs.Figures.{objective_number}
 use Rattle.lp_form.proofs.Systems.{dual_ok, length-zeros}
-use Rattle.overflow_rules.specs.Base.{AreFirstMultipliersOff, IsSolutionOff}
-use Rattle.overflow_rules.specs.Quotients.{IsDivisor, IsScaled}
-use Rattle.overflow_rules.specs.Trails.{IsInteriorOff}
+use Rattle.overflows.specs.Base.{AreFirstMultipliersOff, IsSolutionOff}
+use Rattle.overflows.specs.Quotients.{IsDivisor, IsScaled}
+use Rattle.overflows.specs.Trails.{IsInteriorOff}
 use Rattle.cone_rules.specs.Faults.{CombinesToMinusLast, HasInterior}
 use Rattle.cone_rules.specs.Laws.{interior_said, spread}
 use Rattle.cone_rules.proofs.FoundRows.{rows_program}

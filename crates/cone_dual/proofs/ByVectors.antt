@@ -17,7 +17,7 @@ use Rattle.lp_form.specs.Data.{IsDataOf, cone_of, duality_of}
 use Rattle.lp_form.specs.Programs.{generator_gaps, interior_of_dual, interior_of_generators, interior_system, nonzero_vectors, pointed_system, zero_combination}
 use Rattle.lp_form.proofs.Shaped.{gens_wide, dual_wide, gens_few, dual_few}
 use Rattle.lp_form.proofs.Systems.{length-zeros}
-use Rattle.overflow_rules.specs.Base.{AreFirstMultipliersOff, IsSolutionOff}
+use Rattle.overflows.specs.Base.{AreFirstMultipliersOff, IsSolutionOff}
 
 pub solution_off : (s : System) (basis : List ℕ) (x dual : List ℚ) → (d : Table) × OptimalAt s basis d x dual → IsSolutionOff s x
 solution_off s basis x dual (d, h) = record { basis = basis; dictionary = d; full = h.feasible.full; reads = h.x_read }

@@ -6,8 +6,8 @@ use Rattle.vlp_problem.specs.declared.problem.Cone.{Cone}
 use Rattle.upper_image.specs.Shows.{ShowsFitting}
 use Rattle.upper_image.proofs.Solid.{duality_fits}
 use Rattle.deriv_log.specs.declared.entry.Entry.TheVariants.{Duality as Line}
-use Rattle.overflow_rules.specs.Licence.{IsHeldDuality}
-use Rattle.overflow_rules.specs.Trails.{IsBaseDuality}
+use Rattle.overflows.specs.Licence.{IsHeldDuality}
+use Rattle.overflows.specs.Trails.{IsBaseDuality}
 use Rattle.cone_rules.specs.Faults.{IsSolid, IsPointed}
 use Rattle.cone_dual.specs.Fitting.{IsMade, IsDualityOf}
 use Rattle.cone_dual.specs.declared.duality.Duality.{Duality}

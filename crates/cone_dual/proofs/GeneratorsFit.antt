@@ -18,9 +18,9 @@ use Rattle.lp_form.specs.Programs.{interior_of_generators, interior_system}
 use Rattle.lp_form.specs.declared.data.ConeOf.TheVariants.{Gens}
 use Rattle.lp_form.specs.declared.data.Data.{Data}
 use Rattle.lp_form.proofs.Figures.{objective_number}
-use Rattle.overflow_rules.specs.Base.{IsSolutionOff}
-use Rattle.overflow_rules.specs.Quotients.{IsScaled}
-use Rattle.overflow_rules.specs.Trails.{IsMuOff}
+use Rattle.overflows.specs.Base.{IsSolutionOff}
+use Rattle.overflows.specs.Quotients.{IsScaled}
+use Rattle.overflows.specs.Trails.{IsMuOff}
 use Rattle.cone_rules.specs.Faults.{HasInterior, HasNoLine, IsPointed, IsSolid}
 use Rattle.cone_rules.specs.Laws.{IsPositiveCombination, at_last_one}
 use Rattle.cone_rules.proofs.Fitting.{fitting_laws}

@@ -27,12 +27,12 @@ use Rattle.deriv_log.specs.declared.licence.Licence.{Licence}
 use Rattle.deriv_log.specs.declared.licence.Place.{Place}
 use Rattle.deriv_log.specs.declared.licence.Place.TheVariants.{Elim, Pair}
 use Rattle.lp_form.specs.Programs.{nonzero_vectors}
-use Rattle.overflow_rules.specs.Dictionaries.{AreStartRows}
-use Rattle.overflow_rules.specs.Generators.{IsMadeOver, IsAddition}
-use Rattle.overflow_rules.specs.Licence.{LicensedWithout}
-use Rattle.overflow_rules.specs.Settings.{Setting}
-use Rattle.overflow_rules.specs.Steps.{IsNotHeld, in_numbers}
-use Rattle.overflow_rules.proofs.Given.{not_held, same_exact, step_not_held, still}
+use Rattle.overflows.specs.Dictionaries.{AreStartRows}
+use Rattle.overflows.specs.Generators.{IsMadeOver, IsAddition}
+use Rattle.overflows.specs.Licence.{LicensedWithout}
+use Rattle.overflows.specs.Settings.{Setting}
+use Rattle.overflows.specs.Steps.{IsNotHeld, in_numbers}
+use Rattle.overflows.proofs.Given.{not_held, same_exact, step_not_held, still}
 use Rattle.overflows.specs.Faults.{IsEliminationLeft, OnLicence, Overflows}
 use Rattle.overflows.specs.declared.fault.SolveFault.{SolveFault}
 use Rattle.overflows.specs.declared.fault.SolveFault.TheVariants.{Left as Stuck, NoMemory}

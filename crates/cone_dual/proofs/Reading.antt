@@ -12,8 +12,8 @@ use Rattle.polyhedra.proofs.Members.{Contains-map, member_of}
 use Rattle.lin_rows.specs.Read.{numbers}
 use Rattle.lin_rows.proofs.Building.{number_row}
 use Rattle.deriv_log.specs.declared.licence.Family.{Family}
-use Rattle.overflow_rules.specs.Generators.{IsAddition, IsMadeOver}
-use Rattle.overflow_rules.specs.Settings.{Setting}
+use Rattle.overflows.specs.Generators.{IsAddition, IsMadeOver}
+use Rattle.overflows.specs.Settings.{Setting}
 use Rattle.cone_dual.specs.Generators.{MayDescribe}
 use Rattle.cone_dual.proofs.Licences.{front_listed}
 

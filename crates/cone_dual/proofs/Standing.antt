@@ -13,8 +13,8 @@ use Rattle.lp_form.specs.declared.data.ConeOf.{ConeOf}
 use Rattle.lp_form.specs.declared.data.Data.{Data}
 use Rattle.lp_form.specs.Data.{IsDataOf, cone_of, duality_of}
 use Rattle.lp_form.proofs.Figures.{objective_number}
-use Rattle.overflow_rules.specs.Licence.{cone_alone, LicensedByCone}
-use Rattle.overflow_rules.specs.Settings.{Setting}
+use Rattle.overflows.specs.Licence.{cone_alone, LicensedByCone}
+use Rattle.overflows.specs.Settings.{Setting}
 use Rattle.overflows.specs.Faults.{OnLicence, Overflows}
 use Rattle.overflows.specs.declared.fault.SolveFault.{SolveFault}
 use Rattle.overflows.specs.declared.fault.SolveFault.TheVariants.{Left, NoMemory}

@@ -2,7 +2,7 @@
 use Rattle.std.specs.Prelude.{◌≡◌, Bool}
 use Rattle.exact_field.specs.Rational.{ℚ}
 use Rattle.vlp_problem.specs.declared.problem.Problem.{Problem}
-use Rattle.overflow_rules.specs.Licence.{LicensedByCone}
+use Rattle.overflows.specs.Licence.{LicensedByCone}
 use Rattle.overflows.specs.declared.fault.SolveFault.{SolveFault}
 use Rattle.overflows.specs.declared.fault.SolveFault.TheVariants as fault
 use Rattle.cone_rules.specs.Faults.{HasFault}

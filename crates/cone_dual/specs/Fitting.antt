@@ -8,8 +8,8 @@ use Rattle.vlp_problem.specs.declared.problem.Cone.TheVariants.{Dual}
 use Rattle.upper_image.specs.Shows.{ShowsFitting}
 use Rattle.deriv_log.specs.declared.entry.Entry.TheVariants.{Duality as Line}
 use Rattle.lp_form.specs.Programs.{nonzero_vectors}
-use Rattle.overflow_rules.specs.Licence.{IsHeldDuality}
-use Rattle.overflow_rules.specs.Trails.{IsBaseDuality}
+use Rattle.overflows.specs.Licence.{IsHeldDuality}
+use Rattle.overflows.specs.Trails.{IsBaseDuality}
 use Rattle.cone_rules.specs.Faults.{IsSound}
 use Rattle.cone_rules.specs.Laws.{IsPositiveCombination}
 use Rattle.cone_dual.specs.declared.duality.Duality.{Duality}

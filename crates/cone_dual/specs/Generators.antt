@@ -13,11 +13,11 @@ use Rattle.deriv_log.specs.declared.licence.Place.{Place}
 use Rattle.deriv_log.specs.declared.licence.Place.TheVariants.{Elim, Pair}
 use Rattle.lp_form.specs.Programs.{nonzero_vectors}
 use Rattle.log_rules.specs.Live.{contains}
-use Rattle.overflow_rules.specs.Base.{IsGeneratorOf}
-use Rattle.overflow_rules.specs.Dictionaries.{AreStartRows}
-use Rattle.overflow_rules.specs.Generators.{IsAddition, IsMadeOver}
-use Rattle.overflow_rules.specs.Settings.{Setting}
-use Rattle.overflow_rules.specs.Steps.{IsNotHeld}
+use Rattle.overflows.specs.Base.{IsGeneratorOf}
+use Rattle.overflows.specs.Dictionaries.{AreStartRows}
+use Rattle.overflows.specs.Generators.{IsAddition, IsMadeOver}
+use Rattle.overflows.specs.Settings.{Setting}
+use Rattle.overflows.specs.Steps.{IsNotHeld}
 use Rattle.double_descr.specs.State.{State}
 
 -- the list has exactly the generators of the cone where all rows are at least 0, each once

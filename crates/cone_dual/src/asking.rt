@@ -1,7 +1,7 @@
 //! What is asked of linear programs and eliminations over an ordering cone.
 ghost use Rattle.std.specs.Prelude.{◌≡◌, map, length, IfOk, IfErr};
 ghost use Rattle.exact_simplex.specs.Ends.{IsCertified, IsReadOff};
-ghost use Rattle.overflow_rules.specs.Licence.{LicensedByCone};
+ghost use Rattle.overflows.specs.Licence.{LicensedByCone};
 ghost use Rattle.lin_rows.specs.Answers.{IsIndep};
 ghost use Rattle.lin_rows.specs.Read.{numbers};
 ghost use Rattle.lp_form.specs.Building.{joined};
@@ -17,7 +17,8 @@ ghost use Rattle.vlp_problem.specs.declared.problem.Problem.{Problem as File};
 use crate::lists::{picked_rows, rows_of};
 use exact_field::Field;
 use exact_simplex::{LpEnd, solve_lp};
-use lin_rows::{Indep, Rows, corners, find_independent};
+use guessed_rows::{corners_in_two_ways, independent_in_two_ways};
+use lin_rows::{Indep, Rows};
 use lp_form::{Data, LpName, interior_system, pointed_system};
 use overflows::{SolveFault, elimination_fault, program_fault};
 use src_sink::{Items, NoMemory};
@@ -74,7 +75,7 @@ pub fn independent_vectors<F: Field>(
 {
     let q = form.p.len() as u32;
     let rows = rows_of(alloc, q, vectors)?;
-    match find_independent(alloc, &rows, q) {
+    match independent_in_two_ways(alloc, &rows, q) {
         Ok(found) => Ok(found),
         Err(fault) => Err(elimination_fault(alloc, &rows, fault, Items::new(alloc))),
     }
@@ -98,7 +99,7 @@ pub fn inverse_columns<F: Field>(
 {
     let q = form.p.len() as u32;
     let rows = picked_rows(alloc, q, vectors, picks)?;
-    match corners(alloc, &rows) {
+    match corners_in_two_ways(alloc, &rows) {
         Ok(columns) => Ok(joined_rows(alloc, &columns)?),
         Err(fault) => Err(elimination_fault(alloc, &rows, fault, Items::new(alloc))),
     }

@@ -3,7 +3,7 @@ ghost use Rattle.std.specs.Prelude.{◌≡◌, ◌≤◌, ◌∷◌, drop, map, 
 ghost use Rattle.exact_field.specs.Rational.{ℚ};
 ghost use Rattle.cone_rules.specs.Faults.{IsZeroCombination};
 ghost use Rattle.cone_rules.specs.Laws.{spread};
-ghost use Rattle.overflow_rules.specs.Licence.{LicensedByCone};
+ghost use Rattle.overflows.specs.Licence.{LicensedByCone};
 ghost use Rattle.lin_rows.specs.Read.{numbers};
 ghost use Rattle.lp_form.specs.Data.{IsDataOf, cone_of};
 ghost use Rattle.lp_form.specs.Programs.{nonzero_vectors, pointed_system, zero_combination as combination_system};

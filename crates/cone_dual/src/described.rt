@@ -6,9 +6,9 @@ ghost use Rattle.polyhedra.specs.LiveList.{step};
 ghost use Rattle.tableaux.specs.Elimination.{AreIndependent};
 ghost use Rattle.deriv_log.specs.declared.licence.Family.{Family as AnyFamily};
 ghost use Rattle.lin_rows.specs.Read.{numbers};
-ghost use Rattle.overflow_rules.specs.Dictionaries.{AreElimRows, AreStartRows};
-ghost use Rattle.overflow_rules.specs.Generators.{IsAddition, IsMadeOver};
-ghost use Rattle.overflow_rules.specs.Settings.{Setting};
+ghost use Rattle.overflows.specs.Dictionaries.{AreElimRows, AreStartRows};
+ghost use Rattle.overflows.specs.Generators.{IsAddition, IsMadeOver};
+ghost use Rattle.overflows.specs.Settings.{Setting};
 ghost use Rattle.overflows.specs.Faults.{OnLicence, Overflows};
 ghost use Rattle.cone_dual.specs.Generators.{IsAlone, IsDescriptionOf, IsOver, MayDescribe};
 
@@ -16,7 +16,8 @@ use crate::picked::{other_numbers, rows_at};
 use deriv_log::Family;
 use double_descr::Dd;
 use exact_field::Field;
-use lin_rows::{Indep, Rows, find_independent};
+use guessed_rows::independent_in_two_ways;
+use lin_rows::{Indep, Rows};
 use overflows::{SolveFault, add_fault, elimination_fault, start_fault};
 use src_sink::Items;
 use std::alloc::Global;
@@ -32,7 +33,7 @@ fn basis_of<F: Field>(alloc: Global, rows: &Rows<F>) -> Result<Items<u32>, Solve
     ensures left { (s : Setting) → AreElimRows s (numbers F.value rows.now.list) rows.now.width
         → IfErr result (Overflows F.holds s []) }
 {
-    match find_independent(alloc, rows, rows.width()) {
+    match independent_in_two_ways(alloc, rows, rows.width()) {
         Ok(Indep::Basis(picks)) => Ok(picks),
         Ok(Indep::Orthogonal(_)) => unreachable!(),
         Err(fault) => Err(elimination_fault(alloc, rows, fault, Items::new(alloc))),

@@ -7,7 +7,7 @@ ghost use Rattle.polyhedra.specs.LiveSteps.{IsLive};
 ghost use Rattle.deriv_log.specs.declared.licence.Family.TheVariants as family;
 ghost use Rattle.lin_rows.specs.Read.{numbers};
 ghost use Rattle.vlp_problem.specs.declared.problem.Problem.{Problem};
-ghost use Rattle.overflow_rules.specs.Licence.{LicensedWithout};
+ghost use Rattle.overflows.specs.Licence.{LicensedWithout};
 ghost use Rattle.overflows.specs.Faults.{OnLicence};
 ghost use Rattle.cone_dual.specs.Generators.{AreConeRows, AreGenerators, AreMadeInOrder, IsAlone, IsOver};
 

@@ -16,8 +16,9 @@ use crate::next::{Next, next_list};
 use crate::parts::push_numbers;
 use crate::starting::{copy_rows, norm_all};
 use exact_field::Field;
+use guessed_rows::corners_in_two_ways;
 use incid_sets::Marks;
-use lin_rows::{Rows, corners};
+use lin_rows::Rows;
 use src_sink::{Items, MOST_ITEMS};
 use std::alloc::Global;
 use std::marker::Model;
@@ -68,7 +69,7 @@ impl<F: Field> Dd<F> {
         ensures left { IfErr result (λ fault. IsStartFault F.value F.holds rows.now.width
             (table F.value rows.now.list) fault) }
     {
-        let vectors = corners(alloc, rows)?;
+        let vectors = corners_in_two_ways(alloc, rows)?;
         let generators = norm_all(alloc, &vectors)?;
         let mut numbers = Items::new(alloc);
         push_numbers(&mut numbers, generators.as_slice())?;

@@ -18,7 +18,7 @@ use Rattle.polyhedra.proofs.Tests.{test_of_zero, test_of_other}
 use Rattle.double_descr.specs.State.{State as Description}
 use Rattle.vlp_problem.specs.declared.problem.Problem.{Problem}
 use Rattle.upper_image.specs.UpperImage.{IsInWorkingImage}
-use Rattle.overflow_rules.specs.Base.{IsBaseRow}
+use Rattle.overflows.specs.Base.{IsBaseRow}
 use Rattle.lp_form.specs.declared.shown.Cut.{Cut}
 use Rattle.outer_approx.specs.Cuts.{IsCutFor, said_by}
 use Rattle.outer_approx.specs.Task.{Task, IsFitting}

@@ -28,9 +28,9 @@ use Rattle.lp_form.specs.declared.data.ConeOf.{ConeOf}
 use Rattle.lp_form.specs.declared.data.ConeOf.TheVariants.{Orthant, Gens, Dual}
 use Rattle.lp_form.specs.declared.data.Data.{Data}
 use Rattle.lp_form.proofs.Figures.{objective_number}
-use Rattle.overflow_rules.specs.Base.{IsConeDirection, IsDirectionOf, IsGeneratorOf}
-use Rattle.overflow_rules.specs.Generators.{IsMadeOver}
-use Rattle.overflow_rules.proofs.Making.{generator_laws}
+use Rattle.overflows.specs.Base.{IsConeDirection, IsDirectionOf, IsGeneratorOf}
+use Rattle.overflows.specs.Generators.{IsMadeOver}
+use Rattle.overflows.proofs.Making.{generator_laws}
 use Rattle.cone_rules.specs.Faults.{HasNoLine, IsPointed}
 use Rattle.cone_rules.proofs.Rows.{kept, kept_or_zero, kept_wide}
 use Rattle.cone_dual.specs.Generators.{AreConeRows, AreGenerators, AreMadeInOrder, begun_with}

@@ -20,12 +20,12 @@ use Rattle.upper_image.specs.Shows.{ShowsCut}
 use Rattle.upper_image.specs.UpperImage.{IsInWorkingImage}
 use Rattle.upper_image.proofs.Solid.{duality_fits}
 use Rattle.upper_image.proofs.WorkingImage.{cut_valid}
-use Rattle.overflow_rules.specs.Base.{AreMultipliersOff, IsBaseChoice, image_of, weight_of}
-use Rattle.overflow_rules.specs.Examples.{n, minus, ones}
+use Rattle.overflows.specs.Base.{AreMultipliersOff, IsBaseChoice, image_of, weight_of}
+use Rattle.overflows.specs.Examples.{n, minus, ones}
 use Rattle.geo_duality.specs.Rows.{exchange_row}
-use Rattle.overflow_rules.proofs.Values.{apart, equal}
-use Rattle.overflow_rules.proofs.Pivots.{Pivots, table_after}
-use Rattle.overflow_rules.proofs.WorkedBase.{full_after}
+use Rattle.overflows.proofs.Values.{apart, equal}
+use Rattle.overflows.proofs.Pivots.{Pivots, table_after}
+use Rattle.overflows.proofs.WorkedBase.{full_after}
 use Rattle.lp_form.specs.Programs.{feasible_system}
 use Rattle.lower_image.specs.Examples.{LowerExamples, across, choice_row, corners, first_row, first_up, four_up, second_row}
 use Rattle.lower_image.specs.Lower.{AreAllFacets, AreLowerRows, IsCertified, dual_vector, inequality_of, weight_at}

@@ -16,7 +16,7 @@ use Rattle.polyhedra.proofs.Linear.{dot_comm, dot-plus_left, dot-scaled_left, le
 use Rattle.polyhedra.proofs.Entries.{negated-scaled, at_drop, last_one}
 use Rattle.tableaux.specs.Table.{minus}
 use Rattle.geo_duality.specs.Rows.{exchange_row}
-use Rattle.overflow_rules.proofs.Violated.{dot-append, dot-take, minus-is, length-minus}
+use Rattle.overflows.proofs.Violated.{dot-append, dot-take, minus-is, length-minus}
 use Rattle.lower_image.specs.Lower.{dual_at, weight_at}
 
 -- ---- zeros

@@ -15,15 +15,15 @@ use Rattle.geo_duality.specs.Exchange as calculated
 use Rattle.deriv_log.specs.declared.licence.Place.TheVariants.{Exchange}
 use Rattle.log_rules.specs.Events.{Event}
 use Rattle.log_rules.specs.Events.Event.{step}
-use Rattle.overflow_rules.specs.Base.{IsBaseRow}
-use Rattle.overflow_rules.specs.Licence.{IsOverflow}
-use Rattle.overflow_rules.specs.Settings.{Setting, Knows}
-use Rattle.overflow_rules.specs.Steps.{in_numbers, operation}
-use Rattle.overflow_rules.proofs.Given.{overflow_laws}
+use Rattle.overflows.specs.Base.{IsBaseRow}
+use Rattle.overflows.specs.Licence.{IsOverflow}
+use Rattle.overflows.specs.Settings.{Setting, Knows}
+use Rattle.overflows.specs.Steps.{in_numbers, operation}
+use Rattle.overflows.proofs.Given.{overflow_laws, same_operation}
 use Rattle.overflows.specs.Faults.{IsLeftAt, Overflows}
 use Rattle.overflows.specs.declared.fault.SolveFault.{SolveFault}
 use Rattle.overflows.proofs.Events.{event_of}
-use Rattle.overflows.proofs.Starts.{left_overflows, same_operation}
+use Rattle.overflows.proofs.Starts.{left_overflows}
 
 events : (k : ℚ) (ys cs : List ℚ) → map event_of (difference_steps k ys cs) ≡
     flat_map (λ e. step Mul k e.1 ∷ step Sub e.0 (k *ℚ e.1) ∷ []) (zip ys cs)

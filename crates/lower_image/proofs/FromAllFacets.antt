@@ -38,10 +38,10 @@ use Rattle.log_rules.proofs.SolutionIsRight.{are_sound}
 use Rattle.log_rules.proofs.SolvedIsSolved.{solved, solved_met}
 use Rattle.lp_form.specs.Programs.{benson_system, u_of, w_of, after_w_of, value_of, dual_unknowns}
 use Rattle.lp_form.proofs.Systems.{benson_ok, length-negated}
-use Rattle.overflow_rules.specs.Base.{last_of}
-use Rattle.overflow_rules.proofs.Cuts.{length-benson_cost, benson_unknowns}
-use Rattle.overflow_rules.proofs.CutTurns.{optimal_value}
-use Rattle.overflow_rules.proofs.Violated.{said_value}
+use Rattle.overflows.specs.Base.{last_of}
+use Rattle.overflows.proofs.Cuts.{length-benson_cost, benson_unknowns}
+use Rattle.overflows.proofs.CutTurns.{optimal_value}
+use Rattle.overflows.proofs.Violated.{said_value}
 use Rattle.benson_program.proofs.Solved.{balanced, in_dual, member, scaled_at}
 use Rattle.benson_program.proofs.SolutionParts.{after_long, after_positive, u_long, u_positive, w_long}
 use Rattle.lower_image.specs.Lower.{AreAllFacets}

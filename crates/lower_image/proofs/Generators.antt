@@ -19,7 +19,7 @@ use Rattle.polyhedra.proofs.Tests.{test_of_zero, test_of_other}
 use Rattle.vlp_problem.specs.declared.problem.Problem.{Problem}
 use Rattle.upper_image.specs.OrderingCone.{Fits, IsInDualCone, IsInOrderingCone}
 use Rattle.upper_image.proofs.Absorbing.{zero_at_interior}
-use Rattle.overflow_rules.specs.Base.{image_of, weight_of}
+use Rattle.overflows.specs.Base.{image_of, weight_of}
 use Rattle.geo_duality.specs.Rows.{exchange_row}
 use Rattle.lower_image.specs.Lower.{IsLower, dual_at, weight_at}
 use Rattle.lower_image.specs.Laws.{IsWeighted, LowerGeneratorLaws}

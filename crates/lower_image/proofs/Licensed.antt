@@ -3,9 +3,9 @@ use Rattle.std.proofs.Common.{◌≡◌, List, [], Bool, Result, Ok, Err, sym, s
 use Rattle.std.specs.Prelude.{IfErr}
 use Rattle.exact_field.specs.Rational.{ℚ}
 use Rattle.deriv_log.specs.declared.entry.Entry.{Entry}
-use Rattle.overflow_rules.specs.Licence.{IsPossible, Licensed, LicensedWithout, StandsFor, opening}
-use Rattle.overflow_rules.proofs.Growing.{trail_laws}
-use Rattle.overflow_rules.proofs.Without.{licence_laws}
+use Rattle.overflows.specs.Licence.{IsPossible, Licensed, LicensedWithout, StandsFor, opening}
+use Rattle.overflows.proofs.Growing.{trail_laws}
+use Rattle.overflows.proofs.Without.{licence_laws}
 use Rattle.overflows.specs.Faults.{OnLicence, Overflows}
 use Rattle.overflows.specs.declared.fault.SolveFault.{SolveFault}
 use Rattle.overflows.specs.declared.fault.SolveFault.TheVariants.{Left, NoMemory}

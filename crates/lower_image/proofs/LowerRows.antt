@@ -37,11 +37,11 @@ use Rattle.upper_image.proofs.ConvexCones.{ordering_cone_convex}
 use Rattle.upper_image.proofs.WorkingImage.{feasible_meets, recession_meets, value_wide, working_image_convex}
 use Rattle.lp_form.proofs.Systems.{cone_wide, length-negated, length-unit}
 use Rattle.cone_rules.proofs.Ranks.{unit_nonneg}
-use Rattle.overflow_rules.specs.Base.{IsBaseRow, IsConeDirection, IsDirectionOf, image_of}
-use Rattle.overflow_rules.specs.Base.IsBaseRow.{of_choice, of_ray, of_cone}
+use Rattle.overflows.specs.Base.{IsBaseRow, IsConeDirection, IsDirectionOf, image_of}
+use Rattle.overflows.specs.Base.IsBaseRow.{of_choice, of_ray, of_cone}
 use Rattle.geo_duality.specs.Rows.{exchange_row}
-use Rattle.overflow_rules.proofs.Making.{generator_laws}
-use Rattle.overflow_rules.proofs.Violated.{length-minus}
+use Rattle.overflows.proofs.Making.{generator_laws}
+use Rattle.overflows.proofs.Violated.{length-minus}
 use Rattle.lower_image.specs.Lower.{AreLowerRows, IsLower, dual_at, weight_at, dual_vector}
 use Rattle.lower_image.specs.Laws.{LowerRowLaws}
 use Rattle.lower_image.proofs.Exchange.{exchange_at, two_more, weight_again, weight_normed, dual_parts, front_zero}

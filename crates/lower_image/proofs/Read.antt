@@ -18,9 +18,9 @@ use Rattle.lp_form.specs.Programs.{side_total, weight_system, weight_unknowns, u
 use Rattle.lp_form.specs.Reading.{HasColumns, IsSplit}
 use Rattle.lp_form.proofs.Figures.{side_number, objective_number}
 use Rattle.lp_form.proofs.Systems.{weight_ok}
-use Rattle.overflow_rules.specs.Base.{AreCutParts, IsBaseCut, IsBaseWeight}
-use Rattle.overflow_rules.specs.Products.{IsBaseU}
-use Rattle.overflow_rules.specs.Settings.{Setting, Knows}
+use Rattle.overflows.specs.Base.{AreCutParts, IsBaseCut, IsBaseWeight}
+use Rattle.overflows.specs.Products.{IsBaseU}
+use Rattle.overflows.specs.Settings.{Setting, Knows}
 use Rattle.cone_rules.proofs.Opposite.{opposite_columns}
 use Rattle.benson_program.proofs.Spread.{spots, spots-dense}
 use Rattle.benson_program.specs.Cuts.{IsCutOf}

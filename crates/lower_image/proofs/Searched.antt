@@ -12,10 +12,10 @@ use Rattle.polyhedra.proofs.Members.{Contains-map, Contains-map_source, all_of_m
 use Rattle.double_descr.specs.State.{State as Description}
 use Rattle.deriv_log.specs.declared.entry.Entry.{Entry}
 use Rattle.deriv_log.specs.declared.licence.Family.TheVariants.{Exchanged}
-use Rattle.overflow_rules.specs.Base.{IsBaseRow}
-use Rattle.overflow_rules.specs.Generators.{IsAddition}
-use Rattle.overflow_rules.specs.Turns.{IsRowTurn}
-use Rattle.overflow_rules.proofs.RowTurns.{row_turns_end}
+use Rattle.overflows.specs.Base.{IsBaseRow}
+use Rattle.overflows.specs.Generators.{IsAddition}
+use Rattle.overflows.specs.Turns.{IsRowTurn}
+use Rattle.overflows.proofs.RowTurns.{row_turns_end}
 use Rattle.lp_form.specs.declared.shown.Cut.{Cut}
 use Rattle.outer_approx.specs.Task.{Task, IsFitting, setting}
 use Rattle.lower_image.specs.Rows.{IsWeighable}

@@ -29,8 +29,8 @@ use Rattle.vlp_problem.specs.declared.problem.Cone.TheVariants.{Orthant, Gens, D
 use Rattle.upper_image.specs.OrderingCone.{Fits, IsIn}
 use Rattle.upper_image.proofs.ConvexCones.{ordering_cone_convex}
 use Rattle.lp_form.proofs.Systems.{cone_wide}
-use Rattle.overflow_rules.specs.Base.{IsBaseChoice, IsBaseRow, IsConeDirection, IsDirectionOf, image_of}
-use Rattle.overflow_rules.specs.Base.IsBaseRow.{of_choice, of_cone}
+use Rattle.overflows.specs.Base.{IsBaseChoice, IsBaseRow, IsConeDirection, IsDirectionOf, image_of}
+use Rattle.overflows.specs.Base.IsBaseRow.{of_choice, of_cone}
 use Rattle.geo_duality.specs.Rows.{exchange_row}
 use Rattle.lower_image.specs.Lower.{AreLowerRows, AreSpanning, IsCertified, IsLower, dual_at, weight_at, dual_vector, inequality_of}
 use Rattle.lower_image.specs.Laws.{IsWeighted, LowerStartLaws}

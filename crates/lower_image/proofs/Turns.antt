@@ -24,10 +24,10 @@ use Rattle.upper_image.specs.OrderingCone.{Fits}
 use Rattle.upper_image.specs.UpperImage.{IsInWorkingImage}
 use Rattle.upper_image.proofs.ConvexCones.{ordering_cone_convex}
 use Rattle.lp_form.specs.Programs.{weight_system, u_of, choice_of}
-use Rattle.overflow_rules.specs.Base.{AreMultipliersOff, AreFirstMultipliersOff, IsBaseRow, image_of, weight_of}
-use Rattle.overflow_rules.specs.Base.IsBaseRow.{of_choice, of_ray, of_cone}
+use Rattle.overflows.specs.Base.{AreMultipliersOff, AreFirstMultipliersOff, IsBaseRow, image_of, weight_of}
+use Rattle.overflows.specs.Base.IsBaseRow.{of_choice, of_ray, of_cone}
 use Rattle.geo_duality.specs.Rows.{exchange_row}
-use Rattle.overflow_rules.specs.Turns.{IsRowTurn, said_exchange}
+use Rattle.overflows.specs.Turns.{IsRowTurn, said_exchange}
 use Rattle.lower_image.proofs.WeightEnds.{weight_cut, weight_choice, weight_ray}
 use Rattle.lower_image.specs.Lower.{IsLower, dual_at, weight_at, dual_vector}
 use Rattle.lower_image.specs.Laws.{IsWeighted, LowerTurnLaws}

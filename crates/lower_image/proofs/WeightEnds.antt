@@ -26,7 +26,7 @@ use Rattle.upper_image.proofs.Widths.{wide_objectives}
 use Rattle.upper_image.proofs.WorkingImage.{feasible_meets}
 use Rattle.lp_form.specs.Programs.{side_total, on_parts, weight_system, weight_unknowns, weight_equations, u_of, w_of, v_of, after_w_of, choice_of}
 use Rattle.lp_form.proofs.Systems.{weight_ok, length-side_bounds}
-use Rattle.overflow_rules.specs.Base.{AreCutParts, image_of}
+use Rattle.overflows.specs.Base.{AreCutParts, image_of}
 use Rattle.benson_program.proofs.Blocks.{on_parts-value}
 use Rattle.benson_program.proofs.AsPreimage.{sides_rise}
 use Rattle.benson_program.proofs.Spots.{positive_values}

@@ -22,7 +22,7 @@ use Rattle.upper_image.specs.UpperImage.{normals, objectives, objective_column}
 use Rattle.upper_image.proofs.Widths.{wide_normals, wide_objectives, objective_columns, side_columns}
 use Rattle.lp_form.specs.Programs.{side_total, on_parts, balances, weight_members, weight_unknowns, weight_equations}
 use Rattle.lp_form.proofs.Systems.{IsWideCone, length-unit, length-negated, length-side_column, length-side_bounds}
-use Rattle.overflow_rules.proofs.Violated.{length-minus}
+use Rattle.overflows.proofs.Violated.{length-minus}
 use Rattle.benson_program.proofs.Blocks.{on_parts-value, values_listed, members-value, length-objective_column}
 
 none_left : (n : ℕ) (v : List ℚ) → dot (zeros n) v ≡ zero_ℚ

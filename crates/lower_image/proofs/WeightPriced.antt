@@ -25,7 +25,7 @@ use Rattle.upper_image.proofs.WorkingImage.{value_wide}
 use Rattle.log_rules.proofs.ByEntries.{entry-suc}
 use Rattle.lp_form.specs.Programs.{side_total, on_parts, weight_unknowns, weight_equations, choice_of}
 use Rattle.lp_form.proofs.Systems.{IsWideCone, cone_wide, weight_ok, length-negated}
-use Rattle.overflow_rules.proofs.Violated.{length-minus}
+use Rattle.overflows.proofs.Violated.{length-minus}
 use Rattle.benson_program.proofs.Vectors.{AreAtMost, at_most_each, at_most_parts, at_most_both, at_least_zero, dot-minus_left, dot-parts, parts_of, same_on}
 use Rattle.benson_program.proofs.SolutionParts.{u_long, a_long, b_long, after_long, columns_part, columns_part-long, columns_part-value, normals-long}
 use Rattle.lower_image.proofs.WeightEquations.{tied, rows-value, weight_rows, weight_total, length-weight_cost}

@@ -17,10 +17,10 @@ use Rattle.lp_form.specs.Data.{IsDataOf}
 use Rattle.lp_form.specs.declared.data.Data.{Data}
 use Rattle.vlp_problem.specs.declared.problem.Problem.{Problem}
 use Rattle.lp_form.specs.Programs.{weight_system, u_of, choice_of}
-use Rattle.overflow_rules.specs.Base.{AreMultipliersOff, AreFirstMultipliersOff, IsBaseChoice, IsBaseRay, IsBaseRow, IsGeneratorOf, image_of, weight_of}
+use Rattle.overflows.specs.Base.{AreMultipliersOff, AreFirstMultipliersOff, IsBaseChoice, IsBaseRay, IsBaseRow, IsGeneratorOf, image_of, weight_of}
 use Rattle.geo_duality.specs.Rows.{exchange_row}
-use Rattle.overflow_rules.specs.Products.{AreMultiplied}
-use Rattle.overflow_rules.specs.Turns.{IsRowTurn, said_exchange}
+use Rattle.overflows.specs.Products.{AreMultiplied}
+use Rattle.overflows.specs.Turns.{IsRowTurn, said_exchange}
 use Rattle.benson_program.specs.Ends.{IsOptimumAt, IsEmptyAt}
 use Rattle.outer_approx.specs.Task.{Task, IsFitting, setting}
 use Rattle.lower_image.proofs.WeightEnds.{weight_choice, weight_ray}

@@ -8,8 +8,8 @@ use Rattle.vlp_problem.specs.declared.problem.Problem.{Problem}
 use Rattle.vlp_problem.specs.declared.problem.Dir.TheVariants.{Min}
 use Rattle.vlp_problem.specs.declared.problem.Cone.TheVariants.{Orthant}
 use Rattle.vlp_problem.specs.declared.problem.Bound.TheVariants.{Lower}
-use Rattle.overflow_rules.specs.Base.{IsBaseChoice}
-use Rattle.overflow_rules.specs.Examples.{n, minus, cell, ones}
+use Rattle.overflows.specs.Base.{IsBaseChoice}
+use Rattle.overflows.specs.Examples.{n, minus, cell, ones}
 use Rattle.lower_image.specs.Lower.{AreAllFacets, AreLowerRows, IsCertified, dual_vector, weight_at, weighted}
 
 -- x_1, x_2 and x_1 + x_2 - 4 are at least 0, and the objectives are x_1 and x_2

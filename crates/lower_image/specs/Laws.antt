@@ -25,9 +25,9 @@ use Rattle.log_rules.specs.Live.{duality_vector, state, inequality, named}
 use Rattle.log_rules.specs.Proves.{AllMeet}
 use Rattle.deriv_log.specs.Formed.{IsLog}
 use Rattle.lp_form.specs.Programs.{benson_system, weight_system, u_of, value_of}
-use Rattle.overflow_rules.specs.Base.{AreMultipliersOff, AreFirstMultipliersOff, IsBaseChoice, IsBaseRow, IsBaseWeight, IsConeDirection, image_of, last_of, weight_of}
+use Rattle.overflows.specs.Base.{AreMultipliersOff, AreFirstMultipliersOff, IsBaseChoice, IsBaseRow, IsBaseWeight, IsConeDirection, image_of, last_of, weight_of}
 use Rattle.geo_duality.specs.Rows.{exchange_row}
-use Rattle.overflow_rules.specs.Turns.{IsRowTurn, said_exchange}
+use Rattle.overflows.specs.Turns.{IsRowTurn, said_exchange}
 use Rattle.lower_image.specs.Lower.{AreLowerRows, AreSpanning, AreAllFacets, IsLower, IsCertified, dual_at, dual_vector, inequality_of, weighted}
 
 -- ---- rows

@@ -12,8 +12,8 @@ use Rattle.vlp_problem.specs.Sides.{IsFeasible}
 use Rattle.vlp_problem.specs.declared.problem.Problem.{Problem}
 use Rattle.upper_image.specs.OrderingCone.{IsInDualCone}
 use Rattle.upper_image.specs.UpperImage.{IsInWorkingImage}
-use Rattle.overflow_rules.specs.Base.{IsBaseRow, IsConeDirection, image_of, weight_of}
-use Rattle.overflow_rules.specs.Generators.{IsMadeOver}
+use Rattle.overflows.specs.Base.{IsBaseRow, IsConeDirection, image_of, weight_of}
+use Rattle.overflows.specs.Generators.{IsMadeOver}
 use Rattle.geo_duality.specs.Rows.{exchange_row}
 
 -- ---- dual vectors

@@ -3,8 +3,8 @@ use Rattle.std.specs.Prelude.{suc, ◌≡◌, ◌≢◌, List, map, Contains}
 use Rattle.exact_field.specs.Rational.{ℚ, zero_ℚ}
 use Rattle.exact_field.specs.Vector.{entry}
 use Rattle.polyhedra.specs.LiveList.{LiveList, vectors}
-use Rattle.overflow_rules.specs.Base.{IsBaseRow}
-use Rattle.overflow_rules.specs.Turns.{IsRowTurn}
+use Rattle.overflows.specs.Base.{IsBaseRow}
+use Rattle.overflows.specs.Turns.{IsRowTurn}
 use Rattle.outer_approx.specs.Cuts.{IsCutFor, said_by}
 use Rattle.outer_approx.specs.Task.{Task}
 use Rattle.lp_form.specs.declared.shown.Cut.{Cut}

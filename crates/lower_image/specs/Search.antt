@@ -9,8 +9,8 @@ use Rattle.vlp_problem.specs.Sides.{IsFeasible}
 use Rattle.lp_form.specs.Data.{IsDataOf}
 use Rattle.lp_form.specs.declared.data.Data.{Data}
 use Rattle.lp_form.specs.declared.shown.Cut.{Cut}
-use Rattle.overflow_rules.specs.Base.{IsBaseRow}
-use Rattle.overflow_rules.specs.Turns.{IsRowTurn}
+use Rattle.overflows.specs.Base.{IsBaseRow}
+use Rattle.overflows.specs.Turns.{IsRowTurn}
 use Rattle.outer_approx.specs.Cuts.{IsCutFor, said_by}
 use Rattle.outer_approx.specs.Task.{Task, IsFitting}
 use Rattle.lower_image.specs.Lower.{IsCertified, inequality_of}

@@ -3,7 +3,7 @@ use Rattle.std.specs.Prelude.{suc, ◌≡◌, true, false, List, ◌∷◌, map}
 use Rattle.exact_field.specs.Rational.{ℚ}
 use Rattle.double_descr.specs.State.{State as Description}
 use Rattle.vlp_problem.specs.declared.problem.Problem.{Problem}
-use Rattle.overflow_rules.specs.Base.{image_of}
+use Rattle.overflows.specs.Base.{image_of}
 use Rattle.geo_duality.specs.Rows.{exchange_row}
 use Rattle.outer_approx.specs.Task.{Task}
 use Rattle.lower_image.specs.Lower.{IsLower}

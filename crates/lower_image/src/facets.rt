@@ -2,8 +2,8 @@
 ghost use Rattle.std.specs.Prelude.{◌≡◌, List, [], map, IfErr, IfOk};
 ghost use Rattle.cone_rules.specs.Faults.{IsPointed};
 ghost use Rattle.deriv_log.specs.declared.entry.Entry.{Entry};
-ghost use Rattle.overflow_rules.specs.Base.{IsBaseChoice};
-ghost use Rattle.overflow_rules.specs.Licence.{Licensed};
+ghost use Rattle.overflows.specs.Base.{IsBaseChoice};
+ghost use Rattle.overflows.specs.Licence.{Licensed};
 ghost use Rattle.lin_rows.specs.Read.{numbers};
 ghost use Rattle.lower_image.specs.Facets.{AreFacetCuts};
 ghost use Rattle.lower_image.specs.Lower.{AreSpanning};

@@ -3,10 +3,10 @@ ghost use Rattle.std.specs.Prelude.{◌≡◌, ◌≤◌, ◌<◌, [], map, leng
 ghost use Rattle.exact_field.specs.Rational.{one_ℚ};
 ghost use Rattle.exact_field.specs.Vector.{dot, entry};
 ghost use Rattle.deriv_log.specs.declared.licence.Place.TheVariants as place_of;
-ghost use Rattle.overflow_rules.specs.Base.{IsBaseRow, image_of};
-ghost use Rattle.overflow_rules.specs.Products.{IsBaseX};
-ghost use Rattle.overflow_rules.specs.Settings.{Knows, Setting};
-ghost use Rattle.overflow_rules.specs.Steps.{in_numbers};
+ghost use Rattle.overflows.specs.Base.{IsBaseRow, image_of};
+ghost use Rattle.overflows.specs.Products.{IsBaseX};
+ghost use Rattle.overflows.specs.Settings.{Knows, Setting};
+ghost use Rattle.overflows.specs.Steps.{in_numbers};
 ghost use Rattle.geo_duality.specs.Rows.{exchange_row};
 ghost use Rattle.lp_form.specs.Data.{IsDataOf, vector_of};
 ghost use Rattle.lp_form.specs.Shapes.{are_places};

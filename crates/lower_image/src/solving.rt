@@ -2,9 +2,9 @@
 ghost use Rattle.std.specs.Prelude.{◌≡◌, [], map, length, IfOk, IfErr};
 ghost use Rattle.benson_program.specs.Ends.{StandForSome};
 ghost use Rattle.exact_simplex.specs.Ends.{IsCertified, IsReadOff};
-ghost use Rattle.overflow_rules.specs.Base.{IsBaseWeight};
-ghost use Rattle.overflow_rules.specs.Dictionaries.{IsAllowed, system_in};
-ghost use Rattle.overflow_rules.specs.Settings.{Knows, Setting};
+ghost use Rattle.overflows.specs.Base.{IsBaseWeight};
+ghost use Rattle.overflows.specs.Dictionaries.{IsAllowed, system_in};
+ghost use Rattle.overflows.specs.Settings.{Knows, Setting};
 ghost use Rattle.lp_form.specs.Data.{IsDataOf};
 ghost use Rattle.lp_form.specs.Names.{HasWidths, named};
 ghost use Rattle.lp_form.specs.Programs.{named_system};

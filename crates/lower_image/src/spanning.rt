@@ -3,7 +3,7 @@ ghost use Rattle.std.specs.Prelude.{◌≡◌, ◌++◌, ◌∷◌, [], filter, 
 ghost use Rattle.std.specs.List.{list_all};
 ghost use Rattle.cone_rules.specs.Faults.{IsPointed};
 ghost use Rattle.frac128.specs.Sparse.{is_zero as is_nought};
-ghost use Rattle.overflow_rules.specs.Licence.{LicensedWithout};
+ghost use Rattle.overflows.specs.Licence.{LicensedWithout};
 ghost use Rattle.lin_rows.specs.Read.{numbers};
 ghost use Rattle.lower_image.specs.Lower.{AreSpanning};
 ghost use Rattle.lp_form.specs.Data.{IsDataOf};

@@ -2,7 +2,7 @@
 //! ordering cone.
 ghost use Rattle.std.specs.Prelude.{◌≡◌, List, [], map, suc, IfErr, IfOk};
 ghost use Rattle.deriv_log.specs.declared.entry.Entry.{Entry};
-ghost use Rattle.overflow_rules.specs.Base.{IsBaseChoice};
+ghost use Rattle.overflows.specs.Base.{IsBaseChoice};
 ghost use Rattle.lin_rows.specs.Read.{numbers};
 ghost use Rattle.lower_image.specs.Lower.{AreSpanning};
 ghost use Rattle.lower_image.specs.Starting.{IsLowerDescription, first_rows};

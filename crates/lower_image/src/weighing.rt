@@ -4,12 +4,12 @@ ghost use Rattle.std.specs.Prelude.{◌≡◌, ◌≤◌, ◌<◌, ◌-◌, ◌�
 ghost use Rattle.exact_field.specs.Rational.{ℚ, one_ℚ};
 ghost use Rattle.exact_field.specs.Vector.{entry};
 ghost use Rattle.deriv_log.specs.declared.entry.Entry.{Entry};
-ghost use Rattle.overflow_rules.specs.Base.{IsBaseRow, weight_of};
-ghost use Rattle.overflow_rules.specs.Products.{IsBaseX};
+ghost use Rattle.overflows.specs.Base.{IsBaseRow, weight_of};
+ghost use Rattle.overflows.specs.Products.{IsBaseX};
 ghost use Rattle.lp_form.specs.Data.{IsDataOf};
 ghost use Rattle.lp_form.specs.Programs.{choice_of};
 ghost use Rattle.outer_approx.specs.Task.{IsFitting, Task, setting};
-ghost use Rattle.overflow_rules.specs.Turns.{said_exchange};
+ghost use Rattle.overflows.specs.Turns.{said_exchange};
 ghost use Rattle.overflows.specs.Faults.{Overflows};
 ghost use Rattle.polyhedra.specs.Negatives.{negated};
 ghost use Rattle.vlp_problem.specs.Sides.{IsFeasible};

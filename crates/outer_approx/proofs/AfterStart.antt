@@ -25,7 +25,7 @@ use Rattle.log_rules.specs.Live.{State, state, after, first_vectors, in_use, ine
 use Rattle.log_rules.specs.Order as order
 use Rattle.log_rules.proofs.Entries.{has_last, state-push}
 use Rattle.log_rules.proofs.KeepsDescription.{rules_keep_lines}
-use Rattle.overflow_rules.specs.Dictionaries.{AreStartRows}
+use Rattle.overflows.specs.Dictionaries.{AreStartRows}
 use Rattle.lp_form.specs.declared.shown.Cut.{Cut as CutOf}
 use Rattle.outer_approx.specs.Cuts.{said_by}
 use Rattle.outer_approx.specs.Lines.{line_places}

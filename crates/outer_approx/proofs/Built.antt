@@ -19,9 +19,9 @@ use Rattle.log_rules.specs.Proves.{AllMeet}
 use Rattle.log_rules.proofs.LogHeld.{entry-passes}
 use Rattle.log_rules.proofs.LogMeets.{events_give_meets}
 use Rattle.lp_form.specs.Programs.{feasible_system, side_total}
-use Rattle.overflow_rules.specs.Base.{IsRayOff}
-use Rattle.overflow_rules.specs.Trails.{IsBaseTrail}
-use Rattle.overflow_rules.proofs.Growing.{none, grows, opened}
+use Rattle.overflows.specs.Base.{IsRayOff}
+use Rattle.overflows.specs.Trails.{IsBaseTrail}
+use Rattle.overflows.proofs.Growing.{none, grows, opened}
 use Rattle.outer_approx.specs.Unstarted.{IsReadWhole, ShowsWhole, infeasible_entries, whole_entries}
 
 -- ---- logs

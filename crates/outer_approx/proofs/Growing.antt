@@ -26,9 +26,9 @@ use Rattle.log_rules.specs.Order as order
 use Rattle.log_rules.proofs.Entries.{has_more}
 use Rattle.log_rules.proofs.KeepsDescription.{rules_keep_description}
 use Rattle.log_rules.proofs.NormedMembers.{IsPoint, IsNormedWay, one_of}
-use Rattle.overflow_rules.specs.Base.{IsLiveAfter, last_of}
-use Rattle.overflow_rules.specs.Trails.{IsBaseEntry}
-use Rattle.overflow_rules.proofs.Growing.{trail_laws}
+use Rattle.overflows.specs.Base.{IsLiveAfter, last_of}
+use Rattle.overflows.specs.Trails.{IsBaseEntry}
+use Rattle.overflows.proofs.Growing.{trail_laws}
 use Rattle.outer_approx.specs.Lines.{line_places}
 use Rattle.outer_approx.specs.Standing.{IsOpenTrail, IsOuter, HasPreimageMore, StandForSame, rows_of_trail}
 use Rattle.outer_approx.specs.Task.{Task}

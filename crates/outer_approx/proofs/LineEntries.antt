@@ -24,8 +24,8 @@ use Rattle.log_rules.specs.Meets.{Meets}
 use Rattle.log_rules.specs.Order.{has, in_order}
 use Rattle.log_rules.specs.Order as order
 use Rattle.log_rules.proofs.Entries.{state-push}
-use Rattle.overflow_rules.specs.Base.{IsBaseChoice, IsSide, trail_normals}
-use Rattle.overflow_rules.specs.Trails.{IsBaseDirection, IsBaseLine}
+use Rattle.overflows.specs.Base.{IsBaseChoice, IsSide, trail_normals}
+use Rattle.overflows.specs.Trails.{IsBaseDirection, IsBaseLine}
 use Rattle.lp_form.specs.Sparse.{IsSparseOf}
 use Rattle.lp_form.specs.declared.shown.Cut.{Cut as CutOf}
 use Rattle.outer_approx.specs.Cuts.{said_by}

@@ -11,8 +11,8 @@ use Rattle.deriv_log.specs.declared.entry.Entry.{Entry}
 use Rattle.double_descr.specs.State.{State as Description}
 use Rattle.log_rules.specs.Live.{lines, preimages}
 use Rattle.log_rules.proofs.NormedMembers.{front-homogenised, last-homogenised, one_not_zero}
-use Rattle.overflow_rules.specs.Base.{IsBaseStart, IsLiveAfter, last_of}
-use Rattle.overflow_rules.specs.Preimages.{IsPreimageOf}
+use Rattle.overflows.specs.Base.{IsBaseStart, IsLiveAfter, last_of}
+use Rattle.overflows.specs.Preimages.{IsPreimageOf}
 use Rattle.lp_form.specs.declared.shown.Preimage.{Preimage}
 use Rattle.outer_approx.specs.Lines.{line_places}
 use Rattle.outer_approx.specs.Preimages.{IsReached}

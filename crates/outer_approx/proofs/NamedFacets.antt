@@ -38,8 +38,8 @@ use Rattle.log_rules.specs.Order as order
 use Rattle.log_rules.proofs.CutsStay.{stated}
 use Rattle.log_rules.proofs.Entries.{has_more, state-push}
 use Rattle.log_rules.proofs.LiveNumbers.{pairs_from_map}
-use Rattle.overflow_rules.specs.Trails.{IsBaseTrail}
-use Rattle.overflow_rules.proofs.Growing.{grows}
+use Rattle.overflows.specs.Trails.{IsBaseTrail}
+use Rattle.overflows.proofs.Growing.{grows}
 use Rattle.outer_approx.specs.Lines.{line_places}
 use Rattle.outer_approx.specs.Standing.{IsEnded, IsOpenTrail, IsOuter, cuts_of}
 use Rattle.outer_approx.specs.Task.{Task}

@@ -22,7 +22,7 @@ use Rattle.log_rules.specs.Live.{State, state, after, inequality, rows_in_use, l
 use Rattle.log_rules.specs.Order.{has, in_order}
 use Rattle.log_rules.specs.Order as order
 use Rattle.log_rules.proofs.Entries.{state-push}
-use Rattle.overflow_rules.specs.Generators.{IsAddition}
+use Rattle.overflows.specs.Generators.{IsAddition}
 use Rattle.overflows.specs.Faults.{OnLicence}
 use Rattle.overflows.specs.declared.fault.SolveFault.{SolveFault}
 use Rattle.overflows.specs.declared.fault.SolveFault.TheVariants.{Left, NoMemory}

@@ -25,10 +25,10 @@ use Rattle.log_rules.specs.Order.{has, in_order}
 use Rattle.log_rules.specs.Order as order
 use Rattle.log_rules.proofs.Entries.{state-push}
 use Rattle.log_rules.proofs.NormedMembers.{front-homogenised, last-homogenised}
-use Rattle.overflow_rules.specs.Base.{last_of}
-use Rattle.overflow_rules.specs.Trails.{IsBaseDuality, IsBasePoint, IsBaseDirection, IsLiveAt}
-use Rattle.overflow_rules.specs.Licence.{opening as first_two}
-use Rattle.overflow_rules.proofs.Growing.{trail_laws, cut_in_order}
+use Rattle.overflows.specs.Base.{last_of}
+use Rattle.overflows.specs.Trails.{IsBaseDuality, IsBasePoint, IsBaseDirection, IsLiveAt}
+use Rattle.overflows.specs.Licence.{opening as first_two}
+use Rattle.overflows.proofs.Growing.{trail_laws, cut_in_order}
 use Rattle.lp_form.specs.Sparse.{IsSparseOf}
 use Rattle.lp_form.specs.declared.shown.Cut.{Cut as CutOf}
 use Rattle.lp_form.specs.declared.shown.Preimage.{Preimage}

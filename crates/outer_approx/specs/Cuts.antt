@@ -7,7 +7,7 @@ use Rattle.upper_image.specs.Shows.{ShowsCut}
 use Rattle.deriv_log.specs.Formed.{is_formed}
 use Rattle.deriv_log.specs.declared.entry.Entry.{Entry}
 use Rattle.deriv_log.specs.declared.entry.Entry.TheVariants as line
-use Rattle.overflow_rules.specs.Base.{IsBaseCut}
+use Rattle.overflows.specs.Base.{IsBaseCut}
 use Rattle.lp_form.specs.Sparse.{IsSparseOf}
 use Rattle.lp_form.specs.declared.shown.Cut.{Cut}
 use Rattle.outer_approx.specs.Task.{Task}

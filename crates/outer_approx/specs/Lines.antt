@@ -6,8 +6,8 @@ use Rattle.lineality.specs.Lines.{AreEchelon}
 use Rattle.lineality.specs.Without.{marks}
 use Rattle.deriv_log.specs.declared.entry.Entry.{Entry}
 use Rattle.log_rules.specs.Live.{lines}
-use Rattle.overflow_rules.specs.Base.{IsSide}
-use Rattle.overflow_rules.specs.Preimages.{IsPreimageOf}
+use Rattle.overflows.specs.Base.{IsSide}
+use Rattle.overflows.specs.Preimages.{IsPreimageOf}
 use Rattle.outer_approx.specs.Task.{Task}
 use Rattle.outer_approx.specs.declared.log.Line.{Line}
 

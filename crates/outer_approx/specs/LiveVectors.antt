@@ -4,7 +4,7 @@ use Rattle.exact_field.specs.Rational.{ℚ, zero_ℚ, ◌≤ℚ◌}
 use Rattle.exact_field.specs.Vector.{dot}
 use Rattle.polyhedra.specs.Exactness.{homogenised}
 use Rattle.deriv_log.specs.declared.entry.Entry.{Entry}
-use Rattle.overflow_rules.specs.Base.{IsLiveAfter, last_of}
+use Rattle.overflows.specs.Base.{IsLiveAfter, last_of}
 use Rattle.outer_approx.specs.Standing.{rows_of_trail}
 use Rattle.outer_approx.specs.Task.{Task}
 

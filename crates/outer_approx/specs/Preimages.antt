@@ -5,8 +5,8 @@ use Rattle.polyhedra.specs.Exactness.{homogenised}
 use Rattle.incid_sets.specs.Marks.{has}
 use Rattle.deriv_log.specs.declared.entry.Entry.{Entry}
 use Rattle.log_rules.specs.Live.{preimages}
-use Rattle.overflow_rules.specs.Base.{IsLiveAfter, last_of}
-use Rattle.overflow_rules.specs.Preimages.{IsPreimageOf}
+use Rattle.overflows.specs.Base.{IsLiveAfter, last_of}
+use Rattle.overflows.specs.Preimages.{IsPreimageOf}
 use Rattle.lp_form.specs.declared.shown.Preimage.{Preimage}
 use Rattle.outer_approx.specs.Task.{Task}
 

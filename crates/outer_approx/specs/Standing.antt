@@ -13,7 +13,7 @@ use Rattle.lineality.specs.Without.{open_count, without}
 use Rattle.log_rules.specs.Live.{state, inequality, rows_in_use, lines, preimages}
 use Rattle.log_rules.specs.Order.{has}
 use Rattle.log_rules.specs.Order as order
-use Rattle.overflow_rules.specs.Trails.{IsBaseDuality, IsBaseTrail}
+use Rattle.overflows.specs.Trails.{IsBaseDuality, IsBaseTrail}
 use Rattle.outer_approx.specs.Lines.{line_places}
 use Rattle.outer_approx.specs.Task.{Task}
 

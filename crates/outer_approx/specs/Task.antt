@@ -4,9 +4,9 @@ use Rattle.exact_field.specs.Rational.{ℚ}
 use Rattle.vlp_problem.specs.declared.problem.Problem.{Problem}
 use Rattle.upper_image.specs.Shows.{ShowsFitting}
 use Rattle.deriv_log.specs.declared.entry.Entry.{Entry}
-use Rattle.overflow_rules.specs.Licence.{IsHeldDuality}
-use Rattle.overflow_rules.specs.Settings.{Setting}
-use Rattle.overflow_rules.specs.Trails.{IsBaseDuality}
+use Rattle.overflows.specs.Licence.{IsHeldDuality}
+use Rattle.overflows.specs.Settings.{Setting}
+use Rattle.overflows.specs.Trails.{IsBaseDuality}
 
 -- the file, the duality vector, and the weights that combine the generators of the ordering cone to it, if the cone is given by any
 pub record Task : Type 0 where

@@ -9,8 +9,8 @@ use Rattle.word_lines.specs.declared.part.EndKind.TheVariants as kind
 use Rattle.deriv_log.specs.declared.entry.Entry.{Entry}
 use Rattle.deriv_log.specs.declared.entry.Entry.TheVariants.{Version, Duality, Farkas, Whole, End}
 use Rattle.log_rules.specs.Meets.{MeetsWhole}
-use Rattle.overflow_rules.specs.Base.{IsBaseChoice}
-use Rattle.overflow_rules.specs.Trails.{IsBaseDuality, IsBaseWhole}
+use Rattle.overflows.specs.Base.{IsBaseChoice}
+use Rattle.overflows.specs.Trails.{IsBaseDuality, IsBaseWhole}
 
 -- a log that no point is feasible, by these multipliers of the sides
 abbrev pub infeasible_entries : List Spot → List Entry

@@ -11,7 +11,7 @@ ghost use Rattle.word_lines.specs.Parts as part;
 ghost use Rattle.deriv_log.specs.declared.entry.Entry.{Entry as EntryOf};
 ghost use Rattle.deriv_log.specs.declared.entry.Entry.TheVariants as entry_of;
 ghost use Rattle.exact_field.specs.Rational.{ℚ};
-ghost use Rattle.overflow_rules.specs.Base.{IsBaseChoice};
+ghost use Rattle.overflows.specs.Base.{IsBaseChoice};
 ghost use Rattle.log_rules.specs.Live.{preimages};
 ghost use Rattle.log_rules.specs.Order.{has};
 ghost use Rattle.log_rules.specs.Order as order;

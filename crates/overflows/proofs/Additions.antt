@@ -17,15 +17,15 @@ use Rattle.deriv_log.specs.declared.licence.Family.{Family}
 use Rattle.deriv_log.specs.declared.licence.Place.TheVariants.{Pair}
 use Rattle.log_rules.specs.Events.{Event}
 use Rattle.log_rules.specs.Events.Event.{step}
-use Rattle.overflow_rules.specs.Generators.{IsAddition}
-use Rattle.overflow_rules.specs.Licence.{IsOverflow}
-use Rattle.overflow_rules.specs.Settings.{Setting}
-use Rattle.overflow_rules.specs.Steps.{in_numbers, operation, value_steps, pair_steps}
-use Rattle.overflow_rules.proofs.Given.{overflow_laws}
+use Rattle.overflows.specs.Generators.{IsAddition}
+use Rattle.overflows.specs.Licence.{IsOverflow}
+use Rattle.overflows.specs.Settings.{Setting}
+use Rattle.overflows.specs.Steps.{in_numbers, operation, value_steps, pair_steps}
+use Rattle.overflows.proofs.Given.{overflow_laws, same_operation}
 use Rattle.overflows.specs.Faults.{IsLeftAt, Overflows}
 use Rattle.overflows.specs.declared.fault.SolveFault.{SolveFault}
 use Rattle.overflows.proofs.Events.{event_of, value_events, pair_events}
-use Rattle.overflows.proofs.Starts.{left_overflows, same_operation}
+use Rattle.overflows.proofs.Starts.{left_overflows}
 
 module _ {F : Type 0} (value : F → ℚ) (holds : ℚ → Bool) (zero : IsTrue (holds zero_ℚ)) (s : Setting) (family : Family) where
   abbrev over : (rows : List (List ℚ)) → ℕ → ℕ → ℕ → Left ℚ → Type 0

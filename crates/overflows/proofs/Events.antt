@@ -16,7 +16,7 @@ use Rattle.log_rules.specs.Events.{Event, sum_from}
 use Rattle.log_rules.specs.Events.Event.{step}
 use Rattle.log_rules.specs.LiveEvents as events
 use Rattle.log_rules.proofs.PassedTests.{zero_number, zero_passes}
-use Rattle.overflow_rules.specs.Steps.{value_steps, pair_steps}
+use Rattle.overflows.specs.Steps.{value_steps, pair_steps}
 
 -- a step as an event
 abbrev pub event_of : Step → Event

@@ -13,14 +13,14 @@ use Rattle.exact_simplex.specs.Ends.{IsSystemLeft}
 use Rattle.deriv_log.specs.declared.entry.Entry.{Entry}
 use Rattle.vlp_problem.specs.declared.program.Program.{Program}
 use Rattle.deriv_log.specs.declared.licence.Place.TheVariants.{Pivot, Elim, Scale}
-use Rattle.overflow_rules.specs.Laws.{term_number}
-use Rattle.overflow_rules.proofs.Given.{overflow_laws}
-use Rattle.overflow_rules.specs.Dictionaries.{IsAllowed, IsElimTable, system_in}
-use Rattle.overflow_rules.specs.Licence.{IsOverflow}
-use Rattle.overflow_rules.specs.Products.{AreMultiplied}
-use Rattle.overflow_rules.specs.Quotients.{IsDivisor, IsScaled}
-use Rattle.overflow_rules.specs.Settings.{Setting}
-use Rattle.overflow_rules.specs.Steps.{in_numbers, operation}
+use Rattle.overflows.specs.Laws.{term_number}
+use Rattle.overflows.proofs.Given.{overflow_laws}
+use Rattle.overflows.specs.Dictionaries.{IsAllowed, IsElimTable, system_in}
+use Rattle.overflows.specs.Licence.{IsOverflow}
+use Rattle.overflows.specs.Products.{AreMultiplied}
+use Rattle.overflows.specs.Quotients.{IsDivisor, IsScaled}
+use Rattle.overflows.specs.Settings.{Setting}
+use Rattle.overflows.specs.Steps.{in_numbers, operation}
 use Rattle.overflows.specs.Faults.{IsQuotientAt, IsTermAt, Overflows, placed}
 use Rattle.overflows.specs.declared.fault.SolveFault.{SolveFault}
 use Rattle.overflows.specs.declared.fault.SolveFault.TheVariants.{Left}

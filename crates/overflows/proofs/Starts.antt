@@ -2,7 +2,6 @@
 use Rattle.std.proofs.Common.{◌≡◌, ℕ, ◌+◌, List, [], length, Bool, IsTrue, refl, sym, ap₂, ◌∙◌, subst, inl, inr}
 use Rattle.exact_field.specs.Rational.{ℚ, zero_ℚ}
 use Rattle.exact_field.specs.Vector.{entry}
-use Rattle.exact_field.specs.declared.op.Op.{Op}
 use Rattle.exact_field.specs.declared.op.Op.TheVariants.{Div}
 use Rattle.exact_field.specs.declared.op.Left.{Left}
 use Rattle.polyhedra.specs.DoubleDescription.{magnitude, norming as norming-of}
@@ -17,20 +16,17 @@ use Rattle.polyhedra.specs.LiveList.{LiveList}
 use Rattle.deriv_log.specs.declared.entry.Entry.{Entry}
 use Rattle.deriv_log.specs.declared.licence.Place.{Place}
 use Rattle.deriv_log.specs.declared.licence.Place.TheVariants.{Elim}
-use Rattle.overflow_rules.specs.Dictionaries.{AreStartRows, IsElimTable}
-use Rattle.overflow_rules.specs.Generators.{IsMadeOver}
-use Rattle.overflow_rules.specs.Licence.{IsOverflow}
-use Rattle.overflow_rules.specs.Settings.{Setting}
-use Rattle.overflow_rules.specs.Steps.{in_numbers, operation}
-use Rattle.overflow_rules.proofs.Given.{overflow_laws}
-use Rattle.overflow_rules.proofs.Making.{generator_laws}
+use Rattle.overflows.specs.Dictionaries.{AreStartRows, IsElimTable}
+use Rattle.overflows.specs.Generators.{IsMadeOver}
+use Rattle.overflows.specs.Licence.{IsOverflow}
+use Rattle.overflows.specs.Settings.{Setting}
+use Rattle.overflows.specs.Steps.{in_numbers, operation}
+use Rattle.overflows.proofs.Given.{overflow_laws, same_operation}
+use Rattle.overflows.proofs.Making.{generator_laws}
 use Rattle.overflows.specs.Faults.{IsEliminationLeft, IsLeftAt, Overflows, placed}
 use Rattle.overflows.specs.declared.fault.SolveFault.{SolveFault}
 use Rattle.overflows.specs.declared.fault.SolveFault.TheVariants.{Left as Stuck, NoMemory}
 use Rattle.overflows.proofs.Placed.{placed_none}
-
-pub same_operation : (o o' : Op) (a a' b b' : ℚ) → o ≡ o' → a ≡ a' → b ≡ b' → operation o a b ≡ operation o' a' b'
-same_operation o o' a a' b b' e f g = cc
 
 -- what is told of a place overflows, if an operation there does
 pub left_overflows : (holds : ℚ → Bool) (s : Setting) (place : Place) (left : Left ℚ) (trail : List Entry) (told : SolveFault) → IsLeftAt place left trail told →

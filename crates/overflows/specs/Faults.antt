@@ -16,9 +16,9 @@ use Rattle.deriv_log.specs.declared.licence.Licence.{Licence}
 use Rattle.vlp_problem.specs.declared.program.Program.{Program}
 use Rattle.deriv_log.specs.declared.licence.Place.{Place}
 use Rattle.deriv_log.specs.declared.licence.Place.TheVariants.{Elim, Pivot}
-use Rattle.overflow_rules.specs.Licence.{IsOverflow}
-use Rattle.overflow_rules.specs.Settings.{Setting}
-use Rattle.overflow_rules.specs.Steps.{in_numbers}
+use Rattle.overflows.specs.Licence.{IsOverflow}
+use Rattle.overflows.specs.Settings.{Setting}
+use Rattle.overflows.specs.Steps.{in_numbers}
 use Rattle.overflows.specs.declared.fault.SolveFault.{SolveFault}
 use Rattle.overflows.specs.declared.fault.SolveFault.TheVariants.{Left, NoMemory}
 use Rattle.overflows.specs.declared.fault.SumFault.{SumFault}

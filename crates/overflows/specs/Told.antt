@@ -5,7 +5,7 @@ use Rattle.deriv_log.specs.declared.licence.Family.{Family}
 use Rattle.deriv_log.specs.declared.licence.Place.TheVariants.{Pair}
 use Rattle.double_descr.specs.declared.fault.DdFault.{DdFault}
 use Rattle.double_descr.specs.declared.fault.DdFault.TheVariants as description
-use Rattle.overflow_rules.specs.Steps.{in_numbers}
+use Rattle.overflows.specs.Steps.{in_numbers}
 use Rattle.overflows.specs.Faults.{IsEliminationLeft, IsLeftAt}
 use Rattle.overflows.specs.declared.fault.SolveFault.{SolveFault}
 use Rattle.overflows.specs.declared.fault.SolveFault.TheVariants.{NoMemory}

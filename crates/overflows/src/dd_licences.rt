@@ -2,13 +2,13 @@
 //! eliminated or added.
 ghost use Rattle.std.specs.Prelude.{◌≡◌, [], ◌∷◌, ◌++◌, IfOk, map, length};
 ghost use Rattle.deriv_log.specs.declared.licence.Place.TheVariants as place_of;
-ghost use Rattle.overflow_rules.specs.Steps.{in_numbers};
+ghost use Rattle.overflows.specs.Steps.{in_numbers};
 ghost use Rattle.overflows.specs.Faults.{IsLeftAt, Overflows};
 ghost use Rattle.double_descr.specs.Adding.{IsAddFault, add_blocks};
 ghost use Rattle.double_descr.specs.Starting.{IsStartFault};
-ghost use Rattle.overflow_rules.specs.Dictionaries.{AreStartRows};
-ghost use Rattle.overflow_rules.specs.Generators.{IsAddition};
-ghost use Rattle.overflow_rules.specs.Settings.{Setting};
+ghost use Rattle.overflows.specs.Dictionaries.{AreStartRows};
+ghost use Rattle.overflows.specs.Generators.{IsAddition};
+ghost use Rattle.overflows.specs.Settings.{Setting};
 ghost use Rattle.lin_rows.specs.Read.{numbers};
 ghost use Rattle.overflows.specs.Told.{IsAdditionLeft, IsStartLeft};
 

@@ -25,7 +25,7 @@ impl From<NoMemory> for SolveFault {
 impl SolveFault {
     ghost use Rattle.std.specs.Prelude.{◌≡◌, Bool, []};
     ghost use Rattle.exact_field.specs.Rational.{ℚ};
-    ghost use Rattle.overflow_rules.specs.Settings.{Setting};
+    ghost use Rattle.overflows.specs.Settings.{Setting};
     ghost use Rattle.overflows.specs.Faults.{Overflows, with_trail};
 
     /// The fault with this trail in place of its own.

@@ -1,8 +1,10 @@
-//! Licences from what calls tell of their overflows, in any exact field.
+//! What an overflow is, when it is licensed, and licences from what calls tell of their overflows,
+//! in any exact field.
 #![tactic(auto)]
 
 mod dd_licences;
 mod fault;
+pub mod laws;
 mod licences;
 mod numbers;
 mod quotients;

@@ -3,12 +3,12 @@ ghost use Rattle.std.specs.Prelude.{◌≡◌, ◌⊎◌, ℕ, List, [], map, le
 ghost use Rattle.exact_field.specs.Rational.{ℚ};
 ghost use Rattle.exact_simplex.specs.Ends.{IsLpFault};
 ghost use Rattle.deriv_log.specs.declared.licence.Place.TheVariants as place_of;
-ghost use Rattle.overflow_rules.specs.Dictionaries.{IsAllowed, IsElimTable, system_in};
-ghost use Rattle.overflow_rules.specs.Laws.{term_number};
-ghost use Rattle.overflow_rules.specs.Products.{AreMultiplied};
-ghost use Rattle.overflow_rules.specs.Quotients.{IsDivisor, IsScaled};
-ghost use Rattle.overflow_rules.specs.Settings.{Setting};
-ghost use Rattle.overflow_rules.specs.Steps.{in_numbers};
+ghost use Rattle.overflows.specs.Dictionaries.{IsAllowed, IsElimTable, system_in};
+ghost use Rattle.overflows.specs.Laws.{term_number};
+ghost use Rattle.overflows.specs.Products.{AreMultiplied};
+ghost use Rattle.overflows.specs.Quotients.{IsDivisor, IsScaled};
+ghost use Rattle.overflows.specs.Settings.{Setting};
+ghost use Rattle.overflows.specs.Steps.{in_numbers};
 ghost use Rattle.lin_rows.specs.Eliminate.{IsElimFault};
 ghost use Rattle.lin_rows.specs.Read.{numbers};
 ghost use Rattle.lp_form.specs.Names.{named};

@@ -1,6 +1,6 @@
 //! Numbers of a field as fractions.
 ghost use Rattle.std.specs.Prelude.{◌≡◌, All, map, IfOk, IsTrue, OnOk};
-ghost use Rattle.overflow_rules.specs.Steps.{in_numbers};
+ghost use Rattle.overflows.specs.Steps.{in_numbers};
 ghost use Rattle.lin_rows.specs.Read.{numbers};
 
 use exact_field::{Field, Left};

@@ -1,8 +1,8 @@
 //! Quotients of the entries of a vector.
 ghost use Rattle.std.specs.Prelude.{◌≡◌, ◌≢◌, ◌≤◌, [], map, take, length, IfOk, IfErr};
 ghost use Rattle.exact_field.specs.Rational.{inverse_ℚ, zero_ℚ};
-ghost use Rattle.overflow_rules.specs.Quotients.{IsDivisor, IsScaled};
-ghost use Rattle.overflow_rules.specs.Settings.{Setting};
+ghost use Rattle.overflows.specs.Quotients.{IsDivisor, IsScaled};
+ghost use Rattle.overflows.specs.Settings.{Setting};
 ghost use Rattle.overflows.specs.Faults.{Overflows};
 ghost use Rattle.polyhedra.specs.Vectors.{scaled};
 

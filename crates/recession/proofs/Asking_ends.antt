@@ -25,8 +25,8 @@ use Rattle.lp_form.specs.Data.{IsDataOf, cone_of}
 use Rattle.lp_form.specs.declared.data.Data.{Data}
 use Rattle.lp_form.proofs.Figures.{objective_number}
 use Rattle.lp_form.specs.Programs.{benson_system, choice_of, generators, value_of, u_of, w_of, v_of}
-use Rattle.overflow_rules.specs.Trails.{divided_by}
-use Rattle.overflow_rules.specs.Turns.{said_row}
+use Rattle.overflows.specs.Trails.{divided_by}
+use Rattle.overflows.specs.Turns.{said_row}
 use Rattle.benson_program.specs.Laws.{IsCutNormal}
 use Rattle.benson_program.proofs.AsCut.{benson_cut}
 use Rattle.benson_program.proofs.Excluded.{answers_exclude}

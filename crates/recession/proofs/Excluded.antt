@@ -6,7 +6,7 @@ use Rattle.exact_field.specs.Rational.{ℚ}
 use Rattle.vlp_problem.specs.Sides.{IsFeasible}
 use Rattle.vlp_problem.specs.declared.problem.Problem.{Problem}
 use Rattle.upper_image.specs.Spots.{dense, IsVector}
-use Rattle.overflow_rules.specs.Base.{IsBaseChoice}
+use Rattle.overflows.specs.Base.{IsBaseChoice}
 use Rattle.lp_form.specs.Programs.{side_total}
 use Rattle.benson_program.specs.Laws.{IsCutNormal}
 use Rattle.benson_program.proofs.Excluded.{answers_exclude}

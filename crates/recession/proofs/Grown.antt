@@ -15,8 +15,8 @@ use Rattle.vlp_problem.specs.Sides.{IsFeasible}
 use Rattle.upper_image.specs.UpperImage.{IsWorkingDirection}
 use Rattle.upper_image.proofs.Lines.{cuts_are_level}
 use Rattle.upper_image.proofs.WorkingImage.{ray_shown, working_image_convex}
-use Rattle.overflow_rules.specs.Base.{IsBaseChoice, IsSide}
-use Rattle.overflow_rules.specs.Preimages.{IsPreimageOf}
+use Rattle.overflows.specs.Base.{IsBaseChoice, IsSide}
+use Rattle.overflows.specs.Preimages.{IsPreimageOf}
 use Rattle.lp_form.specs.declared.shown.Cut.{Cut}
 use Rattle.lp_form.specs.declared.shown.Preimage.{Preimage}
 use Rattle.outer_approx.specs.Cuts.{IsCutFor}

@@ -8,8 +8,8 @@ use Rattle.polyhedra.proofs.Algebra.{neg_zero}
 use Rattle.polyhedra.proofs.Members.{all_of_members, member_of}
 use Rattle.polyhedra.proofs.Negatives.{dot-negated}
 use Rattle.deriv_log.specs.declared.entry.Entry.{Entry}
-use Rattle.overflow_rules.specs.Base.{IsBaseStart, IsSide, trail_normals}
-use Rattle.overflow_rules.specs.Preimages.{IsPreimageOf}
+use Rattle.overflows.specs.Base.{IsBaseStart, IsSide, trail_normals}
+use Rattle.overflows.specs.Preimages.{IsPreimageOf}
 use Rattle.lp_form.specs.declared.shown.Cut.{Cut as CutOf}
 use Rattle.lp_form.specs.declared.shown.Preimage.{Preimage}
 use Rattle.outer_approx.specs.Cuts.{IsCutFor}

@@ -10,8 +10,8 @@ use Rattle.deriv_log.specs.declared.entry.Entry.TheVariants.{Duality as Opening}
 use Rattle.log_rules.specs.Meets.{MeetsFarkas}
 use Rattle.log_rules.proofs.SomeAnswer.{some_answer}
 use Rattle.lp_form.specs.Programs.{side_total, feasible_system}
-use Rattle.overflow_rules.specs.Base.{IsBaseChoice, IsRayOff}
-use Rattle.overflow_rules.specs.Trails.{IsBaseDuality}
+use Rattle.overflows.specs.Base.{IsBaseChoice, IsRayOff}
+use Rattle.overflows.specs.Trails.{IsBaseDuality}
 use Rattle.benson_program.specs.Ends.{IsContradiction}
 use Rattle.lp_form.specs.Sparse.{IsSparseOf}
 use Rattle.benson_program.specs.Wholes.{IsWholeOf}
@@ -20,9 +20,9 @@ use Rattle.outer_approx.specs.Unstarted.{IsReadWhole, ShowsWhole}
 use Rattle.exact_field.specs.Rational.{ℚ}
 use Rattle.vlp_problem.specs.declared.problem.Problem.{Problem}
 use Rattle.deriv_log.specs.declared.entry.Entry.{Entry}
-use Rattle.overflow_rules.specs.Licence.{Completes, IsHeldDuality, IsPossible, Licensed, StandsFor}
-use Rattle.overflow_rules.proofs.Growing.{trail_laws}
-use Rattle.overflow_rules.proofs.Without.{licence_laws}
+use Rattle.overflows.specs.Licence.{Completes, IsHeldDuality, IsPossible, Licensed, StandsFor}
+use Rattle.overflows.proofs.Growing.{trail_laws}
+use Rattle.overflows.proofs.Without.{licence_laws}
 use Rattle.overflows.specs.Faults.{OnLicence, Overflows, with_trail}
 use Rattle.overflows.specs.declared.fault.SolveFault.{SolveFault}
 use Rattle.overflows.specs.declared.fault.SolveFault.TheVariants.{Left, NoMemory}

@@ -24,7 +24,7 @@ use Rattle.lineality.proofs.Lineality.{length-negated, one_list_of_lines}
 use Rattle.lineality.proofs.Places.{at, at-negated, at-plus, at-scaled, at-zeros, before_first, entry_at, first, place_is}
 use Rattle.lin_rows.specs.Complement.{AreComplement}
 use Rattle.lin_rows.specs.Read.{numbers}
-use Rattle.overflow_rules.specs.Base.{IsSide}
+use Rattle.overflows.specs.Base.{IsSide}
 use Rattle.recession.specs.Further.{AreTail, IsNextSide, IsZeroBefore}
 use Rattle.recession.proofs.Whole.{many_together}
 

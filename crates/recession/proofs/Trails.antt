@@ -8,11 +8,11 @@ use Rattle.frac128.specs.declared.vectors.Spot.{Spot}
 use Rattle.deriv_log.specs.declared.entry.Entry.{Entry}
 use Rattle.deriv_log.specs.declared.entry.Entry.TheVariants as line
 use Rattle.log_rules.specs.Live.{after, nothing, state}
-use Rattle.overflow_rules.specs.Base.{trail_normals}
-use Rattle.overflow_rules.specs.Licence.{opening, Completes, Licensed, StandsFor}
-use Rattle.overflow_rules.specs.Trails.{IsBaseTrail}
-use Rattle.overflow_rules.proofs.Growing.{trail_laws}
-use Rattle.overflow_rules.proofs.Without.{licence_laws}
+use Rattle.overflows.specs.Base.{trail_normals}
+use Rattle.overflows.specs.Licence.{opening, Completes, Licensed, StandsFor}
+use Rattle.overflows.specs.Trails.{IsBaseTrail}
+use Rattle.overflows.proofs.Growing.{trail_laws}
+use Rattle.overflows.proofs.Without.{licence_laws}
 use Rattle.overflows.specs.Faults.{OnLicence, Overflows}
 use Rattle.overflows.specs.declared.fault.SolveFault.{SolveFault}
 use Rattle.overflows.specs.declared.fault.SolveFault.TheVariants.{Left, NoMemory}

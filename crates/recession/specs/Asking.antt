@@ -6,10 +6,10 @@ use Rattle.vlp_problem.specs.Sides.{IsFeasible}
 use Rattle.lp_form.specs.Data.{IsDataOf}
 use Rattle.lp_form.specs.declared.data.Data.{Data}
 use Rattle.lp_form.specs.Programs.{benson_system, value_of}
-use Rattle.overflow_rules.specs.Turns.{said_row}
+use Rattle.overflows.specs.Turns.{said_row}
 use Rattle.benson_program.specs.Laws.{IsCutNormal}
 use Rattle.benson_program.specs.Ends.{IsOptimumAt}
-use Rattle.overflow_rules.specs.Preimages.{IsPreimageOf}
+use Rattle.overflows.specs.Preimages.{IsPreimageOf}
 use Rattle.lp_form.specs.declared.shown.Cut.{Cut as CutOf}
 use Rattle.outer_approx.specs.Cuts.{IsCutFor, said_by}
 use Rattle.outer_approx.specs.Task.{IsFitting, Task}

@@ -5,7 +5,7 @@ use Rattle.lineality.specs.Lines.{AreLines}
 use Rattle.lineality.specs.Without.{marks, open_count, without}
 use Rattle.polyhedra.specs.Cone.{HasFullRank}
 use Rattle.upper_image.specs.UpperImage.{IsWorkingDirection}
-use Rattle.overflow_rules.specs.Base.{IsBaseChoice}
+use Rattle.overflows.specs.Base.{IsBaseChoice}
 use Rattle.benson_program.specs.Ends.{IsContradiction}
 use Rattle.benson_program.specs.Wholes.{IsWholeOf}
 use Rattle.lp_form.specs.declared.shown.Cut.{Cut}

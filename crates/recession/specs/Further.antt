@@ -5,7 +5,7 @@ use Rattle.exact_field.specs.Rational.{ℚ, zero_ℚ}
 use Rattle.exact_field.specs.Vector.{dot, entry}
 use Rattle.lineality.specs.Lines.{AreEchelon, IsCombined, leading_place}
 use Rattle.deriv_log.specs.declared.entry.Entry.{Entry}
-use Rattle.overflow_rules.specs.Base.{IsSide}
+use Rattle.overflows.specs.Base.{IsSide}
 use Rattle.lp_form.specs.declared.shown.Cut.{Cut as CutOf}
 use Rattle.outer_approx.specs.Cuts.{IsCutFor, SaysCut}
 use Rattle.outer_approx.specs.Lines.{RunsBothWays, told_by}

@@ -6,8 +6,8 @@ use Rattle.deriv_log.specs.Formed.{IsLog}
 use Rattle.deriv_log.specs.declared.entry.Entry.{Entry}
 use Rattle.log_rules.specs.Proves.{AllMeet, Gives}
 use Rattle.log_rules.specs.declared.answer.Answer.{Answer}
-use Rattle.overflow_rules.specs.Licence.{IsPossible}
-use Rattle.overflow_rules.specs.Trails.{IsBaseTrail}
+use Rattle.overflows.specs.Licence.{IsPossible}
+use Rattle.overflows.specs.Trails.{IsBaseTrail}
 use Rattle.deriv_log.specs.declared.entry.Entry.TheVariants.{Duality}
 use Rattle.outer_approx.specs.Task.{Task}
 

@@ -1,7 +1,7 @@
 //! A vector at which the normals of some cuts are 0, before those of the lines.
 ghost use Rattle.std.specs.Prelude.{◌≡◌, ◌+◌, ◌<◌, [], map, length, reverse, All, IfOk, IfErr};
-ghost use Rattle.overflow_rules.specs.Base.{trail_normals};
-ghost use Rattle.overflow_rules.specs.Settings.{Setting};
+ghost use Rattle.overflows.specs.Base.{trail_normals};
+ghost use Rattle.overflows.specs.Settings.{Setting};
 ghost use Rattle.lin_rows.specs.Complement.{AreComplement};
 ghost use Rattle.lin_rows.specs.Read.{numbers};
 ghost use Rattle.outer_approx.specs.Lines.{told_by};
@@ -9,7 +9,8 @@ ghost use Rattle.overflows.specs.Faults.{Overflows};
 ghost use Rattle.recession.specs.Further.{AreTail, IsNextSide, normals_of};
 
 use exact_field::Field;
-use lin_rows::{Rows, complement};
+use guessed_rows::complement_in_two_ways;
+use lin_rows::Rows;
 use lp_form::Cut;
 use outer_approx::Line;
 use overflows::{SolveFault, elimination_fault};
@@ -44,7 +45,7 @@ pub fn level_vectors<F: Field>(
         → IfErr result (Overflows F.holds s []) }
 {
     let rows = normals(alloc, q, cuts)?;
-    match complement(alloc, &rows, q) {
+    match complement_in_two_ways(alloc, &rows, q) {
         Ok(vectors) => Ok(vectors),
         Err(fault) => Err(elimination_fault(alloc, &rows, fault, Items::new(alloc))),
     }

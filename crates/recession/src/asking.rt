@@ -3,7 +3,7 @@ ghost use Rattle.std.specs.Prelude.{◌≡◌, ℕ, List, [], map, length, IfOk,
 ghost use Rattle.benson_program.specs.Ends.{IsOptimumAt};
 ghost use Rattle.deriv_log.specs.declared.entry.Entry.{Entry};
 ghost use Rattle.exact_field.specs.Rational.{ℚ};
-ghost use Rattle.overflow_rules.specs.Base.{IsBaseStart};
+ghost use Rattle.overflows.specs.Base.{IsBaseStart};
 ghost use Rattle.lp_form.specs.Data.{IsDataOf};
 ghost use Rattle.lp_form.specs.Programs.{benson_system};
 ghost use Rattle.outer_approx.specs.Task.{IsFitting, Task, setting};

@@ -1,7 +1,7 @@
 //! The lines and first cuts of an image, or what shows that it has none.
 ghost use Rattle.std.specs.Prelude.{◌≡◌, map, reverse, IfOk, IfErr};
-ghost use Rattle.overflow_rules.specs.Base.{IsBaseChoice};
-ghost use Rattle.overflow_rules.specs.Licence.{Licensed};
+ghost use Rattle.overflows.specs.Base.{IsBaseChoice};
+ghost use Rattle.overflows.specs.Licence.{Licensed};
 ghost use Rattle.lp_form.specs.Data.{IsDataOf};
 ghost use Rattle.outer_approx.specs.Cuts.{IsCutFor};
 ghost use Rattle.outer_approx.specs.Task.{IsFitting, Task};

@@ -1,10 +1,10 @@
 //! What is found after some cuts and lines: one more cut, or one more line.
 ghost use Rattle.std.specs.Prelude.{◌≡◌, ◌+◌, ◌<◌, false, [], List, map, length, reverse, All, IfOk, IfErr};
-ghost use Rattle.overflow_rules.specs.Preimages.{IsPreimageOf};
+ghost use Rattle.overflows.specs.Preimages.{IsPreimageOf};
 ghost use Rattle.lp_form.specs.declared.shown.Cut.{Cut as CutOf};
 ghost use Rattle.deriv_log.specs.declared.entry.Entry.{Entry};
-ghost use Rattle.overflow_rules.specs.Base.{IsSide, trail_normals};
-ghost use Rattle.overflow_rules.specs.Licence.{Licensed};
+ghost use Rattle.overflows.specs.Base.{IsSide, trail_normals};
+ghost use Rattle.overflows.specs.Licence.{Licensed};
 ghost use Rattle.lp_form.specs.Data.{IsDataOf};
 ghost use Rattle.outer_approx.specs.Cuts.{IsCutFor};
 ghost use Rattle.outer_approx.specs.Lines.{RunsBothWays, told_by};

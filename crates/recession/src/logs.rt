@@ -3,7 +3,7 @@ ghost use Rattle.std.specs.Prelude.{◌≡◌, ◌≤◌, ℕ, List, [], map, le
 ghost use Rattle.exact_field.specs.Rational.{ℚ};
 ghost use Rattle.benson_program.specs.Ends.{IsContradiction};
 ghost use Rattle.benson_program.specs.Wholes.{IsWholeOf};
-ghost use Rattle.overflow_rules.specs.Base.{IsBaseChoice};
+ghost use Rattle.overflows.specs.Base.{IsBaseChoice};
 ghost use Rattle.log_rules.specs.Live.{state};
 ghost use Rattle.outer_approx.specs.Standing.{IsEnded, IsOpening};
 ghost use Rattle.outer_approx.specs.Task.{Task};

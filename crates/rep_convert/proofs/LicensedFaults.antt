@@ -22,15 +22,14 @@ use Rattle.double_descr.specs.declared.fault.DdFault.TheVariants.{Elim as Starti
 use Rattle.deriv_log.specs.declared.licence.Licence.{Licence}
 use Rattle.deriv_log.specs.declared.licence.Place.{Place}
 use Rattle.deriv_log.specs.declared.licence.Place.TheVariants.{Elim}
-use Rattle.overflow_rules.specs.Laws.{term_number}
-use Rattle.overflow_rules.specs.Steps.{operation, IsNotHeld}
-use Rattle.overflow_rules.proofs.Given.{not_held, pivot_not_zero, same_exact, step_not_held, still}
+use Rattle.overflows.specs.Laws.{term_number}
+use Rattle.overflows.specs.Steps.{operation, IsNotHeld}
+use Rattle.overflows.proofs.Given.{not_held, pivot_not_zero, same_exact, same_operation, step_not_held, still}
 use Rattle.overflows.specs.Faults.{IsEliminationLeft, IsLeftAt, IsTermAt, placed}
 use Rattle.overflows.proofs.Placed.{placed_none, placed_long, placed_dictionary}
 use Rattle.overflows.specs.declared.fault.SolveFault.{SolveFault}
 use Rattle.overflows.specs.declared.fault.SolveFault.TheVariants as solving
 use Rattle.overflows.specs.declared.fault.SumFault.{SumFault}
-use Rattle.overflows.proofs.Starts.{same_operation}
 use Rattle.rep_text.specs.declared.rep.Rep.{Rep}
 use Rattle.rep_convert.specs.Licensed.{AreMultiplied, AreShort, IsAt, IsConvLeft, IsConvLicensed, IsElimTable, IsFaultOf, IsListStep}
 use Rattle.rep_convert.specs.Lines.{width_without}

@@ -22,9 +22,9 @@ use Rattle.deriv_log.specs.declared.licence.Licence.{Licence}
 use Rattle.deriv_log.specs.declared.licence.Place.TheVariants.{Pair}
 use Rattle.log_rules.specs.Events.{Event}
 use Rattle.log_rules.specs.Events.Event.{step}
-use Rattle.overflow_rules.specs.Generators.{IsMadeOver, IsPairStep}
-use Rattle.overflow_rules.specs.Steps.{IsNumbered, in_numbers, operation, pair_steps, value_steps}
-use Rattle.overflow_rules.proofs.Given.{not_held}
+use Rattle.overflows.specs.Generators.{IsMadeOver, IsPairStep}
+use Rattle.overflows.specs.Steps.{IsNumbered, in_numbers, operation, pair_steps, value_steps}
+use Rattle.overflows.proofs.Given.{not_held}
 use Rattle.overflows.specs.Told.{IsAdditionLeft}
 use Rattle.overflows.specs.declared.fault.SolveFault.{SolveFault}
 use Rattle.overflows.specs.declared.fault.SolveFault.TheVariants as solving

@@ -33,8 +33,8 @@ use Rattle.log_rules.specs.declared.rule.Rule.TheVariants as rule
 use Rattle.log_rules.proofs.HeldTests.{all_numbered}
 use Rattle.entry_checks.specs.Parts.{corner_events}
 use Rattle.word_lines.specs.Grammar.{is_formed}
-use Rattle.overflow_rules.specs.Generators.{IsMadeOver}
-use Rattle.overflow_rules.proofs.Making.{generator_laws}
+use Rattle.overflows.specs.Generators.{IsMadeOver}
+use Rattle.overflows.proofs.Making.{generator_laws}
 use Rattle.rep_text.specs.ConvText.{conv_grammar}
 use Rattle.rep_text.specs.declared.conv.ConvEntry.{ConvEntry}
 use Rattle.rep_text.specs.declared.conv.ConvEntry.TheVariants.{Start}

@@ -29,7 +29,7 @@ use Rattle.double_descr.specs.State.{State as Description}
 use Rattle.overflows.specs.Faults.{IsFirstTerm, IsTermAt}
 use Rattle.overflows.specs.declared.fault.SumFault.{SumFault}
 use Rattle.overflows.proofs.Starts.{made_of_start}
-use Rattle.overflow_rules.specs.Generators.{IsMadeOver}
+use Rattle.overflows.specs.Generators.{IsMadeOver}
 use Rattle.rep_text.specs.declared.rep.Rep.{Rep}
 use Rattle.rep_conv.specs.Rows.{has_rows, row_at, text_rows}
 use Rattle.rep_conv.proofs.OpenRows.{same_count, same_without}

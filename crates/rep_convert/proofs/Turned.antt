@@ -21,7 +21,7 @@ use Rattle.word_lines.specs.declared.part.LogPair.{LogPair}
 use Rattle.log_rules.specs.Events.Event.{test}
 use Rattle.log_rules.specs.Live.{contains, log_pair, required_pairs}
 use Rattle.log_rules.specs.declared.rule.Rule.TheVariants as rule
-use Rattle.overflow_rules.proofs.Making.{generator_laws}
+use Rattle.overflows.proofs.Making.{generator_laws}
 use Rattle.rep_conv.specs.Events.{IsHeldStep, add_events, added_events, events}
 use Rattle.rep_conv.specs.Live.{State, after, rows_in_use, state}
 use Rattle.rep_conv.specs.Meets.{Meets, has_start, in_order, is_start}

@@ -24,12 +24,12 @@ use Rattle.polyhedra.proofs.Members.{Contains-map, all_of_members, pairs-nil}
 use Rattle.polyhedra.proofs.Order.{not_zero_of_positive}
 use Rattle.polyhedra.proofs.Tests.{same_vector_is}
 use Rattle.lineality.specs.Lines.{leading_place}
-use Rattle.overflow_rules.specs.Generators.{IsPairStep}
-use Rattle.overflow_rules.specs.Steps.{IsProductStep, operation, value_steps}
-use Rattle.overflow_rules.proofs.Making.{generator_laws}
-use Rattle.overflow_rules.proofs.Given.{not_held}
-use Rattle.overflow_rules.proofs.Pivots.{no_column}
-use Rattle.overflow_rules.proofs.Values.{apart, equal, step_is, two_below, wide_test}
+use Rattle.overflows.specs.Generators.{IsPairStep}
+use Rattle.overflows.specs.Steps.{IsProductStep, operation, value_steps}
+use Rattle.overflows.proofs.Making.{generator_laws}
+use Rattle.overflows.proofs.Given.{not_held}
+use Rattle.overflows.proofs.Pivots.{no_column}
+use Rattle.overflows.proofs.Values.{apart, equal, step_is, two_below, wide_test}
 use Rattle.rep_conv.specs.Rows.{row_at, text_rows}
 use Rattle.rep_convert.specs.Examples.{LicenceExamples, all_but, first, n, other, second, segment, six, third}
 use Rattle.rep_convert.specs.Licensed.{IsElimTable, IsElimStep, AreInUse, AreMultiplied, IsAdditionStep, IsListStep}

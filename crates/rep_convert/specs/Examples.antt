@@ -12,7 +12,7 @@ use Rattle.deriv_log.specs.declared.entry.Entry.TheVariants.{Version}
 use Rattle.deriv_log.specs.declared.licence.Family.TheVariants.{Image, Rep as RowsOfRep}
 use Rattle.deriv_log.specs.declared.licence.Place.{Place}
 use Rattle.deriv_log.specs.declared.licence.Place.TheVariants.{Elim, Pair, Scale}
-use Rattle.overflow_rules.specs.Steps.{operation}
+use Rattle.overflows.specs.Steps.{operation}
 use Rattle.rep_text.specs.declared.rep.Rep.{Rep}
 use Rattle.rep_text.specs.declared.rep.RepKind.TheVariants.{Side}
 use Rattle.rep_conv.specs.Examples.{row}

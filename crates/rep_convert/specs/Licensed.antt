@@ -16,8 +16,8 @@ use Rattle.deriv_log.specs.declared.licence.Family.TheVariants.{Rep as RowsOfRep
 use Rattle.deriv_log.specs.declared.licence.Licence.{Licence}
 use Rattle.deriv_log.specs.declared.licence.Place.{Place}
 use Rattle.deriv_log.specs.declared.licence.Place.TheVariants.{Elim, Pair}
-use Rattle.overflow_rules.specs.Generators.{IsMadeOver, IsPairStep}
-use Rattle.overflow_rules.specs.Steps.{operation, IsNotHeld, IsProductStep}
+use Rattle.overflows.specs.Generators.{IsMadeOver, IsPairStep}
+use Rattle.overflows.specs.Steps.{operation, IsNotHeld, IsProductStep}
 use Rattle.overflows.specs.declared.fault.SolveFault.{SolveFault}
 use Rattle.overflows.specs.declared.fault.SolveFault.TheVariants as solving
 use Rattle.rep_conv.specs.Rows.{text_rows}

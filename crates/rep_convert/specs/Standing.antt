@@ -8,7 +8,7 @@ use Rattle.lineality.specs.Steps.{IsClear, list_without}
 use Rattle.lineality.specs.Without.{open_count, without}
 use Rattle.double_descr.specs.State.{State as Description}
 use Rattle.word_lines.specs.Grammar.{IsWhole, is_formed}
-use Rattle.overflow_rules.specs.Generators.{IsMadeOver}
+use Rattle.overflows.specs.Generators.{IsMadeOver}
 use Rattle.rep_text.specs.ConvText.{conv_grammar, is_conv_end}
 use Rattle.rep_text.specs.declared.conv.ConvEntry.{ConvEntry}
 use Rattle.rep_text.specs.declared.rep.Rep.{Rep}

@@ -10,7 +10,8 @@ use crate::fault::ConvFault;
 use crate::licences::row_left;
 use crate::products::try_products;
 use frac128::{Frac, Vector, Vectors};
-use lin_rows::{Rows, complement};
+use guessed_rows::complement_in_two_ways;
+use lin_rows::Rows;
 use rep_text::Rep;
 use src_sink::{Items, NoMemory};
 use std::alloc::Global;
@@ -50,7 +51,7 @@ fn found_lines(alloc: Global, rep: &Rep, rows: &[Vector]) -> Result<Vectors, Con
 {
     let width = rep.width + 1;
     let whole = whole_rows(alloc, width, rows)?;
-    match complement(alloc, &whole, width) {
+    match complement_in_two_ways(alloc, &whole, width) {
         Ok(lines) => Ok(vectors_of(alloc, &lines)?),
         Err(fault) => Err(row_left(alloc, &whole, fault)),
     }

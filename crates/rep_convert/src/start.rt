@@ -17,7 +17,8 @@ use crate::order::order_of;
 use crate::products::try_products;
 use double_descr::{Dd, DdFault};
 use frac128::{Frac, Vector, Vectors};
-use lin_rows::{Indep, RowFault, Rows, find_independent};
+use guessed_rows::independent_in_two_ways;
+use lin_rows::{Indep, RowFault, Rows};
 use lineality::line_places::{full_vector, open_places, row_without};
 use rep_text::Rep;
 use src_sink::{Items, NoMemory};
@@ -106,7 +107,7 @@ fn early_numbers(
         return Ok(None);
     };
     let rows = picked_rows(alloc, short, first)?;
-    match find_independent(alloc, &rows, rows.width()) {
+    match independent_in_two_ways(alloc, &rows, rows.width()) {
         Ok(Indep::Basis(places)) => {
             let picks = at_places(alloc, first, places.as_slice())?;
             Ok(Some(rising(picks)))
@@ -131,7 +132,7 @@ fn all_numbers(
     ensures starts { IfOk result (AreStarts rep.now lines.now) }
     ensures left { IfErr result (IsConvLeft is_held rep.now) }
 {
-    match find_independent(alloc, short, short.width()) {
+    match independent_in_two_ways(alloc, short, short.width()) {
         Ok(Indep::Basis(numbers)) => Ok(from_zero(alloc, numbers.as_slice())?),
         Ok(Indep::Orthogonal(_)) => unreachable!(),
         Err(fault) => Err(row_left(alloc, short, fault)),

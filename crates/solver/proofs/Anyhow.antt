@@ -5,7 +5,7 @@ use Rattle.exact_field.specs.Rational.{ℚ}
 use Rattle.vlp_problem.specs.declared.problem.Problem.{Problem}
 use Rattle.deriv_log.specs.declared.entry.Entry.{Entry}
 use Rattle.cone_rules.specs.Faults.{IsSound}
-use Rattle.overflow_rules.specs.Licence.{Licensed}
+use Rattle.overflows.specs.Licence.{Licensed}
 use Rattle.overflows.specs.Faults.{OnLicence}
 use Rattle.overflows.specs.declared.fault.SolveFault.{SolveFault}
 use Rattle.benson_primal.specs.Logs.{IsOwnLog, IsOwnLogAnyhow}

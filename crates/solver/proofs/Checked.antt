@@ -9,8 +9,8 @@ use Rattle.deriv_log.specs.declared.entry.Entry.{Entry}
 use Rattle.deriv_log.specs.declared.licence.Place.TheVariants.{Step}
 use Rattle.log_rules.specs.Events.Failure.{left as overflows}
 use Rattle.log_rules.specs.LogEvents.{plain_failure}
-use Rattle.overflow_rules.specs.Licence.{IsCheckOverflow}
-use Rattle.overflow_rules.proofs.Given.{overflow_laws}
+use Rattle.overflows.specs.Licence.{IsCheckOverflow}
+use Rattle.overflows.proofs.Given.{overflow_laws}
 
 -- the overflow of the check of a log, at its step
 pub check_overflows : (file : Problem) (entries : List Entry) (number k : ℕ) (left : Left ℚ) → IsLog entries →

@@ -8,7 +8,7 @@ use Rattle.deriv_log.specs.declared.entry.Entry.{Entry}
 use Rattle.cone_rules.specs.Faults.{IsSound}
 use Rattle.log_rules.specs.Proves.{PlainProves}
 use Rattle.cert_check.specs.Verdict.{Accepts}
-use Rattle.overflow_rules.specs.Licence.{IsCheckOverflow}
+use Rattle.overflows.specs.Licence.{IsCheckOverflow}
 use Rattle.overflows.specs.Faults.{OnLicence}
 use Rattle.overflows.specs.declared.fault.SolveFault.{SolveFault}
 use Rattle.benson_primal.specs.Logs.{IsOwnLogAnyhow}

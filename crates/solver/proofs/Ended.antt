@@ -6,10 +6,10 @@ use Rattle.frac128.specs.Held.{is_held}
 use Rattle.vlp_problem.specs.declared.problem.Problem.{Problem}
 use Rattle.deriv_log.specs.declared.entry.Entry.{Entry}
 use Rattle.std.specs.Prelude.{List}
-use Rattle.overflow_rules.specs.Licence.{IsCheckOverflow, Licensed}
-use Rattle.overflow_rules.specs.Trails.{IsBaseTrail}
+use Rattle.overflows.specs.Licence.{IsCheckOverflow, Licensed}
+use Rattle.overflows.specs.Trails.{IsBaseTrail}
 use Rattle.cone_rules.specs.Faults.{IsSound}
-use Rattle.overflow_rules.proofs.Without.{licence_laws}
+use Rattle.overflows.proofs.Without.{licence_laws}
 use Rattle.overflows.specs.Faults.{OnLicence}
 use Rattle.overflows.specs.declared.fault.SolveFault.{SolveFault}
 use Rattle.overflows.specs.declared.fault.SolveFault.TheVariants.{Left, NoMemory}

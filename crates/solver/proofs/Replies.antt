@@ -5,13 +5,13 @@ use Rattle.src_sink.specs.declared.items.NoMemory.{NoMemory}
 use Rattle.vlp_problem.specs.declared.problem.Problem.{Problem}
 use Rattle.deriv_log.specs.declared.licence.Licence.{Licence}
 use Rattle.cone_rules.specs.declared.fault.ConeFault.{ConeFault as AConeFault}
-use Rattle.statuses.specs.Codes.{code_of}
-use Rattle.statuses.specs.Replies.{TellsFault}
-use Rattle.statuses.specs.Told.{CanBeTold}
-use Rattle.statuses.specs.declared.reply.Reply.{Reply}
-use Rattle.statuses.specs.declared.status.Status.{Status}
-use Rattle.statuses.specs.declared.status.Status.TheVariants.{Done, Words, ConeFault}
-use Rattle.statuses.specs.declared.status.Status.TheVariants as status
+use Rattle.commands.specs.Codes.{code_of}
+use Rattle.commands.specs.Replies.{TellsFault}
+use Rattle.commands.specs.Told.{CanBeTold}
+use Rattle.commands.specs.declared.reply.Reply.{Reply}
+use Rattle.commands.specs.declared.status.Status.{Status}
+use Rattle.commands.specs.declared.status.Status.TheVariants.{Done, Words, ConeFault}
+use Rattle.commands.specs.declared.status.Status.TheVariants as status
 use Rattle.log_rules.specs.Report.{report_text}
 use Rattle.solver.specs.Replies.{DualVerdict, IsLogged, IsSolvable, SolveVerdict, Unsolved}
 use Rattle.solver.specs.Solving.{EndsSolving, IsSolutionOf, NamesAllCuts}

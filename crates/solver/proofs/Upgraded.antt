@@ -8,7 +8,7 @@ use Rattle.log_versions.specs.Laws.{IsUpgrade}
 use Rattle.log_versions.specs.Upgrade.{upgraded}
 use Rattle.log_versions.proofs.UpgradedLogs.{upgrades_say_the_same}
 use Rattle.cert_check.specs.Verdict.{Accepts}
-use Rattle.statuses.specs.Replies.{log_for}
+use Rattle.commands.specs.Replies.{log_for}
 use Rattle.solver.specs.Replies.{IsLogged}
 use Rattle.solver.specs.Solving.{IsSolutionOf}
 use Rattle.solver.specs.declared.end.Solution.{Solution}

@@ -9,10 +9,10 @@ use Rattle.log_versions.specs.Upgrade.{upgraded}
 use Rattle.cert_check.specs.Verdict.{Accepts}
 use Rattle.cone_rules.specs.Faults.{HasFault}
 use Rattle.cone_rules.specs.declared.fault.ConeFault.{ConeFault as AConeFault}
-use Rattle.statuses.specs.Replies.{TellsFault, log_for}
-use Rattle.statuses.specs.Told.{CanBeTold}
-use Rattle.statuses.specs.declared.reply.Reply.{Reply}
-use Rattle.statuses.specs.declared.status.Status.TheVariants.{Done, ConeFault, Left}
+use Rattle.commands.specs.Replies.{TellsFault, log_for}
+use Rattle.commands.specs.Told.{CanBeTold}
+use Rattle.commands.specs.declared.reply.Reply.{Reply}
+use Rattle.commands.specs.declared.status.Status.TheVariants.{Done, ConeFault, Left}
 use Rattle.solver.specs.Solving.{IsSolutionOf, LicensedInOrder, NamesAllCuts}
 use Rattle.solver.specs.declared.end.Solution.{Solution}
 

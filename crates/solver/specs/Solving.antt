@@ -11,7 +11,7 @@ use Rattle.vlp_problem.specs.declared.problem.Problem.{Problem}
 use Rattle.cone_rules.specs.Faults.{IsSound, HasFault}
 use Rattle.log_rules.specs.Proves.{PlainProves}
 use Rattle.cert_check.specs.Verdict.{Accepts}
-use Rattle.overflow_rules.specs.Licence.{Licensed, LicensedByCone}
+use Rattle.overflows.specs.Licence.{Licensed, LicensedByCone}
 use Rattle.benson_dual.specs.Logs.{AreAllNamed, IsFacetLog}
 use Rattle.solver.specs.declared.end.Solution.{Solution}
 use Rattle.solver.specs.declared.end.SolveEnd.{SolveEnd}

@@ -3,7 +3,7 @@ ghost use Rattle.std.specs.Prelude.{◌≡◌, IfErr, IfOk};
 ghost use Rattle.frac128.specs.Held.{is_held};
 ghost use Rattle.deriv_log.specs.Formed.{IsLog};
 ghost use Rattle.log_rules.specs.Proves.{AllMeet, PlainProves};
-ghost use Rattle.overflow_rules.specs.Licence.{IsCheckOverflow};
+ghost use Rattle.overflows.specs.Licence.{IsCheckOverflow};
 ghost use Rattle.overflows.specs.Faults.{OnLicence};
 ghost use Rattle.cert_check.specs.Verdict.{Accepts};
 ghost use Rattle.solver.specs.Own.{IsStepLicence};

@@ -7,10 +7,10 @@ ghost use Rattle.vlp_problem.specs.declared.problem.Problem.{Problem as AProblem
 
 use crate::answering::{solve, solve_dual};
 use crate::end::{Solution, SolveEnd};
+use commands::{Reply, Status, fault_reply};
 use log_upgrade::upgrade_text;
 use sol_writer::report;
 use src_sink::{Bytes, NoMemory};
-use statuses::{Reply, Status, fault_reply};
 use std::alloc::Global;
 use vlp_problem::Problem;
 

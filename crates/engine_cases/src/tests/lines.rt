@@ -1,11 +1,11 @@
 //! Lines and texts of what no small run has: an overflow at each kind of place, and a number that
 //! no file has.
 
+use commands::licence_line;
 use deriv_log::{Family, Licence, Place};
 use exact_field::{Left, Op};
 use frac128::Frac;
 use src_sink::{Items, NoMemory};
-use statuses::licence_line;
 use std::alloc::Global;
 use std::test::Fail;
 use vlp_printer::{PrintFault, print_vlp};

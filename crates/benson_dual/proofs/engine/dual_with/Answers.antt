@@ -1,7 +1,7 @@
 use Rattle.std.proofs.Common.{rules, ◌≡◌, List, map, refl, subst, sym}
 use Rattle.exact_field.specs.Rational.{ℚ}
-use Rattle.overflow_rules.specs.Base.{IsBaseChoice}
-use Rattle.overflow_rules.specs.Licence.{Licensed}
+use Rattle.overflows.specs.Base.{IsBaseChoice}
+use Rattle.overflows.specs.Licence.{Licensed}
 use Rattle.lin_rows.proofs.Errors.{err_holds}
 use Rattle.lp_form.specs.declared.shown.Cut.{Cut}
 use Rattle.recession.specs.Ends.{IsContradiction}

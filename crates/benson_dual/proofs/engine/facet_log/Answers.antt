@@ -1,7 +1,7 @@
 use Rattle.std.proofs.Common.{rules, ◌≡◌, ◌∙◌, List, map, refl, subst, sym, ap}
 use Rattle.std.specs.Prelude.{IfErr}
 use Rattle.lineality.specs.Without.{marks}
-use Rattle.overflow_rules.specs.Licence.{Licensed}
+use Rattle.overflows.specs.Licence.{Licensed}
 use Rattle.lower_image.proofs.Directions.{ok_both}
 use Rattle.lp_form.proofs.Figures.{objective_number}
 use Rattle.outer_approx.specs.Lines.{told_by}

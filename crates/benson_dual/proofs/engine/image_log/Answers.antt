@@ -1,5 +1,5 @@
 use Rattle.std.proofs.Common.{rules, List, arith, map, subst, sym}
-use Rattle.overflow_rules.specs.Base.{IsBaseChoice}
+use Rattle.overflows.specs.Base.{IsBaseChoice}
 use Rattle.benson_dual.proofs.engine.image_log.Goals as goal
 
 pub overflow_cast-lines : goal.overflow_cast-lines

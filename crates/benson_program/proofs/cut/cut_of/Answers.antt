@@ -4,7 +4,7 @@ use Rattle.exact_field.specs.Vector.{dot}
 use Rattle.vlp_problem.specs.Sides.{side_bounds}
 use Rattle.lp_form.specs.declared.name.LpName.{LpName}
 use Rattle.lp_form.specs.Reading.{AreParts, HasColumns}
-use Rattle.overflow_rules.specs.Products.{IsBaseU}
+use Rattle.overflows.specs.Products.{IsBaseU}
 use Rattle.benson_program.proofs.Made.{made}
 use Rattle.benson_program.proofs.Read.{base_u, columns_in, sides_in, wide_in}
 use Rattle.benson_program.proofs.cut.cut_of.Goals as goal

@@ -5,8 +5,8 @@ use Rattle.double_descr.specs.State.{State}
 use Rattle.lin_rows.specs.Read.{numbers}
 use Rattle.lin_rows.proofs.Building.{numbers_long}
 use Rattle.lin_rows.proofs.Errors.{err_holds}
-use Rattle.overflow_rules.specs.Generators.{IsAddition, IsMadeOver}
-use Rattle.overflow_rules.proofs.Making.{generator_laws}
+use Rattle.overflows.specs.Generators.{IsAddition, IsMadeOver}
+use Rattle.overflows.proofs.Making.{generator_laws}
 use Rattle.cone_dual.proofs.Licences.{front_listed, told_more}
 use Rattle.cone_dual.proofs.Reading.{front_is, next_may, read_row}
 use Rattle.cone_dual.proofs.described.add_all.Goals as goal

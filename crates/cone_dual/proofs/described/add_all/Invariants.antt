@@ -1,6 +1,6 @@
 use Rattle.std.proofs.Common.{◌≡◌, ◌++◌, take}
 use Rattle.lin_rows.specs.Read.{numbers}
-use Rattle.overflow_rules.specs.Generators.{IsMadeOver}
+use Rattle.overflows.specs.Generators.{IsMadeOver}
 use Rattle.cone_dual.proofs.described.add_all.Given as goal
 
 abbrev pub invariant-loop-k : goal.invariant-loop-k

@@ -1,7 +1,7 @@
 use Rattle.std.proofs.Common.{[], ◌∷◌, ◌++◌, map, sym, subst}
 use Rattle.double_descr.specs.Adding.{IsAddFault, add_blocks}
 use Rattle.double_descr.specs.State.{State}
-use Rattle.overflow_rules.specs.Generators.{IsAddition}
+use Rattle.overflows.specs.Generators.{IsAddition}
 use Rattle.overflows.specs.Faults.{OnLicence}
 use Rattle.cone_dual.specs.Generators.{IsOver}
 use Rattle.cone_dual.proofs.Licences.{addition_alone, addition_over}

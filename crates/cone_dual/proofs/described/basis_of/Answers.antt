@@ -5,7 +5,7 @@ use Rattle.deriv_log.specs.declared.entry.Entry.{Entry}
 use Rattle.lin_rows.specs.Answers.{IsIndep}
 use Rattle.lin_rows.specs.Eliminate.{IsElimFault}
 use Rattle.lin_rows.specs.Read.{numbers}
-use Rattle.overflow_rules.specs.Dictionaries.{IsElimTable}
+use Rattle.overflows.specs.Dictionaries.{IsElimTable}
 use Rattle.overflows.specs.Faults.{Overflows}
 use Rattle.cone_dual.proofs.Licences.{elimination_alone, elimination_over}
 use Rattle.cone_dual.proofs.described.basis_of.Goals as goal

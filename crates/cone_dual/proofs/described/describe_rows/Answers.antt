@@ -7,8 +7,8 @@ use Rattle.tableaux.specs.Table.{Table, row_of}
 use Rattle.lin_rows.specs.Read.{numbers}
 use Rattle.lin_rows.proofs.Building.{numbers_long}
 use Rattle.lin_rows.proofs.Errors.{err_holds}
-use Rattle.overflow_rules.specs.Dictionaries.{AreStartRows, AreElimRows}
-use Rattle.overflow_rules.specs.Generators.{IsMadeOver}
+use Rattle.overflows.specs.Dictionaries.{AreStartRows, AreElimRows}
+use Rattle.overflows.specs.Generators.{IsMadeOver}
 use Rattle.cone_dual.specs.Generators.{MayDescribe, begun_with, others}
 use Rattle.cone_dual.proofs.Licences.{may_among, told_more}
 use Rattle.cone_dual.proofs.Reordered.{IsPlace, begun_listed, other_places, picked_places}

@@ -4,7 +4,7 @@ use Rattle.polyhedra.specs.LiveSteps.{IsLive}
 use Rattle.tableaux.specs.Table.{Table}
 use Rattle.lin_rows.specs.Read.{numbers}
 use Rattle.lin_rows.proofs.Errors.{err_holds}
-use Rattle.overflow_rules.specs.Generators.{IsMadeOver}
+use Rattle.overflows.specs.Generators.{IsMadeOver}
 use Rattle.cone_dual.specs.Generators.{AreGenerators, begun_with}
 use Rattle.cone_dual.proofs.Licences.{cone_describes, overflow_licensed, setting}
 use Rattle.cone_dual.proofs.Reordered.{begun_listed, generators_are, picked_places, rows_begun}

@@ -1,6 +1,6 @@
 use Rattle.std.proofs.Common.{List, map, subst, inl}
 use Rattle.deriv_log.specs.declared.entry.Entry.{Entry}
-use Rattle.overflow_rules.specs.Products.{AreMultiplied, IsBesideCone}
+use Rattle.overflows.specs.Products.{AreMultiplied, IsBesideCone}
 use Rattle.overflows.specs.Faults.{Overflows}
 use Rattle.cone_dual.proofs.Standing.{before, given_to, without}
 use Rattle.cone_dual.proofs.dual_form.is_against.Goals as goal

@@ -3,7 +3,7 @@ use Rattle.exact_field.specs.Rational.{neg_ℚ}
 use Rattle.exact_field.specs.Vector.{entry}
 use Rattle.lin_rows.proofs.Errors.{err_holds}
 use Rattle.lin_rows.proofs.Summing.{entry_read}
-use Rattle.overflow_rules.specs.Licence.{LicensedByCone}
+use Rattle.overflows.specs.Licence.{LicensedByCone}
 use Rattle.overflows.specs.Faults.{OnLicence}
 use Rattle.cone_dual.proofs.ByRows.{combined, may_divide, multipliers, not_zero}
 use Rattle.cone_dual.proofs.Standing.{before, without}

@@ -2,7 +2,7 @@ use Rattle.std.proofs.Common.{ℕ, List, ◌+◌, map, ap, sym, subst, ◌∙◌
 use Rattle.exact_field.specs.Rational.{ℚ}
 use Rattle.exact_field.specs.Vector.{dot}
 use Rattle.deriv_log.specs.declared.entry.Entry.{Entry}
-use Rattle.overflow_rules.specs.Products.{AreMultiplied}
+use Rattle.overflows.specs.Products.{AreMultiplied}
 use Rattle.lin_rows.specs.Read.{numbers}
 use Rattle.lp_form.proofs.Figures.{wide_enough}
 use Rattle.overflows.specs.Faults.{Overflows}

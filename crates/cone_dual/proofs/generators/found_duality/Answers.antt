@@ -2,8 +2,8 @@ use Rattle.std.proofs.Common.{◌≡◌, ℕ, List, length, map, ap, sym, subst,
 use Rattle.std.proofs.lemmas.List.Elements.{All-weaker}
 use Rattle.exact_field.specs.Rational.{ℚ, zero_ℚ, ◌≤ℚ◌, ◌<ℚ◌}
 use Rattle.exact_field.proofs.Inequalities.{lt-le_ℚ}
-use Rattle.overflow_rules.specs.Products.{AreBaseShares}
-use Rattle.overflow_rules.specs.Trails.{IsMuOff}
+use Rattle.overflows.specs.Products.{AreBaseShares}
+use Rattle.overflows.specs.Trails.{IsMuOff}
 use Rattle.lin_rows.specs.Read.{numbers}
 use Rattle.lp_form.proofs.Figures.{objective_number}
 use Rattle.lp_form.specs.Programs.{generators}

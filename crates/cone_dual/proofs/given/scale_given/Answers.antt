@@ -2,7 +2,7 @@ use Rattle.std.proofs.Common.{◌≡◌, ℕ, List, ◌-◌, ◌+◌, length, ma
 use Rattle.std.proofs.lemmas.List.{length-map}
 use Rattle.exact_field.specs.Rational.{ℚ, zero_ℚ, ◌≤ℚ◌}
 use Rattle.exact_field.specs.Vector.{entry}
-use Rattle.overflow_rules.specs.Quotients.{IsDivisor, IsScaled}
+use Rattle.overflows.specs.Quotients.{IsDivisor, IsScaled}
 use Rattle.lin_rows.proofs.Summing.{entry_read}
 use Rattle.lp_form.specs.Data.{cone_of}
 use Rattle.vlp_problem.specs.declared.problem.Cone.{Cone}

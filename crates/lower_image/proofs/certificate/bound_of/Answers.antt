@@ -2,7 +2,7 @@ use Rattle.std.proofs.Common.{◌≡◌, List, map, subst, inl, refl}
 use Rattle.exact_field.specs.Rational.{ℚ}
 use Rattle.vlp_problem.specs.Sides.{side_bounds}
 use Rattle.deriv_log.specs.declared.entry.Entry.{Entry}
-use Rattle.overflow_rules.specs.Products.{AreMultiplied}
+use Rattle.overflows.specs.Products.{AreMultiplied}
 use Rattle.overflows.specs.Faults.{IsTermAt, Overflows}
 use Rattle.benson_program.proofs.Read.{bounds_in}
 use Rattle.lower_image.proofs.certificate.bound_of.Goals as goal

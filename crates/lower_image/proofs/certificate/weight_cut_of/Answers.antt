@@ -4,7 +4,7 @@ use Rattle.exact_field.specs.Vector.{dot}
 use Rattle.vlp_problem.specs.Sides.{side_bounds}
 use Rattle.lp_form.specs.declared.name.LpName.{LpName}
 use Rattle.lp_form.specs.Reading.{AreParts, HasColumns}
-use Rattle.overflow_rules.specs.Products.{IsBaseU}
+use Rattle.overflows.specs.Products.{IsBaseU}
 use Rattle.benson_program.proofs.Read.{wide_in}
 use Rattle.lower_image.proofs.WeightEnds.{weight_cut}
 use Rattle.lower_image.proofs.Read.{base_u, columns_in, made, sides_in}

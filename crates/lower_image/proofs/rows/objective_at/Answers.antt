@@ -2,7 +2,7 @@ use Rattle.std.proofs.Common.{◌≡◌, List, map, length, subst, sym, ap, ◌�
 use Rattle.std.proofs.lemmas.List.{length-map}
 use Rattle.exact_field.specs.Rational.{ℚ}
 use Rattle.deriv_log.specs.declared.entry.Entry.{Entry}
-use Rattle.overflow_rules.specs.Products.{AreMultiplied}
+use Rattle.overflows.specs.Products.{AreMultiplied}
 use Rattle.exact_simplex.proofs.ClearingCost.{length-dense}
 use Rattle.lp_form.proofs.Figures.{places_rise}
 use Rattle.lin_rows.specs.Lines.{entries}

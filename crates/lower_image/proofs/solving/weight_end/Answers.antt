@@ -4,7 +4,7 @@ use Rattle.lp_form.specs.Names.{named}
 use Rattle.lp_form.specs.Programs.{weight_system, named_system}
 use Rattle.lp_form.specs.declared.name.LpName.{LpName}
 use Rattle.lp_form.proofs.Figures.{objective_number}
-use Rattle.overflow_rules.specs.Dictionaries.{IsAllowed, system_in}
+use Rattle.overflows.specs.Dictionaries.{IsAllowed, system_in}
 use Rattle.benson_program.proofs.Said.{optimum, empty, unbounded}
 use Rattle.lower_image.proofs.WeightEnds.{weight_bounded}
 use Rattle.lower_image.proofs.solving.weight_end.Goals as goal

@@ -4,7 +4,7 @@ use Rattle.std.proofs.lemmas.List.{get_or_default, length-map, map_push}
 use Rattle.std.proofs.lemmas.List.Elements.{Contains-get_or}
 use Rattle.exact_field.specs.Rational.{ℚ}
 use Rattle.polyhedra.proofs.Members.{member_of}
-use Rattle.overflow_rules.specs.Base.{IsConeDirection, image_of}
+use Rattle.overflows.specs.Base.{IsConeDirection, image_of}
 use Rattle.geo_duality.specs.Rows.{exchange_row}
 use Rattle.lin_rows.specs.Read.{numbers}
 use Rattle.lin_rows.proofs.Building.{numbers_long}

@@ -2,8 +2,8 @@ use Rattle.std.proofs.Common.{◌≡◌, List, map, take, length, ap, sym, ◌�
 use Rattle.std.specs.Prelude.{IfOk, Some}
 use Rattle.std.proofs.lemmas.List.{length-map}
 use Rattle.exact_field.specs.Rational.{ℚ}
-use Rattle.overflow_rules.specs.Base.{IsBaseRow}
-use Rattle.overflow_rules.specs.Products.{IsBaseX}
+use Rattle.overflows.specs.Base.{IsBaseRow}
+use Rattle.overflows.specs.Products.{IsBaseX}
 use Rattle.geo_duality.specs.Rows.{exchange_row}
 use Rattle.outer_approx.specs.Task.{setting}
 use Rattle.lower_image.proofs.LowerRows.{image_wide}

@@ -8,9 +8,9 @@ use Rattle.vlp_problem.specs.Sides.{side_bounds}
 use Rattle.lp_form.specs.Programs.{u_of}
 use Rattle.lp_form.proofs.Figures.{objective_number}
 use Rattle.upper_image.specs.OrderingCone.{IsInDualCone}
-use Rattle.overflow_rules.specs.Base.{IsBaseRow, IsBaseWeight, weight_of}
-use Rattle.overflow_rules.specs.Products.{IsBaseX}
-use Rattle.overflow_rules.specs.Turns.{IsRowTurn}
+use Rattle.overflows.specs.Base.{IsBaseRow, IsBaseWeight, weight_of}
+use Rattle.overflows.specs.Products.{IsBaseX}
+use Rattle.overflows.specs.Turns.{IsRowTurn}
 use Rattle.outer_approx.specs.Task.{setting}
 use Rattle.lower_image.proofs.WeightEnds.{weight_cut}
 use Rattle.lower_image.proofs.Weights.{bound_entry, c_wide, certifies, choice, choice_turns, empty_said, long_enough, optimum_said, ray, ray_turns, told, wide}

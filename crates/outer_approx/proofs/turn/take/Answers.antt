@@ -7,7 +7,7 @@ use Rattle.deriv_log.specs.declared.licence.Family.TheVariants.{Image}
 use Rattle.double_descr.specs.Adding.{IsAddFault, add_blocks}
 use Rattle.double_descr.specs.State.{State as Description}
 use Rattle.log_rules.specs.Live.{lines, preimages}
-use Rattle.overflow_rules.specs.Generators.{IsAddition}
+use Rattle.overflows.specs.Generators.{IsAddition}
 use Rattle.outer_approx.specs.Cuts.{said_by}
 use Rattle.outer_approx.specs.Lines.{line_places}
 use Rattle.outer_approx.specs.Standing.{IsOuter, StandForSame, cuts_of, rows_of_trail}

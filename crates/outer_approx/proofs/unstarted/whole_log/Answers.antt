@@ -2,7 +2,7 @@ use Rattle.std.proofs.Common.{rules, List, sym, subst}
 use Rattle.deriv_log.specs.Formed.{IsLog}
 use Rattle.deriv_log.specs.declared.entry.Entry.{Entry}
 use Rattle.log_rules.specs.Proves.{AllMeet}
-use Rattle.overflow_rules.specs.Trails.{IsBaseTrail}
+use Rattle.overflows.specs.Trails.{IsBaseTrail}
 use Rattle.overflows.proofs.Formed.{sparse_written}
 use Rattle.outer_approx.proofs.Built.{whole_is_log, whole_meets, whole_trail}
 use Rattle.outer_approx.proofs.unstarted.whole_log.Goals as goal

@@ -1,6 +1,6 @@
 use Rattle.std.proofs.Common.{ap, ◌∙◌, subst}
 use Rattle.deriv_log.specs.declared.licence.Place.{Place}
-use Rattle.overflow_rules.specs.Steps.{in_numbers}
+use Rattle.overflows.specs.Steps.{in_numbers}
 use Rattle.lin_rows.specs.Eliminate.{IsElimFault}
 use Rattle.lin_rows.specs.Read.{numbers}
 use Rattle.overflows.specs.declared.fault.SolveFault.TheVariants.{Left}

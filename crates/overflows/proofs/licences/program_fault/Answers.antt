@@ -2,8 +2,8 @@ use Rattle.std.proofs.Common.{ap, ◌∙◌, subst}
 use Rattle.vlp_problem.specs.declared.program.Program.{Program}
 use Rattle.deriv_log.specs.declared.licence.Place.TheVariants.{Pivot}
 use Rattle.exact_simplex.specs.Ends.{IsLpFault}
-use Rattle.overflow_rules.specs.Dictionaries.{system_in}
-use Rattle.overflow_rules.specs.Steps.{in_numbers}
+use Rattle.overflows.specs.Dictionaries.{system_in}
+use Rattle.overflows.specs.Steps.{in_numbers}
 use Rattle.lp_form.specs.Names.{named}
 use Rattle.overflows.specs.declared.fault.SolveFault.TheVariants.{Left}
 use Rattle.overflows.proofs.Licensed.{program_overflows}

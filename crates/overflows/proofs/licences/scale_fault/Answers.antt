@@ -1,7 +1,7 @@
 use Rattle.std.proofs.Common.{List, map, ap, ◌∙◌}
 use Rattle.exact_field.specs.Rational.{ℚ}
 use Rattle.deriv_log.specs.declared.licence.Place.TheVariants.{Scale}
-use Rattle.overflow_rules.specs.Steps.{in_numbers}
+use Rattle.overflows.specs.Steps.{in_numbers}
 use Rattle.overflows.specs.declared.fault.SolveFault.TheVariants.{Left}
 use Rattle.overflows.proofs.Licensed.{quotient_overflows}
 use Rattle.overflows.proofs.licences.scale_fault.Goals as goal

@@ -1,4 +1,4 @@
-use Rattle.overflow_rules.specs.Steps.{in_numbers}
+use Rattle.overflows.specs.Steps.{in_numbers}
 use Rattle.overflows.proofs.Licensed.{told_at, term_overflows}
 use Rattle.overflows.proofs.licences.term_fault.Goals as goal
 

@@ -1,7 +1,7 @@
 use Rattle.std.proofs.Common.{List, map, ap, sym, subst, arith}
 use Rattle.exact_field.specs.Rational.{ℚ}
 use Rattle.deriv_log.specs.declared.entry.Entry.{Entry}
-use Rattle.overflow_rules.specs.Quotients.{IsDivisor}
+use Rattle.overflows.specs.Quotients.{IsDivisor}
 use Rattle.overflows.specs.Faults.{Overflows}
 use Rattle.overflows.proofs.Dividing.{divided_more, quotient_at}
 use Rattle.overflows.proofs.quotients.quotients_of.Goals as goal

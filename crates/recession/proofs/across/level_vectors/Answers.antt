@@ -1,7 +1,7 @@
 use Rattle.std.proofs.Common.{List, refl, sym, ◌∙◌, subst}
 use Rattle.exact_field.specs.Rational.{ℚ}
 use Rattle.deriv_log.specs.declared.entry.Entry.{Entry}
-use Rattle.overflow_rules.specs.Dictionaries.{AreElimRows, IsElimTable}
+use Rattle.overflows.specs.Dictionaries.{AreElimRows, IsElimTable}
 use Rattle.lin_rows.specs.Complement.{AreComplement}
 use Rattle.lin_rows.specs.Read.{numbers}
 use Rattle.overflows.specs.Faults.{Overflows}

@@ -7,7 +7,7 @@ use Rattle.upper_image.specs.Shows.{ShowsFitting}
 use Rattle.outer_approx.specs.Task.{setting}
 use Rattle.overflows.specs.Faults.{Overflows}
 use Rattle.benson_program.specs.Cuts.{IsCutOf}
-use Rattle.overflow_rules.specs.Preimages.{IsPreimageOf}
+use Rattle.overflows.specs.Preimages.{IsPreimageOf}
 use Rattle.recession.proofs.Asking_ends.{asked_cut, c_wide_in, last_in, low_in, optimum_in, weights_in, wide_in}
 use Rattle.recession.proofs.asking.read_off.Goals as goal
 

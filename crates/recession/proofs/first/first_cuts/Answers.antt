@@ -1,5 +1,5 @@
 use Rattle.lin_rows.proofs.Errors.{err_holds}
-use Rattle.overflow_rules.specs.Licence.{Licensed}
+use Rattle.overflows.specs.Licence.{Licensed}
 use Rattle.overflows.specs.Faults.{OnLicence}
 use Rattle.outer_approx.specs.Task.{setting}
 use Rattle.benson_program.specs.Ends.{IsFeasibleEnd}

@@ -4,8 +4,8 @@ use Rattle.exact_field.specs.Rational.{ℚ}
 use Rattle.lin_rows.proofs.Errors.{err_holds}
 use Rattle.polyhedra.specs.Vectors.{zeros}
 use Rattle.polyhedra.proofs.Linear.{length-zeros}
-use Rattle.overflow_rules.specs.Base.{IsBaseStart}
-use Rattle.overflow_rules.specs.Licence.{Licensed}
+use Rattle.overflows.specs.Base.{IsBaseStart}
+use Rattle.overflows.specs.Licence.{Licensed}
 use Rattle.lp_form.proofs.Figures.{objective_number}
 use Rattle.lp_form.specs.Programs.{benson_system}
 use Rattle.benson_program.specs.Cuts.{IsCutOf}

@@ -1,7 +1,7 @@
 use Rattle.std.proofs.Common.{◌++◌, ◌∷◌, [], ◌≡◌, ◌+◌, ◌<◌, List, map, length, reverse, All, sym, ap, ◌∙◌, subst, arith}
 use Rattle.std.proofs.lemmas.List.{length-reverse, reverse-append}
 use Rattle.lin_rows.proofs.Errors.{err_holds}
-use Rattle.overflow_rules.specs.Licence.{Licensed}
+use Rattle.overflows.specs.Licence.{Licensed}
 use Rattle.lp_form.proofs.Figures.{objective_number}
 use Rattle.lp_form.specs.declared.shown.Cut.{Cut}
 use Rattle.outer_approx.specs.Cuts.{IsCutFor}

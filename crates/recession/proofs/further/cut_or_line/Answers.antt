@@ -2,7 +2,7 @@ use Rattle.std.proofs.Common.{map, length, reverse, sym, ap, ◌∙◌, [], subs
 use Rattle.std.proofs.lemmas.List.{length-map}
 use Rattle.exact_field.specs.Rational.{ℚ}
 use Rattle.lin_rows.proofs.Errors.{err_holds}
-use Rattle.overflow_rules.specs.Base.{IsSide}
+use Rattle.overflows.specs.Base.{IsSide}
 use Rattle.lp_form.proofs.Figures.{objective_number}
 use Rattle.outer_approx.specs.Lines.{told_by}
 use Rattle.outer_approx.specs.Task.{setting}

@@ -1,7 +1,7 @@
 use Rattle.std.proofs.Common.{List, [], ap, ◌∙◌}
 use Rattle.deriv_log.specs.declared.entry.Entry.{Entry}
 use Rattle.deriv_log.specs.declared.licence.Place.TheVariants.{Elim}
-use Rattle.overflow_rules.specs.Laws.{term_number}
+use Rattle.overflows.specs.Laws.{term_number}
 use Rattle.overflows.specs.declared.fault.SolveFault.TheVariants as solving
 use Rattle.rep_convert.proofs.LicensedFaults.{term_licensed}
 use Rattle.rep_convert.proofs.licences.term_left.Goals as goal

@@ -1,4 +1,4 @@
-use Rattle.overflow_rules.proofs.CutTurns.{cut_turns_end}
+use Rattle.overflows.proofs.CutTurns.{cut_turns_end}
 use Rattle.outer_approx.specs.Standing.{rows_of_trail}
 use Rattle.benson_primal.specs.Search.{IsSearching}
 use Rattle.benson_primal.proofs.search.Search.approximate.Given as goal

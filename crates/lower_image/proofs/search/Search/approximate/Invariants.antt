@@ -1,4 +1,4 @@
-use Rattle.overflow_rules.proofs.RowTurns.{row_turns_end}
+use Rattle.overflows.proofs.RowTurns.{row_turns_end}
 use Rattle.lower_image.specs.Search.{IsSearching}
 use Rattle.lower_image.proofs.search.Search.approximate.Given as goal
 

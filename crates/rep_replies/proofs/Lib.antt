@@ -1,5 +1,0 @@
-pub mod Answered
-mod Entries
-mod OneRep
-pub mod Passing
-mod Told

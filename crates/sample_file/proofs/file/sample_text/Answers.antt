@@ -1,5 +1,0 @@
-use Rattle.sample_file.proofs.Told.{sample_told}
-use Rattle.sample_file.proofs.file.sample_text.Goals as goal
-
-pub returns : goal.returns
-returns c = sample_told c.args.number c.in_ok-file.file c.print_file.result c.in_ok-file.ensures c.print_file.ensures

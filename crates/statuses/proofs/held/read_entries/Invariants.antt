@@ -1,6 +1,0 @@
-use Rattle.std.proofs.Common.{take, All}
-use Rattle.statuses.specs.Told.{IsHeldEntry}
-use Rattle.statuses.proofs.held.read_entries.Given as goal
-
-abbrev pub invariant-loop-entry : goal.invariant-loop-entry
-invariant-loop-entry l = All IsHeldEntry (take l.entry-index l.entries)

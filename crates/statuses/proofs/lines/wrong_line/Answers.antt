@@ -1,9 +1,0 @@
-use Rattle.std.proofs.Common.{◌∙◌, codes}
-use Rattle.statuses.proofs.Written.{numbered}
-use Rattle.statuses.proofs.lines.wrong_line.Goals as goal
-
-pub returns : goal.returns
-returns c =
-    c.in_ok-bytes.ensures
-    ∙ c.as_str.ensures.value
-    ∙ numbered (codes "fault 9 entry ") (codes " rule ") c.args.entry _ _ _ _ _ c.number-number.ensures c.name-name.ensures c.in_ok-text.ensures.ok

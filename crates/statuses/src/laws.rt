@@ -1,7 +1,0 @@
-//! Laws of the lines of statuses. The function does nothing when it runs: its contract is the law.
-ghost use Rattle.statuses.specs.Examples.{Examples};
-
-/// Lines beside near misses, as worked examples.
-pub fn examples_of_lines()
-    ensures { Examples }
-{}
