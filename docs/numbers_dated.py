@@ -72,7 +72,7 @@ def prose(line):
 
 
 def sections(lines):
-    """Lists of numbered lines, each from a heading to the next; those of fenced blocks are marked."""
+    """Numbered lines, listed from heading to heading; those of fenced blocks are marked."""
     found, is_code = [[]], False
     for number, line in enumerate(lines, 1):
         fence = line.lstrip().startswith("```")
