@@ -26,7 +26,6 @@ import tempfile
 
 import images
 import linear
-import users
 
 sys.path.insert(0, os.path.join(images.HERE, "..", "oracle"))
 
