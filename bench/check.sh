@@ -1,7 +1,8 @@
 #!/usr/bin/env bash
 # Times the check of solved logs of 16, 64 and 250 MiB, and takes the peak of its memory, by GNU time: logs of cuts with 50
 # dual values each, which the checker keeps, of which the first 2,000 come into use; and logs of cuts with multipliers of
-# the ordering cone, which it tests and does not keep. Then a line of 200 MiB without a line feed.
+# the ordering cone, which it tests and does not keep. Then a line of 200 MiB without a line feed, and logs of 1,000, 4,000
+# and 16,000 cuts that share one vector of 2,001 places.
 set -euo pipefail
 top=$(cd "$(dirname "${BASH_SOURCE[0]}")/.." && pwd)
 program=${1:-$top/bensolve}
@@ -23,6 +24,25 @@ awk 'BEGIN {
     for (k = 1; k <= 64; k++) print "k 1 " k " 1"
     print "j 1 l 0\ne"
 }' >"$work/passing"
+
+# One objective and one column, of which 2,001 rows say that it is at least 0.
+awk 'BEGIN {
+    print "p vlp min 2001 1 2001 1 1\no 1 1 1"
+    for (i = 1; i <= 2001; i++) print "a " i " 1 1\ni " i " l 0"
+    print "e"
+}' >"$work/shared"
+
+# A log of $1 cuts with one vector of multipliers.
+log_shared() {
+    awk -v count="$1" 'BEGIN {
+        print "version 2\nduality 1 1 0 0 0"
+        line = "share 2001"
+        for (i = 1; i <= 2001; i++) line = line " " i " 1/2001"
+        print line
+        for (k = 1; k <= count; k++) print "cutof 1 1 0 1 0"
+        print "start 1 1 1 0 1 1\npoint 1 0 0\nray 2 1 1 1 0\nfacet 1\nend solved"
+    }'
+}
 
 # A log of $1 MiB: the two cuts that are facets, and then cuts that touch the vertex alone.
 log_kept() {
@@ -86,3 +106,7 @@ for mib in 16 64 250; do
 done
 head -c 209715200 /dev/zero | tr '\0' 1 >"$work/log"
 measure kept
+for count in 1000 4000 16000; do
+    log_shared "$count" >"$work/log"
+    measure shared
+done

@@ -109,3 +109,21 @@ took_preimage Direction file before generator k x m read solving result is same 
     (λ i. entry.Ray generator (is i) (same i))
     (took_plainly file before (entry.Ray generator x read)
     (entry.Ray generator x read ∷ []) solving result refl h))
+
+pub took_own_preimage : (kind : GenKind) (file : Problem) (before : List Entry) (generator : ℕ)
+    (x own m read : List Spot) (solving : Solving) (result : Result (Unit {0}) Stop) →
+    x ≡ own → read ≡ m →
+    Enters file (plain before) (entry_of kind generator x read)
+    (preimage_events kind file (plain before) (state file.objs (plain before)) generator x read)
+    solving result →
+    Takes file before (entry_of kind generator own m) solving result
+took_own_preimage Point file before generator x own m read solving result is same h =
+    took_as file before (entry.Point generator x read) (entry.Point generator own m) solving result
+    (λ i. entry.Point generator (is i) (same i))
+    (took_plainly file before (entry.Point generator x read)
+    (entry.Point generator x read ∷ []) solving result refl h)
+took_own_preimage Direction file before generator x own m read solving result is same h =
+    took_as file before (entry.Ray generator x read) (entry.Ray generator own m) solving result
+    (λ i. entry.Ray generator (is i) (same i))
+    (took_plainly file before (entry.Ray generator x read)
+    (entry.Ray generator x read ∷ []) solving result refl h)

@@ -5,9 +5,8 @@ ghost use Rattle.deriv_log.specs.Formed.{is_formed};
 ghost use Rattle.log_versions.specs.Plain.{shared};
 ghost use Rattle.cert_check.specs.Keeping.{next_shares};
 
-use crate::found::copy_list;
 use deriv_log::Entry;
-use frac128::Sparse;
+use entry_checks::SharedVector;
 use src_sink::{Items, NoMemory};
 use std::alloc::Global;
 use std::marker::Model;
@@ -15,7 +14,7 @@ use std::marker::Model;
 /// The vectors that the entries before share, numbered from 1 in their order.
 #[derive(Debug, Drop)]
 pub struct Shares {
-    list: Items<Sparse>,
+    list: Items<SharedVector>,
 }
 
 impl Model for Shares {
@@ -46,7 +45,8 @@ impl Shares {
         ensures { OnOk result (self.new ≡ next_shares self.old entry.now) }
     {
         if let Entry::Share { v } = entry {
-            self.list.push(copy_list(alloc, v)?)?;
+            let shared = SharedVector::of(alloc, v.as_slice())?;
+            self.list.push(shared)?;
         }
         Ok(())
     }
@@ -59,7 +59,7 @@ impl Shares {
     }
 
     /// The one of this number.
-    pub fn at(&self, share: u32) -> &Sparse
+    pub fn at(&self, share: u32) -> &SharedVector
         requires least { 1 ≤ share }
         requires most { share ≤ length self.now }
         ensures value { result.now ≡ shared self.now share }

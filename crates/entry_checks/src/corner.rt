@@ -19,9 +19,10 @@ ghost use Rattle.upper_image.specs.Spots.{pieces};
 
 use crate::line::{is_reduced, leading_entry};
 use crate::numbers::are_picks;
+use crate::shared::SharedVector;
 use crate::steps::{Steps, is_nonnegative, pass};
 use exact_field::{Field, is_positive};
-use frac128::{Frac, Sparse, Vector, is_zero};
+use frac128::{Frac, Vector, is_zero};
 use log_rules::{Rule, Stop};
 use vlp_problem::Problem;
 
@@ -30,7 +31,7 @@ use vlp_problem::Problem;
 pub struct Cut {
     pub w: Vector,
     pub gamma: Frac,
-    pub u: Sparse,
+    pub u: SharedVector,
 }
 
 /// A number without its sign.

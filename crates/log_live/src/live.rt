@@ -23,8 +23,8 @@ use crate::generator::{Generator, find};
 use crate::starting::first_generator;
 use crate::values::values_at;
 use deriv_log::LogPair;
-use entry_checks::Steps;
-use frac128::{Frac, Sparse};
+use entry_checks::{SharedVector, Steps};
+use frac128::Frac;
 use log_rules::Stop;
 use src_sink::{Items, NoMemory};
 use std::alloc::Global;
@@ -245,7 +245,7 @@ impl Live {
     }
 
     /// Gives the generator at a place, which was found open, its pre-image.
-    pub fn set_preimage(&mut self, place: usize, x: Sparse)
+    pub fn set_preimage(&mut self, place: usize, x: SharedVector)
         requires { place < length self.old.generators.items }
         ensures list { (q : ℕ) (s : State) → IsListOf q s self.old → IsListOf q s self.new }
         ensures point { (file : Problem) (s : State) (before : List Entry) (k : ℕ) (t : ℚ)

@@ -28,7 +28,7 @@ ghost use Rattle.log_solved.specs.Uses.{AreUses};
 use crate::shown::{GenKind, t_of, test_preimage};
 use crate::uses::Uses;
 use deriv_log::LogPair;
-use entry_checks::{Cut, check_start, pass};
+use entry_checks::{Cut, SharedVector, check_start, pass};
 use frac128::{Frac, Spot, Vector};
 use log_live::{Live, TightSets};
 use log_rules::{Rule, Stop};
@@ -106,7 +106,7 @@ impl Solving {
         alloc: Global,
         w: &[Frac],
         gamma: Frac,
-        u: &[Spot],
+        u: &SharedVector,
     ) -> Result<(), NoMemory>
         ensures { (file : Problem) (before : List Entry) (v : List Spot)
             → IsSolving file before self.old
@@ -115,7 +115,7 @@ impl Solving {
         let cut = Cut {
             w: copy_list(alloc, w)?,
             gamma,
-            u: copy_list(alloc, u)?,
+            u: u.again()?,
         };
         self.cuts.push(cut)?;
         self.uses.grow()?;
@@ -246,8 +246,8 @@ impl Solving {
             .least_hints(alloc, row.w.as_slice(), row.gamma, pairs)
     }
 
-    /// Gives the generator at a place a copy of its pre-image.
-    fn give(&mut self, alloc: Global, place: usize, x: &[Spot]) -> Result<(), Stop>
+    /// Gives the generator at a place its pre-image.
+    fn give(&mut self, place: usize, x: &SharedVector) -> Result<(), Stop>
         requires { place < length self.old.live.generators.items }
         ensures point { (file : Problem) (before : List Entry) (k : ℕ) (m : List Spot)
             → StandsBefore file before order.point self.old
@@ -259,7 +259,7 @@ impl Solving {
             → OnOk result (IsSolving file (before ++ entry.Ray k x.now m ∷ []) self.new) }
         ensures memory { IfErr result (λ stop. stop ≡ stopped.NoMemory) }
     {
-        match copy_list(alloc, x) {
+        match x.again() {
             Ok(x) => {
                 self.live.set_preimage(place, x);
                 Ok(())
@@ -277,7 +277,7 @@ impl Solving {
         matrices: &Matrices,
         kind: GenKind,
         number: u32,
-        x: &[Spot],
+        x: &SharedVector,
         m: &[Spot],
     ) -> Result<(), Stop>
         requires matrices { AreMatricesOf problem.now matrices.now }
@@ -294,8 +294,9 @@ impl Solving {
             Some(place) => {
                 let vector = self.live.generators[place].vector.as_slice();
                 let y = &vector[..problem.objs as usize];
-                test_preimage(alloc, problem, matrices, kind, y, x, m)?;
-                self.give(alloc, place, x)
+                let places = x.as_slice();
+                test_preimage(alloc, problem, matrices, kind, y, places, m)?;
+                self.give(place, x)
             }
             None => Err(Stop::Wrong(Rule::Index)),
         }
