@@ -1,7 +1,9 @@
 use Rattle.std.proofs.Common.{sym, subst, false, ◌∙◌, ap, length, take, List, ◌≡◌, arith, rules}
 use Rattle.exact_field.specs.Rational.{ℚ}
+use Rattle.frac128.specs.Held.{is_held}
 use Rattle.frac128.specs.Sparse.{IsSparse}
 use Rattle.log_rules.specs.AnswerEvents.{is_open, y_at}
+use Rattle.log_rules.specs.Events.{first_failure}
 use Rattle.log_rules.specs.Live.{state}
 use Rattle.log_rules.specs.declared.rule.Rule.TheVariants as rule
 use Rattle.log_live.specs.Live.{IsOpenAt}
@@ -66,7 +68,7 @@ returns-in_err-test_preimage-in-Some c = λ before stands.
     let same = y_told file.objs before s c.args.number (t_of c.args.kind) c.args.self.now.live c.in-Some.place c.index.result.now v here c.index.ensures c.as_slice-vector.ensures.items in
     let stopped = stops_as (preimage_events c.args.kind file before s c.args.number c.args.x.now c.args.m.now) (shown_events c.args.kind file (take file.objs v) c.as_slice-places.result.now c.args.m.now) c.in_err-test_preimage-in-Some.field-0.0
     (opened (λ y. shown_events c.args.kind file y c.args.x.now c.args.m.now) (is_open file.objs before s.list.live c.args.number (t_of c.args.kind)) (y_at file.objs s.list.live c.args.number) (take file.objs v) here.is_open same
-    ∙ ap (λ x. shown_events c.args.kind file (take file.objs v) x c.args.m.now) (sym c.as_slice-places.ensures.items))
+    ∙ ap (λ x. first_failure is_held 1 (shown_events c.args.kind file (take file.objs v) x c.args.m.now)) (sym c.as_slice-places.ensures.items))
     c.in_err-test_preimage-in-Some.ensures in
     search (stopped, rules)
 
@@ -80,7 +82,7 @@ returns-in_ok-test_preimage-in-Some c = λ before stands.
     let same = y_told file.objs before s c.args.number (t_of c.args.kind) c.args.self.now.live c.in-Some.place c.index.result.now v here c.index.ensures c.as_slice-vector.ensures.items in
     ends _ (preimage_events c.args.kind file before s c.args.number c.args.x.now c.args.m.now) c.give.result
     (opened (λ y. shown_events c.args.kind file y c.args.x.now c.args.m.now) (is_open file.objs before s.list.live c.args.number (t_of c.args.kind)) (y_at file.objs s.list.live c.args.number) (take file.objs v) here.is_open same
-    ∙ ap (λ x. shown_events c.args.kind file (take file.objs v) x c.args.m.now) (sym c.as_slice-places.ensures.items)
+    ∙ ap (λ x. first_failure is_held 1 (shown_events c.args.kind file (take file.objs v) x c.args.m.now)) (sym c.as_slice-places.ensures.items)
     ∙ c.in_ok-test_preimage-in-Some.ensures.0)
     (given_by c.args.kind file before c.args.number c.args.x.now c.args.m.now c.args.self.now c.give.new.self c.in-Some.place c.give.result
     (c.give.ensures.point file before c.args.number c.args.m.now) (c.give.ensures.ray file before c.args.number c.args.m.now) stands here) c.give.ensures.memory
