@@ -2,7 +2,7 @@
 # Times the check of solved logs of 16, 64 and 250 MiB, and takes the peak of its memory, by GNU time: logs of cuts with 50
 # dual values each, which the checker keeps, of which the first 2,000 come into use; and logs of cuts with multipliers of
 # the ordering cone, which it tests and does not keep. Then a line of 200 MiB without a line feed, and logs of 1,000, 4,000
-# and 16,000 cuts that share one vector of 2,001 places.
+# and 16,000 cuts that share one vector of 1,000 places.
 set -euo pipefail
 top=$(cd "$(dirname "${BASH_SOURCE[0]}")/.." && pwd)
 program=${1:-$top/bensolve}
@@ -25,10 +25,10 @@ awk 'BEGIN {
     print "j 1 l 0\ne"
 }' >"$work/passing"
 
-# One objective and one column, of which 2,001 rows say that it is at least 0.
+# One objective and one column, of which 1,000 rows say that it is at least 0.
 awk 'BEGIN {
-    print "p vlp min 2001 1 2001 1 1\no 1 1 1"
-    for (i = 1; i <= 2001; i++) print "a " i " 1 1\ni " i " l 0"
+    print "p vlp min 1000 1 1000 1 1\no 1 1 1"
+    for (i = 1; i <= 1000; i++) print "a " i " 1 1\ni " i " l 0"
     print "e"
 }' >"$work/shared"
 
@@ -36,8 +36,8 @@ awk 'BEGIN {
 log_shared() {
     awk -v count="$1" 'BEGIN {
         print "version 2\nduality 1 1 0 0 0"
-        line = "share 2001"
-        for (i = 1; i <= 2001; i++) line = line " " i " 1/2001"
+        line = "share 1000"
+        for (i = 1; i <= 1000; i++) line = line " " i " 1/1000"
         print line
         for (k = 1; k <= count; k++) print "cutof 1 1 0 1 0"
         print "start 1 1 1 0 1 1\npoint 1 0 0\nray 2 1 1 1 0\nfacet 1\nend solved"
